@@ -1,0 +1,113 @@
+-- Tests that compute (Bool) and what they say: a test that passes is a fact (`T`), a test of two numbers is their equation or
+-- its denial, and a rule made of several tests is a list of them.
+use mathlib.Core.Path.{_≡_, refl, sym, ap, _∙_, subst}
+use mathlib.Core.Logic.{_≢_, _⊎_, inl, inr}
+use mathlib.Core.Bool.{Bool, true, false, not, _&&_, _||_}
+use mathlib.Core.List.{List, [], _∷_}
+use Prim.Native.Nat.{ℕ, _-_, _≤_, _<_}
+use native.Mathlib.Decide.{ℕ-discrete}
+use native.Mathlib.Omega.{arith}
+use lib.Dec.{T, eqb, eqb→eq, eqb-refl}
+
+-- one of two values, by a test
+abbrev pub pick {ℓ} : {X : Type ℓ} → Bool → X → X → X
+pick true x y = x
+pick false x y = y
+
+-- what holds of both values holds of the one taken
+pub pick-ind {ℓ} : {X : Type ℓ} (P : X → Type 0) (t : Bool) (u w : X) → P u → P w → P (pick t u w)
+pick-ind P true u w a b = a
+pick-ind P false u w a b = b
+
+pub T-true : {b : Bool} → T b → b ≡ true
+T-true {b = true} t = refl
+T-true {b = false} t = absurd t
+
+pub true-T : {b : Bool} → b ≡ true → T b
+true-T e = subst T (sym e) tt
+
+pub T-false : {b : Bool} → (T b → ⊥) → b ≡ false
+T-false {b = true} f = absurd (f tt)
+T-false {b = false} f = refl
+
+pub false-T : {b : Bool} → b ≡ false → T b → ⊥
+false-T e t = subst T e t
+
+pub ask : (b : Bool) → (b ≡ true) ⊎ (b ≡ false)
+ask true = inl refl
+ask false = inr refl
+
+pub and-T : (a b : Bool) → T (a && b) → T a × T b
+and-T true b t = (tt, t)
+and-T false b t = absurd t
+
+pub T-and : (a b : Bool) → T a → T b → T (a && b)
+T-and true b s t = t
+T-and false b s t = absurd s
+
+pub or-T : (a b : Bool) → T (a || b) → T a ⊎ T b
+or-T true b t = inl tt
+or-T false b t = inr t
+
+pub T-or-l : (a b : Bool) → T a → T (a || b)
+T-or-l true b t = tt
+T-or-l false b t = absurd t
+
+pub T-or-r : (a b : Bool) → T b → T (a || b)
+T-or-r true b t = tt
+T-or-r false b t = t
+
+pub imp-T : (a b : Bool) → T (not a || b) → T a → T b
+imp-T true b t s = t
+imp-T false b t s = absurd s
+
+pub T-imp : (a b : Bool) → (T a → T b) → T (not a || b)
+T-imp true b f = f tt
+T-imp false b f = tt
+
+-- equality of numbers
+pub same? : (m n : ℕ) → (m ≡ n) ⊎ (m ≢ n)
+same? m n = go (ℕ-discrete m n)
+  where
+    go : Dec (m ≡ n) → (m ≡ n) ⊎ (m ≢ n)
+    go (yes e) = inl e
+    go (no f) = inr f
+
+-- by cases on an equation, in place
+pub split : {C : Type 0} (m n : ℕ) → (m ≡ n → C) → (m ≢ n → C) → C
+split {C} m n f g = go (same? m n)
+  where
+    go : (m ≡ n) ⊎ (m ≢ n) → C
+    go (inl e) = f e
+    go (inr e) = g e
+
+pub le? : (m n : ℕ) → (m ≤ n) ⊎ (n < m)
+le? m n = by (same? (m - n) 0)
+  where
+    by : (m - n ≡ 0) ⊎ (m - n ≢ 0) → (m ≤ n) ⊎ (n < m)
+    by (inl z) = inl (omega arith)
+    by (inr z) = inr (omega arith)
+
+pub eqb-same : {m n : ℕ} → m ≡ n → eqb m n ≡ true
+eqb-same {m} {n} e = T-true (subst (λ k. T (eqb m k)) e (eqb-refl m))
+
+pub eqb-other : {m n : ℕ} → m ≢ n → eqb m n ≡ false
+eqb-other {m} {n} f = T-false (λ t. f (eqb→eq m n t))
+
+abbrev pub allb : List Bool → Bool
+allb [] = true
+allb (b ∷ bs) = b && allb bs
+
+abbrev pub All : List Bool → Type 0
+All [] = Unit {0}
+All (b ∷ bs) = T b × All bs
+
+pub allb-T : (bs : List Bool) → T (allb bs) → All bs
+allb-T [] t = tt
+allb-T (true ∷ bs) t = (tt, allb-T bs t)
+allb-T (false ∷ bs) t = absurd t
+
+pub T-allb : (bs : List Bool) → All bs → T (allb bs)
+T-allb [] a = tt
+T-allb (true ∷ bs) a = T-allb bs (a .1)
+T-allb (false ∷ bs) a = absurd (a .0)

@@ -1,0 +1,138 @@
+-- A list of words holds records of several kinds. Word j of each record of a kind is a column: a function of the record's number.
+-- A store changes one entry of one column and nothing else; two lists with the same columns are equal. All for any base, width and count.
+use mathlib.Core.Path.{_≡_, refl, sym, ap, _∙_, subst}
+use mathlib.Core.Logic.{_≢_, _⊎_, inl, inr, ⊎-elim}
+use mathlib.Core.List.{List, [], _∷_}
+use Prim.Native.Nat.{ℕ, zero, suc, _+_, _-_, _*_, _/_, _%_, _≤_, _<_}
+use native.Mathlib.Nat.{mul-le-mul-left, div-add-mod', mod-lt, mul-comm, div-lt-iff-lt-mul}
+use native.Mathlib.Omega.{arith}
+use lib.ListN.{length, getD, set, length-set}
+use lib.Seq.{getD-set-same, getD-set-other, ext-getD}
+use Rattle.laws.specs.Bools.{split, le?}
+use Rattle.laws.specs.Update.{upd, upd-at, upd-off}
+
+pub record Kind : Type 0 where
+  pub base : ℕ
+  pub width : ℕ
+  pub count : ℕ
+
+abbrev pub col : Kind → ℕ → List ℕ → ℕ → ℕ
+col κ j l zero = 0
+col κ j l (suc n) = getD l (κ .base + κ .width * n + j) 0
+
+abbrev pub store : Kind → ℕ → List ℕ → ℕ → ℕ → List ℕ
+store κ j l zero v = l
+store κ j l (suc n) v = set l (κ .base + κ .width * n + j) v
+
+-- the kind's words lie within the list
+abbrev pub Fits : Kind → List ℕ → Type 0
+Fits κ l = κ .base + κ .width * κ .count ≤ length l
+
+pub in-kind : (κ : Kind) (j n : ℕ) → j < κ .width → n < κ .count → κ .base + κ .width * n + j < κ .base + κ .width * κ .count
+in-kind κ j n hj hn = omega (arith, mul-le-mul-left (κ .width) hn)
+
+-- two different words of a kind stand at two different places
+pub word-apart : (κ : Kind) (i j m n : ℕ) → i < κ .width → j < κ .width → (m ≢ n) ⊎ (i ≢ j) → κ .base + κ .width * m + i ≢ κ .base + κ .width * n + j
+word-apart κ i j m n hi hj d e = ⊎-elim (λ h. below m n i j hi e h) (λ h. ⊎-elim (λ g. below n m j i hj (sym e) g) (λ g. same-row (omega arith)) (le? (suc n) m)) (le? (suc m) n)
+  where
+    below : (m n i j : ℕ) → i < κ .width → κ .base + κ .width * m + i ≡ κ .base + κ .width * n + j → m < n → ⊥
+    below m n i j hi e h = omega (arith, mul-le-mul-left (κ .width) h)
+
+    same-row : m ≡ n → ⊥
+    same-row q = ⊎-elim (λ f. f q) (λ f. f (omega (arith, ap (λ k. κ .width * k) q))) d
+
+pub store-length : (κ : Kind) (j : ℕ) (l : List ℕ) (n v : ℕ) → length (store κ j l n v) ≡ length l
+store-length κ j l zero v = refl
+store-length κ j l (suc n) v = length-set l (κ .base + κ .width * n + j) v
+
+-- the column after a store to it is the column with one entry changed
+pub col-store : (κ : Kind) (j : ℕ) (l : List ℕ) → Fits κ l → j < κ .width → (n v m : ℕ) → 1 ≤ n → n ≤ κ .count → col κ j (store κ j l n v) m ≡ upd (col κ j l) n v m
+col-store κ j l fits hj zero v m ln un = absurd (omega arith)
+col-store κ j l fits hj (suc n) v zero ln un = sym (upd-off (col κ j l) v (omega arith))
+col-store κ j l fits hj (suc n) v (suc m) ln un = split m n
+    (λ e. rw e (getD-set-same l (κ .base + κ .width * n + j) v 0 (omega (arith, in-kind κ j n hj (omega arith))) ∙ sym (upd-at (col κ j l) v refl)))
+    (λ f. getD-set-other l (κ .base + κ .width * n + j) (κ .base + κ .width * m + j) v 0 (word-apart κ j j m n hj hj (inl f)) ∙ sym (upd-off (col κ j l) v (omega arith)))
+
+-- another column of the kind is as it was
+pub col-store-other : (κ : Kind) (i j : ℕ) (l : List ℕ) → i < κ .width → j < κ .width → i ≢ j → (n v m : ℕ) → col κ i (store κ j l n v) m ≡ col κ i l m
+col-store-other κ i j l hi hj f zero v m = refl
+col-store-other κ i j l hi hj f (suc n) v zero = refl
+col-store-other κ i j l hi hj f (suc n) v (suc m) = getD-set-other l (κ .base + κ .width * n + j) (κ .base + κ .width * m + i) v 0 (word-apart κ i j m n hi hj (inr f))
+
+-- and a column of another kind that ends before this one begins, or begins after it ends
+pub col-store-apart : (κ μ : Kind) (i j : ℕ) (l : List ℕ) → i < κ .width → j < μ .width → (κ .base + κ .width * κ .count ≤ μ .base) ⊎ (μ .base + μ .width * μ .count ≤ κ .base)
+    → (n v m : ℕ) → n ≤ μ .count → m ≤ κ .count → col κ i (store μ j l n v) m ≡ col κ i l m
+col-store-apart κ μ i j l hi hj d zero v m un um = refl
+col-store-apart κ μ i j l hi hj d (suc n) v zero un um = refl
+col-store-apart κ μ i j l hi hj d (suc n) v (suc m) un um = getD-set-other l (μ .base + μ .width * n + j) (κ .base + κ .width * m + i) v 0
+    (λ e. ⊎-elim (λ h. omega (arith, in-kind κ i m hi (omega arith))) (λ h. omega (arith, in-kind μ j n hj (omega arith))) d)
+
+-- ---- a sweep: word j of each record up to n becomes g of its number and of what it was
+
+unfoldable pub sweep : Kind → ℕ → ℕ → (ℕ → ℕ → ℕ) → List ℕ → List ℕ
+sweep κ j zero g l = l
+sweep κ j (suc n) g l = store κ j (sweep κ j n g l) (suc n) (g (suc n) (col κ j (sweep κ j n g l) (suc n)))
+
+pub sweep-length : (κ : Kind) (j n : ℕ) (g : ℕ → ℕ → ℕ) (l : List ℕ) → length (sweep κ j n g l) ≡ length l
+unfolding sweep
+sweep-length κ j zero g l = refl
+sweep-length κ j (suc n) g l = store-length κ j (sweep κ j n g l) (suc n) _ ∙ sweep-length κ j n g l
+
+module _ (κ : Kind) (j : ℕ) (g : ℕ → ℕ → ℕ) (l : List ℕ) (fits : Fits κ l) (hj : j < κ .width) where
+  -- above n nothing has changed
+  pub sweep-above : (n m : ℕ) → n ≤ κ .count → n < m → col κ j (sweep κ j n g l) m ≡ col κ j l m
+  unfolding sweep
+  sweep-above zero m un h = refl
+  sweep-above (suc n) m un h = col-store κ j (sweep κ j n g l) (omega (arith, sweep-length κ j n g l)) hj (suc n) _ m (omega arith) un ∙ upd-off _ _ (omega arith) ∙ sweep-above n m (omega arith) (omega arith)
+
+  pub sweep-at : (n m : ℕ) → n ≤ κ .count → 1 ≤ m → m ≤ n → col κ j (sweep κ j n g l) m ≡ g m (col κ j l m)
+  unfolding sweep
+  sweep-at zero m un lm um = absurd (omega arith)
+  sweep-at (suc n) m un lm um = col-store κ j (sweep κ j n g l) (omega (arith, sweep-length κ j n g l)) hj (suc n) _ m (omega arith) un ∙ by (sweep-at n m (omega arith) lm)
+    where
+      by : (m ≤ n → col κ j (sweep κ j n g l) m ≡ g m (col κ j l m)) → upd (col κ j (sweep κ j n g l)) (suc n) (g (suc n) (col κ j (sweep κ j n g l) (suc n))) m ≡ g m (col κ j l m)
+      by ih = split m (suc n) (λ e. rw e (upd-at _ _ refl ∙ ap (g (suc n)) (sweep-above n (suc n) (omega arith) (omega arith)))) (λ f. upd-off _ _ f ∙ ih (omega arith))
+
+-- ---- two lists with the same columns are equal
+
+-- every word of a kind is a word of one of its records
+pub word-of : (κ : Kind) (k : ℕ) → 1 ≤ κ .width → κ .base ≤ k → k < κ .base + κ .width * κ .count
+    → (n : ℕ) × (j : ℕ) × (n < κ .count) × (j < κ .width) × (κ .base + κ .width * n + j ≡ k)
+word-of κ k hw l u =
+    let q : ℕ = (k - κ .base) / κ .width in
+    let r : ℕ = (k - κ .base) % κ .width in
+    let e : q * κ .width + r ≡ k - κ .base = div-add-mod' (k - κ .base) (κ .width) in
+    let fits : k - κ .base < κ .count * κ .width = omega (arith, mul-comm (κ .count) (κ .width)) in
+    (q, r, div-lt-iff-lt-mul hw .1 fits, mod-lt (k - κ .base) hw, omega (arith, mul-comm q (κ .width)))
+
+-- two lists have the same columns of a kind
+abbrev pub Agree : Kind → List ℕ → List ℕ → Type 0
+Agree κ l l′ = (j n : ℕ) → j < κ .width → 1 ≤ n → n ≤ κ .count → col κ j l n ≡ col κ j l′ n
+
+-- then they have the same words there
+pub kind-agree : (κ : Kind) (l l′ : List ℕ) → 1 ≤ κ .width → Agree κ l l′ → (k : ℕ) → κ .base ≤ k → k < κ .base + κ .width * κ .count → getD l k 0 ≡ getD l′ k 0
+kind-agree κ l l′ hw h k lo hi =
+    let p = word-of κ k hw lo hi in
+    subst (λ i. getD l i 0 ≡ getD l′ i 0) (p .4) (h (p .1) (suc (p .0)) (p .3) (omega arith) (omega (arith, p .2)))
+
+-- kinds that stand one after another: each begins where the one before ends, and has a positive width
+abbrev pub Chained : ℕ → List Kind → ℕ → Type 0
+Chained from [] end = from ≡ end
+Chained from (κ ∷ κs) end = (κ .base ≡ from) × (1 ≤ κ .width) × Chained (from + κ .width * κ .count) κs end
+
+-- two lists have the same columns of every kind
+abbrev pub AllAgree : List Kind → List ℕ → List ℕ → Type 0
+AllAgree [] l l′ = Unit {0}
+AllAgree (κ ∷ κs) l l′ = Agree κ l l′ × AllAgree κs l l′
+
+pub chain-agree : (κs : List Kind) (from end : ℕ) (l l′ : List ℕ) → Chained from κs end → AllAgree κs l l′ → (k : ℕ) → from ≤ k → k < end → getD l k 0 ≡ getD l′ k 0
+chain-agree [] from end l l′ c a k lo hi = absurd (omega arith)
+chain-agree (κ ∷ κs) from end l l′ c a k lo hi =
+    let rest = chain-agree κs (from + κ .width * κ .count) end l l′ (c .2) (a .1) k in
+    ⊎-elim (λ h. rest h hi) (λ h. kind-agree κ l l′ (c .1) (a .0) k (omega arith) (omega arith)) (le? (from + κ .width * κ .count) k)
+
+-- `head` words, then kinds up to the end: lists of one length with the same head and the same columns are equal
+pub columns-ext : (head : ℕ) (κs : List Kind) (l l′ : List ℕ) → length l ≡ length l′ → Chained head κs (length l)
+    → ((k : ℕ) → k < head → getD l k 0 ≡ getD l′ k 0) → AllAgree κs l l′ → l ≡ l′
+columns-ext head κs l l′ e c front a = ext-getD 0 l l′ e
+    (λ k h. ⊎-elim (λ g. chain-agree κs head (length l) l l′ c a k g h) (λ g. front k g) (le? head k))

@@ -1,0 +1,11 @@
+pub mod Bools
+pub mod Search
+pub mod Sums
+pub mod Update
+pub mod Columns
+pub mod Linked
+pub mod Permutations
+pub mod Cycles
+pub mod Exchange
+pub mod Moves
+pub mod Walks

@@ -1,0 +1,1 @@
+// Mathematics only: the definitions and theorems stand in specs/.
