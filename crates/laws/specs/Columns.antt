@@ -11,15 +11,18 @@ use lib.Seq.{getD-set-same, getD-set-other, ext-getD}
 use Rattle.laws.specs.Bools.{split, le?}
 use Rattle.laws.specs.Update.{upd, upd-at, upd-off}
 
+-- records of `width` words, `count` of them, the first at the word `base`; records are numbered from 1
 pub record Kind : Type 0 where
   pub base : ℕ
   pub width : ℕ
   pub count : ℕ
 
+-- word j of record n, in the list l; record 0 is no record and reads 0
 abbrev pub col : Kind → ℕ → List ℕ → ℕ → ℕ
 col κ j l zero = 0
 col κ j l (suc n) = getD l (κ .base + κ .width * n + j) 0
 
+-- v into word j of record n; a store to record 0 does nothing
 abbrev pub store : Kind → ℕ → List ℕ → ℕ → ℕ → List ℕ
 store κ j l zero v = l
 store κ j l (suc n) v = set l (κ .base + κ .width * n + j) v
@@ -28,6 +31,7 @@ store κ j l (suc n) v = set l (κ .base + κ .width * n + j) v
 abbrev pub Fits : Kind → List ℕ → Type 0
 Fits κ l = κ .base + κ .width * κ .count ≤ length l
 
+-- a word of a record lies within its kind
 pub in-kind : (κ : Kind) (j n : ℕ) → j < κ .width → n < κ .count → κ .base + κ .width * n + j < κ .base + κ .width * κ .count
 in-kind κ j n hj hn = omega (arith, mul-le-mul-left (κ .width) hn)
 
@@ -41,6 +45,7 @@ word-apart κ i j m n hi hj d e = ⊎-elim (λ h. below m n i j hi e h) (λ h. �
     same-row : m ≡ n → ⊥
     same-row q = ⊎-elim (λ f. f q) (λ f. f (omega (arith, ap (λ k. κ .width * k) q))) d
 
+-- a store keeps the length
 pub store-length : (κ : Kind) (j : ℕ) (l : List ℕ) (n v : ℕ) → length (store κ j l n v) ≡ length l
 store-length κ j l zero v = refl
 store-length κ j l (suc n) v = length-set l (κ .base + κ .width * n + j) v
@@ -69,10 +74,12 @@ col-store-apart κ μ i j l hi hj d (suc n) v (suc m) un um = getD-set-other l (
 
 -- ---- a sweep: word j of each record up to n becomes g of its number and of what it was
 
+-- records 1 to n, in this order
 unfoldable pub sweep : Kind → ℕ → ℕ → (ℕ → ℕ → ℕ) → List ℕ → List ℕ
 sweep κ j zero g l = l
 sweep κ j (suc n) g l = store κ j (sweep κ j n g l) (suc n) (g (suc n) (col κ j (sweep κ j n g l) (suc n)))
 
+-- a sweep keeps the length
 pub sweep-length : (κ : Kind) (j n : ℕ) (g : ℕ → ℕ → ℕ) (l : List ℕ) → length (sweep κ j n g l) ≡ length l
 unfolding sweep
 sweep-length κ j zero g l = refl
@@ -85,6 +92,7 @@ module _ (κ : Kind) (j : ℕ) (g : ℕ → ℕ → ℕ) (l : List ℕ) (fits : 
   sweep-above zero m un h = refl
   sweep-above (suc n) m un h = col-store κ j (sweep κ j n g l) (omega (arith, sweep-length κ j n g l)) hj (suc n) _ m (omega arith) un ∙ upd-off _ _ (omega arith) ∙ sweep-above n m (omega arith) (omega arith)
 
+  -- up to n each is g of what it was
   pub sweep-at : (n m : ℕ) → n ≤ κ .count → 1 ≤ m → m ≤ n → col κ j (sweep κ j n g l) m ≡ g m (col κ j l m)
   unfolding sweep
   sweep-at zero m un lm um = absurd (omega arith)
@@ -125,6 +133,7 @@ abbrev pub AllAgree : List Kind → List ℕ → List ℕ → Type 0
 AllAgree [] l l′ = Unit {0}
 AllAgree (κ ∷ κs) l l′ = Agree κ l l′ × AllAgree κs l l′
 
+-- lists with the same columns of every kind have the same words from the first kind to the last
 pub chain-agree : (κs : List Kind) (from end : ℕ) (l l′ : List ℕ) → Chained from κs end → AllAgree κs l l′ → (k : ℕ) → from ≤ k → k < end → getD l k 0 ≡ getD l′ k 0
 chain-agree [] from end l l′ c a k lo hi = absurd (omega arith)
 chain-agree (κ ∷ κs) from end l l′ c a k lo hi =

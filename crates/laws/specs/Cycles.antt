@@ -1,16 +1,18 @@
 -- A permutation whose cycles are told apart by a label, and what becomes of them when an element is put in or taken out,
 -- or when a cycle of one comes or goes. (`Exchange` has the two moves that join and part cycles.)
 use mathlib.Core.Path.{_≡_, refl, sym, ap, _∙_, subst}
-use mathlib.Core.Logic.{_≢_, _⊎_, inl, inr, ⊎-elim}
-use Prim.Native.Nat.{ℕ, zero, suc, _+_, _<_, _≤_}
+use mathlib.Core.Logic.{_≢_, _⊎_, ⊎-elim}
+use Prim.Native.Nat.{ℕ, _+_, _≤_}
 use Rattle.laws.specs.Bools.{split}
 use Rattle.laws.specs.Update.{upd, upd-at, upd-off}
 use Rattle.laws.specs.Permutations.{iter, iter-add, Perm, inj, comes-back}
 use Rattle.laws.specs.Linked.{Linked, same, link, back, via, map-linked, map-within, carry}
 
+-- f leads from i, one of U, to j
 abbrev pub Step : (ℕ → Type 0) → (ℕ → ℕ) → ℕ → ℕ → Type 0
 Step U f i j = U i × (f i ≡ j)
 
+-- f permutes U, keeps labels, and those of one label are in one cycle
 pub record Cycles (n : ℕ) (U : ℕ → Type 0) (f lab : ℕ → ℕ) : Type 0 where
   pub perm : Perm n U f
   pub keeps : (i : ℕ) → U i → lab (f i) ≡ lab i
@@ -31,6 +33,7 @@ forwards {f = f} p (via {i} {k} j l m) =
 
 -- ---- put x in after y
 
+-- what the move changes: x, not of U, comes after y with y's label; all else stays
 pub record Insert (n : ℕ) (U U′ : ℕ → Type 0) (f lab f′ lab′ : ℕ → ℕ) (x y : ℕ) : Type 0 where
   pub fresh : ¬ U x
   pub x-low : 1 ≤ x
@@ -46,9 +49,11 @@ pub record Insert (n : ℕ) (U U′ : ℕ → Type 0) (f lab f′ lab′ : ℕ �
   pub lab-o : (i : ℕ) → i ≢ x → lab′ i ≡ lab i
 
 module _ {n : ℕ} {U U′ : ℕ → Type 0} {f lab f′ lab′ : ℕ → ℕ} {x y : ℕ} (c : Cycles n U f lab) (r : Insert n U U′ f lab f′ lab′ x y) where
+  -- x is not of U
   ne : (i : ℕ) → U i → i ≢ x
   ne i u e = r .fresh (subst U e u)
 
+  -- f stays in U
   fi : (i : ℕ) → U i → U (f i)
   fi i u = c .perm .f-in i u
 
@@ -56,9 +61,11 @@ module _ {n : ℕ} {U U′ : ℕ → Type 0} {f lab f′ lab′ : ℕ → ℕ} {
   each : (P : ℕ → Type 0) → P x → P y → ((i : ℕ) → U i → i ≢ y → P i) → (i : ℕ) → U′ i → P i
   each P px py po i u′ = ⊎-elim (λ e. subst P (sym e) px) (λ u. split i y (λ e. subst P (sym e) py) (λ h. po i u h)) (r .cases i u′)
 
+  -- what undoes f′
   g′ : ℕ → ℕ
   g′ = upd (upd (c .perm .inv) x y) (f y) x
 
+  -- f′ permutes U′
   insert-perm : Perm n U′ f′
   unfolding g′
   insert-perm = record {
@@ -70,11 +77,13 @@ module _ {n : ℕ} {U U′ : ℕ → Type 0} {f lab f′ lab′ : ℕ → ℕ} {
         (λ i u h. rw (r .f-o i h (ne i u)) (upd-off _ x (λ e. h (inj (c .perm) u (r .y-in) e)) ∙ upd-off _ y (ne _ (fi i u)) ∙ c .perm .undo i u));
   }
 
+  -- chains of steps stay chains
   insert-old : {i j : ℕ} → Linked (Step U f) i j → Linked (Step U′ f′) i j
   insert-old = map-linked (λ i. i) (λ i j s. split i y
       (λ e. via x (link (r .old i (s .0), ap f′ e ∙ r .f-y)) (link (r .new, r .f-x ∙ ap f (sym e) ∙ s .1)))
       (λ h. link (r .old i (s .0), r .f-o i h (ne i (s .0)) ∙ s .1)))
 
+  -- the cycles after the move
   pub insert : Cycles n U′ f′ lab′
   insert = record {
     perm = insert-perm;
@@ -91,6 +100,7 @@ module _ {n : ℕ} {U U′ : ℕ → Type 0} {f lab f′ lab′ : ℕ → ℕ} {
 
 -- ---- take x out, which comes after y
 
+-- what the move changes: y goes on to where x went; all else stays
 pub record Remove (U U′ : ℕ → Type 0) (f lab f′ lab′ : ℕ → ℕ) (x y : ℕ) : Type 0 where
   pub y-in : U y
   pub f-yx : f y ≡ x
@@ -103,24 +113,31 @@ pub record Remove (U U′ : ℕ → Type 0) (f lab f′ lab′ : ℕ → ℕ) (x
   pub lab-o : (i : ℕ) → i ≢ x → lab′ i ≡ lab i
 
 module _ {n : ℕ} {U U′ : ℕ → Type 0} {f lab f′ lab′ : ℕ → ℕ} {x y : ℕ} (c : Cycles n U f lab) (r : Remove U U′ f lab f′ lab′ x y) where
+  -- x is not of U′
   rne : (i : ℕ) → U′ i → i ≢ x
   rne i u e = r .not-x (subst U′ e u)
 
+  -- x is of U
   x-in : U x
   x-in = subst U (r .f-yx) (c .perm .f-in y (r .y-in))
 
+  -- y is of U′
   y′ : U′ y
   y′ = r .old y (r .y-in) (λ e. r .apart (sym e))
 
+  -- x does not go to itself
   fx-ne : f x ≢ x
   fx-ne e = r .apart (inj (c .perm) x-in (r .y-in) (e ∙ sym (r .f-yx)))
 
+  -- only y goes to x
   f-ne : (i : ℕ) → U i → i ≢ y → f i ≢ x
   f-ne i u h e = h (inj (c .perm) u (r .y-in) (e ∙ sym (r .f-yx)))
 
+  -- a statement about each number of U′: about y, about another one of U
   reach′ : (P : ℕ → Type 0) → P y → ((i : ℕ) → U i → i ≢ y → i ≢ x → P i) → (i : ℕ) → U′ i → P i
   reach′ P py po i u′ = split i y (λ e. subst P (sym e) py) (λ h. po i (r .in-old i u′) h (rne i u′))
 
+  -- the cycles after the move
   pub remove : Cycles n U′ f′ lab′
   remove = record {
     perm = record {
@@ -155,6 +172,7 @@ module _ {n : ℕ} {U U′ : ℕ → Type 0} {f lab f′ lab′ : ℕ → ℕ} {
 
 -- ---- the same cycles, said of other functions that agree
 
+-- the same labelled cycles for another set, function and label that agree on U
 pub agree : {n : ℕ} {U U′ : ℕ → Type 0} {f lab f′ lab′ : ℕ → ℕ} → Cycles n U f lab → ((i : ℕ) → U i → U′ i) → ((i : ℕ) → U′ i → U i)
     → ((i : ℕ) → U i → f′ i ≡ f i) → ((i : ℕ) → U i → lab′ i ≡ lab i) → Cycles n U′ f′ lab′
 agree {f = f} {f′ = f′} c to from ef el = record {
@@ -171,6 +189,7 @@ agree {f = f} {f′ = f′} c to from ef el = record {
 
 -- ---- a new cycle of one, and its end
 
+-- what the move changes: x, not of U, goes to itself, with a label of its own
 pub record Birth (n : ℕ) (U U′ : ℕ → Type 0) (f lab f′ lab′ : ℕ → ℕ) (x : ℕ) : Type 0 where
   pub fresh : ¬ U x
   pub x-low : 1 ≤ x
@@ -184,12 +203,15 @@ pub record Birth (n : ℕ) (U U′ : ℕ → Type 0) (f lab f′ lab′ : ℕ �
   pub lab-o : (i : ℕ) → i ≢ x → lab′ i ≡ lab i
 
 module _ {n : ℕ} {U U′ : ℕ → Type 0} {f lab f′ lab′ : ℕ → ℕ} {x : ℕ} (c : Cycles n U f lab) (r : Birth n U U′ f lab f′ lab′ x) where
+  -- x is not of U
   bne : (i : ℕ) → U i → i ≢ x
   bne i u e = r .fresh (subst U e u)
 
+  -- a statement about each number of U′: about x, about one of U
   at : (P : ℕ → Type 0) → P x → ((i : ℕ) → U i → P i) → (i : ℕ) → U′ i → P i
   at P px po i u′ = ⊎-elim (λ e. subst P (sym e) px) (λ u. po i u) (r .cases i u′)
 
+  -- the cycles after the move
   pub birth : Cycles n U′ f′ lab′
   birth = record {
     perm = record {
@@ -212,6 +234,7 @@ pub alone : {n : ℕ} {U : ℕ → Type 0} {f lab : ℕ → ℕ} {x : ℕ} → C
 alone {f = f} {x = x} c ux fx i u e =
     carry (λ k. k ≡ x) (λ a b s. (λ q. sym (s .1) ∙ ap f q ∙ fx, λ q. inj (c .perm) (s .0) ux (s .1 ∙ q ∙ sym fx))) (c .one i x u ux e) .1 refl
 
+-- what the move changes: x, which goes to itself, is no more in use
 pub record Death (U U′ : ℕ → Type 0) (f lab f′ lab′ : ℕ → ℕ) (x : ℕ) : Type 0 where
   pub x-in : U x
   pub f-x : f x ≡ x
@@ -222,12 +245,15 @@ pub record Death (U U′ : ℕ → Type 0) (f lab f′ lab′ : ℕ → ℕ) (x 
   pub lab-o : (i : ℕ) → i ≢ x → lab′ i ≡ lab i
 
 module _ {n : ℕ} {U U′ : ℕ → Type 0} {f lab f′ lab′ : ℕ → ℕ} {x : ℕ} (c : Cycles n U f lab) (r : Death U U′ f lab f′ lab′ x) where
+  -- x is not of U′
   dne : (i : ℕ) → U′ i → i ≢ x
   dne i u e = r .not-x (subst U′ e u)
 
+  -- only x goes to x
   fne : (i : ℕ) → U i → i ≢ x → f i ≢ x
   fne i u h e = h (inj (c .perm) u (r .x-in) (e ∙ sym (r .f-x)))
 
+  -- the cycles after the move
   pub death : Cycles n U′ f′ lab′
   death = record {
     perm = record {

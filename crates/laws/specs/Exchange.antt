@@ -2,7 +2,7 @@
 -- `Till` is the run of a cycle: from z on, y is met before x is left.
 use mathlib.Core.Path.{_≡_, refl, sym, ap, _∙_, subst}
 use mathlib.Core.Logic.{_≢_, _⊎_, inl, inr, ⊎-elim}
-use Prim.Native.Nat.{ℕ, zero, suc, _+_, _<_, _≤_}
+use Prim.Native.Nat.{ℕ, zero, suc, _<_}
 use native.Mathlib.Omega.{arith}
 use Rattle.laws.specs.Bools.{split}
 use Rattle.laws.specs.Update.{upd, upd-at, upd-off}
@@ -12,6 +12,7 @@ use Rattle.laws.specs.Cycles.{Cycles, Step, forwards}
 
 -- ---- exchange what x and y go to
 
+-- what the exchange changes: f′ leads from x to where y went, from y to where x went
 pub record Swap (U : ℕ → Type 0) (f f′ : ℕ → ℕ) (x y : ℕ) : Type 0 where
   pub x-in : U x
   pub y-in : U y
@@ -24,13 +25,16 @@ pub record Swap (U : ℕ → Type 0) (f f′ : ℕ → ℕ) (x y : ℕ) : Type 0
 turn : {U : ℕ → Type 0} {f f′ : ℕ → ℕ} {x y : ℕ} → Swap U f f′ x y → Swap U f f′ y x
 turn r = record { x-in = r .y-in; y-in = r .x-in; apart = λ e. r .apart (sym e); f-x = r .f-y; f-y = r .f-x; f-o = λ i h k. r .f-o i k h }
 
+-- a statement about each number: about x, about y, about another one
 three : {x y : ℕ} (P : ℕ → Type 0) → P x → P y → ((i : ℕ) → i ≢ x → i ≢ y → P i) → (i : ℕ) → P i
 three {x} {y} P px py po i = split i x (λ e. subst P (sym e) px) (λ h. split i y (λ e. subst P (sym e) py) (λ k. po i h k))
 
 module _ {n : ℕ} {U : ℕ → Type 0} {f f′ : ℕ → ℕ} {x y : ℕ} (p : Perm n U f) (r : Swap U f f′ x y) where
+  -- what undoes f′
   g : ℕ → ℕ
   g = upd (upd (p .inv) (f y) x) (f x) y
 
+  -- f′ permutes U
   pub swap-perm : Perm n U f′
   unfolding g
   swap-perm = record {
@@ -44,6 +48,7 @@ module _ {n : ℕ} {U : ℕ → Type 0} {f f′ : ℕ → ℕ} {x y : ℕ} (p : 
 
 -- two cycles become one, which keeps the label of x
 
+-- x and y had different labels; what had y's gets x's
 pub record Merged (U : ℕ → Type 0) (lab lab′ : ℕ → ℕ) (x y : ℕ) : Type 0 where
   pub two : lab x ≢ lab y
   pub lab-y : (i : ℕ) → U i → lab i ≡ lab y → lab′ i ≡ lab x
@@ -56,15 +61,18 @@ module _ {n : ℕ} {U : ℕ → Type 0} {f lab f′ lab′ : ℕ → ℕ} {x y :
   to-y zero z u e q = same q
   to-y (suc k) z u e q = split z y (λ d. same d) (λ h. via (f z) (link (u, r .f-o z (λ d. m .two (ap lab (sym d) ∙ e)) h)) (to-y k (f z) (c .perm .f-in z u) (c .keeps z u ∙ e) q))
 
+  -- x and y are in one cycle now
   x~y : Linked (Step U f′) x y
   x~y = let b = comes-back (c .perm) y (r .y-in) in via (f y) (link (r .x-in, r .f-x)) (to-y (b .0) (f y) (c .perm .f-in y (r .y-in)) (c .keeps y (r .y-in)) (b .1))
 
+  -- chains of steps stay chains
   merge-old : {i j : ℕ} → Linked (Step U f) i j → Linked (Step U f′) i j
   merge-old = map-linked (λ i. i) (λ i j s. three (λ k. i ≡ k → Linked (Step U f′) k j)
       (λ e. via y x~y (link (r .y-in, r .f-y ∙ ap f (sym e) ∙ s .1)))
       (λ e. via x (back x~y) (link (r .x-in, r .f-x ∙ ap f (sym e) ∙ s .1)))
       (λ k h h′ e. link (subst U e (s .0), r .f-o k h h′ ∙ ap f (sym e) ∙ s .1)) i refl)
 
+  -- the cycles after the move
   pub merge : Cycles n U f′ lab′
   merge = record {
     perm = swap-perm (c .perm) r;
@@ -96,14 +104,17 @@ module _ (f : ℕ → ℕ) (x y : ℕ) (apart : x ≢ y) where
   again zero z e = inl (stop e)
   again (suc m) z e = ⊎-elim (λ t. split z y (λ d. inl (stop d)) (λ k. split z x (λ d. inr (subst (λ w. Till f x y (f w)) d t)) (λ h. inl (go h k t)))) (λ t. inr t) (again m (f z) e)
 
+  -- the run begins at f x, if y is met from there at all
   pub till-fx : (m : ℕ) → iter f m (f x) ≡ y → Till f x y (f x)
   till-fx m e = ⊎-elim (λ t. t) (λ t. t) (again m (f x) e)
 
+  -- from each number of the cycle, y or x is met first
   pub either : (m z : ℕ) → iter f m z ≡ y → Till f x y z ⊎ Till f y x z
   unfolding iter
   either zero z e = inl (stop e)
   either (suc m) z e = split z y (λ d. inl (stop d)) (λ k. split z x (λ d. inr (stop d)) (λ h. ⊎-elim (λ t. inl (go h k t)) (λ t. inr (go k h t)) (either m (f z) e)))
 
+  -- and not both
   pub not-both : {z : ℕ} → Till f x y z → Till f y x z → ⊥
   not-both (stop d) (stop e) = apart (sym e ∙ d)
   not-both (stop d) (go h k t) = h d
@@ -120,6 +131,7 @@ till-steps {f} {x} {y} (go {z} h k s) = let r = till-steps s in (suc (r .0), r .
     at m rest zero l = h
     at m rest (suc t) l = rest t (omega arith)
 
+-- x and y had one label; the run up to y gets the new label c, the rest and all other cycles keep theirs
 pub record Halved (U : ℕ → Type 0) (f lab lab′ : ℕ → ℕ) (x y c : ℕ) : Type 0 where
   pub one-label : lab x ≡ lab y
   pub fresh : (i : ℕ) → U i → lab i ≢ c
@@ -133,22 +145,26 @@ module _ {n : ℕ} {U : ℕ → Type 0} {f f′ lab : ℕ → ℕ} {x y : ℕ} (
   till-linked u (stop e) = same e
   till-linked u (go {z} h k t) = via (f z) (link (u, r .f-o z h k)) (till-linked (c .perm .f-in z u) t)
 
+  -- f′ stays on the run
   till-next : lab x ≡ lab y → {z : ℕ} → Till f x y z → Till f x y (f′ z)
   till-next e (stop {z} d) =
       let w = forwards (c .perm) (c .one (f x) y (c .perm .f-in x (r .x-in)) (r .y-in) (c .keeps x (r .x-in) ∙ e)) in
       subst (Till f x y) (sym (ap f′ d ∙ r .f-y)) (till-fx f x y (r .apart) (w .0 .0) (w .0 .1))
   till-next e (go {z} h k t) = subst (Till f x y) (sym (r .f-o z h k)) t
 
+  -- the run is of y's label
   till-lab : {z : ℕ} → U z → Till f x y z → lab z ≡ lab y
   till-lab u (stop e) = ap lab e
   till-lab u (go {z} h k t) = sym (c .keeps z u) ∙ till-lab (c .perm .f-in z u) t
 
 module _ {n : ℕ} {U : ℕ → Type 0} {f lab f′ lab′ : ℕ → ℕ} {x y d : ℕ} (c : Cycles n U f lab) (r : Swap U f f′ x y) (m : Halved U f lab lab′ x y d) where
+  -- where a number lies: on the run, on the rest of the cycle, or in another cycle
   data Side (i : ℕ) : Type 0 where
     run : Till f x y i → lab′ i ≡ d → Side i
     rest : Till f y x i → lab′ i ≡ lab i → lab i ≡ lab x → Side i
     far : lab i ≢ lab x → lab′ i ≡ lab i → Side i
 
+  -- each number of U lies in one of the three
   side : (i : ℕ) → U i → Side i
   side i u = split (lab i) (lab x) near (λ e. far e (m .lab-far i u e))
     where
@@ -156,6 +172,7 @@ module _ {n : ℕ} {U : ℕ → Type 0} {f lab f′ lab′ : ℕ → ℕ} {x y d
       near e = let w = forwards (c .perm) (c .one i y u (r .y-in) (e ∙ m .one-label)) in
           ⊎-elim (λ t. run t (m .lab-run i u t)) (λ t. rest t (m .lab-rest i u t) e) (either f x y (r .apart) (w .0 .0) i (w .0 .1))
 
+  -- the cycles after the move
   pub halve : Cycles n U f′ lab′
   halve = record { perm = swap-perm (c .perm) r; keeps = λ i u. keep i u (side i u); one = λ i j u v e. join i j u v e (side i u) (side j v) }
     where

@@ -1,29 +1,33 @@
--- The moves of `Cycles` as functions.
+-- The moves of `Cycles` and `Exchange` for functions written with `upd`.
 use mathlib.Core.Path.{_≡_, refl, sym, ap, _∙_, subst}
-use mathlib.Core.Logic.{_≢_, _⊎_, inl, inr, ⊎-elim}
-use Prim.Native.Nat.{ℕ, zero, suc, _+_, _-_, _*_, _≤_, _<_}
-use Rattle.laws.specs.Update.{upd, upd-at, upd-off, upd-same, relabel, relabel-at, relabel-off}
-use Rattle.laws.specs.Permutations.{Perm, inj}
+use mathlib.Core.Logic.{_≢_, _⊎_, inl, inr}
+use Prim.Native.Nat.{ℕ, _≤_}
+use Rattle.laws.specs.Update.{upd, upd-off, upd-same, relabel, relabel-at, relabel-off}
 use Rattle.laws.specs.Cycles.{Cycles, insert, remove}
 use Rattle.laws.specs.Exchange.{merge, halve, Till}
 
+-- U, and x
 abbrev pub Or : ℕ → (ℕ → Type 0) → ℕ → Type 0
 Or x U i = (i ≡ x) ⊎ U i
 
+-- U, but not x
 abbrev pub But : ℕ → (ℕ → Type 0) → ℕ → Type 0
 But x U i = U i × (i ≢ x)
 
--- x goes in after y; x, which comes after y, goes out; x and y exchange what they go to
+-- x goes in after y
 abbrev pub ins : (ℕ → ℕ) → ℕ → ℕ → ℕ → ℕ
 ins f x y = upd (upd f x (f y)) y x
 
+-- x, which comes after y, goes out
 abbrev pub out : (ℕ → ℕ) → ℕ → ℕ → ℕ → ℕ
 out f x y = upd f y (f x)
 
+-- x and y exchange what they go to
 abbrev pub xchg : (ℕ → ℕ) → ℕ → ℕ → ℕ → ℕ
 xchg f x y = upd (upd f x (f y)) y (f x)
 
 module _ {n : ℕ} {U : ℕ → Type 0} {f lab : ℕ → ℕ} (c : Cycles n U f lab) (x y : ℕ) where
+  -- x goes in after y, with y's label
   pub ins-cycles : ¬ U x → 1 ≤ x → x ≤ n → U y → Cycles n (Or x U) (ins f x y) (upd lab x (lab y))
   ins-cycles fresh l h u = insert c (record {
     fresh = fresh;
@@ -43,6 +47,7 @@ module _ {n : ℕ} {U : ℕ → Type 0} {f lab : ℕ → ℕ} (c : Cycles n U f 
       x≢y : x ≢ y
       x≢y e = fresh (subst U (sym e) u)
 
+  -- x goes out
   pub out-cycles : U y → f y ≡ x → x ≢ y → Cycles n (But x U) (out f x y) lab
   out-cycles u e h = remove c (record {
     y-in = u;
@@ -56,6 +61,7 @@ module _ {n : ℕ} {U : ℕ → Type 0} {f lab : ℕ → ℕ} (c : Cycles n U f 
     lab-o = λ i p. refl;
   })
 
+  -- two cycles become one, with x's label
   pub merge-cycles : U x → U y → lab x ≢ lab y → Cycles n U (xchg f x y) (relabel lab (lab y) (lab x))
   merge-cycles u v h = merge c (record {
     x-in = u;

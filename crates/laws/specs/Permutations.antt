@@ -1,20 +1,23 @@
 -- A function followed from a number: how far, and that a permutation of finitely many numbers comes back.
 use mathlib.Core.Path.{_≡_, refl, sym, ap, _∙_, subst}
 use mathlib.Core.Logic.{_≢_, _⊎_, inl, inr}
-use Prim.Native.Nat.{ℕ, zero, suc, _+_, _-_, _*_, _≤_, _<_}
+use Prim.Native.Nat.{ℕ, zero, suc, _+_, _-_, _≤_, _<_}
 use native.Mathlib.Nat.{suc-add, zero-add}
 use native.Mathlib.Omega.{arith}
 use Rattle.laws.specs.Bools.{same?, le?}
 
+-- n steps of f from x
 unfoldable pub iter : (ℕ → ℕ) → ℕ → ℕ → ℕ
 iter f zero x = x
 iter f (suc n) x = iter f n (f x)
 
+-- m steps, then n
 pub iter-add : (f : ℕ → ℕ) (m n x : ℕ) → iter f (m + n) x ≡ iter f n (iter f m x)
 unfolding iter
 iter-add f zero n x = rw (zero-add n)
 iter-add f (suc m) n x = rw (suc-add m n) (iter-add f m n (f x))
 
+-- one step more, at the end
 pub iter-last : (f : ℕ → ℕ) (n x : ℕ) → iter f (suc n) x ≡ f (iter f n x)
 unfolding iter
 iter-last f zero x = refl
@@ -22,6 +25,7 @@ iter-last f (suc n) x = iter-last f n (f x)
 
 -- ---- pigeonhole: n + 1 numbers of 1..n hold two equal ones
 
+-- two of h 0 .. h n are equal
 pub record Twice (n : ℕ) (h : ℕ → ℕ) : Type 0 where
   pub i : ℕ
   pub j : ℕ
@@ -29,6 +33,7 @@ pub record Twice (n : ℕ) (h : ℕ → ℕ) : Type 0 where
   pub j≤n : j ≤ n
   pub eq : h i ≡ h j
 
+-- c is one of h 0 .. h n, or none
 find : (n c : ℕ) (h : ℕ → ℕ) → ((i : ℕ) × (i ≤ n) × (h i ≡ c)) ⊎ ((i : ℕ) → i ≤ n → h i ≢ c)
 find zero c h = go (same? (h 0) c)
   where
@@ -47,6 +52,7 @@ find (suc n) c h = go (same? (h (suc n)) c) (find n c h)
         at i l (inl q) z = e (ap h (sym q) ∙ z)
         at i l (inr q) z = r i (omega arith) z
 
+-- so it is
 pub pigeonhole : (n : ℕ) (h : ℕ → ℕ) → ((i : ℕ) → i ≤ n → (1 ≤ h i) × (h i ≤ n)) → Twice n h
 pigeonhole zero h b = absurd (omega (arith, b 0 (omega arith)))
 pigeonhole (suc n) h b = go (λ k u. pigeonhole n k u) (find n (h (suc n)) h)
@@ -77,6 +83,7 @@ pigeonhole (suc n) h b = go (λ k u. pigeonhole n k u) (find n (h (suc n)) h)
 
 -- ---- a permutation of some of the numbers 1..n
 
+-- f maps U, a part of 1..n, into U, and can be undone there
 pub record Perm (n : ℕ) (U : ℕ → Type 0) (f : ℕ → ℕ) : Type 0 where
   pub low : (i : ℕ) → U i → 1 ≤ i
   pub high : (i : ℕ) → U i → i ≤ n
@@ -85,19 +92,23 @@ pub record Perm (n : ℕ) (U : ℕ → Type 0) (f : ℕ → ℕ) : Type 0 where
   pub undo : (i : ℕ) → U i → inv (f i) ≡ i
 
 module _ {n : ℕ} {U : ℕ → Type 0} {f : ℕ → ℕ} (p : Perm n U f) where
+  -- different numbers go to different ones
   pub inj : {i j : ℕ} → U i → U j → f i ≡ f j → i ≡ j
   inj {i} {j} u v e = sym (p .undo i u) ∙ ap (p .inv) e ∙ p .undo j v
 
+  -- steps stay in U
   pub iter-in : (m x : ℕ) → U x → U (iter f m x)
   unfolding iter
   iter-in zero x u = u
   iter-in (suc m) x u = iter-in m (f x) (p .f-in x u)
 
+  -- different numbers stay different after any number of steps
   pub iter-inj : (m x y : ℕ) → U x → U y → iter f m x ≡ iter f m y → x ≡ y
   unfolding iter
   iter-inj zero x y u v e = e
   iter-inj (suc m) x y u v e = inj u v (iter-inj m (f x) (f y) (p .f-in x u) (p .f-in y v) e)
 
+  -- among n + 1 steps two are at one place
   twice : (x : ℕ) → U x → Twice n (λ i. iter f i x)
   twice x u = pigeonhole n (λ i. iter f i x) (λ i l. (p .low _ (iter-in i x u), p .high _ (iter-in i x u)))
 
@@ -134,6 +145,7 @@ module _ {n : ℕ} {U : ℕ → Type 0} {f : ℕ → ℕ} (p : Perm n U f) where
   pub redo : (g : ℕ → ℕ) → ((i : ℕ) → U i → g (f i) ≡ i) → (x : ℕ) → U x → f (g x) ≡ x
   redo g h x u = let r = onto x u in subst (λ y. f (g y) ≡ y) (r .2) (ap f (h (r .0) (r .1)))
 
+  -- and it stays in U
   pub undo-in : (g : ℕ → ℕ) → ((i : ℕ) → U i → g (f i) ≡ i) → (x : ℕ) → U x → U (g x)
   undo-in g h x u = let r = onto x u in subst U (sym (h (r .0) (r .1)) ∙ ap g (r .2)) (r .1)
 

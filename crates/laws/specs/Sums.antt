@@ -1,37 +1,44 @@
 -- Sums and counts over 1..n: equal terms, one term changed, sums in either order.
-use mathlib.Core.Path.{_≡_, refl, sym, ap, _∙_, subst}
+use mathlib.Core.Path.{_≡_, refl, sym, ap, subst}
 use mathlib.Core.Logic.{_≢_, _⊎_, inl, inr}
 use mathlib.Core.Bool.{Bool, true, false}
 use Prim.Native.Nat.{ℕ, zero, suc, _+_, _≤_, _<_}
 use native.Mathlib.Omega.{arith}
 use Rattle.laws.specs.Bools.{same?, split}
 
+-- f 1 + .. + f n
 unfoldable pub sumTo : ℕ → (ℕ → ℕ) → ℕ
 sumTo zero f = 0
 sumTo (suc n) f = f (suc n) + sumTo n f
 
+-- a test as a number
 abbrev pub bit : Bool → ℕ
 bit true = 1
 bit false = 0
 
+-- how many of 1..n pass
 abbrev pub countTo : ℕ → (ℕ → Bool) → ℕ
 countTo n p = sumTo n (λ k. bit (p k))
 
+-- equal terms, equal sums
 pub sum-ext : (n : ℕ) (f g : ℕ → ℕ) → ((k : ℕ) → 1 ≤ k → k ≤ n → f k ≡ g k) → sumTo n f ≡ sumTo n g
 unfolding sumTo
 sum-ext zero f g h = refl
 sum-ext (suc n) f g h = omega (arith, h (suc n) (omega arith) (omega arith), sum-ext n f g (λ k l u. h k l (omega arith)))
 
+-- term by term
 pub sum-add : (n : ℕ) (f g : ℕ → ℕ) → sumTo n (λ k. f k + g k) ≡ sumTo n f + sumTo n g
 unfolding sumTo
 sum-add zero f g = refl
 sum-add (suc n) f g = omega (arith, sum-add n f g)
 
+-- smaller terms, a smaller sum
 pub sum-le : (n : ℕ) (f g : ℕ → ℕ) → ((k : ℕ) → 1 ≤ k → k ≤ n → f k ≤ g k) → sumTo n f ≤ sumTo n g
 unfolding sumTo
 sum-le zero f g h = omega arith
 sum-le (suc n) f g h = omega (arith, h (suc n) (omega arith) (omega arith), sum-le n f g (λ k l u. h k l (omega arith)))
 
+-- and strictly so if one term is
 pub sum-lt : (n : ℕ) (f g : ℕ → ℕ) (c : ℕ) → 1 ≤ c → c ≤ n → f c < g c → ((k : ℕ) → 1 ≤ k → k ≤ n → f k ≤ g k) → sumTo n f < sumTo n g
 unfolding sumTo
 sum-lt zero f g c l u s h = absurd (omega arith)
@@ -39,10 +46,12 @@ sum-lt (suc n) f g c l u s h = split c (suc n)
     (λ e. let t : f (suc n) < g (suc n) = subst (λ k. f k < g k) e s in omega (arith, sum-le n f g (λ k l′ u′. h k l′ (omega arith))))
     (λ d. omega (arith, h (suc n) (omega arith) (omega arith), sum-lt n f g c l (omega arith) s (λ k l′ u′. h k l′ (omega arith))))
 
+-- a test counts once at most
 pub bit-le : (b : Bool) → bit b ≤ 1
 bit-le true = omega arith
 bit-le false = omega arith
 
+-- at most n of 1..n pass
 pub count-le : (n : ℕ) (p : ℕ → Bool) → countTo n p ≤ n
 unfolding sumTo
 count-le zero p = omega arith
@@ -58,6 +67,7 @@ sum-change (suc n) f g c l u h = go (λ v. sum-change n f g c l v h) (same? c (s
     go ih (inl e) = omega (arith, sum-ext n f g (λ k l′ u′. h k (omega arith)), ap f e, ap g e)
     go ih (inr e) = omega (arith, ih (omega arith), h (suc n) (λ q. e (sym q)))
 
+-- nothing but zeros
 pub sum-zero : (n : ℕ) → sumTo n (λ j. 0) ≡ 0
 unfolding sumTo
 sum-zero zero = refl

@@ -1,15 +1,15 @@
 -- Walks that compute, with fuel, and the cycles that they speak of: what is met from a number, the run between two numbers as a
 -- test and as a loop of code walks it, and a rule in Bool form that says the same as `Cycles`.
 use mathlib.Core.Path.{_≡_, refl, sym, ap, _∙_, subst}
-use mathlib.Core.Logic.{_≢_, _⊎_, inl, inr, ⊎-elim}
-use mathlib.Core.Bool.{Bool, true, false, not, _&&_, _||_, cond, false≢true}
+use mathlib.Core.Logic.{_≢_, ⊎-elim}
+use mathlib.Core.Bool.{Bool, true, false, not, _||_, false≢true}
 use mathlib.Core.List.{List, [], _∷_}
-use Prim.Native.Nat.{ℕ, zero, suc, _+_, _-_, _*_, _≤_, _<_}
+use Prim.Native.Nat.{ℕ, zero, suc, _+_, _-_, _≤_, _<_}
 use native.Mathlib.Omega.{arith}
-use lib.Dec.{T, eqb, eqb→eq, eqb-refl, leb, leb→le, le→leb}
-use Rattle.laws.specs.Bools.{le?, T-true, true-T, T-false, and-T, T-and, eqb-same, eqb-other, same?, split, ask, allb, All, allb-T, T-allb, imp-T, T-imp}
+use lib.Dec.{T, eqb, eqb→eq, leb, leb→le, le→leb}
+use Rattle.laws.specs.Bools.{pick, le?, T-true, true-T, eqb-same, eqb-other, split, allb, All, allb-T, T-allb, imp-T, T-imp}
 use Rattle.laws.specs.Search.{allTo, all-at, all-of}
-use Rattle.laws.specs.Permutations.{iter, iter-add, iter-last, Perm, inj, iter-in, iter-inj, soon}
+use Rattle.laws.specs.Permutations.{iter, iter-add, iter-last, inj, iter-in, iter-inj, soon}
 use Rattle.laws.specs.Linked.{Linked, same, link, back, via}
 use Rattle.laws.specs.Cycles.{Cycles, Step, forwards}
 use Rattle.laws.specs.Exchange.{Till, stop, go, either, till-steps}
@@ -17,21 +17,25 @@ use Rattle.laws.specs.Exchange.{Till, stop, go, either, till-steps}
 -- from z on, y is met before x (a Till that computes)
 unfoldable pub first : (ℕ → ℕ) → ℕ → ℕ → ℕ → ℕ → Bool
 first f zero x y z = false
-first f (suc n) x y z = elim (eqb z y) [ true ↦ true | false ↦ elim (eqb z x) [ true ↦ false | false ↦ first f n x y (f z) ] ]
+first f (suc n) x y z = pick (eqb z y) true (pick (eqb z x) false (first f n x y (f z)))
 
 module _ (f : ℕ → ℕ) (n x : ℕ) {y z : ℕ} where
+  -- at y the answer is yes
   pub first-at : z ≡ y → first f (suc n) x y z ≡ true
   unfolding first
   first-at e = rw (eqb-same e, first)
 
+  -- at x, which is not y, it is no
   pub first-no : z ≢ y → z ≡ x → first f (suc n) x y z ≡ false
   unfolding first
   first-no h e = rw (eqb-other h, eqb-same e, first)
 
+  -- elsewhere the walk goes on
   pub first-on : z ≢ y → z ≢ x → first f (suc n) x y z ≡ first f n x y (f z)
   unfolding first
   first-on h k = rw (eqb-other h, eqb-other k, first)
 
+-- what the test finds is so
 pub first-till : (f : ℕ → ℕ) (n x y z : ℕ) → first f n x y z ≡ true → Till f x y z
 unfolding first
 first-till f zero x y z t = absurd (false≢true t)
@@ -50,22 +54,26 @@ till-first f (suc n) (suc m) x y z l e (go h k t) = first-on f n x k h ∙ till-
 -- j is met from s within n steps
 unfoldable pub meets : (ℕ → ℕ) → ℕ → ℕ → ℕ → Bool
 meets f zero s j = false
-meets f (suc n) s j = elim (eqb s j) [ true ↦ true | false ↦ meets f n (f s) j ]
+meets f (suc n) s j = pick (eqb s j) true (meets f n (f s) j)
 
+-- at j the answer is yes
 pub meets-at : (f : ℕ → ℕ) (n : ℕ) {s j : ℕ} → s ≡ j → meets f (suc n) s j ≡ true
 unfolding meets
 meets-at f n e = rw (eqb-same e, meets)
 
+-- elsewhere the walk goes on
 pub meets-on : (f : ℕ → ℕ) (n : ℕ) {s j : ℕ} → s ≢ j → meets f (suc n) s j ≡ meets f n (f s) j
 unfolding meets
 meets-on f n h = rw (eqb-other h, meets)
 
+-- what the test finds is so many steps away
 pub meets-iter : (f : ℕ → ℕ) (n s j : ℕ) → meets f n s j ≡ true → (m : ℕ) × (m < n) × (iter f m s ≡ j)
 unfolding meets iter
 meets-iter f zero s j t = absurd (false≢true t)
 meets-iter f (suc n) s j t = split s j (λ e. (0, omega arith, e)) λ h.
     let r = meets-iter f n (f s) j (sym (meets-on f n h) ∙ t) in (suc (r .0), omega (arith, r .1), r .2)
 
+-- and what is fewer than n steps away is found
 pub iter-meets : (f : ℕ → ℕ) (n m s j : ℕ) → m < n → iter f m s ≡ j → meets f n s j ≡ true
 unfolding iter
 iter-meets f zero m s j l e = absurd (omega arith)
@@ -84,16 +92,20 @@ chain {f = f} c (suc m) s u = via (f s) (link (u, refl)) (chain c m (f s) (c s u
 abbrev pub cycle-tests : ℕ → (ℕ → Bool) → (ℕ → ℕ) → (ℕ → ℕ) → (ℕ → ℕ) → (ℕ → ℕ) → ℕ → List Bool
 cycle-tests n u f g lab root i = leb 1 (f i) ∷ leb (f i) n ∷ u (f i) ∷ eqb (g (f i)) i ∷ eqb (lab (f i)) (lab i) ∷ meets f n (root (lab i)) i ∷ []
 
+-- all of 1..n that are in use pass their tests
 unfoldable pub cyclesb : ℕ → (ℕ → Bool) → (ℕ → ℕ) → (ℕ → ℕ) → (ℕ → ℕ) → (ℕ → ℕ) → Bool
 cyclesb n u f g lab root = allTo n (λ i. not (u i) || allb (cycle-tests n u f g lab root i))
 
+-- i is of 1..n and in use
 abbrev pub Used : ℕ → (ℕ → Bool) → ℕ → Type 0
 Used n u i = (1 ≤ i) × (i ≤ n) × T (u i)
 
+-- the facts of one number
 facts : (n : ℕ) (u : ℕ → Bool) (f g lab root : ℕ → ℕ) → T (cyclesb n u f g lab root) → (i : ℕ) → Used n u i → All (cycle-tests n u f g lab root i)
 unfolding cyclesb
 facts n u f g lab root t i v = allb-T (cycle-tests n u f g lab root i) (imp-T (u i) _ (all-at n _ t i (v .0) (v .1)) (v .2))
 
+-- from the test to the cycles
 pub cycles-of : (n : ℕ) (u : ℕ → Bool) (f g lab root : ℕ → ℕ) → ((i : ℕ) → Used n u i → Used n u (root (lab i))) → T (cyclesb n u f g lab root) → Cycles n (Used n u) f lab
 cycles-of n u f g lab root rooted t = record {
   perm = record { low = λ i v. v .0; high = λ i v. v .1; f-in = into; inv = g; undo = λ i v. eqb→eq _ _ (fact i v .1 .1 .1 .0) };
@@ -110,6 +122,7 @@ cycles-of n u f g lab root rooted t = record {
     from : (i : ℕ) → Used n u i → Linked (Step (Used n u) f) (root (lab i)) i
     from i v = let r = meets-iter f n (root (lab i)) i (T-true (fact i v .1 .1 .1 .1 .1 .0)) in subst (Linked (Step (Used n u) f) (root (lab i))) (r .2) (chain into (r .0) (root (lab i)) (rooted i v))
 
+-- and back: n steps are enough for each walk
 pub of-cycles : (n : ℕ) (u : ℕ → Bool) (f g lab root : ℕ → ℕ) → ((i : ℕ) → Used n u i → Used n u (root (lab i)) × (lab (root (lab i)) ≡ lab i)) → ((i : ℕ) → Used n u i → g (f i) ≡ i)
     → Cycles n (Used n u) f lab → T (cyclesb n u f g lab root)
 unfolding cyclesb
@@ -124,10 +137,12 @@ of-cycles n u f g lab root rooted gf c = all-of n _ λ i l h. T-imp (u i) _ λ t
 -- ---- the run after k up to a, as a test: of the half-edges of k's cycle, those from which a is met before k
 
 module _ {n : ℕ} {U : ℕ → Type 0} {f lab : ℕ → ℕ} (c : Cycles n U f lab) {k a q : ℕ} (uk : U k) (ua : U a) (uq : U q) (qa : f q ≡ a) (ka : k ≢ a) (one : lab k ≡ lab a) where
+  -- from a number other than a: where a is met before k, its predecessor q is
   to-run : {i : ℕ} → U i → i ≢ a → Till f k a i → Till f k q i
   to-run u h (stop e) = absurd (h e)
   to-run u h (go {z} p p′ t) = split z q (λ e. stop e) λ g. go p g (to-run (c .perm .f-in z u) (λ e. g (inj (c .perm) u uq (e ∙ sym qa))) t)
 
+  -- and where k is met before a, k is met before q
   to-rest : {i : ℕ} → U i → i ≢ a → Till f a k i → Till f q k i
   to-rest u h (stop e) = stop e
   to-rest u h (go {z} p p′ t) = split z q (λ e. absurd (not-here (subst (Till f a k) (ap f e ∙ qa) t))) λ g. go g p′ (to-rest (c .perm .f-in z u) (λ e. g (inj (c .perm) u uq (e ∙ sym qa))) t)
@@ -136,6 +151,7 @@ module _ {n : ℕ} {U : ℕ → Type 0} {f lab : ℕ → ℕ} (c : Cycles n U f 
       not-here (stop e) = ka (sym e)
       not-here (go g g′ s) = g refl
 
+  -- a is met from each number of its cycle
   ahead : (i : ℕ) → U i → lab i ≡ lab k → (m : ℕ) × (iter f m i ≡ a)
   ahead i u e = forwards (c .perm) (c .one i a u ua (e ∙ one)) .0
 
@@ -143,6 +159,7 @@ module _ {n : ℕ} {U : ℕ → Type 0} {f lab : ℕ → ℕ} (c : Cycles n U f 
   pub run-yes : (i : ℕ) → U i → i ≢ a → lab i ≡ lab k → first f n k a i ≡ true → Till f k q i
   run-yes i u h e t = to-run u h (first-till f n k a i t)
 
+  -- the test says no: on the rest
   pub run-no : (i : ℕ) → U i → i ≢ a → lab i ≡ lab k → first f n k a i ≡ false → Till f q k i
   run-no i u h e t = ⊎-elim (λ s. absurd (seen s)) (λ s. to-rest u h s) (either f k a ka (ahead i u e .0) i (ahead i u e .1))
     where
@@ -157,6 +174,7 @@ module _ {n : ℕ} {U : ℕ → Type 0} {f lab : ℕ → ℕ} (c : Cycles n U f 
 module _ {n : ℕ} {U : ℕ → Type 0} {f lab : ℕ → ℕ} (c : Cycles n U f lab) {k a : ℕ} (uk : U k) (ka : k ≢ a)
     -- a is met for the first time after d steps from f k
     (d : ℕ) (at-d : iter f d (f k) ≡ a) (first-d : (t : ℕ) → t < d → iter f t (f k) ≢ a) where
+  -- f k is in use
   ufk : U (f k)
   ufk = c .perm .f-in k uk
 
