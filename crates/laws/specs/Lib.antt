@@ -9,3 +9,4 @@ pub mod Cycles
 pub mod Exchange
 pub mod Moves
 pub mod Walks
+pub mod Instances
