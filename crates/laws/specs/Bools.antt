@@ -79,6 +79,11 @@ pub T-imp : (a b : Bool) → (T a → T b) → T (not a || b)
 T-imp true b f = f tt
 T-imp false b f = tt
 
+-- two tests that pass together are equal
+pub same-T : {a b : Bool} → (T a → T b) → (T b → T a) → a ≡ b
+same-T {a = true} {b} f g = sym (T-true (f tt))
+same-T {a = false} {b} f g = sym (T-false g)
+
 -- ---- two numbers
 
 -- they are equal or not

@@ -9,3 +9,5 @@ pub mod Cycles
 pub mod Exchange
 pub mod Moves
 pub mod Walks
+pub mod Marks
+pub mod Instances

@@ -9,7 +9,7 @@ use native.Mathlib.Omega.{arith}
 use lib.Dec.{T, eqb, eqb→eq, leb, leb→le, le→leb}
 use Rattle.laws.specs.Bools.{pick, le?, T-true, true-T, eqb-same, eqb-other, split, allb, All, allb-T, T-allb, imp-T, T-imp}
 use Rattle.laws.specs.Search.{allTo, all-at, all-of}
-use Rattle.laws.specs.Permutations.{iter, iter-add, iter-last, inj, iter-in, iter-inj, soon}
+use Rattle.laws.specs.Permutations.{iter, iter-add, iter-last, Perm, inj, iter-in, iter-inj, soon}
 use Rattle.laws.specs.Linked.{Linked, same, link, back, via}
 use Rattle.laws.specs.Cycles.{Cycles, Step, forwards}
 use Rattle.laws.specs.Exchange.{Till, stop, go, either, till-steps}
@@ -80,11 +80,34 @@ iter-meets f zero m s j l e = absurd (omega arith)
 iter-meets f (suc n) zero s j l e = meets-at f n e
 iter-meets f (suc n) (suc m) s j l e = split s j (λ d. meets-at f n d) λ h. meets-on f n h ∙ iter-meets f n m (f s) j (omega arith) e
 
+-- in a permutation of 1..n, what is met at all is met within n steps
+pub met-soon : {n : ℕ} {U : ℕ → Type 0} {f : ℕ → ℕ} {s j : ℕ} → Perm n U f → U s → (m : ℕ) → iter f m s ≡ j → meets f n s j ≡ true
+met-soon {n} {f = f} {s} {j} p u m e = let r = soon p m m s (omega arith) u in iter-meets f n (r .0) s j (r .1) (r .3 ∙ e)
+
 -- along f from one in use, all are linked
 pub chain : {U : ℕ → Type 0} {f : ℕ → ℕ} → ((i : ℕ) → U i → U (f i)) → (m s : ℕ) → U s → Linked (Step U f) s (iter f m s)
 unfolding iter
 chain c zero s u = same refl
 chain {f = f} c (suc m) s u = via (f s) (link (u, refl)) (chain c m (f s) (c s u))
+
+-- if each is met from its label's root, those of one label are in one cycle
+pub met-cycles : {n : ℕ} {U : ℕ → Type 0} {f lab : ℕ → ℕ} → Perm n U f → ((i : ℕ) → U i → lab (f i) ≡ lab i) → (root : ℕ → ℕ) → ((i : ℕ) → U i → U (root (lab i)))
+    → ((i : ℕ) → U i → meets f n (root (lab i)) i ≡ true) → Cycles n U f lab
+met-cycles {n} {U} {f} {lab} p keeps root rooted met = record {
+  perm = p;
+  keeps = keeps;
+  one = λ i j v w e. via (root (lab i)) (back (from i v)) (subst (λ k. Linked (Step U f) k j) (ap root (sym e)) (from j w));
+}
+  where
+    from : (i : ℕ) → U i → Linked (Step U f) (root (lab i)) i
+    from i v = let r = meets-iter f n (root (lab i)) i (met i v) in subst (Linked (Step U f) (root (lab i))) (r .2) (chain (p .f-in) (r .0) (root (lab i)) (rooted i v))
+
+-- and back: n steps are enough for each walk
+pub cycles-met : {n : ℕ} {U : ℕ → Type 0} {f lab : ℕ → ℕ} → Cycles n U f lab → (root : ℕ → ℕ) → ((i : ℕ) → U i → U (root (lab i)) × (lab (root (lab i)) ≡ lab i))
+    → (i : ℕ) → U i → meets f n (root (lab i)) i ≡ true
+cycles-met {n} {U} {f} {lab} c root rooted i v =
+    let m = forwards (c .perm) (c .one (root (lab i)) i (rooted i v .0) v (rooted i v .1)) in
+    met-soon (c .perm) (rooted i v .0) (m .0 .0) (m .0 .1)
 
 -- ---- a rule that computes, and the cycles
 
@@ -107,11 +130,9 @@ facts n u f g lab root t i v = allb-T (cycle-tests n u f g lab root i) (imp-T (u
 
 -- from the test to the cycles
 pub cycles-of : (n : ℕ) (u : ℕ → Bool) (f g lab root : ℕ → ℕ) → ((i : ℕ) → Used n u i → Used n u (root (lab i))) → T (cyclesb n u f g lab root) → Cycles n (Used n u) f lab
-cycles-of n u f g lab root rooted t = record {
-  perm = record { low = λ i v. v .0; high = λ i v. v .1; f-in = into; inv = g; undo = λ i v. eqb→eq _ _ (fact i v .1 .1 .1 .0) };
-  keeps = λ i v. eqb→eq _ _ (fact i v .1 .1 .1 .1 .0);
-  one = λ i j v w e. via (root (lab i)) (back (from i v)) (subst (λ k. Linked (Step (Used n u) f) k j) (ap root (sym e)) (from j w));
-}
+cycles-of n u f g lab root rooted t = met-cycles
+    (record { low = λ i v. v .0; high = λ i v. v .1; f-in = into; inv = g; undo = λ i v. eqb→eq _ _ (fact i v .1 .1 .1 .0) })
+    (λ i v. eqb→eq _ _ (fact i v .1 .1 .1 .1 .0)) root rooted (λ i v. T-true (fact i v .1 .1 .1 .1 .1 .0))
   where
     fact : (i : ℕ) → Used n u i → All (cycle-tests n u f g lab root i)
     fact = facts n u f g lab root t
@@ -119,20 +140,15 @@ cycles-of n u f g lab root rooted t = record {
     into : (i : ℕ) → Used n u i → Used n u (f i)
     into i v = (leb→le _ _ (fact i v .0), leb→le _ _ (fact i v .1 .0), fact i v .1 .1 .0)
 
-    from : (i : ℕ) → Used n u i → Linked (Step (Used n u) f) (root (lab i)) i
-    from i v = let r = meets-iter f n (root (lab i)) i (T-true (fact i v .1 .1 .1 .1 .1 .0)) in subst (Linked (Step (Used n u) f) (root (lab i))) (r .2) (chain into (r .0) (root (lab i)) (rooted i v))
-
--- and back: n steps are enough for each walk
+-- and back
 pub of-cycles : (n : ℕ) (u : ℕ → Bool) (f g lab root : ℕ → ℕ) → ((i : ℕ) → Used n u i → Used n u (root (lab i)) × (lab (root (lab i)) ≡ lab i)) → ((i : ℕ) → Used n u i → g (f i) ≡ i)
     → Cycles n (Used n u) f lab → T (cyclesb n u f g lab root)
 unfolding cyclesb
 of-cycles n u f g lab root rooted gf c = all-of n _ λ i l h. T-imp (u i) _ λ t.
     let v : Used n u i = (l, h, t) in
     let w = c .perm .f-in i v in
-    let m = forwards (c .perm) (c .one (root (lab i)) i (rooted i v .0) v (rooted i v .1)) in
-    let s = soon (c .perm) (m .0 .0) (m .0 .0) (root (lab i)) (omega arith) (rooted i v .0) in
     T-allb (cycle-tests n u f g lab root i)
-    (le→leb _ _ (w .0), (le→leb _ _ (w .1), (w .2, (true-T (eqb-same (gf i v)), (true-T (eqb-same (c .keeps i v)), (true-T (iter-meets f n (s .0) (root (lab i)) i (s .1) (s .3 ∙ m .0 .1)), tt))))))
+    (le→leb _ _ (w .0), (le→leb _ _ (w .1), (w .2, (true-T (eqb-same (gf i v)), (true-T (eqb-same (c .keeps i v)), (true-T (cycles-met c root rooted i v), tt))))))
 
 -- ---- the run after k up to a, as a test: of the half-edges of k's cycle, those from which a is met before k
 
