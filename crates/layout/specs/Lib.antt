@@ -1,2 +1,4 @@
 pub mod Layout
 pub mod LayoutLaws
+pub mod Mate
+pub mod MateLaws

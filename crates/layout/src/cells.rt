@@ -33,7 +33,7 @@ pub fn put(links: &mut [u16], i: usize, v: usize)
 
 // Word j of record n of the records of `width` words from `base` on.
 pub fn cell(links: &[u16], base: u32, width: usize, j: usize, n: usize) -> usize
-    requires { ⌜ (width ≤ 4) × (j < 4) × (n < 65536) ⌝ }
+    requires { ⌜ (width ≤ 4) × (j < 4) × (n ≤ 65536) ⌝ }
     ensures { λ r. ⌜ (r ≡ col (kind base width) j (now (links .entry)) n) × (r < 65536) ⌝ }
 {
     if n == 0 {
@@ -44,7 +44,7 @@ pub fn cell(links: &[u16], base: u32, width: usize, j: usize, n: usize) -> usize
 
 // Word j of record n set to v.
 pub fn put_cell(links: &mut [u16], base: u32, width: usize, j: usize, n: usize, v: usize)
-    requires { ⌜ (width ≤ 4) × (j < 4) × (n < 65536) × (v < 65536) ⌝ }
+    requires { ⌜ (width ≤ 4) × (j < 4) × (n ≤ 65536) × (v < 65536) ⌝ }
     ensures { λ _. ⌜ now (links .exit) ≡ store (kind base width) j (now (links .entry)) n v ⌝ }
 {
     if n == 0 {

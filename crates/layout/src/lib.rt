@@ -4,4 +4,5 @@
 // store does nothing. So nothing has to be known of a table before it is looked at.
 pub mod cells;
 pub mod columns;
+pub mod mates;
 pub mod shape;
