@@ -10,4 +10,5 @@ pub mod Exchange
 pub mod Moves
 pub mod Walks
 pub mod Marks
+pub mod Closure
 pub mod Instances
