@@ -11,4 +11,5 @@ pub mod Exchange
 pub mod Moves
 pub mod Walks
 pub mod Marks
+pub mod Closure
 pub mod Instances

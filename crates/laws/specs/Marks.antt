@@ -7,9 +7,9 @@ use mathlib.Core.List.{List}
 use Prim.Native.Nat.{ℕ, zero, suc, _+_, _≤_, _<_}
 use native.Mathlib.Omega.{arith}
 use lib.Dec.{T, eqb, eqb→eq, not-T, T-not}
-use lib.ListN.{length, getD, set, length-set}
+use lib.ListN.{length, getD, set, replicate, length-set, List·getD-eq-default}
 use lib.Seq.{getD-set-same, getD-set-other}
-use Rattle.laws.specs.Bools.{pick, T-true, true-T, same-T, imp-T, T-imp, split, eqb-same, eqb-other}
+use Rattle.laws.specs.Bools.{pick, le?, T-true, true-T, same-T, imp-T, T-imp, split, eqb-same, eqb-other}
 use Rattle.laws.specs.Search.{allTo, all-at, all-of, all-ext}
 use Rattle.laws.specs.Permutations.{iter, iter-last, iter-in, Perm, soon}
 use Rattle.laws.specs.Cycles.{Cycles}
@@ -25,7 +25,7 @@ markFrom f zero k marks = marks
 markFrom f (suc n) k marks = pick (eqb (getD marks k 0) 0) (markFrom f n (f k) (set marks k 1)) marks
 
 -- the same from a representative; 0 is none
-abbrev pub markRep : (ℕ → ℕ) → ℕ → ℕ → List ℕ → List ℕ
+unfoldable pub markRep : (ℕ → ℕ) → ℕ → ℕ → List ℕ → List ℕ
 markRep f n r marks = pick (eqb r 0) marks (markFrom f n r marks)
 
 -- from the representatives of the labels 1 to m, in this order
@@ -48,12 +48,12 @@ mark-on f n k marks h = rw (eqb-same h)
 
 -- no representative, no walk
 pub mark-none : (f : ℕ → ℕ) (n : ℕ) (rep : ℕ → ℕ) (m : ℕ) (marks : List ℕ) → rep (suc m) ≡ 0 → markTo f n rep (suc m) marks ≡ markTo f n rep m marks
-unfolding markTo
+unfolding markTo markRep
 mark-none f n rep m marks e = rw (eqb-same e)
 
 -- a representative, a walk
 pub mark-some : (f : ℕ → ℕ) (n : ℕ) (rep : ℕ → ℕ) (m : ℕ) (marks : List ℕ) → rep (suc m) ≢ 0 → markTo f n rep (suc m) marks ≡ markFrom f n (rep (suc m)) (markTo f n rep m marks)
-unfolding markTo
+unfolding markTo markRep
 mark-some f n rep m marks h = rw (eqb-other h)
 
 -- a walk keeps the length
@@ -75,20 +75,33 @@ markTo-length f n rep (suc m) marks = split (rep (suc m)) 0
 -- ---- what one walk marks
 
 -- marked: the word is not 0
-is-marked : (marks : List ℕ) (k : ℕ) → T (marked marks k) → getD marks k 0 ≢ 0
+pub is-marked : (marks : List ℕ) (k : ℕ) → T (marked marks k) → getD marks k 0 ≢ 0
 is-marked marks k t e = T-not (eqb (getD marks k 0) 0) t (true-T (eqb-same e))
 
 -- and back
-mark-is : (marks : List ℕ) (k : ℕ) → getD marks k 0 ≢ 0 → T (marked marks k)
+pub mark-is : (marks : List ℕ) (k : ℕ) → getD marks k 0 ≢ 0 → T (marked marks k)
 mark-is marks k h = not-T (eqb (getD marks k 0) 0) (λ t. h (eqb→eq _ _ t))
 
--- a mark more: k is marked, and all that was
-set-here : (marks : List ℕ) (k : ℕ) → k < length marks → T (marked (set marks k 1) k)
+-- nothing is marked at first
+pub zeros-at : (n i : ℕ) → _≡_ {A = ℕ} (getD (replicate n 0) i 0) 0
+zeros-at zero i = refl
+zeros-at (suc n) zero = refl
+zeros-at (suc n) (suc i) = zeros-at n i
+
+-- after a mark more, k is marked
+pub set-here : (marks : List ℕ) (k : ℕ) → k < length marks → T (marked (set marks k 1) k)
 set-here marks k l = mark-is (set marks k 1) k (λ e. omega (arith, getD-set-same marks k 1 0 l))
 
 -- another number is marked as before
-set-there : (marks : List ℕ) (k z : ℕ) → z ≢ k → marked (set marks k 1) z ≡ marked marks z
+pub set-there : (marks : List ℕ) (k z : ℕ) → z ≢ k → marked (set marks k 1) z ≡ marked marks z
 set-there marks k z h = rw (getD-set-other marks k z 1 0 h)
+
+-- and all that was
+pub set-kept : (marks : List ℕ) (k z : ℕ) → T (marked marks z) → T (marked (set marks k 1) z)
+set-kept marks k z t = split z k (λ e. rw e (set-here marks k (subst (λ i. i < length marks) e within))) (λ h. rw (set-there marks k z h) t)
+  where
+    within : z < length marks
+    within = ⊎-elim (λ l. absurd (is-marked marks z t (List·getD-eq-default marks 0 l))) (λ l. l) (le? (length marks) z)
 
 module _ (f : ℕ → ℕ) where
   -- what is marked after the walk was marked before or is met
@@ -105,7 +118,7 @@ module _ (f : ℕ → ℕ) where
   unfolding markFrom
   mark-kept zero k z marks t = t
   mark-kept (suc n) k z marks t = split (getD marks k 0) 0
-      (λ e. rw (mark-on f n k marks e) (mark-kept n (f k) z (set marks k 1) (rw (set-there marks k z (λ q. is-marked marks z t (ap (λ i. getD marks i 0) q ∙ e))) t)))
+      (λ e. rw (mark-on f n k marks e) (mark-kept n (f k) z (set marks k 1) (set-kept marks k z t)))
       (λ h. rw (mark-stop f (suc n) k marks h) t)
 
 module _ {n : ℕ} {U : ℕ → Type 0} {f : ℕ → ℕ} (p : Perm n U f) (r : ℕ) (u : U r) where
@@ -175,6 +188,7 @@ module _ {n m : ℕ} {U : ℕ → Type 0} {f rep lab : ℕ → ℕ} (h : Labelle
 
   -- one label more
   done-step : (l : ℕ) (marks : List ℕ) → suc l ≤ m → n < length marks → Done l marks → Done (suc l) (markRep f n (rep (suc l)) marks)
+  unfolding markRep
   done-step l marks b long d = split (rep (suc l)) 0
       (λ z. rw (eqb-same z) (λ k u t. let r = d .0 k u t in (omega (arith, r .0), r .1), λ k u c g. d .1 k u (below k u c (λ e. h .has-rep k u (ap rep e ∙ z))) g))
       (λ q. rw (eqb-other q) (walked (h .rep-in (suc l) (omega arith) b q)))

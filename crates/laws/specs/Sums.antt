@@ -1,10 +1,11 @@
 -- Sums and counts over 1..n: equal terms, one term changed, sums in either order.
 use mathlib.Core.Path.{_≡_, refl, sym, ap, subst}
-use mathlib.Core.Logic.{_≢_, _⊎_, inl, inr}
+use mathlib.Core.Logic.{_≢_, _⊎_, inl, inr, ⊎-elim}
 use mathlib.Core.Bool.{Bool, true, false}
 use Prim.Native.Nat.{ℕ, zero, suc, _+_, _≤_, _<_}
 use native.Mathlib.Omega.{arith}
-use Rattle.laws.specs.Bools.{same?, split}
+use lib.Dec.{T}
+use Rattle.laws.specs.Bools.{T-true, true-T, ask, same?, split}
 
 -- f 1 + .. + f n
 unfoldable pub sumTo : ℕ → (ℕ → ℕ) → ℕ
@@ -84,3 +85,15 @@ pub count-one : (n : ℕ) (p : ℕ → Bool) (c : ℕ) → 1 ≤ c → c ≤ n �
 unfolding sumTo
 count-one n p c l u t h =
     omega (arith, sum-change n (λ k. bit (p k)) (λ k. 0) c l u (λ k f. ap bit (h k f)), ap bit t, sum-zero n)
+
+-- q passes wherever p does, and no oftener on 1..n: then p passes wherever q does
+pub count-tight : (n : ℕ) (p q : ℕ → Bool) → ((k : ℕ) → T (p k) → T (q k)) → countTo n q ≤ countTo n p → (k : ℕ) → 1 ≤ k → k ≤ n → T (q k) → T (p k)
+count-tight n p q h c k l u t = ⊎-elim (λ e. true-T e) (λ e. absurd (omega (arith, sum-lt n (λ i. bit (p i)) (λ i. bit (q i)) k l u (less e) (λ i a b. le (p i) (q i) (h i))))) (ask (p k))
+  where
+    le : (a b : Bool) → (T a → T b) → bit a ≤ bit b
+    le true true f = omega arith
+    le true false f = absurd (f tt)
+    le false b f = omega arith
+
+    less : p k ≡ false → bit (p k) < bit (q k)
+    less e = omega (arith, ap bit e, ap bit (T-true {b = q k} t))
