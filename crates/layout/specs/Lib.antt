@@ -2,3 +2,5 @@ pub mod Layout
 pub mod LayoutLaws
 pub mod Mate
 pub mod MateLaws
+pub mod Points
+pub mod PointsLaws

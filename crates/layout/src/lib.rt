@@ -5,4 +5,5 @@
 pub mod cells;
 pub mod columns;
 pub mod mates;
+pub mod points;
 pub mod shape;
