@@ -11,4 +11,6 @@ pub mod Moves
 pub mod Walks
 pub mod Marks
 pub mod Closure
+pub mod Union
 pub mod Instances
+pub mod LinearInstances
