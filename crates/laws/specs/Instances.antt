@@ -6,19 +6,19 @@ use mathlib.Core.Bool.{Bool, _&&_}
 use mathlib.Core.List.{List, [], _∷_}
 use Prim.Native.Nat.{ℕ, zero, suc, _+_, _≤_, _<_}
 use native.Mathlib.Omega.{arith}
-use lib.Dec.{T, leb, leb→le}
+use lib.Dec.{T, leb, leb→le, eqb}
 use lib.ListN.{getD}
-use Rattle.laws.specs.Bools.{pick}
-use Rattle.laws.specs.Search.{allTo, least, leastFrom}
-use Rattle.laws.specs.Sums.{sumTo, countTo, sum-change}
+use Rattle.laws.specs.Bools.{pick, eqb-other}
+use Rattle.laws.specs.Search.{allTo, least, leastFrom, least-ext}
+use Rattle.laws.specs.Sums.{sumTo, countTo, sum-change, count-one}
 use Rattle.laws.specs.Update.{upd, relabel, apart, upd-same, upd-off}
 use Rattle.laws.specs.Columns.{Kind, col, store, sweep, col-store, col-store-other, col-store-apart, sweep-at, sweep-above, columns-ext}
 use Rattle.laws.specs.Linked.{Linked, link, back, via, map-linked, map-within}
-use Rattle.laws.specs.Permutations.{iter, Twice, pigeonhole, comes-back, soon, redo}
-use Rattle.laws.specs.Cycles.{Cycles, birth, death, alone}
+use Rattle.laws.specs.Permutations.{iter, Twice, pigeonhole, comes-back, soon, redo, undo-in, inverse-same}
+use Rattle.laws.specs.Cycles.{Cycles, agree, birth, death, alone}
 use Rattle.laws.specs.Exchange.{Till, stop, go}
 use Rattle.laws.specs.Moves.{Or, But, ins, out, xchg, ins-cycles, out-cycles, merge-cycles, halve-cycles}
-use Rattle.laws.specs.Walks.{first, meets, Used, cyclesb, cycles-of, of-cycles, run-yes, run-no, walk-till, till-walk}
+use Rattle.laws.specs.Walks.{first, meets, Used, allStep, allMet, cycles-of, of-cycles, run-yes, run-no, walk-till, till-walk}
 
 -- ---- search and sums, at sizes that show that they compute
 
@@ -31,6 +31,15 @@ least-computes = refl
 count-computes : countTo 4096 (λ k. leb k 17) ≡ 17
 unfolding sumTo
 count-computes = refl
+
+-- a test that only 3 passes, by two tests that agree on 1..4
+least-3 : (least 4 (λ k. eqb k 3) ≡ 3) × (least 4 (λ k. eqb k 3) ≡ least 4 (λ k. eqb (upd (λ i. i) 9 3 k) 3))
+unfolding leastFrom
+least-3 = (refl, least-ext 4 _ _ (λ j l u. let d : j ≢ 9 = omega arith in ap (λ k. eqb k 3) (sym (upd-off (λ i. i) 3 d))))
+
+-- it is counted once
+count-3 : countTo 4 (λ k. eqb k 3) ≡ 1
+count-3 = count-one 4 (λ k. eqb k 3) 3 (omega arith) (omega arith) refl (λ k h. eqb-other h)
 
 -- one entry of a sum changes
 change : sumTo 3 (λ k. k) + 9 ≡ sumTo 3 (upd (λ k. k) 2 9) + 2
@@ -153,18 +162,23 @@ each P a b c d (suc (suc (suc (suc (suc i))))) u = absurd (omega (arith, leb→l
 pub use-of : (i : ℕ) → 1 ≤ i → T (leb i 4) → U i
 use-of i l t = (l, omega (arith, leb→le i 4 t), t)
 
--- the rule computes
-rule : T (cyclesb 5 below nx pv lab (λ l. 1))
-unfolding cyclesb allTo meets
-rule = tt
+-- the tests compute
+tests : T (allStep 5 below nx pv lab) × T (allMet 5 below nx (λ l. 1) lab)
+unfolding allStep allMet allTo meets
+tests = (tt, tt)
 
--- and the cycle follows from it
+-- and the cycle follows from them
 ring : Cycles 5 U nx lab
-ring = cycles-of 5 below nx pv lab (λ l. 1) (λ i u. use-of 1 (omega arith) tt) rule
+ring = cycles-of 5 below nx (λ l. 1) lab pv (λ i u. use-of 1 (omega arith) tt) (tests .0) (tests .1)
 
--- and the rule from the cycle
-rule-again : T (cyclesb 5 below nx pv lab (λ l. 1))
-rule-again = of-cycles 5 below nx pv lab (λ l. 1) (λ i u. (use-of 1 (omega arith) tt, refl)) (each (λ i. pv (nx i) ≡ i) refl refl refl refl) ring
+-- and the tests from the cycle
+tests-again : T (allStep 5 below nx pv lab) × T (allMet 5 below nx (λ l. 1) lab)
+tests-again = of-cycles 5 below nx (λ l. 1) lab pv (λ i u. (use-of 1 (omega arith) tt, refl)) (each (λ i. pv (nx i) ≡ i) refl refl refl refl) ring
+
+-- the same cycle of functions that agree with it on the numbers in use
+ring-again : Cycles 5 U (upd nx 5 7) (upd lab 5 7)
+ring-again = agree ring (λ i u. u) (λ i u. u) (each (λ i. upd nx 5 7 i ≡ nx i) (upd-off nx 7 (omega arith)) (upd-off nx 7 (omega arith)) (upd-off nx 7 (omega arith)) (upd-off nx 7 (omega arith)))
+    (each (λ i. upd lab 5 7 i ≡ lab i) (upd-off lab 7 (omega arith)) (upd-off lab 7 (omega arith)) (upd-off lab 7 (omega arith)) (upd-off lab 7 (omega arith)))
 
 -- two of three numbers of 1..2 are equal
 twice : Twice 2 (λ i. getD (1 ∷ 2 ∷ 1 ∷ []) i 0)
@@ -187,6 +201,13 @@ soon-met = soon (ring .perm) 90 90 1 (omega arith) (use-of 1 (omega arith) tt)
 -- pv undoes nx on the other side too
 other-side : nx (pv 4) ≡ 4
 other-side = redo (ring .perm) pv (each (λ i. pv (nx i) ≡ i) refl refl refl refl) 4 (use-of 4 (omega arith) tt)
+
+-- what undoes nx is pv on the numbers in use, and stays there
+only-pv : (g : ℕ → ℕ) → ((i : ℕ) → U i → g (nx i) ≡ i) → (g 4 ≡ 2) × U (g 4)
+only-pv g h = (
+  inverse-same (ring .perm) nx pv g (each (λ i. pv (nx i) ≡ i) refl refl refl refl) h (λ i u. refl) 4 (use-of 4 (omega arith) tt),
+  undo-in (ring .perm) g h 4 (use-of 4 (omega arith) tt),
+)
 
 -- ---- the six moves
 

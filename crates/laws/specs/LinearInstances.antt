@@ -1,6 +1,6 @@
 -- Small instances of the laws that a linear check rests on: marks, closure and union.
 use mathlib.Core.Path.{_≡_, refl, subst}
-use mathlib.Core.Logic.{_≢_}
+use mathlib.Core.Logic.{_≢_, _⊎_}
 use mathlib.Core.Bool.{Bool, true, false}
 use mathlib.Core.List.{List, [], _∷_}
 use Prim.Native.Nat.{ℕ, zero, suc, _≤_}
@@ -10,10 +10,10 @@ use lib.ListN.{getD, set, replicate}
 use Rattle.laws.specs.Search.{allTo}
 use Rattle.laws.specs.Cycles.{Cycles}
 use Rattle.laws.specs.Linked.{Linked, link}
-use Rattle.laws.specs.Walks.{Used}
-use Rattle.laws.specs.Marks.{marked, markFrom, markRep, markTo, zeros-at, Labelled, marks-cycles, cycles-marks, allMet, allMarked, marked-met, met-all-cycles, cycles-all-met}
+use Rattle.laws.specs.Walks.{Used, allMet}
+use Rattle.laws.specs.Marks.{markFrom, markRep, markTo, zeros-at, Labelled, allMarked, marked-met, met-all-cycles, cycles-all-met}
 use Rattle.laws.specs.Closure.{Edge, across, pass, rounds, linkedb, linked-sound, linked-complete}
-use Rattle.laws.specs.Union.{Down, rootOf, root, hang, unite, uniteEdge, uniteTo, halve-path, point-root, United, unite-united, united-between, Classes, classes-start, classes-to, classes-test}
+use Rattle.laws.specs.Union.{Down, rootOf, root, hang, unite, uniteEdge, uniteTo, halve-path, point-root, United, unite-united, united-between, united-linked, same-roots-then, classes-short, Classes, classes-start, classes-to, classes-test}
 use Rattle.laws.specs.Instances.{U, below, each, use-of}
 
 -- ---- marks: of 1..5 the first four are in use, in two cycles, 1 4 and 2 3; there is a third label, of which nothing is in use
@@ -71,13 +71,8 @@ cycles-hold : Cycles 5 U step label
 cycles-hold = met-all-cycles 5 3 below step rep label two-cycles (subst T both-tests passes)
 
 -- and back
-tests-hold : T (allMet 5 below step rep label) × T (marked (markTo step 5 rep 3 blank) 3)
-tests-hold = (cycles-all-met 5 3 below step rep label two-cycles cycles-hold, cycles-marks two-cycles blank (omega arith) (λ k l. zeros-at 6 k) cycles-hold 3 (use-of 3 (omega arith) tt))
-
--- the same without tests
-marked-cycles : Cycles 5 U step label
-unfolding markTo markRep markFrom
-marked-cycles = marks-cycles two-cycles blank (omega arith) (λ k l. zeros-at 6 k) (each (λ i. T (marked (markTo step 5 rep 3 blank) i)) tt tt tt tt)
+test-holds : T (allMet 5 below step rep label)
+test-holds = cycles-all-met 5 3 below step rep label two-cycles cycles-hold
 
 -- ---- closure: four items, edges 1 2 and 4 3; a third edge, 2 3, is not present
 
@@ -158,3 +153,14 @@ roots-test = classes-test 4 present left right 3 ends classes 1 3 (omega arith) 
 shortened : United own (set (unite (set own 4 4) 4 2) 4 2) 4 2
 unfolding hang rootOf
 shortened = united-between (halve-path own own-down 4) (unite-united own own-down 4 2 (omega arith) (omega arith)) (point-root (unite own 4 2) (unite-united own own-down 4 2 (omega arith) (omega arith) .down) 4)
+
+-- a shortened path changes no class
+classes-again : Classes 4 (Edge (Used 3 present) left right) (0 ∷ 1 ∷ 1 ∷ 3 ∷ 3 ∷ [])
+unfolding uniteTo uniteEdge hang rootOf
+classes-again =
+    let s = halve-path (uniteTo present left right 3 own) (classes .down) 4 in
+    classes-short classes (same-roots-then s (point-root (0 ∷ 1 ∷ 1 ∷ 3 ∷ 3 ∷ []) (s .down) 2))
+
+-- 2 and 4 are one class once they are united, and no others
+pair-24 : (root (unite own 2 4) 2 ≡ root (unite own 2 4) 4 → Linked (λ i j. (root own i ≡ root own j) ⊎ ((i ≡ 2) × (j ≡ 4))) 2 4)
+pair-24 = united-linked (unite-united own own-down 2 4 (omega arith) (omega arith)) 2 4 .0
