@@ -12,8 +12,8 @@ use Rattle.laws.specs.Cycles.{Cycles}
 use Rattle.laws.specs.Linked.{Linked, link}
 use Rattle.laws.specs.Walks.{Used, allMet}
 use Rattle.laws.specs.Marks.{markFrom, markRep, markTo, zeros-at, Labelled, allMarked, marked-met, met-all-cycles, cycles-all-met}
-use Rattle.laws.specs.Closure.{Edge, across, pass, rounds, linkedb, linked-sound, linked-complete}
-use Rattle.laws.specs.Union.{Down, rootOf, root, hang, unite, uniteEdge, uniteTo, halve-path, point-root, United, unite-united, united-between, united-linked, same-roots-then, classes-short, Classes, classes-start, classes-to, classes-test}
+use Rattle.laws.specs.Closure.{Edge, across, pass, rounds, linkedb, allLinked, all-linked, linked-all, linked-sound, linked-complete}
+use Rattle.laws.specs.Union.{Down, rootOf, root, hang, unite, uniteEdge, uniteTo, halve-path, point-root, United, unite-united, united-between, united-linked, same-roots-then, classes-short, Classes, classes-start, classes-to, classes-test, allRooted, rooted-linked}
 use Rattle.laws.specs.Instances.{U, below, each, use-of}
 
 -- ---- marks: of 1..5 the first four are in use, in two cycles, 1 4 and 2 3; there is a third label, of which nothing is in use
@@ -109,6 +109,33 @@ chain-34 = linked-sound 4 3 present left right ends 3 4 tt
 test-12 : T (linkedb 4 3 present left right 1 2)
 test-12 = linked-complete 4 3 present left right ends 1 2 (omega arith) (omega arith) (link (1, (omega arith, omega arith, tt), refl, refl))
 
+-- the class of each item
+abbrev class : ℕ → ℕ
+class g = getD (0 ∷ 1 ∷ 1 ∷ 2 ∷ 2 ∷ []) g 0
+
+-- the representative of a class
+abbrev first-of : ℕ → ℕ
+first-of l = getD (0 ∷ 2 ∷ 3 ∷ []) l 0
+
+-- a statement about each item
+item : (P : ℕ → Type 0) → P 1 → P 2 → P 3 → P 4 → (g : ℕ) → Used 4 below g → P g
+item P p q r s g u = each P p q r s g (u .0, omega (arith, u .1), u .2)
+
+-- each label is one class, by computation
+all-computes : T (allLinked 4 below 3 present left right first-of class)
+unfolding allLinked allTo linkedb rounds pass across
+all-computes = tt
+
+-- so the items of one class are linked
+one-class : Linked (Edge (Used 3 present) left right) 1 2
+one-class = all-linked 4 3 present left right ends below first-of class all-computes 1 2 (omega arith, omega arith, tt) (omega arith, omega arith, tt) refl
+
+-- and back
+all-again : T (allLinked 4 below 3 present left right first-of class)
+all-again = linked-all 4 3 present left right ends below first-of class
+    (item (λ g. Used 4 below (first-of (class g)) × (class (first-of (class g)) ≡ class g)) ((omega arith, omega arith, tt), refl) ((omega arith, omega arith, tt), refl) ((omega arith, omega arith, tt), refl) ((omega arith, omega arith, tt), refl))
+    (all-linked 4 3 present left right ends below first-of class all-computes)
+
 -- ---- union: the same items and edges
 
 -- each its own parent
@@ -148,6 +175,11 @@ classes = classes-to 4 present left right 3 (λ i u. let e = ends i u in (e .1, 
 -- and the two tests agree
 roots-test : eqb (root (uniteTo present left right 3 own) 1) (root (uniteTo present left right 3 own) 3) ≡ linkedb 4 3 present left right 1 3
 roots-test = classes-test 4 present left right 3 ends classes 1 3 (omega arith) (omega arith) (omega arith)
+
+-- for all items at once
+rooted-test : allRooted 4 below (uniteTo present left right 3 own) first-of class ≡ allLinked 4 below 3 present left right first-of class
+rooted-test = rooted-linked 4 below 3 present left right first-of class (uniteTo present left right 3 own) ends
+    (item (λ g. (1 ≤ first-of (class g)) × (first-of (class g) ≤ 4)) (omega arith, omega arith) (omega arith, omega arith) (omega arith, omega arith) (omega arith, omega arith)) classes
 
 -- a path shortened before and after a union
 shortened : United own (set (unite (set own 4 4) 4 2) 4 2) 4 2

@@ -9,7 +9,7 @@ use native.Mathlib.Omega.{arith}
 use lib.Dec.{T, eqb, eqb→eq, not-T, T-not}
 use lib.ListN.{length, getD, set, replicate, length-set, List·getD-eq-default}
 use lib.Seq.{getD-set-same, getD-set-other}
-use Rattle.laws.specs.Bools.{pick, le?, T-true, true-T, same-T, imp-T, T-imp, split, eqb-same, eqb-other}
+use Rattle.laws.specs.Bools.{pick, le?, T-true, true-T, same-T, imp-same, split, eqb-same, eqb-other}
 use Rattle.laws.specs.Search.{allTo, all-ext}
 use Rattle.laws.specs.Permutations.{iter, iter-last, iter-in, Perm, soon}
 use Rattle.laws.specs.Cycles.{Cycles}
@@ -96,7 +96,7 @@ set-here marks k l = mark-is (set marks k 1) k (λ e. omega (arith, getD-set-sam
 pub set-there : (marks : List ℕ) (k z : ℕ) → z ≢ k → marked (set marks k 1) z ≡ marked marks z
 set-there marks k z h = rw (getD-set-other marks k z 1 0 h)
 
--- and all that was
+-- and what was marked stays so
 pub set-kept : (marks : List ℕ) (k z : ℕ) → T (marked marks z) → T (marked (set marks k 1) z)
 set-kept marks k z t = split z k (λ e. rw e (set-here marks k (subst (λ i. i < length marks) e within))) (λ h. rw (set-there marks k z h) t)
   where
@@ -113,7 +113,7 @@ module _ (f : ℕ → ℕ) where
       (mark-sound n (f k) z (set marks k 1) (rw (mark-on f n k marks e) at t)))
       (λ h. inl (rw (mark-stop f (suc n) k marks h) at t))
 
-  -- what was marked stays so
+  -- and what was marked before still is
   pub mark-kept : (n k z : ℕ) (marks : List ℕ) → T (marked marks z) → T (marked (markFrom f n k marks) z)
   unfolding markFrom
   mark-kept zero k z marks t = t
@@ -239,9 +239,7 @@ allMarked n used marks = allTo n (λ k. not (used k) || marked marks k)
 pub marked-met : (n m : ℕ) (used : ℕ → Bool) (f rep lab : ℕ → ℕ) (marks : List ℕ) → Labelled n m (Used n used) f rep lab → n < length marks → ((k : ℕ) → k ≤ n → getD marks k 0 ≡ 0)
     → allMarked n used (markTo f n rep m marks) ≡ allMet n used f rep lab
 unfolding allMarked allMet
-marked-met n m used f rep lab marks h long clean = all-ext n _ _ (λ k l u. same-T
-    (λ t. T-imp (used k) _ (λ v. subst T (marks-meet h marks long clean k (l, u, v)) (imp-T (used k) _ t v)))
-    (λ t. T-imp (used k) _ (λ v. subst T (sym (marks-meet h marks long clean k (l, u, v))) (imp-T (used k) _ t v))))
+marked-met n m used f rep lab marks h long clean = all-ext n _ _ (λ k l u. imp-same (used k) (λ v. marks-meet h marks long clean k (l, u, v)))
 
 -- the readable test says what `Cycles` says of one cycle for each label
 pub met-all-cycles : (n m : ℕ) (used : ℕ → Bool) (f rep lab : ℕ → ℕ) → Labelled n m (Used n used) f rep lab → T (allMet n used f rep lab) → Cycles n (Used n used) f lab

@@ -2,19 +2,20 @@
 -- classes and no more, shortening a path changes no root, and after all edges the classes are what chains of edges link.
 use mathlib.Core.Path.{_≡_, refl, sym, ap, _∙_, subst}
 use mathlib.Core.Logic.{_≢_, _⊎_, inl, inr, ⊎-elim}
-use mathlib.Core.Bool.{Bool, true, false}
+use mathlib.Core.Bool.{Bool, true, false, not, _||_}
 use mathlib.Core.List.{List}
 use Prim.Native.Nat.{ℕ, zero, suc, _≤_, _<_}
 use native.Mathlib.Omega.{arith}
 use lib.Dec.{T, eqb, ltb, eqb→eq, ltb→lt, lt→ltb}
-use lib.ListN.{length, getD, set, replicate, length-set}
+use lib.ListN.{length, getD, set, replicate, length-set, List·getD-eq-default}
 use lib.Seq.{getD-set-same, getD-set-other, set-out}
-use Rattle.laws.specs.Bools.{pick, true-T, false-T, ask, same-T, split, le?, eqb-same, eqb-other}
+use Rattle.laws.specs.Bools.{pick, true-T, false-T, ask, same-T, imp-same, split, le?, eqb-same, eqb-other}
+use Rattle.laws.specs.Search.{allTo, all-ext}
 use Rattle.laws.specs.Update.{relabel, relabel-at, relabel-off, relabel-same}
 use Rattle.laws.specs.Linked.{Linked, same, link, back, via, map-linked, linked-same}
 use Rattle.laws.specs.Walks.{Used}
 use Rattle.laws.specs.Marks.{zeros-at}
-use Rattle.laws.specs.Closure.{Edge, linkedb, linked-sound, linked-complete}
+use Rattle.laws.specs.Closure.{Edge, linkedb, allLinked, linked-sound, linked-complete}
 
 -- parents never rise
 pub record Down (p : List ℕ) : Type 0 where
@@ -55,6 +56,10 @@ down-set p i v d l = record {
       (λ e. ⊎-elim (λ h. rw (set-out p i v h) (d .at j)) (λ h. rw (e, getD-set-same p i v 0 h) l) (le? (length p) i))
       (λ h. rw (getD-set-other p i j v 0 h) (d .at j));
 }
+
+-- a list whose words do not rise: past its end it reads 0
+pub down-of : (p : List ℕ) → ((i : ℕ) → i < length p → getD p i 0 ≤ i) → Down p
+down-of p h = record { at = λ i. ⊎-elim (λ l. omega (arith, List·getD-eq-default p 0 l)) (λ l. h i l) (le? (length p) i) }
 
 -- a list of zeros
 pub down-zeros : (n : ℕ) → Down (replicate n 0)
@@ -341,3 +346,13 @@ module _ (n : ℕ) (present : ℕ → Bool) (a b : ℕ → ℕ) where
   classes-test {p} m ends c z w lz hz hw = same-T
       (λ t. linked-complete n m present a b ends z w lz hz (c .linked z w hz hw (eqb→eq (root p z) (root p w) t)))
       (λ t. true-T (eqb-same (c .one-root (linked-sound n m present a b ends z w t))))
+
+-- each item in use has the root of its label's representative: the test of the code
+unfoldable pub allRooted : ℕ → (ℕ → Bool) → List ℕ → (ℕ → ℕ) → (ℕ → ℕ) → Bool
+allRooted n used p rep lab = allTo n (λ g. not (used g) || eqb (root p (rep (lab g))) (root p g))
+
+-- it is the readable one
+pub rooted-linked : (n : ℕ) (used : ℕ → Bool) (m : ℕ) (present : ℕ → Bool) (a b rep lab : ℕ → ℕ) (p : List ℕ) → ((i : ℕ) → Used m present i → (1 ≤ a i) × (a i ≤ n) × (1 ≤ b i) × (b i ≤ n))
+    → ((g : ℕ) → Used n used g → (1 ≤ rep (lab g)) × (rep (lab g) ≤ n)) → Classes n (Edge (Used m present) a b) p → allRooted n used p rep lab ≡ allLinked n used m present a b rep lab
+unfolding allRooted allLinked
+rooted-linked n used m present a b rep lab p ends reps c = all-ext n _ _ (λ g l u. imp-same (used g) (λ t. let r = reps g (l, u, t) in classes-test n present a b m ends c (rep (lab g)) g (r .0) (r .1) u))
