@@ -7,12 +7,12 @@ use mathlib.Core.List.{List, [], _∷_}
 use Prim.Native.Nat.{ℕ, zero, suc, _+_, _≤_, _<_}
 use native.Mathlib.Omega.{arith}
 use lib.Dec.{T, leb, leb→le, eqb}
-use lib.ListN.{getD}
+use lib.ListN.{getD, set}
 use Rattle.laws.specs.Bools.{pick, eqb-other}
 use Rattle.laws.specs.Search.{allTo, least, leastFrom, least-ext}
 use Rattle.laws.specs.Sums.{sumTo, countTo, sum-change, count-one}
 use Rattle.laws.specs.Update.{upd, relabel, apart, upd-same, upd-off}
-use Rattle.laws.specs.Columns.{Kind, col, store, sweep, col-store, col-store-other, col-store-apart, sweep-at, sweep-above, columns-ext}
+use Rattle.laws.specs.Columns.{Kind, col, store, sweep, col-store, col-store-other, col-store-apart, sweep-at, sweep-above, sweep-other, sweep-apart, col-word, store-word, columns-ext}
 use Rattle.laws.specs.Linked.{Linked, link, back, via, map-linked, map-within}
 use Rattle.laws.specs.Permutations.{iter, Twice, pigeonhole, comes-back, soon, redo, undo-in, inverse-same}
 use Rattle.laws.specs.Cycles.{Cycles, agree, birth, death, alone}
@@ -90,6 +90,17 @@ swept = (
   sweep-at pairs 0 (λ n w. n + w) words (omega arith) (omega arith) 1 1 (omega arith) (omega arith) (omega arith),
   sweep-above pairs 0 (λ n w. n + w) words (omega arith) (omega arith) 1 2 (omega arith) (omega arith),
 )
+
+-- a sweep over both leaves the other field and the other kind
+swept-else : (col pairs 1 (sweep pairs 0 2 (λ n w. n + w) words) 2 ≡ 13) × (col single 0 (sweep pairs 0 2 (λ n w. n + w) words) 1 ≡ 14)
+swept-else = (
+  sweep-other pairs 1 0 2 (λ n w. n + w) words (omega arith) (omega arith) (omega arith) 2,
+  sweep-apart single pairs 0 0 2 (λ n w. n + w) words (omega arith) (omega arith) (inr (omega arith)) (omega arith) 1 (omega arith),
+)
+
+-- the last kind's base less one record is 4
+as-code : (col single 0 words 1 ≡ getD words 5 0) × (store single 0 words 1 7 ≡ set words 5 7)
+as-code = (col-word single 0 4 words refl 1 (omega arith), store-word single 0 4 words refl 1 7 (omega arith))
 
 -- a store and its undoing give the list back: by its columns, word by word
 restored : store pairs 1 (store pairs 1 words 2 7) 2 13 ≡ words
