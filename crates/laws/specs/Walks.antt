@@ -175,7 +175,7 @@ module _ (n : ℕ) (u : ℕ → Bool) (f rep lab : ℕ → ℕ) where
       → Cycles n (Used n u) f lab → T (allStep n u f g lab) × T (allMet n u f rep lab)
   of-cycles g rooted gf c = (perm-steps n u f g lab (c .perm) gf (c .keeps), met-of (cycles-met c rep rooted))
 
--- ---- the run after k up to a, as a test: of the half-edges of k's cycle, those from which a is met before k
+-- ---- the run after k up to a, as a test: of the numbers of k's cycle, those from which a is met before k
 
 module _ {n : ℕ} {U : ℕ → Type 0} {f lab : ℕ → ℕ} (c : Cycles n U f lab) {k a q : ℕ} (uk : U k) (ua : U a) (uq : U q) (qa : f q ≡ a) (ka : k ≢ a) (one : lab k ≡ lab a) where
   -- from a number other than a: where a is met before k, its predecessor q is
