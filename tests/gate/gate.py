@@ -1,0 +1,62 @@
+"""The gate: runs each step, adds up their 'N passed, M failed', and prints the sum as its last line.
+
+A step fails as a whole where it exits with another status than 0, prints no such line as its last one, or counts no test:
+a run that was cut short, or that tested nothing, must not pass for a good one.
+"""
+import os
+import re
+import subprocess
+import sys
+import time
+
+CLOSING = re.compile(r"^(\d+) passed, (\d+) failed$")
+
+
+def steps(root):
+    """Name and command of each step, in order: cheap ones first, so that a slip shows at once."""
+    python = sys.executable
+    found = [
+        ("crates are listed", [python, "tests/gate/listed.py", "."]),
+        ("the gate itself", [python, "tests/gate/test_gate.py"]),
+        ("model", [python, "tests/model/test_model.py"]),
+        ("rt ci", ["rt", "ci"]),
+        ("library against model", [python, "tests/model/compare_library.py"]),
+    ]
+    # a step whose file is not there yet is no step; `rt ci` is always one
+    return [(name, cmd) for name, cmd in found if cmd[0] == "rt" or os.path.exists(os.path.join(root, cmd[1]))]
+
+
+def judge(status, output):
+    """(passed, failed) of a step by its exit status and what it printed."""
+    lines = output.strip().splitlines()
+    closing = CLOSING.match(lines[-1]) if lines else None
+    if closing is None:
+        return 0, 1
+    passed, failed = int(closing.group(1)), int(closing.group(2))
+    if status != 0 or passed == 0:
+        failed = max(failed, 1)
+    return passed, failed
+
+
+def run_step(root, name, command):
+    """Runs one step, shows what it prints, and judges it."""
+    print(f"== {name}", flush=True)
+    began = time.time()
+    done = subprocess.run(command, cwd=root, stdout=subprocess.PIPE, stderr=subprocess.STDOUT, text=True, errors="replace")
+    print(done.stdout, end="" if done.stdout.endswith("\n") else "\n")
+    passed, failed = judge(done.returncode, done.stdout)
+    print(f"== {name}: {passed} passed, {failed} failed, {time.time() - began:.0f} s", flush=True)
+    return passed, failed
+
+
+def main(root):
+    passed = failed = 0
+    for name, command in steps(root):
+        p, f = run_step(root, name, command)
+        passed, failed = passed + p, failed + f
+    print(f"{passed} passed, {failed} failed")
+    return 0 if failed == 0 and passed > 0 else 1
+
+
+if __name__ == "__main__":
+    sys.exit(main(sys.argv[1]))
