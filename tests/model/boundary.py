@@ -9,6 +9,10 @@ lists, which is what makes this model able to disagree with pointer surgery.
 from layout import Table, mate
 
 
+# Which attribute of a Boundary holds the items in use of a kind.
+ITEMS = {"solid": "solids", "face": "face_solid", "loop": "loop_face", "half": "start", "vertex": "points"}
+
+
 class Boundary:
     def __init__(self, table):
         """Reads a table that the check has found sound."""
@@ -32,8 +36,7 @@ class Boundary:
         return number in self.items(kind)
 
     def items(self, kind):
-        return {"solid": self.solids, "face": self.face_solid, "loop": self.loop_face,
-                "half": self.start, "vertex": self.points}[kind]
+        return getattr(self, ITEMS[kind])
 
     def loop_of(self, half):
         return next(loop for loop, cycle in self.cycles.items() if half in cycle)
