@@ -159,24 +159,31 @@ def table_of(b):
 
 def random_table(rng):
     b = grown(rng, random_capacities(rng), rng.choice((0, 2, 5, 9, 14, 25)))
-    return renumbered(rng, b) if rng.random() < 0.5 else table_of(b)
+    dice = rng.random()
+    if dice < 0.5:
+        return table_of(b)
+    return renumbered(rng, b, larger_capacities(rng, b.capacities) if dice > 0.97 else b.capacities)
 
 
-def permutation(rng, size):
-    order = list(range(1, size + 1))
-    rng.shuffle(order)
-    return dict(enumerate(order, 1))
+def larger_capacities(rng, capacities):
+    """Numbers of two and three groups, and now and then the largest table there is."""
+    largest = rng.choice((4_096, 300, 300, 130, 130))
+    return tuple(rng.choice((c, largest)) for c in capacities)
 
 
-def renumbered(rng, b):
+def injection(rng, size, capacity):
+    """New numbers up to capacity for the old ones up to size, no two the same."""
+    return dict(enumerate(rng.sample(range(1, capacity + 1), size), 1))
+
+
+def renumbered(rng, b, capacities):
     """The same table under a stranger's numbers; writing it back makes first the least."""
-    s, f, l, e, v = (permutation(rng, size) for size in b.capacities)
-    turned = {edge: rng.randint(0, 1) for edge in e}
+    s, f, l, e, v = (injection(rng, *sizes) for sizes in zip(b.capacities, capacities))
     h = {}
     for edge, to in e.items():
-        h[2 * edge - 1] = 2 * to - turned[edge]
+        h[2 * edge - 1] = 2 * to - rng.randint(0, 1)
         h[2 * edge] = mate(h[2 * edge - 1])
-    other = Boundary(cleared_table(b.capacities))
+    other = Boundary(cleared_table(capacities))
     other.solids = {s[n] for n in b.solids}
     other.face_solid = {f[n]: s[to] for n, to in b.face_solid.items()}
     other.face_outer = {f[n]: l[to] for n, to in b.face_outer.items()}
@@ -440,3 +447,19 @@ def undo_case(rng):
 CASES = {wire.CLEAR: clear_case, wire.CHECK: table_case(wire.CHECK), wire.COUNT: table_case(wire.COUNT),
          wire.READ: read_case, wire.WRITE: write_case, wire.EXEC: exec_case,
          wire.RUN: run_case, wire.UNDO: undo_case}
+
+
+def program_input(rng):
+    """Standard input for the program: scripts for capacities 64, up to and past its limit."""
+    b = Boundary(cleared_table((64,) * 5))
+    script = script_bytes(random_operators(rng, b, rng.choice((0, 1, 5, 30, 120))))
+    dice = rng.random()
+    if dice < 0.3:
+        return script
+    if dice < 0.5:
+        return script + operator_bytes(random_operator(rng, b))
+    if dice < 0.9:
+        return damaged_bytes(rng, script or b"\0")
+    # A solid made and killed again and again fills any number of bytes with accepted operators.
+    pair = script_bytes([operator("mvsf", 64, 64, 64, 64, 0, 0, 0), operator("kvsf", 64)])
+    return (pair * 500)[:rng.choice((4_090, 4_095, 4_096, 4_097, 4_100))]

@@ -25,7 +25,7 @@ def words_of(table):
 def walks(tally, rng, scale):
     """Random walks over tables; answers how often each situation was met."""
     met = Counter()
-    for _ in range(int(250 * scale)):
+    for _ in range(int(180 * scale)):
         table = generate.random_table(rng)
         for _ in range(rng.choice((5, 20, 40))):
             op = generate.random_operator(rng, Boundary(table))
@@ -230,7 +230,7 @@ def walks_meet_everything(tally, rng, scale):
 # Lists of scripts, undone together
 
 def scripts_and_undo(tally, rng, scale):
-    for _ in range(int(600 * scale)):
+    for _ in range(int(400 * scale)):
         table, (log, start) = generate.random_table(rng), generate.random_log(rng)
         links, points = words_of(table)
         live, log, here, done = log[start:], bytearray(log), start, 0
@@ -282,21 +282,21 @@ def round_trips(tally, rng, scale):
 # Tables
 
 def tables(tally, rng, scale):
-    for _ in range(int(600 * scale)):
+    for _ in range(int(400 * scale)):
         table = generate.random_table(rng)
         tally.equal("made tables are sound", check(*words_of(table)), (0, 0))
         tally.equal("lists and words say the same", words_of(generate.table_of(Boundary(table))), words_of(table))
         _, _, s, f, l, e, v, r, h = count(*words_of(table))
         tally.equal("formula", (v - e + f, r), (2 * (s - h) + r, l - f))
         tally.holds("h whole and from 0 on", isinstance(h, int) and h >= 0)
-        other = generate.renumbered(rng, Boundary(table))
+        other = generate.renumbered(rng, Boundary(table), table.capacities)
         tally.equal("a stranger's numbers", count(*words_of(other)), count(*words_of(table)))
 
 
 def damaged_tables(tally, rng, scale):
     """What passes the check is sound in lists too; every rule is met as the lowest broken."""
     met = Counter()
-    for _ in range(int(2000 * scale)):
+    for _ in range(int(1200 * scale)):
         links, points = generate.damaged_table(rng)
         answer = check(links, points)
         met[answer] += 1
@@ -408,7 +408,7 @@ def restores(after, op, words):
 
 def wire_frames(tally, rng, scale):
     met = Counter()
-    for _ in range(int(900 * scale)):
+    for _ in range(int(700 * scale)):
         case = generate.random_case(rng)
         data = wire.encode_case(case)
         back, place = wire.decode_answer(data)
