@@ -9,12 +9,12 @@ import random
 import wire
 from boundary import Boundary, write_back
 from kernel import run
-from layout import cleared_table, edge_of, mate
+from layout import Table, cleared_table, edge_of, mate
 from operators import carry_out, plan
 from script import PATTERNS, limits_of, operands_of, operator, operator_bytes, script_bytes
 
 # How often each code is proposed: makers more often, so that tables grow.
-GROWTH = {1: 3, 2: 1, 3: 6, 4: 1, 5: 6, 6: 1, 7: 4, 8: 2, 9: 4, 10: 4, 11: 3, 12: 1, 13: 4}
+GROWTH = {1: 2, 2: 1, 3: 9, 4: 1, 5: 12, 6: 1, 7: 3, 8: 2, 9: 3, 10: 3, 11: 4, 12: 1, 13: 2}
 EVEN = {code: 1 for code in PATTERNS}
 
 
@@ -25,7 +25,7 @@ def seeded(seed):
 def random_capacities(rng):
     """Mostly 1 to 6 each; half of the time at least 3, or nothing much could grow."""
     least, largest = rng.choice(((1, 6), (3, 6)))
-    if rng.random() < 0.05:
+    if rng.random() < 0.1:
         largest = rng.choice((10, 20, 40))
     return tuple(rng.randint(least, largest) for _ in range(5))
 
@@ -57,7 +57,9 @@ def propose_operand(rng, b, pools, operand, so_far):
     if operand.kind == "coordinate":
         return random_coordinate(rng)
     if operand.role == "":
-        return rng.randint(0, operand.kind[1])
+        # Ways 2 and 3 are refused with two corners; most often not worth a try then.
+        two_corners = operand.kind[1] == 3 and so_far[1] != so_far[2]
+        return rng.randint(0, 1 if two_corners and rng.random() < 0.8 else operand.kind[1])
     if operand.role == "old" and operand.zero:
         return propose_corner(rng, b, so_far)
     if operand.zero and rng.random() < 0.5:
@@ -69,9 +71,9 @@ def propose_operand(rng, b, pools, operand, so_far):
 def propose_corner(rng, b, so_far):
     """A half-edge of the loop named last, 0 for a lone one; often the corner before; rarely a wrong one."""
     dice = rng.random()
-    if dice < 0.05:
+    if dice < 0.1:
         return rng.choice([0] + list(b.start))
-    if len(so_far) == 2 and dice < 0.4:
+    if len(so_far) == 2 and dice < 0.35:
         return so_far[1]
     loop = so_far[-1] if len(so_far) != 2 else so_far[0]
     cycle = b.cycles.get(loop)
@@ -117,14 +119,18 @@ def operand_choices(pools, operand):
 
 
 def bend(rng, b, op):
-    """Changes one operand, so that refusals of every kind come up."""
-    place = rng.randrange(op.count)
+    """Changes one operand, half of the time one of an old item: refusals of every kind come up."""
+    old_places = [i for i, operand in enumerate(operands_of(op.code)) if operand.role == "old"]
+    place = rng.choice(old_places if old_places and rng.random() < 0.5 else range(op.count))
     operand = operands_of(op.code)[place]
     limit = 1 if operand.role == "" else limits_of(b.capacities)[operand.kind]
     args = list(op.args)
     values = [0, 1, limit, limit + 1, rng.randint(0, limit), rng.randint(0, 9_000)]
     if operand.kind == "coordinate":
         values = [50_001, -50_001, 1_000_000]
+    elif operand.role == "old":
+        # Another item in use gets past 6, so that the condition has to refuse it.
+        values = values[:rng.choice((0, 6))] + list(b.items(operand.kind)) or [1]
     args[place] = rng.choice(values)
     return op._replace(args=tuple(args))
 
@@ -132,10 +138,10 @@ def bend(rng, b, op):
 def random_operator(rng, b):
     """A mix: mostly accepted, else proposed for any code or bent in one operand."""
     dice = rng.random()
-    op = valid_operator(rng, b, GROWTH if dice < 0.4 else EVEN) if dice < 0.7 else None
+    op = valid_operator(rng, b, GROWTH if dice < 0.4 or dice > 0.85 else EVEN) if not 0.7 < dice < 0.8 else None
     if op is None:
         op = propose(rng, b, pools_of(b), rng.randint(1, 13))
-    return bend(rng, b, op) if dice > 0.85 else op
+    return bend(rng, b, op) if dice > 0.75 else op
 
 
 # Tables
@@ -206,9 +212,20 @@ def damaged_table(rng):
     if dice < 0.5:
         damage_lengths(rng, links, points)
         return links, points
+    if dice < 0.55:
+        damage_loop_ends(rng, Table(links, points))
+        return links, points
     for _ in range(rng.choice((1, 1, 2, 3))):
         damage_word(rng, links, points)
     return links, points
+
+
+def damage_loop_ends(rng, table):
+    """Gives one loop both a first half-edge and a lone vertex, or neither."""
+    halves, vertices = list(table.used("half")) or [0], list(table.used("vertex")) or [0]
+    for loop, (face, _, _) in rng.sample(list(table.used("loop").items()), min(1, len(table.used("loop")))):
+        ends = rng.choice(((0, 0), (rng.choice(halves), rng.choice(vertices))))
+        table.put_record("loop", loop, (face,) + ends)
 
 
 def damage_word(rng, links, points):

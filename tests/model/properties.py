@@ -25,9 +25,9 @@ def words_of(table):
 def walks(tally, rng, scale):
     """Random walks over tables; answers how often each situation was met."""
     met = Counter()
-    for _ in range(int(180 * scale)):
+    for _ in range(int(220 * scale)):
         table = generate.random_table(rng)
-        for _ in range(rng.choice((5, 20, 40))):
+        for _ in range(rng.choice((10, 20, 40))):
             op = generate.random_operator(rng, Boundary(table))
             step(tally, rng, table, op, met)
     return met
@@ -222,7 +222,8 @@ WANTED_SITUATIONS += [(name, 8) for name, _ in PATTERNS.values() if name not in 
 
 def walks_meet_everything(tally, rng, scale):
     met = walks(tally, rng, scale)
-    for situation in WANTED_SITUATIONS:
+    # Fewer cases than by default cannot be asked to meet everything.
+    for situation in WANTED_SITUATIONS if scale >= 1 else ():
         tally.holds(f"met: {situation}", met[situation] > 0)
     tally.equal("mvsf and semv never give 8", (met["mvsf", 8], met["semv", 8]), (0, 0))
 
@@ -307,7 +308,7 @@ def damaged_tables(tally, rng, scale):
             broken = RULES[answer[1] - 1]
             tally.equal("the named rule is broken, lower ones hold",
                         [rule(Table(links, points)) for rule in RULES[:answer[1]]], [True] * (answer[1] - 1) + [broken is None])
-    for answer in [(0, 0), (1, 0)] + [(2, rule) for rule in range(1, 7)]:
+    for answer in [(0, 0), (1, 0)] + [(2, rule) for rule in range(1, 7)] if scale >= 1 else ():
         tally.holds(f"damage met: {answer}", met[answer] > 0)
 
 
