@@ -166,9 +166,23 @@ def table_of(b):
 def random_table(rng):
     b = grown(rng, random_capacities(rng), rng.choice((0, 2, 5, 9, 14, 25)))
     dice = rng.random()
-    if dice < 0.5:
+    if dice < 0.45:
         return table_of(b)
+    if dice < 0.55:
+        return renumbered(rng, b, tight_capacities(rng, b))
     return renumbered(rng, b, larger_capacities(rng, b.capacities) if dice > 0.97 else b.capacities)
+
+
+def used_numbers(b):
+    """The numbers in use of solids, faces, loops, edges and vertices, as five lists."""
+    return [list(b.solids), list(b.face_solid), list(b.loop_face),
+            sorted({edge_of(half) for half in b.start}), list(b.points)]
+
+
+def tight_capacities(rng, b):
+    """No number free of most kinds: such tables need not be reachable by operators at all."""
+    full = [max(1, len(used)) for used in used_numbers(b)]
+    return tuple(c if rng.random() < 0.8 else c + 1 for c in full)
 
 
 def larger_capacities(rng, capacities):
@@ -177,14 +191,14 @@ def larger_capacities(rng, capacities):
     return tuple(rng.choice((c, largest)) for c in capacities)
 
 
-def injection(rng, size, capacity):
-    """New numbers up to capacity for the old ones up to size, no two the same."""
-    return dict(enumerate(rng.sample(range(1, capacity + 1), size), 1))
+def injection(rng, used, capacity):
+    """New numbers up to capacity for those in use, no two the same."""
+    return dict(zip(used, rng.sample(range(1, capacity + 1), len(used))))
 
 
 def renumbered(rng, b, capacities):
     """The same table under a stranger's numbers; writing it back makes first the least."""
-    s, f, l, e, v = (injection(rng, *sizes) for sizes in zip(b.capacities, capacities))
+    s, f, l, e, v = (injection(rng, *sizes) for sizes in zip(used_numbers(b), capacities))
     h = {}
     for edge, to in e.items():
         h[2 * edge - 1] = 2 * to - rng.randint(0, 1)

@@ -25,9 +25,10 @@ def words_of(table):
 def walks(tally, rng, scale):
     """Random walks over tables; answers how often each situation was met."""
     met = Counter()
-    for _ in range(int(220 * scale)):
+    for _ in range(int(90 * scale)):
         table = generate.random_table(rng)
-        for _ in range(rng.choice((10, 20, 40))):
+        # A step costs as much as the table is long; a few are enough on a long one.
+        for _ in range(rng.choice((10, 20, 40)) if len(table.links) < 600 else 1):
             op = generate.random_operator(rng, Boundary(table))
             step(tally, rng, table, op, met)
     return met
@@ -231,7 +232,7 @@ def walks_meet_everything(tally, rng, scale):
 # Lists of scripts, undone together
 
 def scripts_and_undo(tally, rng, scale):
-    for _ in range(int(400 * scale)):
+    for _ in range(int(250 * scale)):
         table, (log, start) = generate.random_table(rng), generate.random_log(rng)
         links, points = words_of(table)
         live, log, here, done = log[start:], bytearray(log), start, 0
@@ -265,7 +266,7 @@ def one_run(tally, b, script, start, answer, after):
 # Scripts
 
 def round_trips(tally, rng, scale):
-    for _ in range(int(500 * scale)):
+    for _ in range(int(300 * scale)):
         table = generate.random_table(rng)
         script = generate.random_script(rng, table)
         refusal, operators, place = read_script(script)
@@ -283,7 +284,7 @@ def round_trips(tally, rng, scale):
 # Tables
 
 def tables(tally, rng, scale):
-    for _ in range(int(400 * scale)):
+    for _ in range(int(250 * scale)):
         table = generate.random_table(rng)
         tally.equal("made tables are sound", check(*words_of(table)), (0, 0))
         tally.equal("lists and words say the same", words_of(generate.table_of(Boundary(table))), words_of(table))
@@ -297,7 +298,7 @@ def tables(tally, rng, scale):
 def damaged_tables(tally, rng, scale):
     """What passes the check is sound in lists too; every rule is met as the lowest broken."""
     met = Counter()
-    for _ in range(int(1200 * scale)):
+    for _ in range(int(800 * scale)):
         links, points = generate.damaged_table(rng)
         answer = check(links, points)
         met[answer] += 1
@@ -386,7 +387,7 @@ def all_small_tables(tally, _rng, scale):
 
 def inverse_is_the_only_one(tally, rng, scale):
     """No other operator at all restores the table, so the log's bytes are settled."""
-    for _ in range(int(500 * scale)):
+    for _ in range(int(300 * scale)):
         capacities = tuple(rng.randint(1, 3) for _ in range(5))
         before = generate.grown(rng, capacities, rng.choice((2, 4, 6, 8)))
         op = generate.valid_operator(rng, before, generate.EVEN)
@@ -409,7 +410,7 @@ def restores(after, op, words):
 
 def wire_frames(tally, rng, scale):
     met = Counter()
-    for _ in range(int(700 * scale)):
+    for _ in range(int(450 * scale)):
         case = generate.random_case(rng)
         data = wire.encode_case(case)
         back, place = wire.decode_answer(data)
