@@ -1,0 +1,482 @@
+"""Hand-made cases with concrete words: the examples of document 01 and corner cases."""
+
+from kernel import program, run, undo
+from layout import Table, clear, cleared_table, links_length
+from rules import RULES, check, count
+from script import (NO_OPERATOR, Operator, fold_coordinate, number_bytes, operator, read_number,
+                    read_operator, script_bytes, write_operator)
+
+SMALL = (1, 2, 2, 2, 2)
+B = bytes.fromhex("0101010101000000")
+C = bytes.fromhex("0301000102 00C8010000".replace(" ", ""))
+D = bytes.fromhex("0501010202020200")
+
+WORDS_B = [1, 2, 2, 2, 2] + [1] + [1, 1] + [0, 0] + [1, 0, 1] + [0, 0, 0] + [0] * 16 + [1, 0]
+WORDS_C = [1, 2, 2, 2, 2] + [1] + [1, 1] + [0, 0] + [1, 1, 0] + [0, 0, 0] \
+    + [1, 1, 2, 2] + [2, 1, 1, 1] + [0] * 8 + [1, 1]
+WORDS_D = [1, 2, 2, 2, 2] + [1] + [1, 1] + [1, 2] + [1, 2, 0] + [2, 1, 0] \
+    + [1, 2, 4, 4] + [2, 1, 3, 3] + [1, 1, 2, 2] + [2, 2, 1, 1] + [1, 1]
+
+
+class Desk:
+    """A table with a log, on which scripts are run one after the other."""
+
+    def __init__(self, capacities, log=200):
+        table = cleared_table(capacities)
+        self.links, self.points = table.links, table.points
+        self.log, self.start = bytearray(b"\xEE" * log), log
+
+    def run(self, script):
+        answer = run(self.links, self.points, self.log, self.start, script)
+        self.start = answer.start
+        return answer
+
+    def undo(self, wanted):
+        answer = undo(self.links, self.points, self.log, self.start, wanted)
+        self.start = answer.start
+        return answer
+
+    def state(self):
+        return list(self.links), list(self.points)
+
+    def live(self):
+        return bytes(self.log[self.start:])
+
+
+def examples_a_to_d(tally):
+    desk = Desk(SMALL)
+    tally.equal("example a run", desk.run(b""), (0, 0, 0, 0, 200))
+    tally.equal("example a undo", desk.undo(0), (0, 0, 0, 200))
+    tally.equal("example a table", desk.state(), ([1, 2, 2, 2, 2] + [0] * 29, [0] * 6))
+    tally.equal("example b run", desk.run(B), (0, 0, 1, 8, 198))
+    tally.equal("example b words", desk.state(), (WORDS_B, [0] * 6))
+    tally.equal("example b log", desk.live(), bytes.fromhex("0201"))
+    tally.equal("example c run", desk.run(C), (0, 0, 1, 10, 196))
+    tally.equal("example c words", desk.state(), (WORDS_C, [0, 0, 0, 100, 0, 0]))
+    tally.equal("example c log", desk.live(), bytes.fromhex("04010201"))
+    tally.equal("example d run", desk.run(D), (0, 0, 1, 8, 194))
+    tally.equal("example d words", desk.state(), (WORDS_D, [0, 0, 0, 100, 0, 0]))
+    tally.equal("example d log", desk.live(), bytes.fromhex("060404010201"))
+    tally.equal("example d rest of the log", bytes(desk.log[:194]), b"\xEE" * 194)
+    tally.equal("example d undo 1", desk.undo(1), (0, 0, 1, 196))
+    tally.equal("example d undone", desk.state(), (WORDS_C, [0, 0, 0, 100, 0, 0]))
+    tally.equal("example d undo 3", desk.undo(3), (11, 0, 2, 200))
+    tally.equal("example d empty", desk.state(), ([1, 2, 2, 2, 2] + [0] * 29, [0] * 6))
+
+
+def example_e_counts(tally):
+    """The part of e that needs no take-down."""
+    desk = Desk(SMALL)
+    desk.run(B)
+    script = script_bytes([operator("mef", 1, 0, 0, 1, 2, 2, 0), operator("kfmrh", 1, 2)])
+    tally.equal("example e run", desk.run(script), (0, 0, 2, len(script), 200 - 2 - 2 - 4))
+    tally.equal("example e log", desk.live(), bytes.fromhex("0A020200 0602 0201"))
+    tally.equal("example e counts", count(*desk.state()), (0, 0, 1, 1, 2, 1, 1, 1, 1))
+
+
+def examples_f_to_h(tally):
+    for text, wanted in (("0E", 4), ("00", 4), ("8100", 3), ("818000", 3), ("81", 3), ("8E01", 4)):
+        data = bytes.fromhex(text)
+        tally.equal(f"example f read {text}", read_operator(data, 0), (wanted, NO_OPERATOR, 0))
+        tally.equal(f"example f run {text}", Desk(SMALL).run(data), (wanted, 0, 0, 0, 200))
+    for coordinate, wanted in ((50_000, 0), (-50_000, 0), (50_001, 5), (-50_001, 5)):
+        for place in range(3):
+            data = B[:5] + b"\0" * place + number_bytes(fold_coordinate(coordinate)) + b"\0" * (2 - place)
+            tally.equal(f"example f coordinate {coordinate}", Desk(SMALL).run(data)[0], wanted)
+    desk = Desk(SMALL)
+    desk.run(B)
+    tally.equal("example g again", desk.run(B), (7, 0, 0, 0, 198))
+    tally.equal("example g unchanged", desk.state(), (WORDS_B, [0] * 6))
+    desk.run(C)
+    tally.equal("example g kvsf", desk.run(bytes.fromhex("0201")), (8, 0, 0, 0, 196))
+    tally.equal("example g still", desk.state()[0], WORDS_C)
+    for capacity, wanted in ((4_096, 0), (1, 0), (0, 1), (4_097, 1)):
+        for place in range(5):
+            example_h(tally, capacity, wanted, place)
+
+
+def example_h(tally, capacity, wanted, place):
+    capacities = [1] * 5
+    capacities[place] = capacity
+    links = [9] * links_length(capacities)
+    points = [9] * (3 * capacities[4])
+    before = list(links), list(points)
+    tally.equal(f"example h {capacities}", clear(capacities, links, points, b"xyz"), (wanted, 0 if wanted else 3))
+    if wanted == 0:
+        before = capacities + [0] * (len(links) - 5), [0] * len(points)
+    tally.equal(f"example h words {capacities}", (links, points), before)
+    links[:5] = capacities
+    tally.equal(f"example h check {capacities}", check(links, points), (wanted, 0))
+
+
+def program_lines(tally):
+    wanted = "refusal 0 done 1 used 8\ns 1 f 1 l 1 e 0 v 1 r 0 h 0\n"
+    tally.equal("program on b", program(B), wanted)
+    tally.equal("program on nothing", program(b""), "refusal 0 done 0 used 0\ns 0 f 0 l 0 e 0 v 0 r 0 h 0\n")
+    tally.equal("program too long", program(bytes(4_097)), "input too long\n")
+    tally.equal("program longest", program(B + bytes(4_088)),
+                "refusal 4 done 1 used 8\ns 1 f 1 l 1 e 0 v 1 r 0 h 0\n")
+    tally.equal("program cut off", program(B + C[:-1]),
+                "refusal 3 done 1 used 8\ns 1 f 1 l 1 e 0 v 1 r 0 h 0\n")
+
+
+# Rules
+
+# The smallest table found for each rule that breaks this rule and no other.
+BREAKERS = {
+    1: ([1, 1, 1, 1, 1] + [1] + [1, 1] + [1, 0, 1] + [0] * 8 + [1], [50_001, 0, 0]),
+    2: ([1, 1, 1, 1, 1] + [1] + [0, 0] + [0, 0, 0] + [0] * 8 + [0], [0, 0, 0]),
+    3: ([1, 1, 1, 1, 1] + [1] + [1, 1] + [1, 0, 0] + [0] * 8 + [0], [0, 0, 0]),
+    4: ([1, 1, 1, 1, 2] + [1] + [1, 1] + [1, 2, 0] + [1, 1, 2, 2] + [2, 1, 1, 1] + [1, 1], [0] * 6),
+    5: ([1, 1, 1, 1, 1] + [0] + [0, 0] + [0, 0, 0] + [0] * 8 + [1], [0, 0, 0]),
+    6: ([1, 2, 2, 1, 2] + [1] + [1, 1] + [1, 2] + [1, 0, 1] + [2, 0, 2] + [0] * 8 + [1, 1], [0] * 6),
+}
+
+
+def each_rule_alone(tally):
+    for rule, (links, points) in BREAKERS.items():
+        tally.equal(f"breaker of rule {rule}", check(links, points), (2, rule))
+        tally.equal(f"count on breaker {rule}", count(links, points), (2, rule) + (0,) * 7)
+        table = Table(links, points)
+        holding = [number for number, holds in enumerate(RULES, 1) if holds(table)]
+        tally.equal(f"only rule {rule} broken", holding, [n for n in range(1, 7) if n != rule])
+        log = bytearray(b"\x02\x01")
+        tally.equal(f"run on breaker {rule}", run(links, points, log, 1, b"\x02\x01"), (2, rule, 0, 0, 1))
+        tally.equal(f"undo on breaker {rule}", undo(links, points, log, 0, 1), (2, rule, 0, 0))
+        tally.equal(f"1 before 2 ({rule})", run(links, points, log, 3, b""), (1, 0, 0, 0, 3))
+
+
+# Edits to the words of example d (places in links, new words) and the rule they break.
+# 5 solid; 6-9 faces; 10-15 loops; 16-31 half-edges; 32-33 vertices.
+EDITS_OF_D = [
+    ("solid mark 2", {5: 2}, 1), ("vertex mark 2", {32: 2}, 1),
+    ("face names solid 2 of 1", {6: 2}, 1), ("face names loop 3 of 2", {7: 3}, 1),
+    ("used face without outer loop", {7: 0}, 1), ("free face with outer loop", {8: 0}, 1),
+    ("loop names face 3 of 2", {10: 3}, 1), ("loop's first 5 of 4", {11: 5}, 1),
+    ("lone vertex 3 of 2", {12: 3}, 1), ("free loop with first", {13: 0}, 1),
+    ("start 3 of 2", {16: 3}, 1), ("half-edge in loop 0", {17: 0}, 1), ("next 0", {18: 0}, 1),
+    ("previous 5 of 4", {19: 5}, 1), ("one half free", {20: 0, 21: 0, 22: 0, 23: 0}, 1),
+    ("free vertex with a point", {33: 0}, 1), ("vertex in no use", {32: 0}, 2),
+    ("solid free but named", {5: 0}, 2), ("outer loop of another face", {9: 1}, 2),
+    ("first and lone vertex", {12: 1}, 3), ("neither first nor lone", {11: 0}, 3),
+    ("first not the least", {11: 3}, 4), ("first of another loop", {11: 1}, 4),
+    ("next to itself", {18: 1}, 4), ("previous to itself", {19: 1}, 4),
+    ("start of another vertex", {16: 2}, 4), ("half-edge names another loop", {17: 1}, 4),
+    ("lone loop that is named", {11: 0, 12: 1}, 4),
+    ("both next and previous itself", {18: 1, 19: 1, 30: 4, 31: 4}, 4),
+    ("two cycles in one loop", {17: 1, 29: 1, 13: 2, 14: 0, 15: 2, 11: 1}, 4),
+    ("vertex with two cycles", {20: 1, 28: 1, 33: 0, "point": 0}, 5),
+]
+# The same for example c, whose second face, second loop, edge 2 are free; and for b.
+EDITS_OF_C = [
+    ("outer loop free", {7: 2}, 2), ("loop names a free face", {10: 2}, 2), ("first free", {11: 3}, 2),
+    ("half-edge names a free loop", {17: 2}, 2), ("next free", {18: 3}, 2), ("previous free", {19: 4}, 2),
+    ("vertex lone and starting", {13: 1, 15: 1}, 5), ("second face lone at a starting vertex", {8: 1, 9: 2, 13: 2, 14: 0, 15: 2}, 5),
+]
+EDITS_OF_B = [
+    ("lone vertex free", {12: 2}, 2), ("solid in use without a face", {6: 0, 7: 0, 10: 0, 12: 0, 32: 0}, 2),
+    ("vertex idle", {33: 1}, 5), ("unlinked face", {8: 1, 9: 2, 13: 2, 15: 2, 33: 1}, 6),
+    ("ring lone at the same vertex", {13: 1, 15: 1}, 5), ("sound lone ring", {13: 1, 15: 2, 33: 1}, 0),
+]
+
+
+def clauses_of_rules(tally):
+    for words, edits in ((WORDS_D, EDITS_OF_D), (WORDS_C, EDITS_OF_C), (WORDS_B, EDITS_OF_B)):
+        points = [0, 0, 0, 0, 0, 0] if words is WORDS_B else [0, 0, 0, 100, 0, 0]
+        tally.equal("rule: unedited", check(list(words), points), (0, 0))
+        for name, edit, rule in edits:
+            edit = dict(edit)
+            moved = points[:3] + [edit.pop("point", points[3]), 0, 0]
+            links = [edit.get(place, word) for place, word in enumerate(words)]
+            tally.equal(f"rule: {name}", check(links, moved), (2, rule) if rule else (0, 0))
+    start = [2, 2, 2, 2, 2]
+    tally.equal("rule: an edge between two solids", check(start + [1, 1, 1, 1, 2, 2] + WORDS_D[10:], [0] * 6), (2, 6))
+    tally.equal("rule: the same in one solid", check(start + [1, 0, 1, 1, 1, 2] + WORDS_D[10:], [0] * 6), (0, 0))
+    tally.equal("rule: coordinate 50,000", check(list(WORDS_B), [50_000, -50_000, 0, 0, 0, 0]), (0, 0))
+    tally.equal("rule: coordinate -50,001", check(list(WORDS_B), [0, 0, -50_001, 0, 0, 0]), (2, 1))
+    tally.equal("rule: point of a free vertex", check(list(WORDS_B), [0, 0, 0, 0, 1, 0]), (2, 1))
+
+
+def lengths(tally):
+    points = [0] * 6
+    for name, links, pts in (("no links", [], points), ("four words", [1, 2, 2, 2], points),
+                             ("links short", WORDS_B[:-1], points), ("links long", WORDS_B + [0], points),
+                             ("points short", WORDS_B, points[:-1]), ("points long", WORDS_B, points + [0]),
+                             ("capacity 0", [0] + WORDS_B[1:], points)):
+        tally.equal(f"lengths: {name}", check(list(links), list(pts)), (1, 0))
+        tally.equal(f"lengths in undo: {name}", undo(list(links), list(pts), b"", 0, 0), (1, 0, 0, 0))
+    tally.equal("start at the log's end", run(list(WORDS_B), points, bytearray(3), 3, b""), (0, 0, 0, 0, 3))
+    tally.equal("start beyond the log", run(list(WORDS_B), points, bytearray(3), 4, b""), (1, 0, 0, 0, 4))
+    tally.equal("undo start beyond the log", undo(list(WORDS_B), points, b"abc", 4, 0), (1, 0, 0, 4))
+
+
+# Scripts
+
+def numbers(tally):
+    for value, text in ((0, "00"), (127, "7F"), (128, "8001"), (16_383, "FF7F"), (16_384, "808001"),
+                        (100_000, "A08D06"), ((1 << 21) - 1, "FFFF7F")):
+        data = bytes.fromhex(text)
+        tally.equal(f"number {value} written", number_bytes(value), data)
+        tally.equal(f"number {value} read", read_number(data + b"\xFF", 0), (value, len(data)))
+    for text in ("", "80", "8080", "8000", "FF00", "808000", "808080", "80808001", "FFFFFF7F"):
+        tally.equal(f"number {text} refused", read_number(bytes.fromhex(text), 0), None)
+
+
+def reading_order(tally):
+    def refusal(text, capacities=None):
+        return read_operator(bytes.fromhex(text.replace(" ", "")), 0, capacities)[0]
+    tally.equal("all operands 3 before any 5", refusal("01 00 01 01 01 00 00 80"), 3)
+    tally.equal("code before operands", refusal("0E 80"), 4)
+    tally.equal("zero solid", refusal("01 00 01 01 01 00 00 00"), 5)
+    tally.equal("zero solid in mfkrh", refusal("0A 01 01 00"), 0)
+    tally.equal("way 2 in mev", refusal("03 01 00 01 01 02 00 00 00"), 5)
+    tally.equal("way 3 in mef", refusal("05 01 00 00 01 01 01 03"), 0)
+    tally.equal("way 4 in mef", refusal("05 01 00 00 01 01 01 04"), 5)
+    tally.equal("half-edge 8,192", refusal("04 80 40"), 0)
+    tally.equal("half-edge 8,193", refusal("04 81 40"), 5)
+    tally.equal("face 4,096", refusal("09 80 20 01"), 0)
+    tally.equal("face 4,097", refusal("09 81 20 01"), 5)
+    tally.equal("half-edge 4 of E = 2", refusal("04 04", SMALL), 0)
+    tally.equal("half-edge 5 of E = 2", refusal("04 05", SMALL), 5)
+    tally.equal("place at the end", read_operator(b"\x02\x01", 2), (3, NO_OPERATOR, 0))
+    tally.equal("place inside", read_operator(b"\x02\x02\x01", 1), (0, operator("kvsf", 1), 2))
+    longest = operator("mev", 4_096, 8_192, 4_096, 4_096, 1, 50_000, -50_000, 50_000)
+    tally.equal("the longest operator", len(script_bytes([longest])), 19)
+
+
+def writing(tally):
+    def write(op, size, place=0):
+        destination = bytearray(b"\xEE" * size)
+        return write_operator(op, destination, place), bytes(destination)
+    kev, blank = operator("kev", 300), b"\xEE" * 4
+    tally.equal("write", write(kev, 4), ((0, 3), bytes.fromhex("04AC02EE")))
+    tally.equal("write at 1", write(kev, 4, 1), ((0, 3), bytes.fromhex("EE04AC02")))
+    tally.equal("write too short", write(kev, 2), ((9, 0), b"\xEE" * 2))
+    tally.equal("write too far", write(kev, 4, 2), ((9, 0), blank))
+    tally.equal("write code 0", write(kev._replace(code=0), 4), ((4, 0), blank))
+    tally.equal("write code 14", write(kev._replace(code=14), 0), ((4, 0), b""))
+    tally.equal("write count 2", write(kev._replace(count=2), 4), ((5, 0), blank))
+    tally.equal("write unused operand", write(Operator(4, 1, (1, 0, 0, 0, 0, 0, 0, 1)), 0), ((5, 0), b""))
+    tally.equal("write operand 8,193", write(operator("kev", 8_193), 4), ((5, 0), blank))
+    tally.equal("write operand 0", write(operator("kev", 0), 4), ((5, 0), blank))
+    tally.equal("write operand -1", write(operator("kev", -1), 4), ((5, 0), blank))
+    tally.equal("write coordinates", write(operator("mvsf", 1, 1, 1, 1, -1, 50_000, -64), 20)[1][:10],
+                bytes.fromhex("0101010101 01 A08D06 7F".replace(" ", "")))
+    tally.equal("write coordinate 50,001", write(operator("mvsf", 1, 1, 1, 1, 0, 50_001, 0), 4), ((5, 0), blank))
+
+
+# Operators: (capacities, operators, cycles of loops afterwards, starts of half-edges afterwards)
+
+MVSF = operator("mvsf", 1, 1, 1, 1, 0, 0, 0)
+WIDE = (3, 4, 4, 5, 5)
+
+
+def mev(l, h, e, v, w=0):
+    return operator("mev", l, h, e, v, w, 0, 0, 0)
+
+
+SHAPES = [
+    ("mev way 1 on a lone loop", [mev(1, 0, 1, 2, 1)], {1: [1, 2]}, {1: 2, 2: 1}),
+    ("mev before h", [mev(1, 0, 1, 2), mev(1, 2, 2, 3)], {1: [1, 3, 4, 2]}, {1: 1, 2: 2, 3: 2, 4: 3}),
+    ("mev way 1 before h", [mev(1, 0, 1, 2), mev(1, 1, 2, 3, 1)], {1: [1, 2, 4, 3]}, {1: 1, 2: 2, 4: 1, 3: 3}),
+    ("kev to a lone loop", [mev(1, 0, 1, 2), operator("kev", 2)], {1: (2,)}, {}),
+    ("mef on a lone loop", [operator("mef", 1, 0, 0, 1, 2, 2, 0)], {1: [1], 2: [2]}, {1: 1, 2: 1}),
+    ("mef way 1 on a lone loop", [operator("mef", 1, 0, 0, 1, 2, 2, 1)], {1: [2], 2: [1]}, {1: 1, 2: 1}),
+    ("mef equal corners way 0", [mev(1, 0, 1, 2), operator("mef", 1, 2, 2, 2, 2, 2, 0)],
+     {1: [1, 3, 2], 2: [4]}, {1: 1, 2: 2, 3: 2, 4: 2}),
+    ("mef equal corners way 1", [mev(1, 0, 1, 2), operator("mef", 1, 2, 2, 2, 2, 2, 1)],
+     {1: [1, 4, 2], 2: [3]}, {1: 1, 2: 2, 3: 2, 4: 2}),
+    ("mef equal corners way 2", [mev(1, 0, 1, 2), operator("mef", 1, 2, 2, 2, 2, 2, 2)],
+     {1: [3], 2: [1, 4, 2]}, {1: 1, 2: 2, 3: 2, 4: 2}),
+    ("mef equal corners way 3", [mev(1, 0, 1, 2), operator("mef", 1, 2, 2, 2, 2, 2, 3)],
+     {1: [4], 2: [1, 3, 2]}, {1: 1, 2: 2, 3: 2, 4: 2}),
+    ("mef unequal corners way 1", [mev(1, 0, 1, 2), operator("mef", 1, 2, 1, 2, 2, 2, 1)],
+     {1: [1, 4], 2: [2, 3]}, {1: 1, 2: 2, 4: 2, 3: 1}),
+    ("kef: first is neither loop's old one", [mev(1, 0, 2, 2), operator("mef", 1, 3, 4, 1, 2, 2, 0),
+                                              operator("kef", 2)], {1: [3, 4]}, {3: 1, 4: 2}),
+    ("kef: first comes from the killed loop", [mev(1, 0, 1, 2), operator("mef", 1, 1, 2, 2, 2, 2, 0),
+                                               operator("kef", 4)], {1: [1, 2]}, {1: 1, 2: 2}),
+    ("kef of two single half-edges", [operator("mef", 1, 0, 0, 1, 2, 2, 0), operator("kef", 2)], {1: (1,)}, {}),
+    ("kef puts the rest in the mate's place", [mev(1, 0, 1, 2), operator("mef", 1, 1, 2, 2, 2, 2, 0),
+                                               operator("kef", 3)], {2: [1, 2]}, {1: 1, 2: 2}),
+    ("kemr of the only edge", [mev(1, 0, 1, 2), operator("kemr", 1, 2)], {1: (1,), 2: (2,)}, {}),
+    ("kemr of the only edge by its mate", [mev(1, 0, 1, 2), operator("kemr", 2, 2)], {1: (2,), 2: (1,)}, {}),
+    ("kemr in the middle", [mev(1, 0, 1, 2), mev(1, 2, 2, 3), mev(1, 4, 3, 4), operator("kemr", 3, 3)],
+     {1: [1, 2], 3: [5, 6]}, {1: 1, 2: 2, 5: 3, 6: 4}),
+    ("mekr of two lone loops", [mev(1, 0, 1, 2), operator("kemr", 1, 2), operator("mekr", 1, 0, 2, 0, 3, 1)],
+     {1: [5, 6]}, {6: 1, 5: 2}),
+    ("mekr goes round the ring", [mev(1, 0, 1, 2), mev(1, 2, 2, 3), mev(1, 4, 3, 4), operator("kemr", 3, 3),
+                                  operator("mekr", 1, 1, 3, 6, 4, 0)],
+     {1: [1, 2, 7, 6, 5, 8]}, {1: 1, 2: 2, 5: 3, 6: 4, 7: 1, 8: 4}),
+    ("semv where next of k is its mate", [mev(1, 0, 1, 2), operator("semv", 1, 2, 3, 0, 0, 0, 0)],
+     {1: [1, 3, 4, 2]}, {1: 1, 3: 3, 4: 2, 2: 3}),
+    ("semv of the mate, way 1", [mev(1, 0, 1, 2), operator("semv", 2, 2, 3, 1, 0, 0, 0)],
+     {1: [1, 2, 4, 3]}, {1: 3, 2: 2, 4: 3, 3: 1}),
+    ("semv of a loop of one half-edge", [operator("mef", 1, 0, 0, 1, 2, 2, 0), operator("semv", 1, 2, 2, 0, 0, 0, 0)],
+     {1: [1, 3], 2: [2, 4]}, {1: 1, 3: 2, 2: 2, 4: 1}),
+    ("jekv undoes that at the other half", [operator("mef", 1, 0, 0, 1, 2, 2, 0), operator("semv", 1, 2, 2, 0, 0, 0, 0),
+                                            operator("jekv", 3)], {1: [3], 2: [4]}, {3: 2, 4: 2}),
+]
+
+
+def loops_in_words(table):
+    """Loops as written in the words: half-edges from first on, or (lone vertex,)."""
+    found = {}
+    for loop, (_, first, lone) in table.used("loop").items():
+        found[loop] = (lone,)
+        if first != 0:
+            found[loop] = [first]
+            while table.record("half", found[loop][-1])[2] != first:
+                found[loop].append(table.record("half", found[loop][-1])[2])
+    return found
+
+
+def shapes(tally):
+    for name, operators, loops, starts in SHAPES:
+        desk = Desk(WIDE)
+        script = script_bytes([MVSF] + operators)
+        answer = desk.run(script)
+        tally.equal(f"{name}: run", answer[:4], (0, 0, 1 + len(operators), len(script)))
+        table = Table(desk.links, desk.points)
+        tally.equal(f"{name}: loops", loops_in_words(table), loops)
+        tally.equal(f"{name}: starts", {h: words[0] for h, words in table.used("half").items()}, starts)
+        tally.equal(f"{name}: sound", check(desk.links, desk.points), (0, 0))
+
+
+# Refusals: (name, operators before, the refused operator, refusal)
+
+LINE = [mev(1, 0, 1, 2), mev(1, 2, 2, 3)]                  # loop 1: 1 3 4 2
+TWO_FACES = [mev(1, 0, 1, 2), operator("mef", 1, 1, 2, 2, 2, 2, 0)]  # loop 1: 3 2, loop 2: 1 4
+LONE_RING = [mev(1, 0, 1, 2), operator("kemr", 1, 2)]      # loop 1 lone at 1, ring 2 lone at 2
+SECOND = operator("mvsf", 2, 3, 3, 4, 0, 0, 0)
+# Two faces sharing only edge 1, which runs inside ring 2 of face 1.
+ONLY_RING_SHARED = LONE_RING + [operator("mef", 2, 0, 0, 1, 2, 3, 0)]
+# Two faces joined into one with a ring: the hole of example e.
+HANDLE = [operator("mef", 1, 0, 0, 1, 2, 2, 0), operator("kfmrh", 1, 2)]
+
+REFUSALS = [
+    ("kvsf of a solid with an edge", LINE, operator("kvsf", 1), 8),
+    ("kvsf of a lone face with a ring", LONE_RING, operator("kvsf", 1), 8),
+    ("kvsf of a free solid", [], operator("kvsf", 2), 6),
+    ("mvsf with a used loop", [], operator("mvsf", 2, 2, 1, 2, 0, 0, 0), 7),
+    ("mev at 0 of a loop not lone", LINE, mev(1, 0, 3, 4), 8),
+    ("mev at a half-edge of another loop", TWO_FACES, mev(1, 1, 3, 4), 8),
+    ("mev at a free half-edge", LINE, mev(1, 7, 3, 4), 6),
+    ("mev in a free loop, with a used edge", LINE, mev(2, 1, 1, 4), 6),
+    ("mev with a used edge", LINE, mev(1, 1, 2, 4), 7),
+    ("mev with a used vertex", LINE, mev(1, 1, 3, 3), 7),
+    ("mev: 7 before 8", LINE, mev(1, 0, 3, 3), 7),
+    ("kev in the middle", LINE, operator("kev", 1), 8),
+    ("kev towards the middle", LINE, operator("kev", 4), 8),
+    ("kev of a loop of one half-edge", [operator("mef", 1, 0, 0, 1, 2, 2, 0)], operator("kev", 1), 8),
+    ("mef at one lone corner", LINE, operator("mef", 1, 1, 0, 3, 2, 2, 0), 8),
+    ("mef to a corner of another loop", TWO_FACES, operator("mef", 1, 2, 1, 3, 3, 3, 0), 8),
+    ("mef way 2 with two corners", LINE, operator("mef", 1, 1, 2, 3, 2, 2, 2), 8),
+    ("mef way 3 on a lone loop", [], operator("mef", 1, 0, 0, 1, 2, 2, 3), 8),
+    ("mef with the same loop", LINE, operator("mef", 1, 1, 2, 3, 2, 1, 0), 7),
+    ("kef inside one loop", LINE, operator("kef", 1), 8),
+    ("kef of a face with a ring", ONLY_RING_SHARED, operator("kef", 1), 8),
+    ("kef beside a face with a ring", ONLY_RING_SHARED, operator("kef", 2), 0),
+    ("kef inside one face", HANDLE, operator("kef", 2), 8),
+    ("kemr between two loops", TWO_FACES, operator("kemr", 1, 3), 8),
+    ("kemr between two loops of one face", HANDLE, operator("kemr", 1, 3), 8),
+    ("kemr into a used loop", LINE, operator("kemr", 1, 1), 7),
+    ("mekr of a loop with itself", LONE_RING, operator("mekr", 2, 0, 2, 0, 1, 0), 8),
+    ("mekr with the outer loop as ring", LONE_RING, operator("mekr", 2, 0, 1, 0, 1, 0), 8),
+    ("mekr across two faces", TWO_FACES, operator("mekr", 1, 2, 2, 1, 3, 0), 8),
+    ("mekr to a ring of another face", ONLY_RING_SHARED, operator("mekr", 3, 2, 2, 1, 2, 0), 8),
+    ("mekr to a wrong corner", HANDLE, operator("mekr", 1, 1, 2, 1, 2, 0), 8),
+    ("kfmrh of a face with itself", LINE, operator("kfmrh", 1, 1), 8),
+    ("kfmrh of a face with a ring", ONLY_RING_SHARED, operator("kfmrh", 2, 1), 8),
+    ("kfmrh into a face with a ring", ONLY_RING_SHARED, operator("kfmrh", 1, 2), 0),
+    ("mfkrh of an outer loop", TWO_FACES, operator("mfkrh", 1, 3, 0), 8),
+    ("mfkrh of a lone ring without a solid", LONE_RING, operator("mfkrh", 2, 2, 0), 8),
+    ("mfkrh of a lone ring", LONE_RING, operator("mfkrh", 2, 2, 2), 0),
+    ("mfkrh of a linked ring with a solid", HANDLE, operator("mfkrh", 2, 2, 2), 8),
+    ("mfkrh with the used solid", LONE_RING, operator("mfkrh", 2, 2, 1), 7),
+    ("mfkrh with a used face", HANDLE, operator("mfkrh", 2, 1, 0), 7),
+    ("semv of a free edge", LINE, operator("semv", 5, 3, 4, 0, 0, 0, 0), 6),
+    ("jekv where next is the mate", LINE, operator("jekv", 3), 8),
+    ("jekv of a loop of one half-edge", [operator("mef", 1, 0, 0, 1, 2, 2, 0)], operator("jekv", 1), 8),
+    ("jekv at a vertex of three edges", LINE + [mev(1, 2, 3, 4)], operator("jekv", 1), 8),
+    ("jekv at a vertex of two edges", LINE, operator("jekv", 1), 0),
+    ("rmov of an outer loop", TWO_FACES, operator("rmov", 1, 2), 8),
+    ("rmov of an outer loop in its face", LINE, operator("rmov", 1, 1), 8),
+    ("rmov by an edge of the moved ring", ONLY_RING_SHARED, operator("rmov", 2, 2), 8),
+    ("rmov in its own face", ONLY_RING_SHARED, operator("rmov", 2, 1), 0),
+    ("rmov to another solid", LONE_RING + [SECOND], operator("rmov", 2, 3), 8),
+    ("rmov to a free face", LONE_RING, operator("rmov", 2, 2), 6),
+]
+
+
+def refusals(tally):
+    for name, before, op, wanted in REFUSALS:
+        desk = Desk(WIDE)
+        setup = desk.run(script_bytes([MVSF] + before))
+        tally.equal(f"{name}: before", setup[:3], (0, 0, 1 + len(before)))
+        words, log, start = desk.state(), bytes(desk.log), desk.start
+        answer = desk.run(script_bytes([op]))
+        tally.equal(name, answer[:3], (wanted, 0, 1 if wanted == 0 else 0))
+        if wanted != 0:
+            tally.equal(f"{name}: unchanged", (desk.state(), bytes(desk.log), desk.start), (words, log, start))
+        else:
+            tally.equal(f"{name}: sound", check(desk.links, desk.points), (0, 0))
+
+
+def solids_of_faces(desk):
+    table = Table(desk.links, desk.points)
+    return {face: words for face, words in table.used("face").items()}
+
+
+def faces_and_solids(tally):
+    desk = Desk(WIDE)
+    desk.run(script_bytes([MVSF] + TWO_FACES + [SECOND, operator("mef", 3, 0, 0, 3, 4, 4, 0)]))
+    tally.equal("two solids", solids_of_faces(desk), {1: (1, 1), 2: (1, 2), 3: (2, 3), 4: (2, 4)})
+    tally.equal("kfmrh of two solids", desk.run(script_bytes([operator("kfmrh", 2, 3)]))[:3], (0, 0, 1))
+    tally.equal("its faces pass over", solids_of_faces(desk), {1: (1, 1), 2: (1, 2), 4: (1, 4)})
+    tally.equal("the loop is a ring", Table(desk.links, desk.points).record("loop", 3), (2, 5, 0))
+    tally.equal("solid 2 is free", Table(desk.links, desk.points).record("solid", 2), (0,))
+    tally.equal("its inverse", desk.live()[:4], bytes([10, 3, 3, 2]))
+    tally.equal("mfkrh with another solid", desk.run(bytes([10, 3, 3, 3]))[:3], (0, 0, 1))
+    tally.equal("the linked face goes along", solids_of_faces(desk), {1: (1, 1), 2: (1, 2), 3: (3, 3), 4: (3, 4)})
+    tally.equal("that inverse", desk.live()[:3], bytes([9, 2, 3]))
+    tally.equal("undo all", desk.undo(7), (0, 0, 7, 200))
+    tally.equal("rmov swaps", rmov_case(operator("rmov", 2, 1)), ({1: (1, 2), 2: (1, 3)}, {1: 1, 2: 1, 3: 2, 4: 1}))
+    tally.equal("rmov moves", rmov_case(operator("rmov", 4, 2)), ({1: (1, 1), 2: (1, 3)}, {1: 1, 2: 1, 3: 2, 4: 2}))
+
+
+def rmov_case(op):
+    """Face 1 has outer loop 1 with edge 2 to face 2, and the lone rings 2 and 4."""
+    desk = Desk(WIDE)
+    desk.run(script_bytes([MVSF, mev(1, 0, 1, 2), operator("kemr", 1, 2), mev(1, 0, 1, 3), operator("kemr", 1, 4),
+                           operator("mef", 1, 0, 0, 2, 2, 3, 0), op]))
+    loops = Table(desk.links, desk.points).used("loop")
+    return solids_of_faces(desk), {loop: words[0] for loop, words in loops.items()}
+
+
+def log_bounds(tally):
+    """9 exactly when the inverse does not fit, after 8, and no byte is written."""
+    for room, wanted in ((0, 9), (1, 9), (2, 0)):
+        desk = Desk(SMALL, 5)
+        desk.start = room
+        tally.equal(f"mvsf with room {room}", desk.run(B)[0], wanted)
+        tally.equal(f"log with room {room}", bytes(desk.log), b"\xEE" * 5 if wanted else b"\x02\x01\xEE\xEE\xEE")
+        tally.equal(f"table with room {room}", desk.state()[0][5], 0 if wanted else 1)
+    desk = Desk(SMALL, 4)
+    tally.equal("third does not fit", desk.run(B + C + D), (9, 0, 2, 18, 0))
+    tally.equal("two stand", desk.state()[0], WORDS_C)
+    tally.equal("8 before 9", desk.run(bytes.fromhex("0201")), (8, 0, 0, 0, 0))
+    tally.equal("undo 5 of 2", desk.undo(5), (11, 0, 2, 4))
+    tally.equal("undo 0 at the end", desk.undo(0), (0, 0, 0, 4))
+    desk.log = bytearray.fromhex("0401 02")
+    desk.start = 3
+    tally.equal("log ended", desk.undo(1), (11, 0, 0, 3))
+    desk.start = 2
+    tally.equal("log cut off", desk.undo(1), (3, 0, 0, 2))
+    desk.start = 0
+    tally.equal("log of another table", desk.undo(1), (6, 0, 0, 0))
+
+
+EXAMPLES = (examples_a_to_d, example_e_counts, examples_f_to_h, program_lines, each_rule_alone,
+            clauses_of_rules, lengths, numbers, reading_order, writing, shapes, refusals,
+            faces_and_solids, log_bounds)

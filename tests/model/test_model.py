@@ -1,0 +1,33 @@
+"""Self-tests of the model: python3 tests/model/test_model.py [SCALE [SEED]]
+
+SCALE (1 by default) multiplies the number of random cases. The last line printed is
+'N passed, M failed', and the exit status is 0 only when nothing failed.
+"""
+
+import sys
+import time
+
+from examples import EXAMPLES
+from generate import seeded
+from properties import PROPERTIES
+from tally import Tally
+
+
+def main(arguments):
+    scale = float(arguments[0]) if arguments else 1.0
+    seed = int(arguments[1]) if len(arguments) > 1 else 1
+    tally = Tally()
+    for example in EXAMPLES:
+        example(tally)
+    print(f"examples: {tally.passed} checks")
+    for number, prop in enumerate(PROPERTIES):
+        before, began = tally.passed, time.process_time()
+        # A seed of its own, so that one property's cases do not hang on another's.
+        prop(tally, seeded(1000 * seed + number), scale)
+        print(f"{prop.__name__}: {tally.passed - before} checks, {time.process_time() - began:.1f} s")
+    print(f"{tally.passed} passed, {tally.failed} failed")
+    return 0 if tally.failed == 0 and tally.passed > 0 else 1
+
+
+if __name__ == "__main__":
+    sys.exit(main(sys.argv[1:]))
