@@ -1,0 +1,1 @@
+-- Example f of the scope, and its neighbours, as rows of one list under one theorem.
