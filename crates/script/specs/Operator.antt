@@ -14,7 +14,7 @@ use Rattle.script.specs.declared.Operator.{Operator}
 use Rattle.script.specs.declared.ReadAnswer.{ReadAnswer}
 use Rattle.script.specs.declared.WriteAnswer.{WriteAnswer}
 use Rattle.script.specs.Number.{readNumber, groups, onNum}
-use Rattle.script.specs.Operands.{unused, pattern, widest, inRanges, wires, unwires}
+use Rattle.script.specs.Operands.{unused, pattern, widest, largests, inRanges, wires, unwires}
 
 -- an operator with the operands 0
 abbrev pub blankOf : ℕ → ℕ → Operator
@@ -63,7 +63,7 @@ readBehind lim s at code behind =
     pick (eqb (pattern code .count) 0) (refused 4 at)
     (onNumbers (readOperands (pattern code .kinds) s behind)
     (λ ns next.
-    pick (inRanges lim (pattern code .kinds) ns)
+    pick (inRanges (largests lim) (pattern code .kinds) ns)
     (record {
       refusal = 0;
       next = next;
@@ -96,7 +96,7 @@ operatorBytes op = groups (op .code) ++ operandsBytes (pattern (op .code) .kinds
 unfoldable pub operatorRefusal : Operator → ℕ
 operatorRefusal op =
     pick (eqb (pattern (op .code) .count) 0) 4
-    (pick (eqb (op .count) (pattern (op .code) .count)) (pick (inRanges widest (pattern (op .code) .kinds) (numbersOf op)) 0 5) 5)
+    (pick (eqb (op .count) (pattern (op .code) .count)) (pick (inRanges (largests widest) (pattern (op .code) .kinds) (numbersOf op)) 0 5) 5)
 
 -- the bytes at `at`, if they fit; else nothing changes
 unfoldable pub putBytes : List ℕ → ℕ → List ℕ → List ℕ
