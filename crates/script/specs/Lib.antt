@@ -4,4 +4,6 @@ pub mod Operands
 pub mod Operator
 pub mod SignedLaws
 pub mod OperandLaws
+pub mod ReadLaws
+pub mod WriteLaws
 pub mod Examples

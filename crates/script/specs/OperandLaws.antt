@@ -31,10 +31,14 @@ pub by-row : (code k : ℕ) (p : Pattern) → code ≡ k → pattern k ≡ p →
 by-row code k p e f r g = rw (g, e, f)
 
 -- no such code
+pub no-code : (x : ℕ) → 13 < x → row [] ≡ pattern x
+unfolding pattern rows
+no-code x h = let k : length rows ≤ x = omega arith in sym (List·getD-eq-default rows (row []) k)
+
 pub pattern-none : (x : ℕ) → NoneOf 13 x → row [] ≡ pattern x
 unfolding pattern rows
 pattern-none x d =
-    ⊎-elim (λ e. rw e) (λ h. let k : length rows ≤ x = omega arith in sym (List·getD-eq-default rows (row []) k)) (none-of 13 x d)
+    ⊎-elim (λ e. rw e) (λ h. no-code x h) (none-of 13 x d)
 
 -- one number in or out of range
 module _ (most : List ℕ) (k n : ℕ) where

@@ -9,6 +9,7 @@ use lib.Dec.{ltb, leb, eqb}
 use Rattle.laws.specs.Bools.{pick}
 use Rattle.script.specs.declared.number.Num.{Num}
 use Rattle.script.specs.declared.number.Num.the-variants.{Got, Bad}
+use Rattle.script.specs.declared.bytes.NumbersAnswer.{NumbersAnswer}
 use Rattle.script.specs.declared.Limits.{Limits}
 use Rattle.script.specs.declared.Operator.{Operator}
 use Rattle.script.specs.declared.ReadAnswer.{ReadAnswer}
@@ -52,6 +53,11 @@ unfoldable pub readOperands : List ℕ → List ℕ → ℕ → Numbers
 readOperands [] s at = Read [] at
 readOperands (k ∷ ks) s at =
     onNum (readOperand k s at) (λ n next. onNumbers (readOperands ks s next) (λ ns end. Read (n ∷ ns) end) Cut) Cut
+
+-- as the code has them: on a refusal the place handed in and zeros
+abbrev pub numbersAnswer : ℕ → Numbers → NumbersAnswer
+numbersAnswer at (Read ns next) = record { refusal = 0; next = next; numbers = ns }
+numbersAnswer at Cut = record { refusal = 3; next = at; numbers = replicate 8 0 }
 
 -- a refused read answers the place it was given and the blank operator 0
 abbrev pub refused : ℕ → ℕ → ReadAnswer
