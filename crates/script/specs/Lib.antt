@@ -6,4 +6,5 @@ pub mod SignedLaws
 pub mod OperandLaws
 pub mod ReadLaws
 pub mod WriteLaws
+pub mod OperatorLaws
 pub mod Examples

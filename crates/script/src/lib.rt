@@ -148,3 +148,76 @@ pub fn read_operator(script: &[u8], at: usize) -> ReadAnswer
 {
     read_within(script, at, widest())
 }
+
+// The refusal of writing an operator into enough space: 4, 5, or 0 for none.
+pub fn operator_refusal(op: Operator) -> u8
+    ensures { λ r. ⌜ r ≡ operatorRefusal op ⌝ }
+{
+    let pattern = operands::pattern_of(op.code);
+    if pattern.count == 0 {
+        return 4;
+    }
+    if op.count != pattern.count {
+        return 5;
+    }
+    let kinds = pattern.kinds;
+    let args = op.args;
+    let numbers = operands::to_wires(kinds, args);
+    if operands::in_ranges(operands::largest(widest()), kinds, numbers) {
+        return 0;
+    }
+    5
+}
+
+// How many bytes an operator takes.
+pub fn operator_size(op: Operator) -> usize
+    ensures { λ r. ⌜ (r ≡ length (operatorBytes op)) × (r ≤ 27) ⌝ }
+{
+    let pattern = operands::pattern_of(op.code);
+    let kinds = pattern.kinds;
+    let args = op.args;
+    let numbers = operands::to_wires(kinds, args);
+    number::number_size(op.code as u32) + bytes::operands_size(kinds, numbers)
+}
+
+// The operator's bytes at `at`, where they fit; else nothing changes.
+pub fn put_operator(op: Operator, out: &mut [u8], at: usize)
+    ensures { λ _. ⌜ now (out .exit) ≡ putBytes (now (out .entry)) at (operatorBytes op) ⌝ }
+{
+    let size = operator_size(op);
+    let n = out.len();
+    if n < size {
+        return;
+    }
+    if n - size < at {
+        return;
+    }
+    let pattern = operands::pattern_of(op.code);
+    let kinds = pattern.kinds;
+    let args = op.args;
+    let numbers = operands::to_wires(kinds, args);
+    let behind = number::write_number(out, at, op.code as u32);
+    bytes::write_operands(out, behind, kinds, numbers);
+}
+
+// The operator at the front of `out`: refusal 4 or 5, then 9 where it does not fit, with `out` left as it is.
+pub fn write_operator(op: Operator, out: &mut [u8]) -> WriteAnswer
+    ensures { λ r. ⌜ written r (now (out .exit)) ≡ writeOperator op (now (out .entry)) ⌝ }
+{
+    let refusal = operator_refusal(op);
+    if refusal != 0 {
+        return WriteAnswer { refusal, length: 0 };
+    }
+    let size = operator_size(op);
+    if out.len() < size {
+        return WriteAnswer {
+            refusal: 9,
+            length: 0,
+        };
+    }
+    put_operator(op, out, 0);
+    WriteAnswer {
+        refusal: 0,
+        length: size,
+    }
+}
