@@ -7,4 +7,8 @@ pub mod OperandLaws
 pub mod ReadLaws
 pub mod WriteLaws
 pub mod OperatorLaws
+pub mod NumberTrip
+pub mod Ranges
+pub mod OperandTrip
+pub mod Accepted
 pub mod Examples
