@@ -11,4 +11,6 @@ pub mod NumberTrip
 pub mod Ranges
 pub mod OperandTrip
 pub mod Accepted
+pub mod RoundTrip
+pub mod Scripts
 pub mod Examples

@@ -85,6 +85,7 @@ step k ks s at ns next e = one (readOperand k s at) refl e
         let h : end ≡ next = cc in
         record { n = n; mid = mid; rest = ms; first = a; others = rw h at b; all = g }
     two n mid Cut a b f = cut ns next f
+
     one : (x : Num) → readOperand k s at ≡ x → onNum x (λ n mid. onNumbers (readOperands ks s mid) (λ ms end. Read (n ∷ ms) end) Cut) Cut ≡ Read ns next → Step k ks s at ns next
     one (Got n mid) a f = two n mid (readOperands ks s mid) a refl f
     one Bad a f = cut ns next f
@@ -102,9 +103,12 @@ operands-written (k ∷ ks) [] s at q l e f = absurd (omega arith)
 operands-written (k ∷ ks) (n ∷ ns) s at q l e f =
     let a = ranges-cons (largests widest) k n ks ns e in
     let g : drop at s ≡ operandBytes k n ++ (operandsBytes ks ns ++ q) = f ∙ append-assoc (operandBytes k n) (operandsBytes ks ns) q in
-    rw (operand-written k n s at (operandsBytes ks ns ++ q) (a .0) g,
-    operands-written ks ns s (at + length (operandBytes k n)) q (omega arith) (a .1) (drop-part s at (operandBytes k n) (operandsBytes ks ns ++ q) g),
-    length-append (operandBytes k n) (operandsBytes ks ns), add-assoc at (length (operandBytes k n)) (length (operandsBytes ks ns)))
+    rw (
+      operand-written k n s at (operandsBytes ks ns ++ q) (a .0) g,
+      operands-written ks ns s (at + length (operandBytes k n)) q (omega arith) (a .1) (drop-part s at (operandBytes k n) (operandsBytes ks ns ++ q) g),
+      length-append (operandBytes k n) (operandsBytes ks ns),
+      add-assoc at (length (operandBytes k n)) (length (operandsBytes ks ns)),
+    )
 
 pub written-operands : (ks s : List ℕ) (at : ℕ) (ns : List ℕ) (next : ℕ) → Bytes s → readOperands ks s at ≡ Read ns next
     → (next ≡ at + length (operandsBytes ks ns)) × (drop at s ≡ operandsBytes ks ns ++ drop next s) × (length ns ≡ length ks)
@@ -117,10 +121,11 @@ written-operands (k ∷ ks) s at ns next w e =
     let t = step k ks s at ns next e in
     let a = written-operand k (t .n) s at (t .mid) w (t .first) in
     let b = written-operands ks s (t .mid) (t .rest) next w (t .others) in
-    rw (t .all, length-append (operandBytes k (t .n)) (operandsBytes ks (t .rest)))
-    (omega arith,
-    a .1 ∙ ap (λ (l : List ℕ). operandBytes k (t .n) ++ l) (b .1) ∙ sym (append-assoc (operandBytes k (t .n)) (operandsBytes ks (t .rest)) (drop next s)),
-    ap suc (b .2))
+    rw (t .all, length-append (operandBytes k (t .n)) (operandsBytes ks (t .rest))) (
+      omega arith,
+      a .1 ∙ ap (λ (l : List ℕ). operandBytes k (t .n) ++ l) (b .1) ∙ sym (append-assoc (operandBytes k (t .n)) (operandsBytes ks (t .rest)) (drop next s)),
+      ap suc (b .2),
+    )
 
 pub operands-next : (ks s : List ℕ) (at : ℕ) (ns : List ℕ) (next : ℕ) → at ≤ length s → readOperands ks s at ≡ Read ns next → (at ≤ next) × (next ≤ length s)
 unfolding readOperands
