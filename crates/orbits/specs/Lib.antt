@@ -1,0 +1,5 @@
+pub mod Labels
+pub mod LabelsLaws
+pub mod Cycles
+pub mod CyclesLaws
+pub mod OrbitsLaws
