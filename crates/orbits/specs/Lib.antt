@@ -3,3 +3,4 @@ pub mod LabelsLaws
 pub mod Cycles
 pub mod CyclesLaws
 pub mod OrbitsLaws
+pub mod Instances
