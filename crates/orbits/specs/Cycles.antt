@@ -1,6 +1,6 @@
 -- The steps from half-edge to half-edge, and the linear test that the half-edges of each label form one cycle.
 use Prim.Native.Nat.{ℕ, _*_}
-use mathlib.Core.Bool.{Bool, true, false, not}
+use mathlib.Core.Bool.{Bool, not}
 use mathlib.Core.List.{List}
 use lib.Dec.{eqb}
 use lib.ListN.{getD, replicate}

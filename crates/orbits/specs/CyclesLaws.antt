@@ -1,12 +1,12 @@
 -- The turns of the loops that mark half-edges and look for one that is not marked.
-use mathlib.Core.Path.{_≡_, refl, sym, ap, _∙_}
+use mathlib.Core.Path.{_≡_, sym, ap, _∙_}
 use mathlib.Core.Logic.{_≢_}
 use mathlib.Core.Bool.{Bool, true, false, not, false≢true}
 use mathlib.Core.List.{List}
 use Prim.Native.Nat.{ℕ, zero, suc, _+_, _-_, _≤_, _<_}
 use native.Mathlib.Numerals.{add-one}
 use native.Mathlib.Omega.{arith}
-use lib.ListN.{length, getD, set, length-set}
+use lib.ListN.{length, getD, set}
 use Rattle.laws.specs.Bools.{eqb-same, eqb-other}
 use Rattle.laws.specs.Search.{allTo}
 use Rattle.laws.specs.Marks.{markFrom, markRep, markTo, mark-stop, mark-on, markTo-length}

@@ -1,12 +1,12 @@
 -- What the passes leave at a label, and the turns of their loops.
 use mathlib.Core.Path.{_≡_, refl, sym, ap, _∙_}
 use mathlib.Core.Logic.{_≢_, ⊎-elim}
-use mathlib.Core.Bool.{Bool, true, false}
+use mathlib.Core.Bool.{true, false}
 use mathlib.Core.List.{List}
 use Prim.Native.Nat.{ℕ, zero, suc, _+_, _-_, _≤_, _<_}
 use native.Mathlib.Omega.{arith}
 use lib.Dec.{eqb, eqb→eq}
-use lib.ListN.{length, getD, set, replicate, length-set, length-replicate}
+use lib.ListN.{length, getD, set, length-set, length-replicate}
 use lib.Seq.{getD-set-same, getD-set-other, set-out}
 use Rattle.laws.specs.Bools.{true-T, false-T, split, le?, eqb-same, eqb-other}
 use Rattle.laws.specs.Search.{least, Least, none-is, one-is, leastFrom-is}
@@ -77,8 +77,8 @@ module _ (f : ℕ → ℕ) (v : ℕ) where
   least-found zero a r long l u t h = absurd (omega arith)
   least-found (suc n) a r long l u t h = split r (suc n)
       (λ e.
-        let q : f (suc n) ≡ v = ap f (sym e) ∙ eqb→eq (f r) v (true-T t) in
-        least-kept n (set a (f (suc n)) (suc n)) (λ j b c. h j b (omega arith)) ∙ rw q (getD-set-same a v (suc n) 0 long) ∙ sym e)
+      let q : f (suc n) ≡ v = ap f (sym e) ∙ eqb→eq (f r) v (true-T t) in
+      least-kept n (set a (f (suc n)) (suc n)) (λ j b c. h j b (omega arith)) ∙ rw q (getD-set-same a v (suc n) 0 long) ∙ sym e)
       (λ d. least-found n (set a (f (suc n)) (suc n)) r (omega (arith, length-set a (f (suc n)) (suc n))) l (omega arith) t h)
 
 -- each label's entry, 0 at first, is the least that names it, or 0

@@ -1,18 +1,17 @@
 -- The linear test says what the readable one does: each half-edge in use is met from its label's representative. The labels are the
 -- loops, along "next", and the vertices, along "next of the mate". What has to hold of the links beforehand is stated as records.
-use mathlib.Core.Path.{_≡_, refl, sym, ap, _∙_}
+use mathlib.Core.Path.{_≡_, refl, ap, _∙_}
 use mathlib.Core.Logic.{_≢_}
 use mathlib.Core.Bool.{Bool, true, false, not}
 use mathlib.Core.List.{List}
-use Prim.Native.Nat.{ℕ, zero, suc, _*_, _≤_, _<_}
+use Prim.Native.Nat.{ℕ, zero, suc, _*_, _≤_}
 use native.Mathlib.Omega.{arith}
 use lib.Dec.{T, eqb, eqb→eq, eqb-refl, not-T}
-use lib.ListN.{length, getD, replicate, length-replicate}
+use lib.ListN.{getD, replicate, length-replicate}
 use Rattle.laws.specs.Bools.{true-T, false-T}
 use Rattle.laws.specs.Search.{least, Least, none-is, one-is, leastFrom-is}
-use Rattle.laws.specs.Permutations.{Perm}
 use Rattle.laws.specs.Walks.{Used}
-use Rattle.laws.specs.Marks.{markRep, markTo, allMarked, allMet, Labelled, marked-met, zeros-at}
+use Rattle.laws.specs.Marks.{markTo, allMarked, allMet, Labelled, marked-met, zeros-at}
 use Rattle.layout.specs.declared.shape.Shape.{Shape}
 use Rattle.layout.specs.Layout.{startOf, loopOf, nextOf, prevOf, loopFirst}
 use Rattle.layout.specs.Mate.{mate}

@@ -2,7 +2,7 @@
 // meets and stops at the first half-edge that is marked, so that all walks together take as many steps as there are half-edges.
 ghost use mathlib.Core.Path.{_≡_};
 ghost use mathlib.Core.Bool.{not, _||_};
-ghost use Prim.Native.Nat.{ℕ, _*_, _<_, _≤_};
+ghost use Prim.Native.Nat.{_*_, _<_, _≤_};
 ghost use lib.ListN.{length, getD, set};
 ghost use Rattle.laws.specs.Marks.{marked, markFrom, markRep, markTo, allMarked};
 ghost use Rattle.orbits.specs.Cycles.{entryOf, halfUsed, stepOf, oneCycleEach};
@@ -44,7 +44,14 @@ fn step_of(links: &[u16], sh: Shape, around: bool, k: usize) -> usize
 }
 
 // From k on, half-edges marked up to the first that is so already; `fuel` bounds the steps in a table that is not sound.
-fn mark_from(links: &[u16], sh: Shape, around: bool, from: usize, fuel: usize, marks: &mut [u8; 8193])
+fn mark_from(
+    links: &[u16],
+    sh: Shape,
+    around: bool,
+    from: usize,
+    fuel: usize,
+    marks: &mut [u8; 8193],
+)
     requires { ⌜ (from < 65536) × (length (now marks) ≡ 8193) ⌝ }
     ensures { λ _. ⌜ now (marks .exit) ≡ markFrom (stepOf sh (now (links .entry)) around) fuel from (now (marks .entry)) ⌝ }
 {
@@ -73,7 +80,14 @@ fn mark_rep(links: &[u16], sh: Shape, around: bool, r: u16, fuel: usize, marks: 
 }
 
 // The walks from the representatives of the labels 1, 2 and so on.
-fn mark_all(links: &[u16], sh: Shape, around: bool, reps: &[u16; 4097], labels: usize, marks: &mut [u8; 8193])
+fn mark_all(
+    links: &[u16],
+    sh: Shape,
+    around: bool,
+    reps: &[u16; 4097],
+    labels: usize,
+    marks: &mut [u8; 8193],
+)
     requires { ⌜ (sh .edges ≤ 4096) × (labels ≤ 4096) × (length (now marks) ≡ 8193) ⌝ }
     ensures { λ _. ⌜ now (marks .exit) ≡ markTo (stepOf sh (now (links .entry)) around) (2 * sh .edges) (entryOf (now (reps .entry))) labels (now (marks .entry)) ⌝ }
 {
@@ -114,7 +128,13 @@ pub fn all_marked(links: &[u16], sh: Shape, marks: &[u8; 8193]) -> bool
 
 // Each half-edge in use is met from the representative of one of the labels 1 to `labels`. In a table in which steps keep labels
 // and can be undone, this is one cycle for each label.
-pub fn one_cycle_each(links: &[u16], sh: Shape, around: bool, reps: &[u16; 4097], labels: usize) -> bool
+pub fn one_cycle_each(
+    links: &[u16],
+    sh: Shape,
+    around: bool,
+    reps: &[u16; 4097],
+    labels: usize,
+) -> bool
     requires { ⌜ (sh .edges ≤ 4096) × (labels ≤ 4096) ⌝ }
     ensures { λ r. ⌜ r ≡ oneCycleEach sh (now (links .entry)) around (now (reps .entry)) labels ⌝ }
 {

@@ -1,7 +1,7 @@
 // Passes down one column of a table into an array with an entry for each label: the least record that names it, how many do, and
 // the column itself. The arrays are handed in all zero.
 ghost use mathlib.Core.Path.{_≡_};
-ghost use Prim.Native.Nat.{ℕ, _+_, _<_, _≤_};
+ghost use Prim.Native.Nat.{_+_, _<_, _≤_};
 ghost use lib.ListN.{length, getD, set};
 ghost use Rattle.laws.specs.Columns.{col};
 ghost use Rattle.layout.specs.Layout.{kind, loopFirst, loopIsolated};

@@ -1,11 +1,9 @@
-use mathlib.Core.Path.{_≡_, refl, sym, ap, _∙_}
-use Prim.Native.Nat.{ℕ, _+_, _-_, _*_, _≤_, _<_}
+use mathlib.Core.Path.{_≡_, refl}
+use Prim.Native.Nat.{_-_, _*_, _≤_}
 use native.Mathlib.Omega.{arith}
-use lib.ListN.{length, getD}
-use Rattle.laws.specs.Marks.{markFrom, markRep, markTo, allMarked, marked}
-use Rattle.orbits.specs.Cycles.{stepOf, halfUsed, entryOf, oneCycleEach}
-use Rattle.orbits.specs.CyclesLaws.{walk-stop, walk-out, walk-turn, rep-none, rep-some, reps-turn, reps-long, all-turn, all-fail, all-out}
-use Rattle.orbits.specs.LabelsLaws.{long-set}
+use Rattle.laws.specs.Marks.{allMarked}
+use Rattle.orbits.specs.Cycles.{halfUsed}
+use Rattle.orbits.specs.CyclesLaws.{all-turn, all-fail, all-out}
 use borrow.Author.Needs.{needs}
 use Rattle.orbits.proofs.cycles.all_marked.Statement.{statement}
 use Rattle.orbits.proofs.cycles.all_marked.Tie as tie

@@ -1,9 +1,9 @@
-use mathlib.Core.Path.{_≡_, refl, sym, ap, _∙_}
-use Prim.Native.Nat.{ℕ, _+_, _-_, _*_, _≤_, _<_}
+use mathlib.Core.Path.{_≡_, refl}
+use Prim.Native.Nat.{_-_, _*_, _≤_}
 use native.Mathlib.Omega.{arith}
-use Rattle.laws.specs.Marks.{markFrom, markRep, markTo, allMarked, marked}
-use Rattle.orbits.specs.Cycles.{stepOf, halfUsed, entryOf, oneCycleEach}
-use Rattle.orbits.specs.CyclesLaws.{rep-none, rep-some, reps-turn, reps-out, reps-long}
+use Rattle.laws.specs.Marks.{markTo}
+use Rattle.orbits.specs.Cycles.{stepOf, entryOf}
+use Rattle.orbits.specs.CyclesLaws.{reps-turn, reps-out, reps-long}
 use borrow.Author.Needs.{needs}
 use Rattle.orbits.proofs.cycles.mark_all.Statement.{statement}
 use Rattle.orbits.proofs.cycles.mark_all.Tie as tie

@@ -1,10 +1,10 @@
-use mathlib.Core.Path.{_≡_, refl, sym, ap, _∙_}
-use Prim.Native.Nat.{ℕ, _+_, _-_, _*_, _≤_, _<_}
+use mathlib.Core.Path.{_≡_, refl}
+use Prim.Native.Nat.{_-_, _<_}
 use native.Mathlib.Omega.{arith}
-use lib.ListN.{length, getD}
-use Rattle.laws.specs.Marks.{markFrom, markRep, markTo, allMarked, marked}
-use Rattle.orbits.specs.Cycles.{stepOf, halfUsed, entryOf, oneCycleEach}
-use Rattle.orbits.specs.CyclesLaws.{walk-stop, walk-out, walk-turn, rep-none, rep-some, reps-turn, reps-long, all-turn, all-fail, all-out}
+use lib.ListN.{length}
+use Rattle.laws.specs.Marks.{markFrom}
+use Rattle.orbits.specs.Cycles.{stepOf}
+use Rattle.orbits.specs.CyclesLaws.{walk-stop, walk-out, walk-turn}
 use Rattle.orbits.specs.LabelsLaws.{long-set}
 use borrow.Author.Needs.{needs}
 use Rattle.orbits.proofs.cycles.mark_from.Statement.{statement}
@@ -53,7 +53,13 @@ loop-less c = search needs
 
 -- src/cycles.rt:53:5
 loop-again : tie.Need-loop-again Inv-loop μ-loop
-loop-again c = (c .step-of .ensures .1, long-set (c .before .before .before .before .before .before .before .loop .marks) _ _ _ _ (c .before .before .before .before .before .before .before .loop .inv .1) (c .before .put-mark .ensures), walk-turn _ _ _ _ _ (c .before .before .before .before .before .before .before .loop .inv .2) (omega arith) _ (c .before .before .before .before .mark-at .ensures) (omega arith) _ (c .before .put-mark .ensures) _ (c .step-of .ensures .0))
+loop-again c =
+    let inv = c .before .before .before .before .before .before .before .loop .inv in
+    let e = c .before .put-mark .ensures in (
+      c .step-of .ensures .1,
+      long-set (c .before .before .before .before .before .before .before .loop .marks) _ _ _ _ (inv .1) e,
+      walk-turn _ _ _ _ _ (inv .2) (omega arith) _ (c .before .before .before .before .mark-at .ensures) (omega arith) _ e _ (c .step-of .ensures .0),
+    )
 
 -- src/cycles.rt:47:1
 returns-2 : tie.Need-returns-2 Inv-loop μ-loop

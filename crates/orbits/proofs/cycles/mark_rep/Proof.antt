@@ -1,6 +1,4 @@
-use Rattle.laws.specs.Marks.{markFrom, markRep, markTo, allMarked, marked}
-use Rattle.orbits.specs.Cycles.{stepOf, halfUsed, entryOf, oneCycleEach}
-use Rattle.orbits.specs.CyclesLaws.{rep-none, rep-some, reps-turn, reps-out, reps-long}
+use Rattle.orbits.specs.CyclesLaws.{rep-none, rep-some}
 use borrow.Author.Needs.{needs}
 use Rattle.orbits.proofs.cycles.mark_rep.Statement.{statement}
 use Rattle.orbits.proofs.cycles.mark_rep.Tie as tie

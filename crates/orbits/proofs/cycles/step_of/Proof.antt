@@ -1,5 +1,3 @@
-use mathlib.Core.Path.{_≡_, refl, sym, ap, _∙_}
-use native.Mathlib.Omega.{arith}
 use borrow.Author.Needs.{needs}
 use Rattle.orbits.proofs.cycles.step_of.Statement.{statement}
 use Rattle.orbits.proofs.cycles.step_of.Tie as tie

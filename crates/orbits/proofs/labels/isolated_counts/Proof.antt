@@ -1,10 +1,9 @@
-use mathlib.Core.Path.{_≡_, refl, sym, ap, _∙_}
-use Prim.Native.Nat.{ℕ, _+_, _-_, _*_, _≤_, _<_}
+use mathlib.Core.Path.{_≡_, ap}
+use Prim.Native.Nat.{ℕ, _+_, _-_, _≤_}
 use native.Mathlib.Omega.{arith}
 use lib.ListN.{length}
-use Rattle.laws.specs.Columns.{col}
-use Rattle.layout.specs.Layout.{kind, loopFirst, loopIsolated}
-use Rattle.orbits.specs.Labels.{blank, down, leastNaming, tally, copied}
+use Rattle.layout.specs.Layout.{loopIsolated}
+use Rattle.orbits.specs.Labels.{blank, tally}
 use Rattle.orbits.specs.LabelsLaws.{down-turn, down-out, long-set, blank-long, AtMost, blank-most, most-bump}
 use borrow.Author.Needs.{needs}
 use Rattle.orbits.proofs.labels.isolated_counts.Statement.{statement}
@@ -28,7 +27,10 @@ cast-l c = search needs
 
 -- src/labels.rt:53:5
 loop-holds : tie.Need-loop-holds Inv-loop μ-loop
-loop-holds c = (omega arith, blank-long _ (c .before .before .pre .1), ap (tally (loopIsolated (c .before .before .args .sh) (c .before .before .args .links .now)) (c .before .before .args .sh .loops)) (c .before .before .pre .1), (0, omega arith, blank-most _ (c .before .before .pre .1)))
+loop-holds c =
+    let a = c .before .before .args in
+    let e = c .before .before .pre .1 in
+    (omega arith, blank-long _ e, ap (tally (loopIsolated (a .sh) (a .links .now)) (a .sh .loops)) e, (0, omega arith, blank-most _ e))
 
 -- src/labels.rt:54:13
 loop-isolated-requires : tie.Need-loop-isolated-requires Inv-loop μ-loop
@@ -48,7 +50,14 @@ loop-less c = search needs
 
 -- src/labels.rt:53:5
 loop-again : tie.Need-loop-again Inv-loop μ-loop
-loop-again c = (omega arith, long-set (c .before .before .before .before .loop .counts) _ _ _ _ (c .before .before .before .before .loop .inv .1) (c .bump .ensures), down-turn _ _ _ _ _ (c .before .before .before .before .loop .inv .2) (omega arith) (cc), (c .before .before .before .before .loop .inv .3 .0 + 1, omega (arith, c .before .before .before .before .loop .inv .3 .1), most-bump _ _ _ _ (c .before .before .before .before .loop .inv .3 .2) (c .bump .ensures)))
+loop-again c =
+    let inv = c .before .before .before .before .loop .inv in
+    let e = c .bump .ensures in (
+      omega arith,
+      long-set (c .before .before .before .before .loop .counts) _ _ _ _ (inv .1) e,
+      down-turn _ _ _ _ _ (inv .2) (omega arith) (cc),
+      (inv .3 .0 + 1, omega (arith, inv .3 .1), most-bump _ _ _ _ (inv .3 .2) e),
+    )
 
 -- src/labels.rt:48:1
 returns : tie.Need-returns Inv-loop μ-loop

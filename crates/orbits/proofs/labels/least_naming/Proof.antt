@@ -1,11 +1,11 @@
-use mathlib.Core.Path.{_≡_, refl, sym, ap, _∙_}
-use Prim.Native.Nat.{ℕ, _+_, _-_, _*_, _≤_, _<_}
+use mathlib.Core.Path.{_≡_, ap}
+use Prim.Native.Nat.{_-_, _≤_}
 use native.Mathlib.Omega.{arith}
 use lib.ListN.{length}
 use Rattle.laws.specs.Columns.{col}
-use Rattle.layout.specs.Layout.{kind, loopFirst, loopIsolated}
-use Rattle.orbits.specs.Labels.{blank, down, leastNaming, tally, copied}
-use Rattle.orbits.specs.LabelsLaws.{down-turn, down-out, long-set, blank-long, AtMost, blank-most, most-bump}
+use Rattle.layout.specs.Layout.{kind}
+use Rattle.orbits.specs.Labels.{blank, leastNaming}
+use Rattle.orbits.specs.LabelsLaws.{down-turn, down-out, long-set, blank-long}
 use borrow.Author.Needs.{needs}
 use Rattle.orbits.proofs.labels.least_naming.Statement.{statement}
 use Rattle.orbits.proofs.labels.least_naming.Tie as tie
@@ -23,7 +23,10 @@ abbrev μ-loop : tie.MeasureT-loop
 
 -- src/labels.rt:40:5
 loop-holds : tie.Need-loop-holds Inv-loop μ-loop
-loop-holds c = (omega arith, blank-long _ (c .before .pre .2), ap (leastNaming (col (kind (c .before .args .base) (c .before .args .width)) 0 (c .before .args .links .now)) (c .before .args .n)) (c .before .pre .2))
+loop-holds c =
+    let a = c .before .args in
+    let e = c .before .pre .2 in
+    (omega arith, blank-long _ e, ap (leastNaming (col (kind (a .base) (a .width)) 0 (a .links .now)) (a .n)) e)
 
 -- src/labels.rt:41:13
 cell-requires : tie.Need-cell-requires Inv-loop μ-loop
@@ -43,7 +46,9 @@ loop-less c = search needs
 
 -- src/labels.rt:40:5
 loop-again : tie.Need-loop-again Inv-loop μ-loop
-loop-again c = (omega arith, long-set (c .before .before .before .before .loop .least) _ _ _ _ (c .before .before .before .before .loop .inv .1) (c .put-entry .ensures), down-turn _ _ _ _ _ (c .before .before .before .before .loop .inv .2) (omega arith) (cc))
+loop-again c =
+    let inv = c .before .before .before .before .loop .inv in
+    (omega arith, long-set (c .before .before .before .before .loop .least) _ _ _ _ (inv .1) (c .put-entry .ensures), down-turn _ _ _ _ _ (inv .2) (omega arith) (cc))
 
 -- src/labels.rt:35:1
 returns : tie.Need-returns Inv-loop μ-loop

@@ -1,11 +1,10 @@
-use mathlib.Core.Path.{_≡_, refl, sym, ap, _∙_}
-use Prim.Native.Nat.{ℕ, _+_, _-_, _*_, _≤_, _<_}
+use mathlib.Core.Path.{_≡_, ap}
+use Prim.Native.Nat.{_-_, _≤_}
 use native.Mathlib.Omega.{arith}
 use lib.ListN.{length}
-use Rattle.laws.specs.Columns.{col}
-use Rattle.layout.specs.Layout.{kind, loopFirst, loopIsolated}
-use Rattle.orbits.specs.Labels.{blank, down, leastNaming, tally, copied}
-use Rattle.orbits.specs.LabelsLaws.{down-turn, down-out, long-set, blank-long, AtMost, blank-most, most-bump}
+use Rattle.layout.specs.Layout.{loopFirst}
+use Rattle.orbits.specs.Labels.{blank, copied}
+use Rattle.orbits.specs.LabelsLaws.{down-turn, down-out, long-set, blank-long}
 use borrow.Author.Needs.{needs}
 use Rattle.orbits.proofs.labels.loop_firsts.Statement.{statement}
 use Rattle.orbits.proofs.labels.loop_firsts.Tie as tie
@@ -27,7 +26,10 @@ cast-l c = search needs
 
 -- src/labels.rt:66:5
 loop-holds : tie.Need-loop-holds Inv-loop μ-loop
-loop-holds c = (omega arith, blank-long _ (c .before .before .pre .1), ap (copied (loopFirst (c .before .before .args .sh) (c .before .before .args .links .now)) (c .before .before .args .sh .loops)) (c .before .before .pre .1))
+loop-holds c =
+    let a = c .before .before .args in
+    let e = c .before .before .pre .1 in
+    (omega arith, blank-long _ e, ap (copied (loopFirst (a .sh) (a .links .now)) (a .sh .loops)) e)
 
 -- src/labels.rt:67:13
 loop-first-requires : tie.Need-loop-first-requires Inv-loop μ-loop
@@ -47,7 +49,9 @@ loop-less c = search needs
 
 -- src/labels.rt:66:5
 loop-again : tie.Need-loop-again Inv-loop μ-loop
-loop-again c = (omega arith, long-set (c .before .before .before .before .loop .firsts) _ _ _ _ (c .before .before .before .before .loop .inv .1) (c .put-entry .ensures), down-turn _ _ _ _ _ (c .before .before .before .before .loop .inv .2) (omega arith) (cc))
+loop-again c =
+    let inv = c .before .before .before .before .loop .inv in
+    (omega arith, long-set (c .before .before .before .before .loop .firsts) _ _ _ _ (inv .1) (c .put-entry .ensures), down-turn _ _ _ _ _ (inv .2) (omega arith) (cc))
 
 -- src/labels.rt:61:1
 returns : tie.Need-returns Inv-loop μ-loop
