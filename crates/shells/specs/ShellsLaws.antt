@@ -1,0 +1,2 @@
+-- x
+use Prim.Native.Nat.{ℕ}
