@@ -50,18 +50,15 @@ pub climb-start : (p : List ℕ) (x : ℕ) → Down p → Climb p p x x
 climb-start p x d = record { kept = same-roots-here d; low = omega arith; one = refl }
 
 -- k gets its grandparent g as its parent, and the walk goes on there
-pub climb-turn : {p₀ p : List ℕ} {x k : ℕ} → Climb p₀ p x k → (q g : ℕ) → q ≡ getD p k 0 → g ≡ getD p q 0 → Climb p₀ (set p k g) x g
+pub climb-turn : {p₀ p : List ℕ} {x k : ℕ} → Climb p₀ p x k → (q g : ℕ) → q ≡ getD p k 0 → g ≡ getD p q 0 → Climb p₀ (set p k (getD p q 0)) x g
 climb-turn {p₀} {p} {x} {k} c q g eq eg = record {
-  kept = same-roots-then (c .kept) (subst (λ v. SameRoots p (set p k v)) (sym grand) (halve-path p d k));
+  kept = same-roots-then (c .kept) (rw eq (halve-path p d k));
   low = omega (arith, c .low, d .at k, d .at q);
   one = sym (c .kept .roots g) ∙ ap (root p) eg ∙ sym (root-step p d q) ∙ ap (root p) eq ∙ sym (root-step p d k) ∙ c .kept .roots k ∙ c .one;
 }
   where
     d : Down p
     d = c .kept .down
-
-    grand : g ≡ getD p (getD p k 0) 0
-    grand = eg ∙ ap (λ i. getD p i 0) eq
 
 -- each turn goes down
 pub climb-less : {p₀ p : List ℕ} {x k : ℕ} → Climb p₀ p x k → (q g : ℕ) → q ≡ getD p k 0 → q ≢ k → g ≡ getD p q 0 → g < k

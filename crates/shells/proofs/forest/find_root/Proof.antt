@@ -1,4 +1,4 @@
-use mathlib.Core.Path.{_≡_}
+use mathlib.Core.Path.{_≡_, sym, _∙_}
 use native.Mathlib.Omega.{arith}
 use lib.ListN.{getD}
 use borrow.Author.Needs.{needs}
@@ -18,63 +18,63 @@ abbrev μ-loop : tie.MeasureT-loop
 
 -- src/forest.rt:32:22
 mul-wide : tie.Need-mul-wide Inv-loop μ-loop
-mul-wide c = ?
+mul-wide c = search needs
 
 -- src/forest.rt:32:22
 element-copy-out-wide : tie.Need-element-copy-out-wide Inv-loop μ-loop
-element-copy-out-wide c = ?
+element-copy-out-wide c = search needs
 
 -- src/forest.rt:32:9
 wide-requires : tie.Need-wide-requires Inv-loop μ-loop
-wide-requires c κs = ?
+wide-requires c κs = search needs
 
 -- src/forest.rt:33:5
 loop-holds : tie.Need-loop-holds Inv-loop μ-loop
-loop-holds c = ?
+loop-holds c = (c .wide .ensures, climb-start _ _ (c .before .before .pre .0 .down))
 
 -- src/forest.rt:34:21
 mul-grand : tie.Need-mul-grand Inv-loop μ-loop
-mul-grand c = ?
+mul-grand c = omega (arith, c .before .loop .inv .1 .kept .down .at (c .before .loop .k))
 
 -- src/forest.rt:34:21
 element-copy-out-grand : tie.Need-element-copy-out-grand Inv-loop μ-loop
-element-copy-out-grand c = ?
+element-copy-out-grand c = omega (arith, c .before .loop .inv .1 .kept .down .at (c .before .loop .k))
 
 -- src/forest.rt:35:9
 mul-parent : tie.Need-mul-parent Inv-loop μ-loop
-mul-parent c = ?
+mul-parent c = omega arith
 
 -- src/forest.rt:35:9
 element-write-parent : tie.Need-element-write-parent Inv-loop μ-loop
-element-write-parent c = ?
+element-write-parent c = omega arith
 
 -- src/forest.rt:36:9
 wide-requires-2 : tie.Need-wide-requires-2 Inv-loop μ-loop
-wide-requires-2 c κs = ?
+wide-requires-2 c κs = search needs
 
 -- src/forest.rt:37:18
 mul-wide-2 : tie.Need-mul-wide-2 Inv-loop μ-loop
-mul-wide-2 c = ?
+mul-wide-2 c = omega (arith, climb-less (c .before .before .before .loop .inv .1) _ _ (c .before .before .before .loop .inv .0) (c .before .before .loop-test .taken) (c .wide2 .ensures))
 
 -- src/forest.rt:37:18
 element-copy-out-wide-2 : tie.Need-element-copy-out-wide-2 Inv-loop μ-loop
-element-copy-out-wide-2 c = ?
+element-copy-out-wide-2 c = omega (arith, climb-less (c .before .before .before .loop .inv .1) _ _ (c .before .before .before .loop .inv .0) (c .before .before .loop-test .taken) (c .wide2 .ensures))
 
 -- src/forest.rt:37:9
 wide-requires-3 : tie.Need-wide-requires-3 Inv-loop μ-loop
-wide-requires-3 c κs = ?
+wide-requires-3 c κs = search needs
 
 -- src/forest.rt:33:5
 loop-less : tie.Need-loop-less Inv-loop μ-loop
-loop-less c = ?
+loop-less c = climb-less (c .before .before .before .before .before .loop .inv .1) _ _ (c .before .before .before .before .before .loop .inv .0) (c .before .before .before .before .loop-test .taken) (c .before .before .wide2 .ensures)
 
 -- src/forest.rt:33:5
 loop-again : tie.Need-loop-again Inv-loop μ-loop
-loop-again c = ?
+loop-again c = (c .wide3 .ensures, climb-turn (c .before .before .before .before .before .loop .inv .1) _ _ (c .before .before .before .before .before .loop .inv .0) (c .before .before .wide2 .ensures))
 
 -- src/forest.rt:26:1
 returns : tie.Need-returns Inv-loop μ-loop
-returns c = ?
+returns c = (climb-end (c .before .loop .inv .1) (sym (c .before .loop .inv .0) ∙ c .loop-test .left), c .before .loop .inv .1 .low, c .before .loop .inv .1 .kept)
 
 pub find-root-spec : {M : Type 1} → statement M
 find-root-spec =

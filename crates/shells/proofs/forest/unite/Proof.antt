@@ -1,3 +1,4 @@
+use Rattle.shells.specs.ForestLaws.{hung-low, hung-high}
 use borrow.Author.Needs.{needs}
 use Rattle.shells.proofs.forest.unite.Statement.{statement}
 use Rattle.shells.proofs.forest.unite.Tie as tie
@@ -27,7 +28,7 @@ element-write-parent c = search needs
 
 -- src/forest.rt:52:9
 returns : tie.Need-returns
-returns c = ?
+returns c = hung-low (c .before .before .before .before .before .pre .0) (c .before .before .before .find-root .ensures .2) (c .before .find-root2 .ensures .2) _ _ _ _ (c .before .before .before .before .before .pre .1 .0) (c .before .before .before .before .before .pre .1 .1) (c .before .before .before .find-root .ensures .0) (c .before .find-root2 .ensures .0) (c .if1 .taken)
 
 -- src/forest.rt:54:17
 cast-parent-2 : tie.Need-cast-parent-2
@@ -43,7 +44,7 @@ element-write-parent-2 c = search needs
 
 -- src/forest.rt:43:1
 returns-2 : tie.Need-returns-2
-returns-2 c = ?
+returns-2 c = hung-high (c .before .before .before .before .before .pre .0) (c .before .before .before .find-root .ensures .2) (c .before .find-root2 .ensures .2) _ _ _ _ (c .before .before .before .before .before .pre .1 .0) (c .before .before .before .before .before .pre .1 .1) (c .before .before .before .find-root .ensures .0) (c .before .find-root2 .ensures .0) (c .if1 .left)
 
 pub unite-spec : {M : Type 1} → statement M
 unite-spec =
