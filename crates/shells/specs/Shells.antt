@@ -42,7 +42,7 @@ unfoldable pub facesLinked : Shape → List ℕ → ℕ → ℕ → Bool
 facesLinked sh x f g =
     within (sh .faces) f && within (sh .faces) g && linkedb (sh .faces) (sh .edges) (joins sh x) (sideA sh x) (sideB sh x) f g
 
--- face f is free or linked to the face that `ls` has for its solid
+-- face f is free or linked to the face that leads its solid, by the list `ls` of leaders
 unfoldable pub faceWhole : Shape → List ℕ → List ℕ → ℕ → Bool
 faceWhole sh x ls f = eqb (faceSolid sh x f) 0 || facesLinked sh x (getD ls (faceSolid sh x f) 0) f
 

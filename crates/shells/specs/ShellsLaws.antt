@@ -8,7 +8,7 @@ use native.Mathlib.Omega.{arith}
 use mathlib.Core.List.{List}
 use lib.Dec.{T, eqb, leb, leb→le, le→leb}
 use lib.ListN.{getD}
-use borrow.Author.Tests.{not-true, not-false}
+use borrow.Author.Tests.{not-true, not-false, eqb-false}
 use Rattle.laws.specs.Bools.{true-T, T-true, false-T, T-false, and-T, T-and, same-T, split, eqb-same, eqb-other}
 use Rattle.laws.specs.Search.{allTo, all-at, all-ext, least, Least, none-is, one-is, leastFrom-is}
 use Rattle.laws.specs.Linked.{Linked, link, map-linked, carry}
@@ -134,3 +134,90 @@ module _ (n f g : ℕ) {u w : Bool} (eu : u ≡ within n f) (ew : w ≡ within n
   faces-low e h =
       let t = and-T u w (true-T (not-false (u && w) e)) in
       (omega (arith, within-T n f (subst T eu (t .0)) .1), omega (arith, within-T n g (subst T ew (t .1)) .1))
+
+-- ---- face after face
+
+-- the faces before f pass, and f too
+pub all-more : (t : ℕ → Bool) (f : ℕ) → 1 ≤ f → allTo (f - 1) t ≡ true → t f ≡ true → allTo f t ≡ true
+unfolding allTo
+all-more t zero l a e = absurd (omega arith)
+all-more t (suc n) l a e = let m : suc n - 1 ≡ n = omega arith in rw (e, rw m at a)
+
+-- one that does not ends the search
+pub all-stop : (n : ℕ) (t : ℕ → Bool) (f : ℕ) → 1 ≤ f → f ≤ n → t f ≡ false → false ≡ allTo n t
+all-stop n t f l u e = sym (T-false (λ a. false-T e (all-at n t a f l u)))
+
+module _ (sh : Shape) (x ls : List ℕ) (f : ℕ) where
+  -- a free face passes
+  pub whole-free : faceSolid sh x f ≡ 0 → true ≡ faceWhole sh x ls f
+  unfolding faceWhole
+  whole-free e = rw (eqb-same e)
+
+  -- of another one the roots are asked
+  pub whole-asked : {p : List ℕ} → Shells sh x p → (s g : ℕ) → s ≡ faceSolid sh x f → s ≢ 0 → g ≡ getD ls s 0 → {r : Bool} → r ≡ oneRoot (sh .faces) p g f → r ≡ faceWhole sh x ls f
+  unfolding faceWhole
+  whole-asked c s g es h eg er = rw (← es, eqb-other h, er, c .one g f, eg)
+
+-- ---- the shells of document 01
+
+-- each edge in use has a face on each side
+pub record Sided (sh : Shape) (x : List ℕ) : Type 0 where
+  pub at : (e : ℕ) → 1 ≤ e → e ≤ sh .edges → T (edgeUsed sh x e)
+      → (1 ≤ sideA sh x e) × (sideA sh x e ≤ sh .faces) × (1 ≤ sideB sh x e) × (sideB sh x e ≤ sh .faces)
+
+-- the least of some of 1..n is one of 1..n
+least-within : (n : ℕ) (t : ℕ → Bool) (k : ℕ) → 1 ≤ k → k ≤ n → t k ≡ true → (1 ≤ least n t) × (least n t ≤ n)
+least-within n t k l u e = go (leastFrom-is n 1 t)
+  where
+    go : Least n 1 t (least n t) → (1 ≤ least n t) × (least n t ≤ n)
+    go (none-is z none) = absurd (false-T (none k l (omega arith)) (true-T e))
+    go (one-is a b s first) = (a, omega arith)
+
+module _ (sh : Shape) (x : List ℕ) (d : Sided sh x) where
+  -- the test of a chain over all edges in use
+  abbrev byUse : ℕ → ℕ → Bool
+  byUse f g = linkedb (sh .faces) (sh .edges) (edgeUsed sh x) (sideA sh x) (sideB sh x) f g
+
+  abbrev byJoins : ℕ → ℕ → Bool
+  byJoins f g = linkedb (sh .faces) (sh .edges) (joins sh x) (sideA sh x) (sideB sh x) f g
+
+  used-ends : (e : ℕ) → Used (sh .edges) (edgeUsed sh x) e → Ends sh x e
+  used-ends e u = d .at e (u .0) (u .1) (u .2)
+
+  -- then an edge in use joins faces
+  used-joins : (i j : ℕ) → Edge (Used (sh .edges) (edgeUsed sh x)) (sideA sh x) (sideB sh x) i j → Edge (Used (sh .edges) (joins sh x)) (sideA sh x) (sideB sh x) i j
+  used-joins i j r = (r .0, (r .1 .0, r .1 .1, T-joins sh x (r .0) (r .1 .2) (used-ends (r .0) (r .1))), r .2, r .3)
+
+  joins-used : (i j : ℕ) → Edge (Used (sh .edges) (joins sh x)) (sideA sh x) (sideB sh x) i j → Edge (Used (sh .edges) (edgeUsed sh x)) (sideA sh x) (sideB sh x) i j
+  joins-used i j r = (r .0, (r .1 .0, r .1 .1, joins-T sh x (r .0) (r .1 .2) .0), r .2, r .3)
+
+  -- a chain from a face leads to faces only
+  face-reached : (f g : ℕ) → 1 ≤ f → f ≤ sh .faces → T (byUse f g) → (1 ≤ g) × (g ≤ sh .faces)
+  face-reached f g l u t = carry (λ k. (1 ≤ k) × (k ≤ sh .faces)) step (linked-sound (sh .faces) (sh .edges) (edgeUsed sh x) (sideA sh x) (sideB sh x) used-ends f g t) .0 (l, u)
+    where
+      step : (i j : ℕ) → Edge (Used (sh .edges) (edgeUsed sh x)) (sideA sh x) (sideB sh x) i j → ((1 ≤ i) × (i ≤ sh .faces) → (1 ≤ j) × (j ≤ sh .faces)) × ((1 ≤ j) × (j ≤ sh .faces) → (1 ≤ i) × (i ≤ sh .faces))
+      step i j r = let n = used-ends (r .0) (r .1) in (λ a. (omega (arith, n .2, r .3), omega (arith, n .3, r .3)), λ a. (omega (arith, n .0, r .2), omega (arith, n .1, r .2)))
+
+  -- from a face on, what is linked is what chains of edges in use link
+  pub linked-is : (f g : ℕ) → 1 ≤ f → f ≤ sh .faces → facesLinked sh x f g ≡ byUse f g
+  unfolding facesLinked
+  linked-is f g l u = same-T
+      (λ t. linked-complete (sh .faces) (sh .edges) (edgeUsed sh x) (sideA sh x) (sideB sh x) used-ends f g l u
+      (map-linked (λ k. k) (λ i j r. link (joins-used i j r)) (linked-sound (sh .faces) (sh .edges) (joins sh x) (sideA sh x) (sideB sh x) (ends sh x) f g (and-T (within (sh .faces) f && within (sh .faces) g) (byJoins f g) t .1))))
+      (λ t. let b = face-reached f g l u t in
+      T-and (within (sh .faces) f && within (sh .faces) g) (byJoins f g) (T-and (within (sh .faces) f) (within (sh .faces) g) (T-within (sh .faces) f l u) (T-within (sh .faces) g (b .0) (b .1)))
+      (linked-complete (sh .faces) (sh .edges) (joins sh x) (sideA sh x) (sideB sh x) (ends sh x) f g l u
+      (map-linked (λ k. k) (λ i j r. link (used-joins i j r)) (linked-sound (sh .faces) (sh .edges) (edgeUsed sh x) (sideA sh x) (sideB sh x) used-ends f g t))))
+
+  -- the least face of solid s, or 0
+  abbrev leastFace : ℕ → ℕ
+  leastFace s = least (sh .faces) (λ f. eqb (faceSolid sh x f) s)
+
+  -- with the least face of each solid for its leader it is the second part of rule 6
+  pub whole-is : (ls : List ℕ) → ((f : ℕ) → 1 ≤ f → f ≤ sh .faces → faceSolid sh x f ≢ 0 → getD ls (faceSolid sh x f) 0 ≡ leastFace (faceSolid sh x f))
+      → shellsWhole sh x ls ≡ allTo (sh .faces) (λ f. eqb (faceSolid sh x f) 0 || byUse (leastFace (faceSolid sh x f)) f)
+  unfolding faceWhole
+  whole-is ls h = all-ext (sh .faces) (faceWhole sh x ls) (λ f. eqb (faceSolid sh x f) 0 || byUse (leastFace (faceSolid sh x f)) f)
+      (λ f l u. or-same (eqb (faceSolid sh x f) 0) (facesLinked sh x (getD ls (faceSolid sh x f) 0) f) (byUse (leastFace (faceSolid sh x f)) f)
+      (λ e. let b = least-within (sh .faces) (λ g. eqb (faceSolid sh x g) (faceSolid sh x f)) f l u (eqb-same {m = faceSolid sh x f} refl) in
+      rw (h f l u (eqb-false (faceSolid sh x f) 0 e)) (linked-is (leastFace (faceSolid sh x f)) f (b .0) (b .1))))

@@ -13,6 +13,7 @@ use layout::shape::Shape;
 use crate::forest::find_root;
 use crate::forest::separate;
 use crate::forest::unite;
+use crate::forest::wide;
 
 // The face that half-edge k lies in.
 fn side_of(links: &[u16], sh: Shape, k: usize) -> usize
@@ -85,4 +86,59 @@ pub fn same_shell(parent: &mut [u16; 4097], sh: Shape, f: usize, g: usize) -> bo
     let a = find_root(parent, f);
     let b = find_root(parent, g);
     a == b
+}
+
+// f and g are faces that a chain of faces links. For more than one question link once, and ask `same_shell`.
+pub fn linked_faces(links: &[u16], sh: Shape, f: usize, g: usize) -> bool
+    requires { ⌜ (sh .faces ≤ 4096) × (sh .edges ≤ 4096) ⌝ }
+    ensures { λ r. ⌜ r ≡ facesLinked sh (now (links .entry)) f g ⌝ }
+{
+    let mut parent = [0u16; 4097];
+    link_faces(links, sh, &mut parent);
+    same_shell(&mut parent, sh, f, g)
+}
+
+// The face that leads solid s; 0 past the end.
+fn leader_of(leaders: &[u16; 4097], s: usize) -> usize
+    requires { ⌜ length (now leaders) ≡ 4097 ⌝ }
+    ensures { λ r. ⌜ r ≡ getD (now (leaders .entry)) s 0 ⌝ }
+{
+    if s < 4097 {
+        return wide(leaders[s]);
+    }
+    0
+}
+
+// Face f is free or linked to the face that leads its solid.
+fn face_whole(links: &[u16], sh: Shape, leaders: &[u16; 4097], f: usize, parent: &mut [u16; 4097]) -> bool
+    requires { ⌜ (sh .faces ≤ 4096) × (f ≤ 4096) × (length (now leaders) ≡ 4097) ⌝ }
+    requires { ⌜ Shells sh (now links) (now parent) ⌝ }
+    ensures { λ r. ⌜ (r ≡ faceWhole sh (now (links .entry)) (now (leaders .entry)) f) × Shells sh (now (links .entry)) (now (parent .exit)) ⌝ }
+{
+    let s = face_solid(links, sh, f);
+    if s == 0 {
+        return true;
+    }
+    let g = leader_of(leaders, s);
+    same_shell(parent, sh, g, f)
+}
+
+// Each face is free or linked to the face that leads its solid. With the least face of each solid for its leader this says that each
+// solid is one shell.
+pub fn shells_whole(links: &[u16], sh: Shape, leaders: &[u16; 4097]) -> bool
+    requires { ⌜ (sh .faces ≤ 4096) × (sh .edges ≤ 4096) × (length (now leaders) ≡ 4097) ⌝ }
+    ensures { λ r. ⌜ r ≡ shellsWhole sh (now (links .entry)) (now (leaders .entry)) ⌝ }
+{
+    let mut parent = [0u16; 4097];
+    link_faces(links, sh, &mut parent);
+    let n = sh.faces as usize;
+    let mut f: usize = 1;
+    while f <= n {
+        let whole = face_whole(links, sh, leaders, f, &mut parent);
+        if !whole {
+            return false;
+        }
+        f += 1;
+    }
+    true
 }
