@@ -137,6 +137,11 @@ module _ (n f g : ℕ) {u w : Bool} (eu : u ≡ within n f) (ew : w ≡ within n
 
 -- ---- face after face
 
+-- before the first nothing is asked
+pub all-none : (t : ℕ → Bool) → allTo (1 - 1) t ≡ true
+unfolding allTo
+all-none t = refl
+
 -- the faces before f pass, and f too
 pub all-more : (t : ℕ → Bool) (f : ℕ) → 1 ≤ f → allTo (f - 1) t ≡ true → t f ≡ true → allTo f t ≡ true
 unfolding allTo

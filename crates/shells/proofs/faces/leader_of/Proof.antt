@@ -1,3 +1,6 @@
+use mathlib.Core.Path.{sym}
+use native.Mathlib.Omega.{arith}
+use lib.ListN.{List·getD-eq-default}
 use borrow.Author.Needs.{needs}
 use Rattle.shells.proofs.faces.leader_of.Statement.{statement}
 use Rattle.shells.proofs.faces.leader_of.Tie as tie
@@ -23,7 +26,7 @@ returns c = search needs
 
 -- src/faces.rt:102:1
 returns-2 : tie.Need-returns-2
-returns-2 c = ?
+returns-2 c = sym (List·getD-eq-default (c .before .args .leaders .now) 0 (omega arith))
 
 pub leader-of-spec : {M : Type 1} → statement M
 leader-of-spec =

@@ -1,3 +1,4 @@
+use mathlib.Core.Path.{_∙_}
 use borrow.Author.Needs.{needs}
 use Rattle.shells.proofs.faces.linked_faces.Statement.{statement}
 use Rattle.shells.proofs.faces.linked_faces.Tie as tie
@@ -16,7 +17,7 @@ same-shell-requires c κs = search needs
 
 -- src/faces.rt:92:1
 returns : tie.Need-returns
-returns c = ?
+returns c = c .same-shell .ensures .0 ∙ c .before .before .link-faces .ensures .one _ _
 
 pub linked-faces-spec : {M : Type 1} → statement M
 linked-faces-spec = tie.close (tie.spec link-faces-requires same-shell-requires returns)
