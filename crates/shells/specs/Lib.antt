@@ -2,3 +2,6 @@ pub mod Forest
 pub mod ForestLaws
 pub mod Shells
 pub mod ShellsLaws
+pub mod ScanLaws
+pub mod RuleLaws
+pub mod Instances

@@ -1,10 +1,10 @@
 -- The shells of a table: faces that chains of faces link, neighbours sharing an edge (document 01, rule 6). Nothing is assumed of the
 -- table: an edge with a side that is no face of it links nothing. `sh` is the table's shape, `x` its links.
 use mathlib.Core.Path.{_≡_}
-use Prim.Native.Nat.{ℕ, _-_, _*_}
+use Prim.Native.Nat.{ℕ, _-_, _*_, _≤_}
 use mathlib.Core.Bool.{Bool, not, _&&_, _||_}
 use mathlib.Core.List.{List}
-use lib.Dec.{eqb, leb}
+use lib.Dec.{T, eqb, leb}
 use lib.ListN.{getD}
 use Rattle.laws.specs.Search.{allTo}
 use Rattle.laws.specs.Walks.{Used}
@@ -36,6 +36,14 @@ within n f = leb 1 f && leb f n
 -- edge e is in use and has a face on each side
 unfoldable pub joins : Shape → List ℕ → ℕ → Bool
 joins sh x e = edgeUsed sh x e && within (sh .faces) (sideA sh x e) && within (sh .faces) (sideB sh x e)
+
+-- both sides of edge e are faces
+abbrev pub Ends : Shape → List ℕ → ℕ → Type 0
+Ends sh x e = (1 ≤ sideA sh x e) × (sideA sh x e ≤ sh .faces) × (1 ≤ sideB sh x e) × (sideB sh x e ≤ sh .faces)
+
+-- each edge in use has them; a table that keeps rules 1 and 2 is such a table
+pub record Sided (sh : Shape) (x : List ℕ) : Type 0 where
+  pub at : (e : ℕ) → 1 ≤ e → e ≤ sh .edges → T (edgeUsed sh x e) → Ends sh x e
 
 -- f and g are faces, and a chain of faces links them
 unfoldable pub facesLinked : Shape → List ℕ → ℕ → ℕ → Bool

@@ -1,6 +1,6 @@
 // The faces of a table that chains of faces link, neighbours sharing an edge.
 ghost use mathlib.Core.Path.{_≡_};
-ghost use Prim.Native.Nat.{ℕ, _-_, _≤_, _<_};
+ghost use Prim.Native.Nat.{ℕ, _+_, _≤_, _<_};
 ghost use lib.ListN.{length, getD};
 ghost use Rattle.laws.specs.Union.{SameRoots};
 ghost use Rattle.shells.specs.Forest.{Forest};
@@ -42,12 +42,13 @@ fn edge_joins(links: &[u16], sh: Shape, e: usize) -> bool
     (start != 0) & is_within(n, a) & is_within(n, b)
 }
 
-// After the edges before e have been, the faces on the two sides of e are united.
-fn link_edge(links: &[u16], sh: Shape, e: usize, parent: &mut [u16; 4097])
-    requires { ⌜ (sh .faces ≤ 4096) × (1 ≤ e) × (e ≤ 4096) ⌝ }
-    requires { ⌜ Joined sh (now links) (e - 1) (now parent) ⌝ }
-    ensures { λ _. ⌜ Joined sh (now (links .entry)) e (now (parent .exit)) ⌝ }
+// The edges 1 to k have been; the faces on the two sides of the next one are united, if it joins faces.
+fn link_edge(links: &[u16], sh: Shape, k: usize, parent: &mut [u16; 4097])
+    requires { ⌜ (sh .faces ≤ 4096) × (k < 4096) ⌝ }
+    requires { ⌜ Joined sh (now links) k (now parent) ⌝ }
+    ensures { λ _. ⌜ Joined sh (now (links .entry)) (k + 1) (now (parent .exit)) ⌝ }
 {
+    let e = k + 1;
     let here = edge_joins(links, sh, e);
     if !here {
         return;
@@ -65,10 +66,10 @@ pub fn link_faces(links: &[u16], sh: Shape, parent: &mut [u16; 4097])
 {
     separate(parent);
     let n = sh.edges as usize;
-    let mut e: usize = 1;
-    while e <= n {
-        link_edge(links, sh, e, parent);
-        e += 1;
+    let mut k: usize = 0;
+    while k < n {
+        link_edge(links, sh, k, parent);
+        k += 1;
     }
 }
 
@@ -132,13 +133,13 @@ pub fn shells_whole(links: &[u16], sh: Shape, leaders: &[u16; 4097]) -> bool
     let mut parent = [0u16; 4097];
     link_faces(links, sh, &mut parent);
     let n = sh.faces as usize;
-    let mut f: usize = 1;
-    while f <= n {
-        let whole = face_whole(links, sh, leaders, f, &mut parent);
+    let mut k: usize = 0;
+    while k < n {
+        let whole = face_whole(links, sh, leaders, k + 1, &mut parent);
         if !whole {
             return false;
         }
-        f += 1;
+        k += 1;
     }
     true
 }

@@ -1,4 +1,6 @@
 use mathlib.Core.Path.{_∙_}
+use Prim.Native.Nat.{ℕ}
+use lib.ListN.{length-replicate}
 use borrow.Author.Needs.{needs}
 use Rattle.shells.proofs.faces.linked_faces.Statement.{statement}
 use Rattle.shells.proofs.faces.linked_faces.Tie as tie
@@ -9,7 +11,7 @@ use Rattle.shells.proofs.faces.same_shell.Reads as same-shell-reads
 
 -- src/faces.rt:97:5
 link-faces-requires : tie.Need-link-faces-requires
-link-faces-requires c κs = search needs
+link-faces-requires c κs = (c .before .before .pre, length-replicate {A = ℕ} 4097 0)
 
 -- src/faces.rt:98:5
 same-shell-requires : tie.Need-same-shell-requires
