@@ -45,6 +45,10 @@ Ends sh x e = (1 ≤ sideA sh x e) × (sideA sh x e ≤ sh .faces) × (1 ≤ sid
 pub record Sided (sh : Shape) (x : List ℕ) : Type 0 where
   pub at : (e : ℕ) → 1 ≤ e → e ≤ sh .edges → T (edgeUsed sh x e) → Ends sh x e
 
+-- one of the edges 1 to m joins f to g
+abbrev pub Joins : Shape → List ℕ → ℕ → ℕ → ℕ → Type 0
+Joins sh x m = Edge (Used m (joins sh x)) (sideA sh x) (sideB sh x)
+
 -- f and g are faces, and a chain of faces links them
 unfoldable pub facesLinked : Shape → List ℕ → ℕ → ℕ → Bool
 facesLinked sh x f g =
@@ -72,4 +76,4 @@ pub record Shells (sh : Shape) (x p : List ℕ) : Type 0 where
 -- the classes are what the edges 1 to m link
 pub record Joined (sh : Shape) (x : List ℕ) (m : ℕ) (p : List ℕ) : Type 0 where
   pub forest : Forest p
-  pub classes : Classes (sh .faces) (Edge (Used m (joins sh x)) (sideA sh x) (sideB sh x)) p
+  pub classes : Classes (sh .faces) (Joins sh x m) p
