@@ -11,6 +11,7 @@ pub mod NumberTrip
 pub mod Ranges
 pub mod OperandTrip
 pub mod Accepted
+pub mod Bounds
 pub mod RoundTrip
 pub mod Scripts
 pub mod Examples

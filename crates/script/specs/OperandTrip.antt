@@ -127,6 +127,13 @@ written-operands (k ∷ ks) s at ns next w e =
       ap suc (b .2),
     )
 
+pub operands-length : (ks s : List ℕ) (at : ℕ) (ns : List ℕ) (next : ℕ) → readOperands ks s at ≡ Read ns next → length ns ≡ length ks
+unfolding readOperands
+operands-length [] s at ns next e = let a : ns ≡ [] = cc in rw a
+operands-length (k ∷ ks) s at ns next e =
+    let t = step k ks s at ns next e in
+    rw (t .all) (ap suc (operands-length ks s (t .mid) (t .rest) next (t .others)))
+
 pub operands-next : (ks s : List ℕ) (at : ℕ) (ns : List ℕ) (next : ℕ) → at ≤ length s → readOperands ks s at ≡ Read ns next → (at ≤ next) × (next ≤ length s)
 unfolding readOperands
 operands-next [] s at ns next h e = let b : next ≡ at = cc in (omega arith, omega arith)

@@ -1,7 +1,7 @@
 // Operators as bytes: numbers in groups of seven bits, an operator as its code and operands.
-pub mod number; // numbers
+mod number; // numbers
 pub mod operands; // what each operand is
-pub mod bytes; // operands as bytes
+mod bytes; // operands as bytes
 
 ghost use mathlib.Core.Path.{_≡_};
 ghost use Prim.Native.Nat.{ℕ, _+_, _≤_, _<_};

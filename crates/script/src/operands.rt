@@ -101,7 +101,7 @@ fn wide(x: u16) -> u32
 const LEAST: [u32; 15] = [0, 1, 1, 0, 1, 1, 1, 1, 1, 1, 0, 1, 0, 0, 0];
 
 // The largest number of each kind, the kinds in order, as it travels.
-pub fn largest(limits: Limits) -> [u32; 15]
+pub(crate) fn largest(limits: Limits) -> [u32; 15]
     ensures { λ r. ⌜ r ≡ largests limits ⌝ }
 {
     let s = wide(limits.solids);
@@ -128,7 +128,7 @@ fn in_range(most: [u32; 15], kind: u8, n: u32) -> bool
 }
 
 // Are all eight in range?
-pub fn in_ranges(most: [u32; 15], kinds: [u8; 8], numbers: [u32; 8]) -> bool
+pub(crate) fn in_ranges(most: [u32; 15], kinds: [u8; 8], numbers: [u32; 8]) -> bool
     ensures { λ r. ⌜ r ≡ inRanges most kinds numbers ⌝ }
 {
     let mut i: usize = 0;
@@ -187,7 +187,7 @@ fn from_wire(kind: u8, n: u32) -> i32
 }
 
 // The operands of a record, as they travel.
-pub fn to_wires(kinds: [u8; 8], args: [i32; 8]) -> [u32; 8]
+pub(crate) fn to_wires(kinds: [u8; 8], args: [i32; 8]) -> [u32; 8]
     ensures { λ r. ⌜ r ≡ wires kinds args ⌝ }
 {
     let mut numbers = [0u32; 8];
@@ -200,7 +200,7 @@ pub fn to_wires(kinds: [u8; 8], args: [i32; 8]) -> [u32; 8]
 }
 
 // The numbers that travelled, as the record has them.
-pub fn from_wires(kinds: [u8; 8], numbers: [u32; 8]) -> [i32; 8]
+pub(crate) fn from_wires(kinds: [u8; 8], numbers: [u32; 8]) -> [i32; 8]
     requires { ⌜ Small numbers ⌝ }
     ensures { λ r. ⌜ r ≡ unwires kinds numbers ⌝ }
 {
