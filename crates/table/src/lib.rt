@@ -1,1 +1,5 @@
-// The table
+// Clearing, checking and counting a table.
+mod joins;
+mod names;
+mod ranges;
+mod scan;
