@@ -27,7 +27,13 @@ pub fn half_links(links: &[u16], sh: layout::shape::Shape, n: usize) -> bool
     let end = start_of(links, sh, mate_of(n));
     let start = start_of(links, sh, a);
     let next_loop = loop_of(links, sh, a);
-    (v == 0) | ((back == n) & (forth == n) & (start == end) & (next_loop == l) & (first != 0) & (first <= n))
+    (v == 0)
+        | ((back == n)
+            & (forth == n)
+            & (start == end)
+            & (next_loop == l)
+            & (first != 0)
+            & (first <= n))
 }
 
 // The first half-edge of loop n, where it has one, names it.

@@ -33,7 +33,9 @@ pub fn face_range(links: &[u16], sh: layout::shape::Shape, n: usize) -> bool
 {
     let s = face_solid(links, sh, n);
     let l = face_outer(links, sh, n);
-    (s <= sh.solids as usize) & (l <= sh.loops as usize) & ((s == 0) & (l == 0) | (s != 0) & (l != 0))
+    (s <= sh.solids as usize)
+        & (l <= sh.loops as usize)
+        & ((s == 0) & (l == 0) | (s != 0) & (l != 0))
 }
 
 // The words of loop n are in range, and all 0 where it is free.
@@ -79,5 +81,9 @@ pub fn vertex_range(links: &[u16], points: &[i32], sh: layout::shape::Shape, n: 
 {
     let u = vertex_used(links, sh, n);
     let zero = is_zero(points, n, 0) & is_zero(points, n, 1) & is_zero(points, n, 2);
-    (u <= 1) & in_range(points, n, 0) & in_range(points, n, 1) & in_range(points, n, 2) & ((u != 0) | zero)
+    (u <= 1)
+        & in_range(points, n, 0)
+        & in_range(points, n, 1)
+        & in_range(points, n, 2)
+        & ((u != 0) | zero)
 }

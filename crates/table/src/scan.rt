@@ -54,7 +54,13 @@ fn item_test(links: &[u16], points: &[i32], sh: layout::shape::Shape, test: Test
 }
 
 // The items 1 to n pass the test.
-pub fn all_items(links: &[u16], points: &[i32], sh: layout::shape::Shape, test: Test, n: usize) -> bool
+pub fn all_items(
+    links: &[u16],
+    points: &[i32],
+    sh: layout::shape::Shape,
+    test: Test,
+    n: usize,
+) -> bool
     requires { ⌜ n < 65536 ⌝ }
     ensures { λ r. ⌜ r ≡ allTo n (itemTest test sh (now (links .entry)) (now (points .entry))) ⌝ }
 {

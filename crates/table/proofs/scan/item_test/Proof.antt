@@ -1,3 +1,5 @@
+use Rattle.table.specs.Scan.{itemTest}
+use Rattle.table.specs.ScanLaws.{by-test}
 use borrow.Author.Needs.{needs}
 use Rattle.table.proofs.scan.item_test.Statement.{statement}
 use Rattle.table.proofs.scan.item_test.Tie as tie
@@ -114,51 +116,63 @@ half-sides-requires c κs = search needs
 
 -- src/scan.rt:36:1
 returns : tie.Need-returns
-returns c = ?
+unfolding itemTest
+returns c = by-test _ _ (c .before .enum-told .given .1) _ _ _ _ _ (c .solid-range .ensures)
 
 -- src/scan.rt:36:1
 returns-2 : tie.Need-returns-2
-returns-2 c = ?
+unfolding itemTest
+returns-2 c = by-test _ _ (c .before .enum-told2 .given .1) _ _ _ _ _ (c .face-range .ensures)
 
 -- src/scan.rt:36:1
 returns-3 : tie.Need-returns-3
-returns-3 c = ?
+unfolding itemTest
+returns-3 c = by-test _ _ (c .before .enum-told3 .given .1) _ _ _ _ _ (c .loop-range .ensures)
 
 -- src/scan.rt:36:1
 returns-4 : tie.Need-returns-4
-returns-4 c = ?
+unfolding itemTest
+returns-4 c = by-test _ _ (c .before .enum-told4 .given .1) _ _ _ _ _ (c .half-range .ensures)
 
 -- src/scan.rt:36:1
 returns-5 : tie.Need-returns-5
-returns-5 c = ?
+unfolding itemTest
+returns-5 c = by-test _ _ (c .before .enum-told5 .given .1) _ _ _ _ _ (c .vertex-range .ensures)
 
 -- src/scan.rt:36:1
 returns-6 : tie.Need-returns-6
-returns-6 c = ?
+unfolding itemTest
+returns-6 c = by-test _ _ (c .before .enum-told6 .given .1) _ _ _ _ _ (c .face-names .ensures)
 
 -- src/scan.rt:36:1
 returns-7 : tie.Need-returns-7
-returns-7 c = ?
+unfolding itemTest
+returns-7 c = by-test _ _ (c .before .enum-told7 .given .1) _ _ _ _ _ (c .loop-names .ensures)
 
 -- src/scan.rt:36:1
 returns-8 : tie.Need-returns-8
-returns-8 c = ?
+unfolding itemTest
+returns-8 c = by-test _ _ (c .before .enum-told8 .given .1) _ _ _ _ _ (c .half-names .ensures)
 
 -- src/scan.rt:36:1
 returns-9 : tie.Need-returns-9
-returns-9 c = ?
+unfolding itemTest
+returns-9 c = by-test _ _ (c .before .enum-told9 .given .1) _ _ _ _ _ (c .loop-either .ensures)
 
 -- src/scan.rt:36:1
 returns-10 : tie.Need-returns-10
-returns-10 c = ?
+unfolding itemTest
+returns-10 c = by-test _ _ (c .before .enum-told10 .given .1) _ _ _ _ _ (c .half-links .ensures)
 
 -- src/scan.rt:36:1
 returns-11 : tie.Need-returns-11
-returns-11 c = ?
+unfolding itemTest
+returns-11 c = by-test _ _ (c .before .enum-told11 .given .1) _ _ _ _ _ (c .first-names .ensures)
 
 -- src/scan.rt:36:1
 returns-12 : tie.Need-returns-12
-returns-12 c = ?
+unfolding itemTest
+returns-12 c = by-test _ _ (c .before .enum-told12 .given .1) _ _ _ _ _ (c .half-sides .ensures)
 
 pub item-test-spec : {M : Type 1} → statement M
 item-test-spec =
