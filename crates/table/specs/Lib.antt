@@ -1,3 +1,9 @@
+pub mod Clear
+pub mod ClearLaws
+pub mod Count
+pub mod CountLaws
 pub mod Rules
 pub mod Scan
 pub mod ScanLaws
+pub mod Sizes
+pub mod SizesLaws

@@ -3,6 +3,7 @@
 ghost use mathlib.Core.Path.{_≡_};
 ghost use Prim.Native.Nat.{ℕ, _<_, _≤_};
 ghost use Rattle.table.specs.Rules.{halfLinks, firstNames, side, halfSides};
+use layout::shape::Shape;
 use layout::columns::face_solid;
 use layout::columns::loop_face;
 use layout::columns::loop_first;
@@ -13,7 +14,7 @@ use layout::columns::start_of;
 use layout::mates::mate_of;
 
 // Half-edge n is free, or joined to its neighbours as rule 4 says, and its loop has a first half-edge, which is at most n.
-pub fn half_links(links: &[u16], sh: layout::shape::Shape, n: usize) -> bool
+pub fn half_links(links: &[u16], sh: Shape, n: usize) -> bool
     requires { ⌜ n < 65536 ⌝ }
     ensures { λ r. ⌜ r ≡ halfLinks sh (now (links .entry)) n ⌝ }
 {
@@ -37,7 +38,7 @@ pub fn half_links(links: &[u16], sh: layout::shape::Shape, n: usize) -> bool
 }
 
 // The first half-edge of loop n, where it has one, names it.
-pub fn first_names(links: &[u16], sh: layout::shape::Shape, n: usize) -> bool
+pub fn first_names(links: &[u16], sh: Shape, n: usize) -> bool
     requires { ⌜ n < 65536 ⌝ }
     ensures { λ r. ⌜ r ≡ firstNames sh (now (links .entry)) n ⌝ }
 {
@@ -47,7 +48,7 @@ pub fn first_names(links: &[u16], sh: layout::shape::Shape, n: usize) -> bool
 }
 
 // The face that half-edge n lies in.
-pub fn side_of(links: &[u16], sh: layout::shape::Shape, n: usize) -> usize
+pub fn side_of(links: &[u16], sh: Shape, n: usize) -> usize
     requires { ⌜ n ≤ 65536 ⌝ }
     ensures { λ r. ⌜ (r ≡ side sh (now (links .entry)) n) × (r < 65536) ⌝ }
 {
@@ -55,7 +56,7 @@ pub fn side_of(links: &[u16], sh: layout::shape::Shape, n: usize) -> usize
 }
 
 // Half-edge n is free, or its face and its mate's face lie in one solid.
-pub fn half_sides(links: &[u16], sh: layout::shape::Shape, n: usize) -> bool
+pub fn half_sides(links: &[u16], sh: Shape, n: usize) -> bool
     requires { ⌜ n < 65536 ⌝ }
     ensures { λ r. ⌜ r ≡ halfSides sh (now (links .entry)) n ⌝ }
 {

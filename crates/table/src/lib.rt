@@ -1,5 +1,9 @@
 // Clearing, checking and counting a table.
+pub mod clear;
 mod joins;
 mod names;
 mod ranges;
+mod rules;
 mod scan;
+mod sizes;
+mod tally;

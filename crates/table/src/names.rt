@@ -3,6 +3,7 @@
 ghost use mathlib.Core.Path.{_≡_};
 ghost use Prim.Native.Nat.{ℕ, _<_};
 ghost use Rattle.table.specs.Rules.{faceNames, loopNames, halfNames, loopEither};
+use layout::shape::Shape;
 use layout::columns::face_outer;
 use layout::columns::face_solid;
 use layout::columns::loop_face;
@@ -16,7 +17,7 @@ use layout::columns::start_of;
 use layout::columns::vertex_used;
 
 // Face n is free, or its solid is in use and its outer loop names it.
-pub fn face_names(links: &[u16], sh: layout::shape::Shape, n: usize) -> bool
+pub fn face_names(links: &[u16], sh: Shape, n: usize) -> bool
     requires { ⌜ n < 65536 ⌝ }
     ensures { λ r. ⌜ r ≡ faceNames sh (now (links .entry)) n ⌝ }
 {
@@ -27,7 +28,7 @@ pub fn face_names(links: &[u16], sh: layout::shape::Shape, n: usize) -> bool
 }
 
 // Loop n is free, or its face and what it has of first half-edge and isolated vertex are in use.
-pub fn loop_names(links: &[u16], sh: layout::shape::Shape, n: usize) -> bool
+pub fn loop_names(links: &[u16], sh: Shape, n: usize) -> bool
     requires { ⌜ n < 65536 ⌝ }
     ensures { λ r. ⌜ r ≡ loopNames sh (now (links .entry)) n ⌝ }
 {
@@ -41,7 +42,7 @@ pub fn loop_names(links: &[u16], sh: layout::shape::Shape, n: usize) -> bool
 }
 
 // Half-edge n is free, or its start, loop, next and previous are in use.
-pub fn half_names(links: &[u16], sh: layout::shape::Shape, n: usize) -> bool
+pub fn half_names(links: &[u16], sh: Shape, n: usize) -> bool
     requires { ⌜ n < 65536 ⌝ }
     ensures { λ r. ⌜ r ≡ halfNames sh (now (links .entry)) n ⌝ }
 {
@@ -54,7 +55,7 @@ pub fn half_names(links: &[u16], sh: layout::shape::Shape, n: usize) -> bool
 }
 
 // Loop n is free, or has a first half-edge or an isolated vertex, and not both.
-pub fn loop_either(links: &[u16], sh: layout::shape::Shape, n: usize) -> bool
+pub fn loop_either(links: &[u16], sh: Shape, n: usize) -> bool
     requires { ⌜ n < 65536 ⌝ }
     ensures { λ r. ⌜ r ≡ loopEither sh (now (links .entry)) n ⌝ }
 {

@@ -3,6 +3,7 @@
 ghost use mathlib.Core.Path.{_≡_};
 ghost use Prim.Native.Nat.{ℕ, _<_};
 ghost use Rattle.table.specs.Rules.{solidRange, faceRange, loopRange, halfRange, vertexRange};
+use layout::shape::Shape;
 use layout::columns::face_outer;
 use layout::columns::face_solid;
 use layout::columns::loop_face;
@@ -19,7 +20,7 @@ use layout::points::in_range;
 use layout::points::is_zero;
 
 // The mark of solid n is 0 or 1.
-pub fn solid_range(links: &[u16], sh: layout::shape::Shape, n: usize) -> bool
+pub fn solid_range(links: &[u16], sh: Shape, n: usize) -> bool
     requires { ⌜ n < 65536 ⌝ }
     ensures { λ r. ⌜ r ≡ solidRange sh (now (links .entry)) n ⌝ }
 {
@@ -27,7 +28,7 @@ pub fn solid_range(links: &[u16], sh: layout::shape::Shape, n: usize) -> bool
 }
 
 // The words of face n are in range, and both 0 or neither.
-pub fn face_range(links: &[u16], sh: layout::shape::Shape, n: usize) -> bool
+pub fn face_range(links: &[u16], sh: Shape, n: usize) -> bool
     requires { ⌜ n < 65536 ⌝ }
     ensures { λ r. ⌜ r ≡ faceRange sh (now (links .entry)) n ⌝ }
 {
@@ -39,7 +40,7 @@ pub fn face_range(links: &[u16], sh: layout::shape::Shape, n: usize) -> bool
 }
 
 // The words of loop n are in range, and all 0 where it is free.
-pub fn loop_range(links: &[u16], sh: layout::shape::Shape, n: usize) -> bool
+pub fn loop_range(links: &[u16], sh: Shape, n: usize) -> bool
     requires { ⌜ n < 65536 ⌝ }
     ensures { λ r. ⌜ r ≡ loopRange sh (now (links .entry)) n ⌝ }
 {
@@ -54,7 +55,7 @@ pub fn loop_range(links: &[u16], sh: layout::shape::Shape, n: usize) -> bool
 }
 
 // The words of half-edge n are in range, and they and its mate's start are all 0 or none is.
-pub fn half_range(links: &[u16], sh: layout::shape::Shape, n: usize) -> bool
+pub fn half_range(links: &[u16], sh: Shape, n: usize) -> bool
     requires { ⌜ n < 65536 ⌝ }
     ensures { λ r. ⌜ r ≡ halfRange sh (now (links .entry)) n ⌝ }
 {
@@ -75,7 +76,7 @@ pub fn half_range(links: &[u16], sh: layout::shape::Shape, n: usize) -> bool
 }
 
 // The mark of vertex n is 0 or 1, and its point in range, and zero where the vertex is free.
-pub fn vertex_range(links: &[u16], points: &[i32], sh: layout::shape::Shape, n: usize) -> bool
+pub fn vertex_range(links: &[u16], points: &[i32], sh: Shape, n: usize) -> bool
     requires { ⌜ n < 65536 ⌝ }
     ensures { λ r. ⌜ r ≡ vertexRange sh (now (links .entry)) (now (points .entry)) n ⌝ }
 {

@@ -3,6 +3,7 @@ ghost use mathlib.Core.Path.{_≡_};
 ghost use Prim.Native.Nat.{ℕ, _<_};
 ghost use Rattle.laws.specs.Search.{allTo};
 ghost use Rattle.table.specs.Scan.{itemTest};
+use layout::shape::Shape;
 use crate::joins::first_names;
 use crate::joins::half_links;
 use crate::joins::half_sides;
@@ -33,7 +34,7 @@ pub enum Test {
 }
 
 // The test of item n.
-fn item_test(links: &[u16], points: &[i32], sh: layout::shape::Shape, test: Test, n: usize) -> bool
+fn item_test(links: &[u16], points: &[i32], sh: Shape, test: Test, n: usize) -> bool
     requires { ⌜ n < 65536 ⌝ }
     ensures { λ r. ⌜ r ≡ itemTest test sh (now (links .entry)) (now (points .entry)) n ⌝ }
 {
@@ -57,7 +58,7 @@ fn item_test(links: &[u16], points: &[i32], sh: layout::shape::Shape, test: Test
 pub fn all_items(
     links: &[u16],
     points: &[i32],
-    sh: layout::shape::Shape,
+    sh: Shape,
     test: Test,
     n: usize,
 ) -> bool
