@@ -1,0 +1,69 @@
+use mathlib.Core.Path.{_≡_, ap}
+use Prim.Native.Nat.{_-_, _≤_}
+use native.Mathlib.Omega.{arith}
+use lib.ListN.{length}
+use Rattle.laws.specs.Columns.{col}
+use Rattle.layout.specs.Layout.{kind}
+use Rattle.orbits.specs.Labels.{blank, leastNaming}
+use Rattle.orbits.specs.LabelsLaws.{down-turn, down-out, long-set, blank-long}
+use borrow.Author.Needs.{needs}
+use Rattle.orbits.proofs.labels.least_naming.Statement.{statement}
+use Rattle.orbits.proofs.labels.least_naming.Tie as tie
+use Rattle.orbits.proofs.labels.least_naming.Reads as reads
+use Rattle.orbits.proofs.labels.least_naming.Lts as lts
+use Rattle.layout.proofs.cells.cell.Reads as cell-reads
+use Rattle.orbits.proofs.labels.put_entry.Reads as put-entry-reads
+
+abbrev Inv-loop : tie.InvT-loop
+Inv-loop links base width n least₀ k₀ least k =
+    (k ≤ n) × (length least ≡ 4097) × (leastNaming (col (kind base width) 0 links) k least ≡ leastNaming (col (kind base width) 0 links) n blank)
+
+abbrev μ-loop : tie.MeasureT-loop
+μ-loop links base width n least₀ k₀ least k = k
+
+-- src/labels.rt:40:5
+loop-holds : tie.Need-loop-holds Inv-loop μ-loop
+loop-holds c =
+    let a = c .before .args in
+    let e = c .before .pre .2 in
+    (omega arith, blank-long _ e, ap (leastNaming (col (kind (a .base) (a .width)) 0 (a .links .now)) (a .n)) e)
+
+-- src/labels.rt:41:13
+cell-requires : tie.Need-cell-requires Inv-loop μ-loop
+cell-requires c κs = search needs
+
+-- src/labels.rt:42:9
+put-entry-requires : tie.Need-put-entry-requires Inv-loop μ-loop
+put-entry-requires c κs = search needs
+
+-- src/labels.rt:43:9
+sub-k : tie.Need-sub-k Inv-loop μ-loop
+sub-k c = search needs
+
+-- src/labels.rt:40:5
+loop-less : tie.Need-loop-less Inv-loop μ-loop
+loop-less c = search needs
+
+-- src/labels.rt:40:5
+loop-again : tie.Need-loop-again Inv-loop μ-loop
+loop-again c =
+    let inv = c .before .before .before .before .loop .inv in
+    (omega arith, long-set (c .before .before .before .before .loop .least) _ _ _ _ (inv .1) (c .put-entry .ensures), down-turn _ _ _ _ _ (inv .2) (omega arith) (cc))
+
+-- src/labels.rt:35:1
+returns : tie.Need-returns Inv-loop μ-loop
+returns c = down-out _ _ _ _ (c .before .loop .inv .2) (omega arith)
+
+pub least-naming-spec : {M : Type 1} → statement M
+least-naming-spec =
+    tie.close
+    (tie.spec
+    Inv-loop
+    μ-loop
+    loop-holds
+    cell-requires
+    put-entry-requires
+    sub-k
+    loop-less
+    loop-again
+    returns)
