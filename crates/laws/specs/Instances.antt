@@ -1,5 +1,5 @@
 -- Small instances that go through every assumption of the laws, so that none of them is empty.
--- They stand at the end of everything: no other module uses them.
+-- Here: searches, columns, chains, permutations, the six moves and walks. `LinearInstances` has marks, closure and union.
 use mathlib.Core.Path.{_≡_, refl, sym, ap, _∙_}
 use mathlib.Core.Logic.{_≢_, inl, inr}
 use mathlib.Core.Bool.{Bool, _&&_}
@@ -120,24 +120,28 @@ mapped-within = map-within (λ i. i < 5) (λ i j r. (λ h. omega arith, λ h. om
 
 -- ---- one cycle of four, 1 3 2 4, among 1..5
 
+-- what each goes to
 abbrev nx : ℕ → ℕ
 nx i = getD (0 ∷ 3 ∷ 4 ∷ 2 ∷ 1 ∷ []) i 0
 
+-- and comes from
 abbrev pv : ℕ → ℕ
 pv i = getD (0 ∷ 4 ∷ 3 ∷ 1 ∷ 2 ∷ []) i 0
 
+-- one label
 abbrev lab : ℕ → ℕ
 lab i = 1
 
 -- the numbers in use
-abbrev below : ℕ → Bool
+abbrev pub below : ℕ → Bool
 below i = leb i 4
 
-abbrev U : ℕ → Type 0
+-- as a set
+abbrev pub U : ℕ → Type 0
 U = Used 5 below
 
 -- a statement about each number in use
-each : (P : ℕ → Type 0) → P 1 → P 2 → P 3 → P 4 → (i : ℕ) → U i → P i
+pub each : (P : ℕ → Type 0) → P 1 → P 2 → P 3 → P 4 → (i : ℕ) → U i → P i
 each P a b c d zero u = absurd (omega (arith, u .0))
 each P a b c d (suc zero) u = a
 each P a b c d (suc (suc zero)) u = b
@@ -146,7 +150,7 @@ each P a b c d (suc (suc (suc (suc zero)))) u = d
 each P a b c d (suc (suc (suc (suc (suc i))))) u = absurd (omega (arith, leb→le (suc (suc (suc (suc (suc i))))) 4 (u .2)))
 
 -- each of 1..4 is in use
-use-of : (i : ℕ) → 1 ≤ i → T (leb i 4) → U i
+pub use-of : (i : ℕ) → 1 ≤ i → T (leb i 4) → U i
 use-of i l t = (l, omega (arith, leb→le i 4 t), t)
 
 -- the rule computes
@@ -273,11 +277,12 @@ off-run : Till nx 2 1 1
 unfolding first
 off-run = run-no ring (use-of 1 (omega arith) tt) (use-of 4 (omega arith) tt) (use-of 2 (omega arith) tt) refl (omega arith) refl 1 (use-of 1 (omega arith) tt) (omega arith) refl refl
 
--- two steps from 3 lead to 4, and to it for the first time
+-- two steps from 3 lead to 4
 two-steps : iter nx 2 3 ≡ 4
 unfolding iter
 two-steps = refl
 
+-- and not sooner
 no-sooner : (t : ℕ) → t < 2 → iter nx t 3 ≢ 4
 unfolding iter
 no-sooner zero l = omega arith

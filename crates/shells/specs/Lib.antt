@@ -1,0 +1,4 @@
+pub mod Forest
+pub mod ForestLaws
+pub mod Shells
+pub mod ShellsLaws
