@@ -2,7 +2,12 @@ pub mod Clear
 pub mod ClearLaws
 pub mod Count
 pub mod CountLaws
+pub mod CyclesSay
+pub mod RuleFacts
+pub mod RuleLaws
 pub mod Rules
+pub mod RulesSay
+pub mod Says
 pub mod Scan
 pub mod ScanLaws
 pub mod Sizes

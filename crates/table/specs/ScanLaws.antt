@@ -11,11 +11,15 @@ use Rattle.laws.specs.Bools.{T-false, true-T, false-T}
 use Rattle.laws.specs.Search.{allTo, all-at}
 use Rattle.layout.specs.declared.shape.Shape.{Shape}
 use Rattle.table.specs.declared.scan.Test.{Test}
-use Rattle.table.specs.Scan.{itemTest}
+use Rattle.table.specs.declared.labels.LabelTest.{LabelTest}
+use Rattle.table.specs.Scan.{itemTest, labelTest}
 
 -- the arm that was taken is the test's own
 pub by-test : (test t : Test) → test ≡ t → (sh : Shape) (x : List ℕ) (p : List ℤ) (n : ℕ) (r : Bool) → r ≡ itemTest t sh x p n → r ≡ itemTest test sh x p n
 by-test test t e sh x p n r h = rw e h
+
+pub by-label : (test t : LabelTest) → test ≡ t → (sh : Shape) (x a b : List ℕ) (n : ℕ) (r : Bool) → r ≡ labelTest t sh x a b n → r ≡ labelTest test sh x a b n
+by-label test t e sh x a b n r h = rw e h
 
 -- none is passed at first
 pub all-start : (p : ℕ → Bool) → allTo 0 p ≡ true

@@ -34,12 +34,12 @@ sizes-are m n s f l e v t =
     let h = every-T (sizeTests m n s f l e v) (true-T t) in
     record {
       solids = capacity-is s (h .0);
-      faces = capacity-is f (h .1);
-      loops = capacity-is l (h .2);
-      edges = capacity-is e (h .3);
-      vertices = capacity-is v (h .4);
-      links = eqb→eq _ _ (h .5);
-      points = eqb→eq _ _ (h .6);
+      faces = capacity-is f (h .1 .0);
+      loops = capacity-is l (h .1 .1 .0);
+      edges = capacity-is e (h .1 .1 .1 .0);
+      vertices = capacity-is v (h .1 .1 .1 .1 .0);
+      links = eqb→eq _ _ (h .1 .1 .1 .1 .1 .0);
+      points = eqb→eq _ _ (h .1 .1 .1 .1 .1 .1 .0);
     }
 
 -- the capacities of a shape are small, so that no number of a scan wraps

@@ -1,6 +1,7 @@
 // Clearing, checking and counting a table.
 pub mod clear;
 mod joins;
+mod labels;
 mod names;
 mod ranges;
 mod rules;

@@ -1,3 +1,4 @@
+use Rattle.table.specs.ClearLaws.{clear-refused, clear-done}
 use borrow.Author.Needs.{needs}
 use Rattle.table.proofs.clear.clear.Statement.{statement}
 use Rattle.table.proofs.clear.clear.Tie as tie
@@ -14,7 +15,7 @@ sizes-fit-requires c κs = search needs
 
 -- src/clear.rt:68:9
 returns : tie.Need-returns
-returns c = ?
+returns c = clear-refused _ _ _ _ _ _ _ _ _ (c .before .sizes-fit .ensures) (c .if1 .taken)
 
 -- src/clear.rt:70:5
 zero-words-requires : tie.Need-zero-words-requires
@@ -38,7 +39,7 @@ same-length-2 c = search needs
 
 -- src/clear.rt:50:1
 returns-2 : tie.Need-returns-2
-returns-2 c = ?
+returns-2 c = clear-done _ _ _ _ _ _ _ _ _ (c .before .before .before .before .before .before .before .before .before .before .before .before .sizes-fit .ensures) (c .before .before .before .before .before .before .before .before .before .before .before .if1 .left) _ _ _ (c .before .before .before .before .before .before .before .before .before .zero-words .ensures) (c .before .before .before .before .before .put-capacities .ensures) (c .before .zero-points .ensures)
 
 pub clear-spec : {M : Type 1} → statement M
 clear-spec =

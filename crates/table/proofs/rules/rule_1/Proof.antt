@@ -1,5 +1,4 @@
-use Rattle.table.specs.Scan.{itemTest}
-use Rattle.table.specs.Rules.{rule1}
+use Rattle.table.specs.RuleLaws.{rule1-is}
 use borrow.Author.Needs.{needs}
 use Rattle.table.proofs.rules.rule_1.Statement.{statement}
 use Rattle.table.proofs.rules.rule_1.Tie as tie
@@ -53,8 +52,7 @@ all-items-requires-5 c κs = search needs
 
 -- src/rules.rt:11:1
 returns : tie.Need-returns
-unfolding rule1 itemTest
-returns c = cc
+returns c = rule1-is _ _ _ _ _ _ _ _ (c .before .before .before .before .before .before .before .before .all-items .ensures) (c .before .before .before .before .before .before .all-items2 .ensures) (c .before .before .before .before .all-items3 .ensures) (c .before .before .all-items4 .ensures) (c .all-items5 .ensures)
 
 pub rule-1-spec : {M : Type 1} → statement M
 rule-1-spec =

@@ -19,7 +19,7 @@ abbrev μ-loop : tie.MeasureT-loop
 
 -- src/tally.rt:64:5
 loop-holds : tie.Need-loop-holds Inv-loop μ-loop
-loop-holds c = (omega arith, omega arith, count-start _)
+loop-holds c = (omega arith, omega arith, count-start _ _ _)
 
 -- src/tally.rt:65:52
 add-item-used : tie.Need-add-item-used Inv-loop μ-loop
@@ -47,11 +47,11 @@ loop-less c = search needs
 
 -- src/tally.rt:64:5
 loop-again : tie.Need-loop-again Inv-loop μ-loop
-loop-again c = (omega arith, omega arith, count-turn _ _ _ _ _ (c .before .before .before .loop .inv .2) (c .one-if .ensures .0) (c .before .item-used .ensures))
+loop-again c = (omega arith, omega arith, count-turn _ _ _ _ _ _ _ (c .before .before .before .loop .inv .2) (c .one-if .ensures .0) (c .before .item-used .ensures))
 
 -- src/tally.rt:58:1
 returns : tie.Need-returns Inv-loop μ-loop
-returns c = (count-end _ _ _ _ (c .before .loop .inv .0) (c .loop-test .left) (c .before .loop .inv .2), omega arith)
+returns c = (count-end _ _ _ _ _ _ (c .before .loop .inv .0) (c .loop-test .left) (c .before .loop .inv .2), omega arith)
 
 pub used-to-spec : {M : Type 1} → statement M
 used-to-spec =
