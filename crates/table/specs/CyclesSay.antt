@@ -64,8 +64,8 @@ module _ (sh : Shape) (x : List ℕ) where
     where
       go : Least (sh .faces) 1 (λ g. eqb (faceSolid sh x g) (faceSolid sh x f)) (faceIn sh x (faceSolid sh x f))
           → (1 ≤ faceIn sh x (faceSolid sh x f)) × (faceIn sh x (faceSolid sh x f) ≤ sh .faces) × (faceSolid sh x (faceIn sh x (faceSolid sh x f)) ≡ faceSolid sh x f)
-      go (none-is z no) = absurd (false-T (no f l (omega arith)) (eqb-refl (faceSolid sh x f)))
-      go (one-is a b t no) = (a, omega arith, eqb→eq _ _ (true-T t))
+      go (none-is z f-not) = absurd (false-T (f-not f l (omega arith)) (eqb-refl (faceSolid sh x f)))
+      go (one-is a b t f-not) = (a, omega arith, eqb→eq _ _ (true-T t))
 
 module _ (sh : Shape) (x : List ℕ) (p : List ℤ) (r1 : Rule1 sh x p) (r2 : Rule2 sh x) where
   -- ---- rule 4

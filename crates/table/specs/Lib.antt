@@ -1,8 +1,11 @@
+pub mod Check
+pub mod CheckLaws
 pub mod Clear
 pub mod ClearLaws
 pub mod Count
 pub mod CountLaws
 pub mod CyclesSay
+pub mod Examples
 pub mod RuleFacts
 pub mod RuleLaws
 pub mod Rules
@@ -12,3 +15,4 @@ pub mod Scan
 pub mod ScanLaws
 pub mod Sizes
 pub mod SizesLaws
+pub mod Valid

@@ -3,17 +3,17 @@ use mathlib.Core.Path.{_≡_, refl, sym, ap, _∙_}
 use mathlib.Core.Logic.{_≢_}
 use mathlib.Core.Bool.{Bool, true, false, not, _&&_}
 use mathlib.Core.List.{List}
-use Prim.Native.Nat.{ℕ, _*_, _≤_}
+use Prim.Native.Nat.{ℕ, zero, suc, _*_, _≤_}
 use native.Mathlib.Omega.{arith}
 use lib.IntN.{ℤ}
-use lib.ListN.{getD}
+use lib.ListN.{length, getD, set, length-set, length-replicate}
 use borrow.Author.Tests.{not-true, not-false}
 use Rattle.laws.specs.Bools.{true-T, T-true, and-T}
 use Rattle.laws.specs.Search.{allTo, all-ext}
 use Rattle.laws.specs.Marks.{allMet}
 use Rattle.layout.specs.declared.shape.Shape.{Shape}
 use Rattle.layout.specs.Layout.{faceSolid, loopFirst, loopIsolated, startOf, loopOf, nextOf}
-use Rattle.orbits.specs.Labels.{blank, leastNaming, tally, copied}
+use Rattle.orbits.specs.Labels.{blank, down, leastNaming, tally, copied}
 use Rattle.orbits.specs.LabelsLaws.{least-at, tally-at}
 use Rattle.orbits.specs.Cycles.{oneCycleEach}
 use Rattle.orbits.specs.OrbitsLaws.{LoopFacts, VertexFacts, loops-one-cycle, vertices-one-cycle}
@@ -46,6 +46,21 @@ go-on a b A B C r ea eb n e = rw (← ea, ← eb, not-false (a && b) n) e
 both : (a b A B : Bool) → a ≡ A → b ≡ B → (a && b) ≡ (A && B)
 both a b A B ea eb = rw (ea, eb)
 
+-- rules 1 and 2 hold of a table of small capacities: what the walks and the shells build on
+pub record Lower (sh : Shape) (x : List ℕ) (p : List ℤ) : Type 0 where
+  pub small : Small sh
+  pub first : rule1 sh x p ≡ true
+  pub second : rule2 sh x ≡ true
+
+-- a pass keeps the length of its array
+named-long : (f : ℕ → ℕ) (n : ℕ) (a : List ℕ) → length (leastNaming f n a) ≡ length a
+unfolding down
+named-long f zero a = refl
+named-long f (suc n) a = named-long f n (set a (f (suc n)) (suc n)) ∙ length-set a (f (suc n)) (suc n)
+
+pub leaders-long : (f : ℕ → ℕ) (n : ℕ) (ls : List ℕ) → ls ≡ leastNaming f n blank → length ls ≡ 4097
+leaders-long f n ls e = ap length e ∙ named-long f n blank ∙ length-replicate {A = ℕ} 4097 0
+
 module _ (sh : Shape) (x : List ℕ) (p : List ℤ) where
   pub rule1-is : (a b c d e : Bool) → a ≡ allTo (sh .solids) (itemTest SolidRange sh x p) → b ≡ allTo (sh .faces) (itemTest FaceRange sh x p)
       → c ≡ allTo (sh .loops) (itemTest LoopRange sh x p) → d ≡ allTo (2 * sh .edges) (itemTest HalfRange sh x p)
@@ -74,12 +89,12 @@ module _ (sh : Shape) (x : List ℕ) (p : List ℤ) where
   vertices-counted counts starters h ec es = all-ext (sh .vertices) _ _
       (λ k l u. rw (ec, es, tally-at (loopIsolated sh x) (sh .loops) k (omega arith), least-at (startOf sh x) (2 * sh .edges) k (omega arith)))
 
-  module _ (small : Small sh) (h1 : rule1 sh x p ≡ true) (h2 : rule2 sh x ≡ true) where
+  module _ (lower : Lower sh x p) where
     r1 : Rule1 sh x p
-    r1 = says-rule1 sh x p .out (true-T h1)
+    r1 = says-rule1 sh x p .out (true-T (lower .first))
 
     r2 : Rule2 sh x
-    r2 = says-rule2 sh x .out (true-T h2)
+    r2 = says-rule2 sh x .out (true-T (lower .second))
 
     module _ (a b : Bool) (ea : a ≡ allTo (2 * sh .edges) (itemTest HalfLinks sh x p)) (eb : b ≡ allTo (sh .loops) (itemTest FirstNames sh x p)) where
       pub rule4-not : not (a && b) ≡ true → false ≡ rule4 sh x
@@ -99,7 +114,7 @@ module _ (sh : Shape) (x : List ℕ) (p : List ℤ) where
       unfolding rule4 itemTest
       rule4-is n firsts r ef er =
           go-on a b (allTo (2 * sh .edges) (halfLinks sh x)) (allTo (sh .loops) (firstNames sh x)) (allTo (2 * sh .edges) (halfInLoop sh x)) r ea eb n
-          (er ∙ ap (λ l. oneCycleEach sh x false l (sh .loops)) ef ∙ loops-one-cycle sh x (links-hold n) (small .edges) (small .loops) ∙ met-loops sh x)
+          (er ∙ ap (λ l. oneCycleEach sh x false l (sh .loops)) ef ∙ loops-one-cycle sh x (links-hold n) (lower .small .edges) (lower .small .loops) ∙ met-loops sh x)
 
     pub rule5-is : rule4 sh x ≡ true → (counts starters : List ℕ) (a r : Bool) → counts ≡ tally (loopIsolated sh x) (sh .loops) blank
         → starters ≡ leastNaming (startOf sh x) (2 * sh .edges) blank → a ≡ allTo (sh .vertices) (labelTest VertexEither sh x counts starters)
@@ -108,10 +123,10 @@ module _ (sh : Shape) (x : List ℕ) (p : List ℤ) where
     rule5-is h4 counts starters a r ec es ea er =
         both a r (allTo (sh .vertices) (vertexEither sh x)) (allTo (2 * sh .edges) (halfAtVertex sh x)) (ea ∙ counted)
         (er ∙ ap (λ l. oneCycleEach sh x true l (sh .vertices)) es
-        ∙ vertices-one-cycle sh x (vertex-facts sh x p r1 r2 (says-rule4 sh x p r1 r2 .out (true-T h4) .half)) (small .edges) (small .vertices) ∙ met-vertices sh x)
+        ∙ vertices-one-cycle sh x (vertex-facts sh x p r1 r2 (says-rule4 sh x p r1 r2 .out (true-T h4) .half)) (lower .small .edges) (lower .small .vertices) ∙ met-vertices sh x)
       where
         counted : allTo (sh .vertices) (labelTest VertexEither sh x counts starters) ≡ allTo (sh .vertices) (vertexEither sh x)
-        counted = vertices-counted counts starters (small .vertices) ec es
+        counted = vertices-counted counts starters (lower .small .vertices) ec es
 
     pub rule6-is : (ls : List ℕ) (a r : Bool) → ls ≡ leastNaming (faceSolid sh x) (sh .faces) blank → a ≡ allTo (2 * sh .edges) (itemTest HalfSides sh x p)
         → r ≡ shellsWhole sh x ls → (a && r) ≡ rule6 sh x
@@ -120,7 +135,7 @@ module _ (sh : Shape) (x : List ℕ) (p : List ℤ) where
         both a r (allTo (2 * sh .edges) (halfSides sh x)) (allTo (sh .faces) (faceLinked sh x)) ea
         (er ∙ whole-is sh x (sided sh x p r1 r2) ls (λ f l u d.
         let n : faceSolid sh x f ≤ sh .solids = r1 .face f l u .solid in
-        rw el (least-at (faceSolid sh x) (sh .faces) (faceSolid sh x f) (omega (arith, small .solids)))))
+        rw el (least-at (faceSolid sh x) (sh .faces) (faceSolid sh x f) (omega (arith, lower .small .solids)))))
 
 -- ---- the lowest broken rule
 

@@ -1,5 +1,7 @@
 // Clearing, checking and counting a table.
+pub mod check;
 pub mod clear;
+pub mod count;
 mod joins;
 mod labels;
 mod names;

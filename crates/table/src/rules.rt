@@ -3,6 +3,7 @@ ghost use mathlib.Core.Bool.{true};
 ghost use mathlib.Core.Path.{_≡_};
 ghost use Prim.Native.Nat.{ℕ, _<_};
 ghost use Rattle.table.specs.Rules.{rule1, rule2, rule3, rule4, rule5, rule6, brokenRule};
+ghost use Rattle.table.specs.RuleLaws.{Lower};
 ghost use Rattle.table.specs.SizesLaws.{Small};
 use crate::labels::all_labels;
 use crate::labels::LabelTest;
@@ -51,8 +52,7 @@ fn rule_3(links: &[u16], points: &[i32], sh: Shape) -> bool
 // Half-edges are joined as they should be, and those of a loop form one cycle. The walks begin once next and previous are known to undo
 // each other.
 fn rule_4(links: &[u16], points: &[i32], sh: Shape) -> bool
-    requires { ⌜ Small sh ⌝ }
-    requires { ⌜ (rule1 sh (now links) (now points) ≡ true) × (rule2 sh (now links) ≡ true) ⌝ }
+    requires { ⌜ Lower sh (now links) (now points) ⌝ }
     ensures { λ r. ⌜ r ≡ rule4 sh (now (links .entry)) ⌝ }
 {
     let halves = all_items(links, points, sh, Test::HalfLinks, 2 * (sh.edges as usize));
@@ -67,8 +67,8 @@ fn rule_4(links: &[u16], points: &[i32], sh: Shape) -> bool
 
 // A vertex is isolated in one loop or starts half-edges, and those that start at a vertex form one cycle around it.
 fn rule_5(links: &[u16], points: &[i32], sh: Shape) -> bool
-    requires { ⌜ Small sh ⌝ }
-    requires { ⌜ (rule1 sh (now links) (now points) ≡ true) × (rule2 sh (now links) ≡ true) × (rule4 sh (now links) ≡ true) ⌝ }
+    requires { ⌜ Lower sh (now links) (now points) ⌝ }
+    requires { ⌜ rule4 sh (now links) ≡ true ⌝ }
     ensures { λ r. ⌜ r ≡ rule5 sh (now (links .entry)) ⌝ }
 {
     let mut counts = [0u16; 4097];
@@ -81,8 +81,7 @@ fn rule_5(links: &[u16], points: &[i32], sh: Shape) -> bool
 
 // The faces on an edge's two sides lie in one solid, and each solid's faces are linked.
 fn rule_6(links: &[u16], points: &[i32], sh: Shape) -> bool
-    requires { ⌜ Small sh ⌝ }
-    requires { ⌜ (rule1 sh (now links) (now points) ≡ true) × (rule2 sh (now links) ≡ true) ⌝ }
+    requires { ⌜ Lower sh (now links) (now points) ⌝ }
     ensures { λ r. ⌜ r ≡ rule6 sh (now (links .entry)) ⌝ }
 {
     let mut leaders = [0u16; 4097];

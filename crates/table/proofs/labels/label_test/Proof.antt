@@ -1,3 +1,5 @@
+use Rattle.table.specs.Scan.{labelTest}
+use Rattle.table.specs.ScanLaws.{by-label}
 use borrow.Author.Needs.{needs}
 use Rattle.table.proofs.labels.label_test.Statement.{statement}
 use Rattle.table.proofs.labels.label_test.Tie as tie
@@ -24,11 +26,12 @@ vertex-either-requires c κs = search needs
 
 -- src/labels.rt:43:1
 returns : tie.Need-returns
-returns c = ?
+unfolding labelTest
+returns c = by-label _ _ (c .before .enum-told .given .1) _ _ _ _ _ _ (c .solid-names .ensures)
 
 -- src/labels.rt:43:1
 returns-2 : tie.Need-returns-2
-returns-2 c = ?
+returns-2 c = by-label _ _ (c .before .enum-told2 .given .1) _ _ _ _ _ _ (c .vertex-either .ensures)
 
 pub label-test-spec : {M : Type 1} → statement M
 label-test-spec =

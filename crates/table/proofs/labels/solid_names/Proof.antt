@@ -1,3 +1,4 @@
+use Rattle.table.specs.Scan.{labelTest}
 use borrow.Author.Needs.{needs}
 use Rattle.table.proofs.labels.solid_names.Statement.{statement}
 use Rattle.table.proofs.labels.solid_names.Tie as tie
@@ -24,7 +25,8 @@ solid-used-requires c κs = search needs
 
 -- src/labels.rt:24:1
 returns : tie.Need-returns
-returns c = ?
+unfolding labelTest
+returns c = cc
 
 pub solid-names-spec : {M : Type 1} → statement M
 solid-names-spec =

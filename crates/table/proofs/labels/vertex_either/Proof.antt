@@ -1,3 +1,4 @@
+use Rattle.table.specs.Scan.{labelTest}
 use borrow.Author.Needs.{needs}
 use Rattle.table.proofs.labels.vertex_either.Statement.{statement}
 use Rattle.table.proofs.labels.vertex_either.Tie as tie
@@ -36,7 +37,8 @@ vertex-used-requires c κs = search needs
 
 -- src/labels.rt:33:1
 returns : tie.Need-returns
-returns c = ?
+unfolding labelTest
+returns c = cc
 
 pub vertex-either-spec : {M : Type 1} → statement M
 vertex-either-spec =

@@ -1,3 +1,4 @@
+use Rattle.table.specs.RuleLaws.{rule4-not, rule4-is}
 use borrow.Author.Needs.{needs}
 use Rattle.table.proofs.rules.rule_4.Statement.{statement}
 use Rattle.table.proofs.rules.rule_4.Tie as tie
@@ -29,7 +30,7 @@ all-items-requires-2 c κs = search needs
 
 -- src/rules.rt:61:9
 returns : tie.Need-returns
-returns c = ?
+returns c = rule4-not (c .before .before .before .before .before .before .args .sh) (c .before .before .before .before .before .before .args .links .now) (c .before .before .before .before .before .before .args .points .now) (c .before .before .before .before .before .before .pre) _ _ (c .before .before .before .all-items .ensures) (c .before .all-items2 .ensures) (c .if1 .taken)
 
 -- src/rules.rt:64:5
 loop-firsts-requires : tie.Need-loop-firsts-requires
@@ -45,7 +46,8 @@ one-cycle-each-requires c κs = search needs
 
 -- src/rules.rt:53:1
 returns-2 : tie.Need-returns-2
-returns-2 c = ?
+returns-2 c =
+    rule4-is (c .before .before .before .before .before .before .before .before .before .before .before .args .sh) (c .before .before .before .before .before .before .before .before .before .before .before .args .links .now) (c .before .before .before .before .before .before .before .before .before .before .before .args .points .now) (c .before .before .before .before .before .before .before .before .before .before .before .pre) _ _ (c .before .before .before .before .before .before .before .before .all-items .ensures) (c .before .before .before .before .before .before .all-items2 .ensures) (c .before .before .before .before .before .if1 .left) _ _ (c .before .before .before .loop-firsts .ensures) (c .one-cycle-each .ensures)
 
 pub rule-4-spec : {M : Type 1} → statement M
 rule-4-spec =

@@ -1,3 +1,5 @@
+use Rattle.layout.specs.Layout.{faceSolid}
+use Rattle.table.specs.RuleLaws.{leaders-long, rule6-is}
 use borrow.Author.Needs.{needs}
 use Rattle.table.proofs.rules.rule_6.Statement.{statement}
 use Rattle.table.proofs.rules.rule_6.Tie as tie
@@ -29,11 +31,12 @@ all-items-requires c κs = search needs
 
 -- src/rules.rt:90:78
 shells-whole-requires : tie.Need-shells-whole-requires
-shells-whole-requires c κs = ?
+shells-whole-requires c κs =
+    (c .before .before .before .before .before .before .before .pre .small .faces, c .before .before .before .before .before .before .before .pre .small .edges, leaders-long (faceSolid (c .before .before .before .before .before .before .before .args .sh) (c .before .before .before .before .before .before .before .args .links .now)) _ _ (c .before .before .before .least-naming .ensures))
 
 -- src/rules.rt:83:1
 returns : tie.Need-returns
-returns c = ?
+returns c = rule6-is (c .before .before .before .before .before .before .before .before .args .sh) (c .before .before .before .before .before .before .before .before .args .links .now) (c .before .before .before .before .before .before .before .before .args .points .now) (c .before .before .before .before .before .before .before .before .pre) _ _ _ (c .before .before .before .before .least-naming .ensures) (c .before .before .all-items .ensures) (c .shells-whole .ensures)
 
 pub rule-6-spec : {M : Type 1} → statement M
 rule-6-spec =
