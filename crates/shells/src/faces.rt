@@ -5,15 +5,15 @@ ghost use lib.ListN.{length, getD};
 ghost use Rattle.laws.specs.Union.{SameRoots};
 ghost use Rattle.shells.specs.Forest.{Forest};
 ghost use Rattle.shells.specs.Shells.{side, within, joins, facesLinked, faceWhole, shellsWhole, oneRoot, Shells, Joined};
+use crate::forest::find_root;
+use crate::forest::separate;
+use crate::forest::unite;
+use crate::forest::wide;
 use layout::columns::face_solid;
 use layout::columns::loop_face;
 use layout::columns::loop_of;
 use layout::columns::start_of;
 use layout::shape::Shape;
-use crate::forest::find_root;
-use crate::forest::separate;
-use crate::forest::unite;
-use crate::forest::wide;
 
 // The face that half-edge k lies in.
 fn side_of(links: &[u16], sh: Shape, k: usize) -> usize
@@ -110,7 +110,13 @@ fn leader_of(leaders: &[u16; 4097], s: usize) -> usize
 }
 
 // Face f is free or linked to the face that leads its solid.
-fn face_whole(links: &[u16], sh: Shape, leaders: &[u16; 4097], f: usize, parent: &mut [u16; 4097]) -> bool
+fn face_whole(
+    links: &[u16],
+    sh: Shape,
+    leaders: &[u16; 4097],
+    f: usize,
+    parent: &mut [u16; 4097],
+) -> bool
     requires { ⌜ (sh .faces ≤ 4096) × (f ≤ 4096) × (length (now leaders) ≡ 4097) ⌝ }
     requires { ⌜ Shells sh (now links) (now parent) ⌝ }
     ensures { λ r. ⌜ (r ≡ faceWhole sh (now (links .entry)) (now (leaders .entry)) f) × Shells sh (now (links .entry)) (now (parent .exit)) ⌝ }

@@ -83,18 +83,26 @@ module _ (sh : Shape) (x : List ℕ) (p : List ℤ) (r1 : Rule1 sh x p) (r2 : Ru
   unfolding rule4
   says-rule4 = record {
     out = λ t.
-      let s = every-T tests-4 t in
-      let h = says-halves .out (s .0) in
-      let f = says-firsts .out (s .1 .0) in
-      record {
-        half = h;
-        first = f;
-        cycles = met-all-cycles (2 * sh .edges) (sh .loops) (halfUsed sh x) (nextOf sh x) (loopFirst sh x) (loopOf sh x)
-            (loops-labelled sh x (loop-facts sh x p r1 r2 h f)) (subst T (sym (met-loops sh x)) (s .1 .1 .0));
-      };
-    back = λ r. T-every tests-4 (says-halves .back (r .half), (says-firsts .back (r .first), (
-      subst T (met-loops sh x) (cycles-all-met (2 * sh .edges) (sh .loops) (halfUsed sh x) (nextOf sh x) (loopFirst sh x) (loopOf sh x)
-      (loops-labelled sh x (loop-facts sh x p r1 r2 (r .half) (r .first))) (r .cycles)), tt)));
+        let s = every-T tests-4 t in
+        let h = says-halves .out (s .0) in
+        let f = says-firsts .out (s .1 .0) in
+        record {
+          half = h;
+          first = f;
+          cycles = met-all-cycles (2 * sh .edges) (sh .loops) (halfUsed sh x) (nextOf sh x) (loopFirst sh x) (loopOf sh x)
+              (loops-labelled sh x (loop-facts sh x p r1 r2 h f)) (subst T (sym (met-loops sh x)) (s .1 .1 .0));
+        };
+    back = λ r. T-every tests-4 (
+      says-halves .back (r .half),
+      (
+        says-firsts .back (r .first),
+        (
+          subst T (met-loops sh x) (cycles-all-met (2 * sh .edges) (sh .loops) (halfUsed sh x) (nextOf sh x) (loopFirst sh x) (loopOf sh x)
+              (loops-labelled sh x (loop-facts sh x p r1 r2 (r .half) (r .first))) (r .cycles)),
+          tt,
+        ),
+      ),
+    );
   }
 
   -- ---- rule 5
@@ -112,13 +120,18 @@ module _ (sh : Shape) (x : List ℕ) (p : List ℤ) (r1 : Rule1 sh x p) (r2 : Ru
   unfolding rule5
   says-rule5 r4 = record {
     out = λ t.
-      let s = every-T tests-5 t in
-      record {
-        vertex = says-vertices .out (s .0);
-        cycles = met-all-cycles (2 * sh .edges) (sh .vertices) (halfUsed sh x) (around sh x) (starter sh x) (startOf sh x) (labelled-5 r4) (subst T (sym (met-vertices sh x)) (s .1 .0));
-      };
-    back = λ r. T-every tests-5 (says-vertices .back (r .vertex), (
-      subst T (met-vertices sh x) (cycles-all-met (2 * sh .edges) (sh .vertices) (halfUsed sh x) (around sh x) (starter sh x) (startOf sh x) (labelled-5 r4) (r .cycles)), tt));
+        let s = every-T tests-5 t in
+        record {
+          vertex = says-vertices .out (s .0);
+          cycles = met-all-cycles (2 * sh .edges) (sh .vertices) (halfUsed sh x) (around sh x) (starter sh x) (startOf sh x) (labelled-5 r4) (subst T (sym (met-vertices sh x)) (s .1 .0));
+        };
+    back = λ r. T-every tests-5 (
+      says-vertices .back (r .vertex),
+      (
+        subst T (met-vertices sh x) (cycles-all-met (2 * sh .edges) (sh .vertices) (halfUsed sh x) (around sh x) (starter sh x) (startOf sh x) (labelled-5 r4) (r .cycles)),
+        tt,
+      ),
+    );
   }
 
   -- ---- rule 6
@@ -151,17 +164,22 @@ module _ (sh : Shape) (x : List ℕ) (p : List ℤ) (r1 : Rule1 sh x p) (r2 : Ru
   unfolding rule6
   says-rule6 = record {
     out = λ t.
-      let s = every-T tests-6 t in
-      let h = to-leader (says-linked .out (s .1 .0)) in
-      record {
-        sides = says-sides .out (s .0);
-        linked = λ f g lf uf lg ug d e.
-          via (faceIn sh x (faceSolid sh x f)) (back (h f lf uf d))
-          (subst (λ s. Linked (Across sh x) (faceIn sh x s) g) (sym e) (h g lg ug (λ z. d (e ∙ z))));
-      };
-    back = λ r. T-every tests-6 (says-sides .back (r .sides), (
-      says-linked .back (λ f l u d.
-      let b = leader-of sh x f l u in
-      linked-complete (sh .faces) (sh .edges) (edgeUsed sh x) (sideA sh x) (sideB sh x) ends (faceIn sh x (faceSolid sh x f)) f (b .0) (b .1)
-      (r .linked (faceIn sh x (faceSolid sh x f)) f (b .0) (b .1) l u (λ z. d (sym (b .2) ∙ z)) (b .2))), tt));
+        let s = every-T tests-6 t in
+        let h = to-leader (says-linked .out (s .1 .0)) in
+        record {
+          sides = says-sides .out (s .0);
+          linked = λ f g lf uf lg ug d e.
+              via (faceIn sh x (faceSolid sh x f)) (back (h f lf uf d))
+              (subst (λ s. Linked (Across sh x) (faceIn sh x s) g) (sym e) (h g lg ug (λ z. d (e ∙ z))));
+        };
+    back = λ r. T-every tests-6 (
+      says-sides .back (r .sides),
+      (
+        says-linked .back (λ f l u d.
+            let b = leader-of sh x f l u in
+            linked-complete (sh .faces) (sh .edges) (edgeUsed sh x) (sideA sh x) (sideB sh x) ends (faceIn sh x (faceSolid sh x f)) f (b .0) (b .1)
+            (r .linked (faceIn sh x (faceSolid sh x f)) f (b .0) (b .1) l u (λ z. d (sym (b .2) ∙ z)) (b .2))),
+        tt,
+      ),
+    );
   }

@@ -131,9 +131,9 @@ numbersOf a = a .solids ∷ a .faces ∷ a .loops ∷ a .edges ∷ a .vertices �
 
 abbrev sameNumbers : List ℕ → List ℕ → Bool
 sameNumbers [] [] = true
-sameNumbers [] (b ∷ bs) = false
-sameNumbers (a ∷ as) [] = false
-sameNumbers (a ∷ as) (b ∷ bs) = eqb a b && sameNumbers as bs
+sameNumbers [] (b ∷ t) = false
+sameNumbers (a ∷ r) [] = false
+sameNumbers (a ∷ r) (b ∷ t) = eqb a b && sameNumbers r t
 
 pub tables-counted : allRows (λ c. sameNumbers (numbersOf (countOf (c .links) (c .points))) (c .numbers)) countedTables ≡ true
 unfolding checkOf sizesFit brokenRule rule1 rule2 rule3 rule4 rule5 rule6 solidRange faceRange loopRange halfRange vertexRange solidNames faceNames loopNames halfNames loopEither halfLinks firstNames halfInLoop vertexEither halfAtVertex halfSides faceLinked allTo leastFrom sumTo meets linkedb rounds pass across mate countOf tallyOf itemUsed

@@ -61,12 +61,12 @@ module _ (sh : Shape) (x : List ℕ) (p : List ℤ) (r1 : Rule1 sh x p) (r2 : Ru
   pub sided : Sided sh x
   sided = record {
     at = λ e l u t.
-      let h : Half sh x (2 * e) = (omega arith, omega arith, t) in
-      let m : mate (2 * e) ≡ 2 * e - 1 = mate-even (2 * e) (omega arith) in
-      let g : Half sh x (2 * e - 1) = in-use (2 * e - 1) (omega arith) (omega arith) (subst (λ j. startOf sh x j ≢ 0) m (mate-used (2 * e) h)) in
-      let a = side-range (2 * e - 1) g in
-      let b = side-range (2 * e) h in
-      (a .0, a .1, b .0, b .1);
+        let h : Half sh x (2 * e) = (omega arith, omega arith, t) in
+        let m : mate (2 * e) ≡ 2 * e - 1 = mate-even (2 * e) (omega arith) in
+        let g : Half sh x (2 * e - 1) = in-use (2 * e - 1) (omega arith) (omega arith) (subst (λ j. startOf sh x j ≢ 0) m (mate-used (2 * e) h)) in
+        let a = side-range (2 * e - 1) g in
+        let b = side-range (2 * e) h in
+        (a .0, a .1, b .0, b .1);
   }
 
   module _ (joined : (k : ℕ) → 1 ≤ k → k ≤ 2 * sh .edges → startOf sh x k ≢ 0 → HalfLinks sh x k) where

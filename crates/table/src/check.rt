@@ -17,12 +17,18 @@ pub fn check(links: &[u16], points: &[i32]) -> CheckAnswer
     ensures { λ r. ⌜ r ≡ checkOf (now (links .entry)) (now (points .entry)) ⌝ }
 {
     if !table_fits(links, points) {
-        return CheckAnswer { refusal: 1, rule: 0 };
+        return CheckAnswer {
+            refusal: 1,
+            rule: 0,
+        };
     }
     let sh = shape_of(links);
     let rule = broken_rule(links, points, sh);
     if rule != 0 {
         return CheckAnswer { refusal: 2, rule };
     }
-    CheckAnswer { refusal: 0, rule: 0 }
+    CheckAnswer {
+        refusal: 0,
+        rule: 0,
+    }
 }

@@ -65,10 +65,16 @@ pub fn clear(
     let ce = e as usize;
     let cv = v as usize;
     if !sizes_fit(links.len(), points.len(), cs, cf, cl, ce, cv) {
-        return ClearAnswer { refusal: 1, start: log };
+        return ClearAnswer {
+            refusal: 1,
+            start: log,
+        };
     }
     zero_words(links);
     put_capacities(links, cs, cf, cl, ce, cv);
     zero_points(points);
-    ClearAnswer { refusal: 0, start: log }
+    ClearAnswer {
+        refusal: 0,
+        start: log,
+    }
 }

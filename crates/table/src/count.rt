@@ -4,10 +4,10 @@ ghost use Prim.Native.Nat.{ℕ, _≤_};
 ghost use Rattle.table.specs.Count.{holesOf, tallyOf, countOf};
 ghost use Rattle.table.specs.SizesLaws.{Small};
 use crate::check::check;
-use crate::tally::used_to;
 use crate::tally::Item;
-use layout::shape::shape_of;
+use crate::tally::used_to;
 use layout::shape::Shape;
+use layout::shape::shape_of;
 
 #[repr(C)]
 pub struct CountAnswer {
@@ -47,7 +47,17 @@ fn tally_of(links: &[u16], sh: Shape) -> CountAnswer
     let vertices = used_to(links, sh, Item::Vertex, sh.vertices as usize);
     let rings = used_to(links, sh, Item::Ring, sh.loops as usize);
     let holes = holes_of(solids, faces, edges, vertices, rings);
-    CountAnswer { refusal: 0, rule: 0, solids, faces, loops, edges, vertices, rings, holes }
+    CountAnswer {
+        refusal: 0,
+        rule: 0,
+        solids,
+        faces,
+        loops,
+        edges,
+        vertices,
+        rings,
+        holes,
+    }
 }
 
 // Refusals 1 and 2 as the check gives them, with all counts 0; else the items in use, the rings and the holes.

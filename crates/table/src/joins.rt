@@ -3,7 +3,6 @@
 ghost use mathlib.Core.Path.{_≡_};
 ghost use Prim.Native.Nat.{ℕ, _<_, _≤_};
 ghost use Rattle.table.specs.Rules.{halfLinks, firstNames, side, halfSides};
-use layout::shape::Shape;
 use layout::columns::face_solid;
 use layout::columns::loop_face;
 use layout::columns::loop_first;
@@ -12,6 +11,7 @@ use layout::columns::next_of;
 use layout::columns::prev_of;
 use layout::columns::start_of;
 use layout::mates::mate_of;
+use layout::shape::Shape;
 
 // Half-edge n is free, or joined to its neighbours as rule 4 says, and its loop has a first half-edge, which is at most n.
 pub fn half_links(links: &[u16], sh: Shape, n: usize) -> bool

@@ -30,7 +30,13 @@ fn solid_names(links: &[u16], sh: Shape, faces: &[u16; 4097], n: usize) -> bool
 }
 
 // Vertex n is free, or isolated in one loop and starts no half-edge, or isolated in none and starts one.
-fn vertex_either(links: &[u16], sh: Shape, counts: &[u16; 4097], starters: &[u16; 4097], n: usize) -> bool
+fn vertex_either(
+    links: &[u16],
+    sh: Shape,
+    counts: &[u16; 4097],
+    starters: &[u16; 4097],
+    n: usize,
+) -> bool
     requires { ⌜ n ≤ 4096 ⌝ }
     ensures { λ r. ⌜ r ≡ labelTest VertexEither sh (now (links .entry)) (now (counts .entry)) (now (starters .entry)) n ⌝ }
 {
@@ -40,7 +46,14 @@ fn vertex_either(links: &[u16], sh: Shape, counts: &[u16; 4097], starters: &[u16
 }
 
 // The test of item n.
-fn label_test(links: &[u16], sh: Shape, a: &[u16; 4097], b: &[u16; 4097], test: LabelTest, n: usize) -> bool
+fn label_test(
+    links: &[u16],
+    sh: Shape,
+    a: &[u16; 4097],
+    b: &[u16; 4097],
+    test: LabelTest,
+    n: usize,
+) -> bool
     requires { ⌜ n ≤ 4096 ⌝ }
     ensures { λ r. ⌜ r ≡ labelTest test sh (now (links .entry)) (now (a .entry)) (now (b .entry)) n ⌝ }
 {
@@ -51,7 +64,14 @@ fn label_test(links: &[u16], sh: Shape, a: &[u16; 4097], b: &[u16; 4097], test: 
 }
 
 // The items 1 to n pass the test.
-pub fn all_labels(links: &[u16], sh: Shape, a: &[u16; 4097], b: &[u16; 4097], test: LabelTest, n: usize) -> bool
+pub fn all_labels(
+    links: &[u16],
+    sh: Shape,
+    a: &[u16; 4097],
+    b: &[u16; 4097],
+    test: LabelTest,
+    n: usize,
+) -> bool
     requires { ⌜ n ≤ 4096 ⌝ }
     ensures { λ r. ⌜ r ≡ allTo n (labelTest test sh (now (links .entry)) (now (a .entry)) (now (b .entry))) ⌝ }
 {

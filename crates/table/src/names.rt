@@ -3,7 +3,6 @@
 ghost use mathlib.Core.Path.{_≡_};
 ghost use Prim.Native.Nat.{ℕ, _<_};
 ghost use Rattle.table.specs.Rules.{faceNames, loopNames, halfNames, loopEither};
-use layout::shape::Shape;
 use layout::columns::face_outer;
 use layout::columns::face_solid;
 use layout::columns::loop_face;
@@ -15,6 +14,7 @@ use layout::columns::prev_of;
 use layout::columns::solid_used;
 use layout::columns::start_of;
 use layout::columns::vertex_used;
+use layout::shape::Shape;
 
 // Face n is free, or its solid is in use and its outer loop names it.
 pub fn face_names(links: &[u16], sh: Shape, n: usize) -> bool

@@ -3,7 +3,6 @@
 ghost use mathlib.Core.Path.{_≡_};
 ghost use Prim.Native.Nat.{ℕ, _<_};
 ghost use Rattle.table.specs.Rules.{solidRange, faceRange, loopRange, halfRange, vertexRange};
-use layout::shape::Shape;
 use layout::columns::face_outer;
 use layout::columns::face_solid;
 use layout::columns::loop_face;
@@ -18,6 +17,7 @@ use layout::columns::vertex_used;
 use layout::mates::mate_of;
 use layout::points::in_range;
 use layout::points::is_zero;
+use layout::shape::Shape;
 
 // The mark of solid n is 0 or 1.
 pub fn solid_range(links: &[u16], sh: Shape, n: usize) -> bool

@@ -5,10 +5,10 @@ ghost use Prim.Native.Nat.{ℕ, _<_};
 ghost use Rattle.table.specs.Rules.{rule1, rule2, rule3, rule4, rule5, rule6, brokenRule};
 ghost use Rattle.table.specs.RuleLaws.{Lower};
 ghost use Rattle.table.specs.SizesLaws.{Small};
-use crate::labels::all_labels;
 use crate::labels::LabelTest;
-use crate::scan::all_items;
+use crate::labels::all_labels;
 use crate::scan::Test;
+use crate::scan::all_items;
 use layout::shape::Shape;
 use orbits::cycles::one_cycle_each;
 use orbits::labels::isolated_counts;
@@ -38,7 +38,14 @@ fn rule_2(links: &[u16], points: &[i32], sh: Shape) -> bool
     all_items(links, points, sh, Test::FaceNames, sh.faces as usize)
         & all_items(links, points, sh, Test::LoopNames, sh.loops as usize)
         & all_items(links, points, sh, Test::HalfNames, 2 * (sh.edges as usize))
-        & all_labels(links, sh, &leaders, &leaders, LabelTest::SolidNames, sh.solids as usize)
+        & all_labels(
+            links,
+            sh,
+            &leaders,
+            &leaders,
+            LabelTest::SolidNames,
+            sh.solids as usize,
+        )
 }
 
 // A loop has either a first half-edge or an isolated vertex, not both.
@@ -75,7 +82,14 @@ fn rule_5(links: &[u16], points: &[i32], sh: Shape) -> bool
     isolated_counts(links, sh, &mut counts);
     let mut starters = [0u16; 4097];
     least_naming(links, sh.half0, 4, 2 * (sh.edges as usize), &mut starters);
-    all_labels(links, sh, &counts, &starters, LabelTest::VertexEither, sh.vertices as usize)
+    all_labels(
+        links,
+        sh,
+        &counts,
+        &starters,
+        LabelTest::VertexEither,
+        sh.vertices as usize,
+    )
         & one_cycle_each(links, sh, true, &starters, sh.vertices as usize)
 }
 
@@ -86,7 +100,8 @@ fn rule_6(links: &[u16], points: &[i32], sh: Shape) -> bool
 {
     let mut leaders = [0u16; 4097];
     least_naming(links, sh.face0, 2, sh.faces as usize, &mut leaders);
-    all_items(links, points, sh, Test::HalfSides, 2 * (sh.edges as usize)) & shells_whole(links, sh, &leaders)
+    all_items(links, points, sh, Test::HalfSides, 2 * (sh.edges as usize))
+        & shells_whole(links, sh, &leaders)
 }
 
 // The lowest broken rule, 0 where all hold.

@@ -3,7 +3,6 @@ ghost use mathlib.Core.Path.{_≡_};
 ghost use Prim.Native.Nat.{ℕ, _<_};
 ghost use Rattle.laws.specs.Search.{allTo};
 ghost use Rattle.table.specs.Scan.{itemTest};
-use layout::shape::Shape;
 use crate::joins::first_names;
 use crate::joins::half_links;
 use crate::joins::half_sides;
@@ -16,6 +15,7 @@ use crate::ranges::half_range;
 use crate::ranges::loop_range;
 use crate::ranges::solid_range;
 use crate::ranges::vertex_range;
+use layout::shape::Shape;
 
 // The tests of one item that read the table and nothing else.
 pub enum Test {
@@ -55,13 +55,7 @@ fn item_test(links: &[u16], points: &[i32], sh: Shape, test: Test, n: usize) -> 
 }
 
 // The items 1 to n pass the test.
-pub fn all_items(
-    links: &[u16],
-    points: &[i32],
-    sh: Shape,
-    test: Test,
-    n: usize,
-) -> bool
+pub fn all_items(links: &[u16], points: &[i32], sh: Shape, test: Test, n: usize) -> bool
     requires { ⌜ n < 65536 ⌝ }
     ensures { λ r. ⌜ r ≡ allTo n (itemTest test sh (now (links .entry)) (now (points .entry))) ⌝ }
 {

@@ -11,7 +11,15 @@ fn is_capacity(n: usize) -> bool
 }
 
 // So many words and coordinates are the links and points of a table of these capacities.
-pub fn sizes_fit(words: usize, coordinates: usize, s: usize, f: usize, l: usize, e: usize, v: usize) -> bool
+pub fn sizes_fit(
+    words: usize,
+    coordinates: usize,
+    s: usize,
+    f: usize,
+    l: usize,
+    e: usize,
+    v: usize,
+) -> bool
     requires { ⌜ (s < 65536) × (f < 65536) × (l < 65536) × (e < 65536) × (v < 65536) ⌝ }
     ensures { λ r. ⌜ r ≡ sizesFit words coordinates s f l e v ⌝ }
 {

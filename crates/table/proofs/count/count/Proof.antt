@@ -14,7 +14,7 @@ check-requires c κs = search needs
 
 -- src/count.rt:59:9
 returns : tie.Need-returns
-returns c = count-refused _ _ _ (c↑2 .check .ensures) (c .if1 .taken)
+returns c = count-refused _ _ _ (c .before .before .check .ensures) (c .if1 .taken)
 
 -- src/count.rt:71:21
 shape-of-requires : tie.Need-shape-of-requires
@@ -22,11 +22,11 @@ shape-of-requires c κs = search needs
 
 -- src/count.rt:71:5
 tally-of-requires : tie.Need-tally-of-requires
-tally-of-requires c κs = count-small _ _ _ (c↑3 .check .ensures) (c↑1 .if1 .left) _ (c .shape-of .ensures)
+tally-of-requires c κs = count-small _ _ _ (c .before .before .before .check .ensures) (c .before .if1 .left) _ (c .shape-of .ensures)
 
 -- src/count.rt:54:1
 returns-2 : tie.Need-returns-2
-returns-2 c = count-done _ _ _ (c↑4 .check .ensures) (c↑2 .if1 .left) _ (c↑1 .shape-of .ensures) _ (c .tally-of .ensures)
+returns-2 c = count-done _ _ _ (c .before .before .before .before .check .ensures) (c .before .before .if1 .left) _ (c .before .shape-of .ensures) _ (c .tally-of .ensures)
 
 pub count-spec : {M : Type 1} → statement M
 count-spec =

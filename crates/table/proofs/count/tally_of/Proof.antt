@@ -53,7 +53,7 @@ cast-used-to-6 c = search needs
 
 -- src/count.rt:48:9
 used-to-requires-6 : tie.Need-used-to-requires-6
-used-to-requires-6 c κs = c↑12 .pre .loops
+used-to-requires-6 c κs = c .before .before .before .before .before .before .before .before .before .before .before .before .pre .loops
 
 -- src/count.rt:49:9
 holes-of-requires : tie.Need-holes-of-requires
@@ -62,8 +62,8 @@ holes-of-requires c κs = search needs
 -- src/count.rt:39:1
 returns : tie.Need-returns
 returns c =
-    tally-is (c↑14 .args .sh) (c↑14 .args .links .now) _ _ _ _ _ _ _ (c↑11 .used-to .ensures .0) (c↑9 .used-to2 .ensures .0) (c↑7 .used-to3 .ensures .0)
-    (c↑5 .used-to4 .ensures .0) (c↑3 .used-to5 .ensures .0) (c↑1 .used-to6 .ensures .0) (c .holes-of .ensures)
+    tally-is (c .before .before .before .before .before .before .before .before .before .before .before .before .before .before .args .sh) (c .before .before .before .before .before .before .before .before .before .before .before .before .before .before .args .links .now) _ _ _ _ _ _ _ (c .before .before .before .before .before .before .before .before .before .before .before .used-to .ensures .0) (c .before .before .before .before .before .before .before .before .before .used-to2 .ensures .0) (c .before .before .before .before .before .before .before .used-to3 .ensures .0)
+    (c .before .before .before .before .before .used-to4 .ensures .0) (c .before .before .before .used-to5 .ensures .0) (c .before .used-to6 .ensures .0) (c .holes-of .ensures)
 
 pub tally-of-spec : {M : Type 1} → statement M
 tally-of-spec =

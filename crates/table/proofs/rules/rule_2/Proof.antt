@@ -50,13 +50,13 @@ cast-all-labels c = search needs
 
 -- src/rules.rt:41:11
 all-labels-requires : tie.Need-all-labels-requires
-all-labels-requires c κs = c↑13 .pre .solids
+all-labels-requires c κs = c .before .before .before .before .before .before .before .before .before .before .before .before .before .pre .solids
 
 -- src/rules.rt:32:1
 returns : tie.Need-returns
 returns c =
-    rule2-is (c↑14 .args .sh) (c↑14 .args .links .now) (c↑14 .args .points .now) _ _ _ _ _ (c↑14 .pre .solids) (c↑10 .least-naming .ensures)
-    (c↑8 .all-items .ensures) (c↑6 .all-items2 .ensures) (c↑4 .all-items3 .ensures) (c .all-labels .ensures)
+    rule2-is (c .before .before .before .before .before .before .before .before .before .before .before .before .before .before .args .sh) (c .before .before .before .before .before .before .before .before .before .before .before .before .before .before .args .links .now) (c .before .before .before .before .before .before .before .before .before .before .before .before .before .before .args .points .now) _ _ _ _ _ (c .before .before .before .before .before .before .before .before .before .before .before .before .before .before .pre .solids) (c .before .before .before .before .before .before .before .before .before .before .least-naming .ensures)
+    (c .before .before .before .before .before .before .before .before .all-items .ensures) (c .before .before .before .before .before .before .all-items2 .ensures) (c .before .before .before .before .all-items3 .ensures) (c .all-labels .ensures)
 
 pub rule-2-spec : {M : Type 1} → statement M
 rule-2-spec =

@@ -44,8 +44,8 @@ one-cycle-each-requires c κs = search needs
 -- src/rules.rt:69:1
 returns : tie.Need-returns
 returns c =
-    rule5-is (c↑13 .args .sh) (c↑13 .args .links .now) (c↑13 .args .points .now) (c↑13 .pre .0) (c↑13 .pre .1) _ _ _ _ (c↑10 .isolated-counts .ensures) (c↑7 .least-naming .ensures)
-    (c↑3 .all-labels .ensures) (c .one-cycle-each .ensures)
+    rule5-is (c .before .before .before .before .before .before .before .before .before .before .before .before .before .args .sh) (c .before .before .before .before .before .before .before .before .before .before .before .before .before .args .links .now) (c .before .before .before .before .before .before .before .before .before .before .before .before .before .args .points .now) (c .before .before .before .before .before .before .before .before .before .before .before .before .before .pre .0) (c .before .before .before .before .before .before .before .before .before .before .before .before .before .pre .1) _ _ _ _ (c .before .before .before .before .before .before .before .before .before .before .isolated-counts .ensures) (c .before .before .before .before .before .before .before .least-naming .ensures)
+    (c .before .before .before .all-labels .ensures) (c .one-cycle-each .ensures)
 
 pub rule-5-spec : {M : Type 1} → statement M
 rule-5-spec =
