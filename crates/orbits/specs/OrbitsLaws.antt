@@ -65,7 +65,7 @@ module _ (sh : Shape) (x : List ℕ) where
 
   -- ---- the loops
 
-  loops-labelled : LoopFacts → Labelled (2 * sh .edges) (sh .loops) Half (stepOf sh x false) (loopFirst sh x) (loopOf sh x)
+  pub loops-labelled : LoopFacts → Labelled (2 * sh .edges) (sh .loops) Half (stepOf sh x false) (loopFirst sh x) (loopOf sh x)
   loops-labelled h = record {
     perm = record { low = λ k u. u .0; high = λ k u. u .1; f-in = h .links .next-in; inv = prevOf sh x; undo = h .links .next-undone };
     keeps = h .loop-kept;
@@ -109,7 +109,7 @@ module _ (sh : Shape) (x : List ℕ) where
   mate-in : VertexFacts → (k : ℕ) → Half k → Half (mate k)
   mate-in h k u = let r = mate-range k (sh .edges) (u .0) (u .1) in (r .0, r .1, h .mate-used k u)
 
-  vertices-labelled : VertexFacts → Labelled (2 * sh .edges) (sh .vertices) Half (stepOf sh x true) starter (startOf sh x)
+  pub vertices-labelled : VertexFacts → Labelled (2 * sh .edges) (sh .vertices) Half (stepOf sh x true) starter (startOf sh x)
   vertices-labelled h = record {
     perm = record {
       low = λ k u. u .0;

@@ -11,6 +11,7 @@ ghost use Rattle.script.specs.Operator.{blankOf, operandOf, withNumber, 
 use number::Num;
 
 // An operator: its code, how many operands it has, and the operands, zeros behind them.
+#[repr(C)]
 pub struct Operator {
     pub code: u8,
     pub count: u8,
@@ -27,6 +28,7 @@ pub struct Limits {
 }
 
 // What reading an operator answers. On a refusal `next` is the place handed in and `op` the blank operator 0.
+#[repr(C)]
 pub struct ReadAnswer {
     pub refusal: u8,
     pub next: usize,
@@ -34,6 +36,7 @@ pub struct ReadAnswer {
 }
 
 // What writing an operator answers: the bytes it took, 0 on a refusal.
+#[repr(C)]
 pub struct WriteAnswer {
     pub refusal: u8,
     pub length: usize,

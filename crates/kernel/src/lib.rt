@@ -1,0 +1,70 @@
+// The kernel as its users meet it: every entry point, in the order in which they need it. Each takes any bytes whatever, checks for
+// itself, and answers a refusal by document 01's number; none asks anything of its caller. For C they are in include/zoghvari.h.
+ghost use mathlib.Core.Path.{_≡_};
+ghost use lib.ListN.{length};
+ghost use Rattle.script.specs.Operands.{widest};
+ghost use Rattle.script.specs.Operator.{readOperator, writeOperator, written};
+ghost use Rattle.table.specs.Check.{checkOf};
+ghost use Rattle.table.specs.Clear.{cleared, clearOf};
+ghost use Rattle.table.specs.Count.{countOf};
+ghost use Rattle.kernel.specs.Kernel.{operatorOf};
+use script::{Operator, ReadAnswer, WriteAnswer};
+use table::check::CheckAnswer;
+use table::clear::ClearAnswer;
+use table::count::CountAnswer;
+
+// Makes an empty table of five capacities: solids, faces, loops, edges, vertices. Refusal 1, or 0 and the start of the empty log,
+// of which only the length is handed in.
+#[no_mangle]
+pub extern "C" fn zoghvari_clear(
+    links: &mut [u16],
+    points: &mut [i32],
+    log: usize,
+    s: u16,
+    f: u16,
+    l: u16,
+    e: u16,
+    v: u16,
+) -> ClearAnswer
+    ensures { λ r. ⌜ cleared (r .refusal) (r .start) (now (links .exit)) (now (points .exit)) ≡ clearOf (now (links .entry)) (now (points .entry)) log s f l e v ⌝ }
+{
+    table::clear::clear(links, points, log, s, f, l, e, v)
+}
+
+// Whether a table is sound: refusal 1, or 2 with the lowest broken rule, or 0.
+#[no_mangle]
+pub extern "C" fn zoghvari_check(links: &[u16], points: &[i32]) -> CheckAnswer
+    ensures { λ r. ⌜ r ≡ checkOf (now (links .entry)) (now (points .entry)) ⌝ }
+{
+    table::check::check(links, points)
+}
+
+// How many items a sound table has in use, its rings and its holes; refusal 1 or 2 as in the check.
+#[no_mangle]
+pub extern "C" fn zoghvari_count(links: &[u16], points: &[i32]) -> CountAnswer
+    ensures { λ r. ⌜ r ≡ countOf (now (links .entry)) (now (points .entry)) ⌝ }
+{
+    table::count::count(links, points)
+}
+
+// The operator that stands at `at` in a script, read without a table: refusal 3, 4 or 5, or the operator and the place behind it.
+#[no_mangle]
+pub extern "C" fn zoghvari_read(script: &[u8], at: usize) -> ReadAnswer
+    ensures { λ r. ⌜ r ≡ readOperator widest (now (script .entry)) at ⌝ }
+{
+    script::read_operator(script, at)
+}
+
+// Writes an operator at the front of `out`: refusal 4 or 5, then 9 where it does not fit, with `out` left as it is.
+#[no_mangle]
+pub extern "C" fn zoghvari_write(code: u8, count: u8, args: &[i32; 8], out: &mut [u8]) -> WriteAnswer
+    ensures { λ r. ⌜ written r (now (out .exit)) ≡ writeOperator (operatorOf code count (now (args .entry))) (now (out .entry)) ⌝ }
+{
+    let held = *args;
+    let op = Operator {
+        code,
+        count,
+        args: held,
+    };
+    script::write_operator(op, out)
+}
