@@ -7,7 +7,8 @@ use Prim.Native.Nat.{ℕ, zero, suc, _≤_}
 use native.Mathlib.Omega.{arith}
 use lib.ListN.{getD}
 use Rattle.laws.specs.Search.{allTo}
-use Rattle.laws.specs.Marks.{markFrom, markRep, markTo, allMarked, allMet}
+use Rattle.laws.specs.Walks.{allMet}
+use Rattle.laws.specs.Marks.{markFrom, markRep, markTo, allMarked}
 use Rattle.layout.specs.declared.shape.Shape.{Shape}
 use Rattle.layout.specs.Layout.{shapeOf, startOf, nextOf, loopOf, loopFirst, loopIsolated}
 use Rattle.layout.specs.Mate.{mate}

@@ -10,8 +10,8 @@ use lib.Dec.{T, eqb, eqb→eq, eqb-refl, not-T}
 use lib.ListN.{getD, replicate, length-replicate}
 use Rattle.laws.specs.Bools.{true-T, false-T}
 use Rattle.laws.specs.Search.{least, Least, none-is, one-is, leastFrom-is}
-use Rattle.laws.specs.Walks.{Used}
-use Rattle.laws.specs.Marks.{markTo, allMarked, allMet, Labelled, marked-met, zeros-at}
+use Rattle.laws.specs.Walks.{Used, allMet}
+use Rattle.laws.specs.Marks.{markTo, allMarked, Labelled, marked-met, zeros-at}
 use Rattle.layout.specs.declared.shape.Shape.{Shape}
 use Rattle.layout.specs.Layout.{startOf, loopOf, nextOf, prevOf, loopFirst}
 use Rattle.layout.specs.Mate.{mate}

@@ -12,8 +12,8 @@ use Rattle.laws.specs.Every.{every-T, T-every}
 use Rattle.laws.specs.Search.{allTo, Least, none-is, one-is, leastFrom-is}
 use Rattle.laws.specs.Cycles.{Cycles}
 use Rattle.laws.specs.Linked.{Linked, back, via}
-use Rattle.laws.specs.Walks.{Used}
-use Rattle.laws.specs.Marks.{allMet, Labelled, met-all-cycles, cycles-all-met}
+use Rattle.laws.specs.Walks.{Used, allMet}
+use Rattle.laws.specs.Marks.{Labelled, met-all-cycles, cycles-all-met}
 use Rattle.laws.specs.Closure.{Edge, linked-sound, linked-complete}
 use Rattle.layout.specs.declared.shape.Shape.{Shape}
 use Rattle.layout.specs.Layout.{faceSolid, loopFirst, startOf, loopOf, nextOf, vertexUsed}

@@ -11,8 +11,7 @@ use Rattle.layout.specs.Layout.{faceSolid, loopFace, loopFirst, startOf, loopOf
 use Rattle.layout.specs.Mate.{mate}
 use Rattle.layout.specs.MateLaws.{mate-even}
 use Rattle.orbits.specs.OrbitsLaws.{Half, NextFacts, LoopFacts, VertexFacts}
-use Rattle.shells.specs.Shells.{edgeUsed}
-use Rattle.shells.specs.ShellsLaws.{Sided}
+use Rattle.shells.specs.Shells.{edgeUsed, Sided}
 use Rattle.table.specs.Rules.{side}
 use Rattle.table.specs.Says.{says-some}
 use Rattle.table.specs.RulesSay.{Together, OnlyWith, Rule1, Rule2, HalfLinks}

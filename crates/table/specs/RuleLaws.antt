@@ -10,7 +10,7 @@ use lib.ListN.{length, getD, set, length-set, length-replicate}
 use borrow.Author.Tests.{not-true, not-false}
 use Rattle.laws.specs.Bools.{true-T, T-true, and-T}
 use Rattle.laws.specs.Search.{allTo, all-ext}
-use Rattle.laws.specs.Marks.{allMet}
+
 use Rattle.layout.specs.declared.shape.Shape.{Shape}
 use Rattle.layout.specs.Layout.{faceSolid, loopFirst, loopIsolated, startOf, loopOf, nextOf}
 use Rattle.orbits.specs.Labels.{blank, down, leastNaming, tally, copied}
@@ -18,7 +18,7 @@ use Rattle.orbits.specs.LabelsLaws.{least-at, tally-at}
 use Rattle.orbits.specs.Cycles.{oneCycleEach}
 use Rattle.orbits.specs.OrbitsLaws.{LoopFacts, VertexFacts, loops-one-cycle, vertices-one-cycle}
 use Rattle.shells.specs.Shells.{shellsWhole}
-use Rattle.shells.specs.ShellsLaws.{whole-is}
+use Rattle.shells.specs.RuleLaws.{whole-is}
 use Rattle.table.specs.declared.scan.Test.the-variants.{SolidRange, FaceRange, LoopRange, HalfRange, VertexRange, FaceNames, LoopNames, HalfNames, HalfLinks, FirstNames, HalfSides}
 use Rattle.table.specs.declared.labels.LabelTest.the-variants.{SolidNames, VertexEither}
 use Rattle.table.specs.Rules.{rule1, solidNames, rule2, halfLinks, firstNames, halfInLoop, rule4, vertexEither, halfAtVertex, rule5, halfSides, faceLinked, rule6, brokenRule, rule3}
