@@ -12,9 +12,10 @@ use Rattle.laws.specs.Bools.{ask, pick}
 use Rattle.layout.specs.declared.shape.Shape.{Shape}
 use Rattle.layout.specs.Layout.{shapeOf}
 use Rattle.table.specs.declared.check.CheckAnswer.{CheckAnswer}
-use Rattle.table.specs.Rules.{brokenRule}
+use Rattle.items.specs.Rules.{brokenRule}
 use Rattle.table.specs.Sizes.{tableFits}
-use Rattle.table.specs.SizesLaws.{Small, fits-small}
+use Rattle.rules.specs.Small.{Small}
+use Rattle.table.specs.SizesLaws.{fits-small}
 use Rattle.table.specs.Check.{answer, ruled, checkOf}
 
 module _ (x : List ℕ) (p : List ℤ) (b : Bool) (h : b ≡ tableFits x p) where

@@ -15,7 +15,8 @@ use Rattle.table.specs.declared.tally.Item.the-variants.{Solid, Face, Lo
 use Rattle.table.specs.declared.check.CheckAnswer.{CheckAnswer}
 use Rattle.table.specs.declared.count.CountAnswer.{CountAnswer}
 use Rattle.layout.specs.Layout.{shapeOf}
-use Rattle.table.specs.SizesLaws.{Small, fits-small}
+use Rattle.rules.specs.Small.{Small}
+use Rattle.table.specs.SizesLaws.{fits-small}
 use Rattle.table.specs.Check.{checkOf}
 use Rattle.table.specs.CheckLaws.{checked-fits}
 use Rattle.table.specs.Count.{itemUsed, usedTo, holesOf, counts, noCounts, tallyOf, countOf}

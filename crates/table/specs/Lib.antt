@@ -4,15 +4,7 @@ pub mod Clear
 pub mod ClearLaws
 pub mod Count
 pub mod CountLaws
-pub mod CyclesSay
 pub mod Examples
-pub mod RuleFacts
-pub mod RuleLaws
-pub mod Rules
-pub mod RulesSay
-pub mod Says
-pub mod Scan
-pub mod ScanLaws
 pub mod Sizes
 pub mod SizesLaws
 pub mod Valid

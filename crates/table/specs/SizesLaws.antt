@@ -8,8 +8,8 @@ use lib.IntN.{ℤ}
 use lib.ListN.{length, getD}
 use Rattle.laws.specs.Bools.{true-T, and-T}
 use Rattle.laws.specs.Every.{every-T}
-use Rattle.layout.specs.declared.shape.Shape.{Shape}
 use Rattle.layout.specs.Layout.{shapeOf}
+use Rattle.rules.specs.Small.{Small}
 use Rattle.table.specs.Sizes.{capacity, linksLength, sizeTests, sizesFit, tableFits}
 
 pub record Capacity (n : ℕ) : Type 0 where
@@ -41,14 +41,6 @@ sizes-are m n s f l e v t =
       links = eqb→eq _ _ (h .1 .1 .1 .1 .1 .0);
       points = eqb→eq _ _ (h .1 .1 .1 .1 .1 .1 .0);
     }
-
--- the capacities of a shape are small, so that no number of a scan wraps
-pub record Small (sh : Shape) : Type 0 where
-  pub solids : sh .solids ≤ 4096
-  pub faces : sh .faces ≤ 4096
-  pub loops : sh .loops ≤ 4096
-  pub edges : sh .edges ≤ 4096
-  pub vertices : sh .vertices ≤ 4096
 
 -- the shape of a table that fits
 pub fits-small : (x : List ℕ) (p : List ℤ) → tableFits x p ≡ true → Small (shapeOf x)

@@ -1,7 +1,7 @@
 // Checking a table: is it sound, and if not, which rule is the lowest that is broken.
 ghost use mathlib.Core.Path.{_≡_};
 ghost use Rattle.table.specs.Check.{checkOf};
-use crate::rules::broken_rule;
+use rules::rules::broken_rule;
 use crate::sizes::table_fits;
 use layout::shape::shape_of;
 

@@ -1,0 +1,24 @@
+use Rattle.items.specs.Rules.{firstNames}
+use borrow.Author.Needs.{needs}
+use Rattle.items.proofs.joins.first_names.Statement.{statement}
+use Rattle.items.proofs.joins.first_names.Tie as tie
+use Rattle.items.proofs.joins.first_names.Reads as reads
+use Rattle.items.proofs.joins.first_names.Lts as lts
+use Rattle.layout.proofs.columns.loop_first.Reads as loop-first-reads
+use Rattle.layout.proofs.columns.loop_of.Reads as loop-of-reads
+
+-- src/joins.rt:38:9
+loop-first-requires : tie.Need-loop-first-requires
+loop-first-requires c κs = search needs
+
+-- src/joins.rt:39:9
+loop-of-requires : tie.Need-loop-of-requires
+loop-of-requires c κs = search needs
+
+-- src/joins.rt:34:1
+returns : tie.Need-returns
+unfolding firstNames
+returns c = cc
+
+pub first-names-spec : {M : Type 1} → statement M
+first-names-spec = tie.close (tie.spec loop-first-requires loop-of-requires returns)

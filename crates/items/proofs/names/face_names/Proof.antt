@@ -1,0 +1,41 @@
+use Rattle.items.specs.Rules.{faceNames}
+use borrow.Author.Needs.{needs}
+use Rattle.items.proofs.names.face_names.Statement.{statement}
+use Rattle.items.proofs.names.face_names.Tie as tie
+use Rattle.items.proofs.names.face_names.Reads as reads
+use Rattle.items.proofs.names.face_names.Lts as lts
+use Rattle.layout.proofs.columns.face_outer.Reads as face-outer-reads
+use Rattle.layout.proofs.columns.face_solid.Reads as face-solid-reads
+use Rattle.layout.proofs.columns.loop_face.Reads as loop-face-reads
+use Rattle.layout.proofs.columns.solid_used.Reads as solid-used-reads
+
+-- src/names.rt:23:9
+face-solid-requires : tie.Need-face-solid-requires
+face-solid-requires c κs = search needs
+
+-- src/names.rt:24:9
+solid-used-requires : tie.Need-solid-used-requires
+solid-used-requires c κs = search needs
+
+-- src/names.rt:25:37
+face-outer-requires : tie.Need-face-outer-requires
+face-outer-requires c κs = search needs
+
+-- src/names.rt:25:9
+loop-face-requires : tie.Need-loop-face-requires
+loop-face-requires c κs = search needs
+
+-- src/names.rt:19:1
+returns : tie.Need-returns
+unfolding faceNames
+returns c = cc
+
+pub face-names-spec : {M : Type 1} → statement M
+face-names-spec =
+    tie.close
+    (tie.spec
+    face-solid-requires
+    solid-used-requires
+    face-outer-requires
+    loop-face-requires
+    returns)

@@ -1,0 +1,63 @@
+use Rattle.items.specs.Rules.{halfNames}
+use borrow.Author.Needs.{needs}
+use Rattle.items.proofs.names.half_names.Statement.{statement}
+use Rattle.items.proofs.names.half_names.Tie as tie
+use Rattle.items.proofs.names.half_names.Reads as reads
+use Rattle.items.proofs.names.half_names.Lts as lts
+use Rattle.layout.proofs.columns.loop_face.Reads as loop-face-reads
+use Rattle.layout.proofs.columns.loop_of.Reads as loop-of-reads
+use Rattle.layout.proofs.columns.next_of.Reads as next-of-reads
+use Rattle.layout.proofs.columns.prev_of.Reads as prev-of-reads
+use Rattle.layout.proofs.columns.start_of.Reads as start-of-reads
+use Rattle.layout.proofs.columns.vertex_used.Reads as vertex-used-reads
+
+-- src/names.rt:48:9
+start-of-requires : tie.Need-start-of-requires
+start-of-requires c κs = search needs
+
+-- src/names.rt:49:9
+vertex-used-requires : tie.Need-vertex-used-requires
+vertex-used-requires c κs = search needs
+
+-- src/names.rt:50:37
+loop-of-requires : tie.Need-loop-of-requires
+loop-of-requires c κs = search needs
+
+-- src/names.rt:50:9
+loop-face-requires : tie.Need-loop-face-requires
+loop-face-requires c κs = search needs
+
+-- src/names.rt:51:36
+next-of-requires : tie.Need-next-of-requires
+next-of-requires c κs = search needs
+
+-- src/names.rt:51:9
+start-of-requires-2 : tie.Need-start-of-requires-2
+start-of-requires-2 c κs = search needs
+
+-- src/names.rt:52:36
+prev-of-requires : tie.Need-prev-of-requires
+prev-of-requires c κs = search needs
+
+-- src/names.rt:52:9
+start-of-requires-3 : tie.Need-start-of-requires-3
+start-of-requires-3 c κs = search needs
+
+-- src/names.rt:44:1
+returns : tie.Need-returns
+unfolding halfNames
+returns c = cc
+
+pub half-names-spec : {M : Type 1} → statement M
+half-names-spec =
+    tie.close
+    (tie.spec
+    start-of-requires
+    vertex-used-requires
+    loop-of-requires
+    loop-face-requires
+    next-of-requires
+    start-of-requires-2
+    prev-of-requires
+    start-of-requires-3
+    returns)

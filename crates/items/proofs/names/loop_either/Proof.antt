@@ -1,0 +1,30 @@
+use Rattle.items.specs.Rules.{loopEither}
+use borrow.Author.Needs.{needs}
+use Rattle.items.proofs.names.loop_either.Statement.{statement}
+use Rattle.items.proofs.names.loop_either.Tie as tie
+use Rattle.items.proofs.names.loop_either.Reads as reads
+use Rattle.items.proofs.names.loop_either.Lts as lts
+use Rattle.layout.proofs.columns.loop_face.Reads as loop-face-reads
+use Rattle.layout.proofs.columns.loop_first.Reads as loop-first-reads
+use Rattle.layout.proofs.columns.loop_isolated.Reads as loop-isolated-reads
+
+-- src/names.rt:61:9
+loop-face-requires : tie.Need-loop-face-requires
+loop-face-requires c κs = search needs
+
+-- src/names.rt:62:9
+loop-first-requires : tie.Need-loop-first-requires
+loop-first-requires c κs = search needs
+
+-- src/names.rt:63:9
+loop-isolated-requires : tie.Need-loop-isolated-requires
+loop-isolated-requires c κs = search needs
+
+-- src/names.rt:57:1
+returns : tie.Need-returns
+unfolding loopEither
+returns c = cc
+
+pub loop-either-spec : {M : Type 1} → statement M
+loop-either-spec =
+    tie.close (tie.spec loop-face-requires loop-first-requires loop-isolated-requires returns)

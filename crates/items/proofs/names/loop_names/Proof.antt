@@ -1,0 +1,53 @@
+use Rattle.items.specs.Rules.{loopNames}
+use borrow.Author.Needs.{needs}
+use Rattle.items.proofs.names.loop_names.Statement.{statement}
+use Rattle.items.proofs.names.loop_names.Tie as tie
+use Rattle.items.proofs.names.loop_names.Reads as reads
+use Rattle.items.proofs.names.loop_names.Lts as lts
+use Rattle.layout.proofs.columns.face_solid.Reads as face-solid-reads
+use Rattle.layout.proofs.columns.loop_face.Reads as loop-face-reads
+use Rattle.layout.proofs.columns.loop_first.Reads as loop-first-reads
+use Rattle.layout.proofs.columns.loop_isolated.Reads as loop-isolated-reads
+use Rattle.layout.proofs.columns.start_of.Reads as start-of-reads
+use Rattle.layout.proofs.columns.vertex_used.Reads as vertex-used-reads
+
+-- src/names.rt:34:9
+loop-face-requires : tie.Need-loop-face-requires
+loop-face-requires c κs = search needs
+
+-- src/names.rt:35:9
+loop-first-requires : tie.Need-loop-first-requires
+loop-first-requires c κs = search needs
+
+-- src/names.rt:36:9
+loop-isolated-requires : tie.Need-loop-isolated-requires
+loop-isolated-requires c κs = search needs
+
+-- src/names.rt:37:9
+face-solid-requires : tie.Need-face-solid-requires
+face-solid-requires c κs = search needs
+
+-- src/names.rt:38:9
+start-of-requires : tie.Need-start-of-requires
+start-of-requires c κs = search needs
+
+-- src/names.rt:39:9
+vertex-used-requires : tie.Need-vertex-used-requires
+vertex-used-requires c κs = search needs
+
+-- src/names.rt:30:1
+returns : tie.Need-returns
+unfolding loopNames
+returns c = cc
+
+pub loop-names-spec : {M : Type 1} → statement M
+loop-names-spec =
+    tie.close
+    (tie.spec
+    loop-face-requires
+    loop-first-requires
+    loop-isolated-requires
+    face-solid-requires
+    start-of-requires
+    vertex-used-requires
+    returns)

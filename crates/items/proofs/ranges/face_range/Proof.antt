@@ -1,0 +1,33 @@
+use Rattle.items.specs.Rules.{faceRange}
+use borrow.Author.Needs.{needs}
+use Rattle.items.proofs.ranges.face_range.Statement.{statement}
+use Rattle.items.proofs.ranges.face_range.Tie as tie
+use Rattle.items.proofs.ranges.face_range.Reads as reads
+use Rattle.items.proofs.ranges.face_range.Lts as lts
+use Rattle.layout.proofs.columns.face_outer.Reads as face-outer-reads
+use Rattle.layout.proofs.columns.face_solid.Reads as face-solid-reads
+
+-- src/ranges.rt:34:9
+face-solid-requires : tie.Need-face-solid-requires
+face-solid-requires c κs = search needs
+
+-- src/ranges.rt:35:9
+face-outer-requires : tie.Need-face-outer-requires
+face-outer-requires c κs = search needs
+
+-- src/ranges.rt:36:11
+cast-result : tie.Need-cast-result
+cast-result c = search needs
+
+-- src/ranges.rt:36:39
+cast-result-2 : tie.Need-cast-result-2
+cast-result-2 c = search needs
+
+-- src/ranges.rt:30:1
+returns : tie.Need-returns
+unfolding faceRange
+returns c = cc
+
+pub face-range-spec : {M : Type 1} → statement M
+face-range-spec =
+    tie.close (tie.spec face-solid-requires face-outer-requires cast-result cast-result-2 returns)

@@ -1,0 +1,72 @@
+use Rattle.items.specs.Rules.{halfRange}
+use borrow.Author.Needs.{needs}
+use Rattle.items.proofs.ranges.half_range.Statement.{statement}
+use Rattle.items.proofs.ranges.half_range.Tie as tie
+use Rattle.items.proofs.ranges.half_range.Reads as reads
+use Rattle.items.proofs.ranges.half_range.Lts as lts
+use Rattle.layout.proofs.columns.loop_of.Reads as loop-of-reads
+use Rattle.layout.proofs.columns.next_of.Reads as next-of-reads
+use Rattle.layout.proofs.columns.prev_of.Reads as prev-of-reads
+use Rattle.layout.proofs.columns.start_of.Reads as start-of-reads
+use Rattle.layout.proofs.mates.mate_of.Reads as mate-of-reads
+
+-- src/ranges.rt:59:9
+start-of-requires : tie.Need-start-of-requires
+start-of-requires c κs = search needs
+
+-- src/ranges.rt:60:9
+loop-of-requires : tie.Need-loop-of-requires
+loop-of-requires c κs = search needs
+
+-- src/ranges.rt:61:9
+next-of-requires : tie.Need-next-of-requires
+next-of-requires c κs = search needs
+
+-- src/ranges.rt:62:9
+prev-of-requires : tie.Need-prev-of-requires
+prev-of-requires c κs = search needs
+
+-- src/ranges.rt:63:33
+mate-of-requires : tie.Need-mate-of-requires
+mate-of-requires c κs = search needs
+
+-- src/ranges.rt:63:9
+start-of-requires-2 : tie.Need-start-of-requires-2
+start-of-requires-2 c κs = search needs
+
+-- src/ranges.rt:64:20
+cast-top : tie.Need-cast-top
+cast-top c = search needs
+
+-- src/ranges.rt:64:15
+mul-top : tie.Need-mul-top
+mul-top c = search needs
+
+-- src/ranges.rt:65:11
+cast-result : tie.Need-cast-result
+cast-result c = search needs
+
+-- src/ranges.rt:66:17
+cast-result-2 : tie.Need-cast-result-2
+cast-result-2 c = search needs
+
+-- src/ranges.rt:55:1
+returns : tie.Need-returns
+unfolding halfRange
+returns c = cc
+
+pub half-range-spec : {M : Type 1} → statement M
+half-range-spec =
+    tie.close
+    (tie.spec
+    start-of-requires
+    loop-of-requires
+    next-of-requires
+    prev-of-requires
+    mate-of-requires
+    start-of-requires-2
+    cast-top
+    mul-top
+    cast-result
+    cast-result-2
+    returns)

@@ -1,0 +1,19 @@
+use Rattle.items.specs.Rules.{solidRange}
+use borrow.Author.Needs.{needs}
+use Rattle.items.proofs.ranges.solid_range.Statement.{statement}
+use Rattle.items.proofs.ranges.solid_range.Tie as tie
+use Rattle.items.proofs.ranges.solid_range.Reads as reads
+use Rattle.items.proofs.ranges.solid_range.Lts as lts
+use Rattle.layout.proofs.columns.solid_used.Reads as solid-used-reads
+
+-- src/ranges.rt:26:5
+solid-used-requires : tie.Need-solid-used-requires
+solid-used-requires c κs = search needs
+
+-- src/ranges.rt:22:1
+returns : tie.Need-returns
+unfolding solidRange
+returns c = cc
+
+pub solid-range-spec : {M : Type 1} → statement M
+solid-range-spec = tie.close (tie.spec solid-used-requires returns)

@@ -1,0 +1,33 @@
+use Rattle.rules.specs.Labels.{labelTest}
+use borrow.Author.Needs.{needs}
+use Rattle.rules.proofs.labels.solid_names.Statement.{statement}
+use Rattle.rules.proofs.labels.solid_names.Tie as tie
+use Rattle.rules.proofs.labels.solid_names.Reads as reads
+use Rattle.rules.proofs.labels.solid_names.Lts as lts
+use Rattle.layout.proofs.columns.solid_used.Reads as solid-used-reads
+use Rattle.rules.proofs.labels.wide.Reads as wide-reads
+
+-- src/labels.rt:28:18
+mul-wide : tie.Need-mul-wide
+mul-wide c = search needs
+
+-- src/labels.rt:28:18
+element-copy-out-wide : tie.Need-element-copy-out-wide
+element-copy-out-wide c = search needs
+
+-- src/labels.rt:28:9
+wide-requires : tie.Need-wide-requires
+wide-requires c κs = search needs
+
+-- src/labels.rt:29:6
+solid-used-requires : tie.Need-solid-used-requires
+solid-used-requires c κs = search needs
+
+-- src/labels.rt:24:1
+returns : tie.Need-returns
+unfolding labelTest
+returns c = cc
+
+pub solid-names-spec : {M : Type 1} → statement M
+solid-names-spec =
+    tie.close (tie.spec mul-wide element-copy-out-wide wide-requires solid-used-requires returns)

@@ -1,0 +1,24 @@
+use Rattle.items.specs.Scan.{itemTest}
+use Rattle.items.specs.Rules.{rule3}
+use borrow.Author.Needs.{needs}
+use Rattle.rules.proofs.rules.rule_3.Statement.{statement}
+use Rattle.rules.proofs.rules.rule_3.Tie as tie
+use Rattle.rules.proofs.rules.rule_3.Reads as reads
+use Rattle.rules.proofs.rules.rule_3.Lts as lts
+use Rattle.items.proofs.scan.all_items.Reads as all-items-reads
+
+-- src/rules.rt:27:52
+cast-all-items : tie.Need-cast-all-items
+cast-all-items c = search needs
+
+-- src/rules.rt:27:5
+all-items-requires : tie.Need-all-items-requires
+all-items-requires c κs = search needs
+
+-- src/rules.rt:23:1
+returns : tie.Need-returns
+unfolding rule3 itemTest
+returns c = cc
+
+pub rule-3-spec : {M : Type 1} → statement M
+rule-3-spec = tie.close (tie.spec cast-all-items all-items-requires returns)

@@ -1,0 +1,3 @@
+// The six rules of a sound table.
+mod labels;
+pub mod rules;
