@@ -1,0 +1,60 @@
+/* The kernel for C: link libkernel.a (made by `rt staticlib kernel`). A slice is a pointer and a count of elements.
+ * Every function takes any bytes whatever: it checks for itself and answers a refusal instead of asking for good input. */
+#ifndef ZOGHVARI_H
+#define ZOGHVARI_H
+
+#include <stddef.h>
+#include <stdint.h>
+
+/* An operator: code 1 to 13, how many operands it has, and the operands; coordinates are signed, unused operands are 0. */
+typedef struct {
+    uint8_t code;
+    uint8_t count;
+    int32_t args[8];
+} ZoghvariOperator;
+
+typedef struct {
+    uint8_t refusal; /* 0 or 1 */
+    size_t start;    /* where the empty log starts: at its end */
+} ZoghvariCleared;
+
+typedef struct {
+    uint8_t refusal; /* 0, 1 or 2 */
+    uint8_t rule;    /* with 2: the lowest broken rule, 1 to 6 */
+} ZoghvariChecked;
+
+typedef struct {
+    uint8_t refusal; /* 0, 1 or 2 */
+    uint8_t rule;    /* with 2: the lowest broken rule, 1 to 6 */
+    size_t solids, faces, loops, edges, vertices, rings, holes;
+} ZoghvariCounted;
+
+typedef struct {
+    uint8_t refusal; /* 0, 3, 4 or 5 */
+    size_t next;     /* the place behind the operator */
+    ZoghvariOperator op;
+} ZoghvariRead;
+
+typedef struct {
+    uint8_t refusal; /* 0, 4, 5 or 9 */
+    size_t length;   /* bytes written */
+} ZoghvariWritten;
+
+/* Makes an empty table of the capacities s, f, l, e, v (solids, faces, loops, edges, vertices), each 1 to 4,096.
+ * links has 5 + s + 2f + 3l + 8e + v words, points 3v numbers; of the log only its length is told. */
+ZoghvariCleared zoghvari_clear(uint16_t *links, size_t links_n, int32_t *points, size_t points_n, size_t log_n,
+                               uint16_t s, uint16_t f, uint16_t l, uint16_t e, uint16_t v);
+
+/* Whether the table is sound, and the lowest rule that it breaks. */
+ZoghvariChecked zoghvari_check(const uint16_t *links, size_t links_n, const int32_t *points, size_t points_n);
+
+/* How many items a sound table has in use. */
+ZoghvariCounted zoghvari_count(const uint16_t *links, size_t links_n, const int32_t *points, size_t points_n);
+
+/* The operator that stands at `at` in a script. */
+ZoghvariRead zoghvari_read(const uint8_t *script, size_t script_n, size_t at);
+
+/* Writes an operator, in shortest form, at the front of out. */
+ZoghvariWritten zoghvari_write(uint8_t code, uint8_t count, const int32_t *args /* eight */, uint8_t *out, size_t out_n);
+
+#endif
