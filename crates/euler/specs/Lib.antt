@@ -1,0 +1,2 @@
+pub mod Surgery
+pub mod Operators

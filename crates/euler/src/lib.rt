@@ -1,0 +1,1 @@
+// The thirteen Euler operators.
