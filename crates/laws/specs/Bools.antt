@@ -79,6 +79,11 @@ pub T-imp : (a b : Bool) → (T a → T b) → T (not a || b)
 T-imp true b f = f tt
 T-imp false b f = tt
 
+-- "if a then b" depends on b only where a holds
+pub imp-same : {b c : Bool} (a : Bool) → (T a → b ≡ c) → (not a || b) ≡ (not a || c)
+imp-same true h = h tt
+imp-same false h = refl
+
 -- two tests that pass together are equal
 pub same-T : {a b : Bool} → (T a → T b) → (T b → T a) → a ≡ b
 same-T {a = true} {b} f g = sym (T-true (f tt))

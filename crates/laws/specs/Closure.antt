@@ -2,13 +2,14 @@
 -- one end marked gets the other one marked. What is marked in the end is what is linked.
 use mathlib.Core.Path.{_≡_, refl, sym, ap, _∙_, subst}
 use mathlib.Core.Logic.{_⊎_, inl, inr, ⊎-elim}
-use mathlib.Core.Bool.{Bool, _&&_, _||_}
+use mathlib.Core.Bool.{Bool, not, _&&_, _||_}
 use mathlib.Core.List.{List}
 use Prim.Native.Nat.{ℕ, zero, suc, _+_, _≤_, _<_}
 use native.Mathlib.Omega.{arith}
 use lib.Dec.{T}
 use lib.ListN.{length, set, replicate, length-set, length-replicate}
-use Rattle.laws.specs.Bools.{pick, T-true, true-T, ask, and-T, T-and, or-T, T-or-l, T-or-r, split, le?}
+use Rattle.laws.specs.Bools.{pick, T-true, true-T, ask, and-T, T-and, or-T, imp-T, T-imp, T-or-l, T-or-r, split, le?}
+use Rattle.laws.specs.Search.{allTo, all-at, all-of}
 use Rattle.laws.specs.Sums.{bit, countTo, sum-lt, count-le, count-tight}
 use Rattle.laws.specs.Linked.{Linked, same, link, back, via, carry}
 use Rattle.laws.specs.Walks.{Used}
@@ -39,6 +40,10 @@ onlyMark n x = set (replicate (suc n) 0) x 1
 -- y is linked to x, among n items
 unfoldable pub linkedb : ℕ → ℕ → (ℕ → Bool) → (ℕ → ℕ) → (ℕ → ℕ) → ℕ → ℕ → Bool
 linkedb n m present a b x y = marked (rounds present a b m n (onlyMark n x)) y
+
+-- each item in use is linked to its label's representative
+unfoldable pub allLinked : ℕ → (ℕ → Bool) → ℕ → (ℕ → Bool) → (ℕ → ℕ) → (ℕ → ℕ) → (ℕ → ℕ) → (ℕ → ℕ) → Bool
+allLinked n used m present a b rep lab = allTo n (λ g. not (used g) || linkedb n m present a b (rep (lab g)) g)
 
 -- ---- one edge
 
@@ -203,3 +208,20 @@ module _ (n m : ℕ) (present : ℕ → Bool) (a b : ℕ → ℕ) (ends : (i : �
 
       one : 1 ≤ countTo n (marked (onlyMark n x))
       one = omega (arith, sum-lt n (λ k. 0) (λ k. bit (marked (onlyMark n x) k)) x lx hx (omega (arith, ap bit (T-true {b = marked (onlyMark n x) x} here))) (λ k p q. omega arith))
+
+  -- ---- each label is one class
+
+  module _ (used : ℕ → Bool) (rep lab : ℕ → ℕ) where
+    -- if each is linked to its label's representative, those of one label are linked
+    pub all-linked : T (allLinked n used m present a b rep lab) → (g h : ℕ) → Used n used g → Used n used h → lab g ≡ lab h → Linked (Edge (Used m present) a b) g h
+    unfolding allLinked
+    all-linked t g h u v e = via (rep (lab g)) (back (from g u)) (subst (λ l. Linked (Edge (Used m present) a b) (rep l) h) (sym e) (from h v))
+      where
+        from : (g : ℕ) → Used n used g → Linked (Edge (Used m present) a b) (rep (lab g)) g
+        from g u = linked-sound (rep (lab g)) g (imp-T (used g) _ (all-at n _ t g (u .0) (u .1)) (u .2))
+
+    -- and back, if each representative is one of its label
+    pub linked-all : ((g : ℕ) → Used n used g → Used n used (rep (lab g)) × (lab (rep (lab g)) ≡ lab g)) → ((g h : ℕ) → Used n used g → Used n used h → lab g ≡ lab h → Linked (Edge (Used m present) a b) g h)
+        → T (allLinked n used m present a b rep lab)
+    unfolding allLinked
+    linked-all rooted one = all-of n _ (λ g l h. T-imp (used g) _ (λ t. let r = rooted g (l, h, t) in linked-complete (rep (lab g)) g (r .0 .0) (r .0 .1) (one (rep (lab g)) g (r .0) (l, h, t) (r .1))))

@@ -27,6 +27,16 @@ abbrev pub store : Kind → ℕ → List ℕ → ℕ → ℕ → List ℕ
 store κ j l zero v = l
 store κ j l (suc n) v = set l (κ .base + κ .width * n + j) v
 
+-- the word that is read, for code that keeps the base less one record and so subtracts nothing
+pub col-word : (κ : Kind) (j b : ℕ) (l : List ℕ) → b + κ .width ≡ κ .base → (n : ℕ) → 1 ≤ n → col κ j l n ≡ getD l (b + κ .width * n + j) 0
+col-word κ j b l e zero h = absurd (omega arith)
+col-word κ j b l e (suc n) h = let q : κ .base + κ .width * n + j ≡ b + κ .width * suc n + j = omega arith in ap (λ i. getD l i 0) q
+
+-- and the word that is written
+pub store-word : (κ : Kind) (j b : ℕ) (l : List ℕ) → b + κ .width ≡ κ .base → (n v : ℕ) → 1 ≤ n → store κ j l n v ≡ set l (b + κ .width * n + j) v
+store-word κ j b l e zero v h = absurd (omega arith)
+store-word κ j b l e (suc n) v h = let q : κ .base + κ .width * n + j ≡ b + κ .width * suc n + j = omega arith in ap (λ i. set l i v) q
+
 -- the kind's words lie within the list
 abbrev pub Fits : Kind → List ℕ → Type 0
 Fits κ l = κ .base + κ .width * κ .count ≤ length l
@@ -84,6 +94,19 @@ pub sweep-length : (κ : Kind) (j n : ℕ) (g : ℕ → ℕ → ℕ) (l : List �
 unfolding sweep
 sweep-length κ j zero g l = refl
 sweep-length κ j (suc n) g l = store-length κ j (sweep κ j n g l) (suc n) _ ∙ sweep-length κ j n g l
+
+-- and every other column of the kind
+pub sweep-other : (κ : Kind) (i j n : ℕ) (g : ℕ → ℕ → ℕ) (l : List ℕ) → i < κ .width → j < κ .width → i ≢ j → (m : ℕ) → col κ i (sweep κ j n g l) m ≡ col κ i l m
+unfolding sweep
+sweep-other κ i j zero g l hi hj f m = refl
+sweep-other κ i j (suc n) g l hi hj f m = col-store-other κ i j (sweep κ j n g l) hi hj f (suc n) _ m ∙ sweep-other κ i j n g l hi hj f m
+
+-- and every column of another kind
+pub sweep-apart : (κ μ : Kind) (i j n : ℕ) (g : ℕ → ℕ → ℕ) (l : List ℕ) → i < κ .width → j < μ .width → (κ .base + κ .width * κ .count ≤ μ .base) ⊎ (μ .base + μ .width * μ .count ≤ κ .base)
+    → n ≤ μ .count → (m : ℕ) → m ≤ κ .count → col κ i (sweep μ j n g l) m ≡ col κ i l m
+unfolding sweep
+sweep-apart κ μ i j zero g l hi hj d un m um = refl
+sweep-apart κ μ i j (suc n) g l hi hj d un m um = col-store-apart κ μ i j (sweep μ j n g l) hi hj d (suc n) _ m un um ∙ sweep-apart κ μ i j n g l hi hj d (omega arith) m um
 
 module _ (κ : Kind) (j : ℕ) (g : ℕ → ℕ → ℕ) (l : List ℕ) (fits : Fits κ l) (hj : j < κ .width) where
   -- above n nothing has changed

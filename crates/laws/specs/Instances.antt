@@ -1,24 +1,24 @@
 -- Small instances that go through every assumption of the laws, so that none of them is empty.
--- They stand at the end of everything: no other module uses them.
+-- Here: searches, columns, chains, permutations, the six moves and walks. `LinearInstances` has marks, closure and union.
 use mathlib.Core.Path.{_≡_, refl, sym, ap, _∙_}
 use mathlib.Core.Logic.{_≢_, inl, inr}
 use mathlib.Core.Bool.{Bool, _&&_}
 use mathlib.Core.List.{List, [], _∷_}
 use Prim.Native.Nat.{ℕ, zero, suc, _+_, _≤_, _<_}
 use native.Mathlib.Omega.{arith}
-use lib.Dec.{T, leb, leb→le}
-use lib.ListN.{getD}
-use Rattle.laws.specs.Bools.{pick}
-use Rattle.laws.specs.Search.{allTo, least, leastFrom}
-use Rattle.laws.specs.Sums.{sumTo, countTo, sum-change}
+use lib.Dec.{T, leb, leb→le, eqb}
+use lib.ListN.{getD, set}
+use Rattle.laws.specs.Bools.{pick, eqb-other}
+use Rattle.laws.specs.Search.{allTo, least, leastFrom, least-ext}
+use Rattle.laws.specs.Sums.{sumTo, countTo, sum-change, count-one}
 use Rattle.laws.specs.Update.{upd, relabel, apart, upd-same, upd-off}
-use Rattle.laws.specs.Columns.{Kind, col, store, sweep, col-store, col-store-other, col-store-apart, sweep-at, sweep-above, columns-ext}
+use Rattle.laws.specs.Columns.{Kind, col, store, sweep, col-store, col-store-other, col-store-apart, sweep-at, sweep-above, sweep-other, sweep-apart, col-word, store-word, columns-ext}
 use Rattle.laws.specs.Linked.{Linked, link, back, via, map-linked, map-within}
-use Rattle.laws.specs.Permutations.{iter, Twice, pigeonhole, comes-back, soon, redo}
-use Rattle.laws.specs.Cycles.{Cycles, birth, death, alone}
+use Rattle.laws.specs.Permutations.{iter, Twice, pigeonhole, comes-back, soon, redo, undo-in, inverse-same}
+use Rattle.laws.specs.Cycles.{Cycles, agree, birth, death, alone}
 use Rattle.laws.specs.Exchange.{Till, stop, go}
 use Rattle.laws.specs.Moves.{Or, But, ins, out, xchg, ins-cycles, out-cycles, merge-cycles, halve-cycles}
-use Rattle.laws.specs.Walks.{first, meets, Used, cyclesb, cycles-of, of-cycles, run-yes, run-no, walk-till, till-walk}
+use Rattle.laws.specs.Walks.{first, meets, Used, allStep, allMet, cycles-of, of-cycles, run-yes, run-no, walk-till, till-walk}
 
 -- ---- search and sums, at sizes that show that they compute
 
@@ -31,6 +31,15 @@ least-computes = refl
 count-computes : countTo 4096 (λ k. leb k 17) ≡ 17
 unfolding sumTo
 count-computes = refl
+
+-- a test that only 3 passes, by two tests that agree on 1..4
+least-3 : (least 4 (λ k. eqb k 3) ≡ 3) × (least 4 (λ k. eqb k 3) ≡ least 4 (λ k. eqb (upd (λ i. i) 9 3 k) 3))
+unfolding leastFrom
+least-3 = (refl, least-ext 4 _ _ (λ j l u. let d : j ≢ 9 = omega arith in ap (λ k. eqb k 3) (sym (upd-off (λ i. i) 3 d))))
+
+-- it is counted once
+count-3 : countTo 4 (λ k. eqb k 3) ≡ 1
+count-3 = count-one 4 (λ k. eqb k 3) 3 (omega arith) (omega arith) refl (λ k h. eqb-other h)
 
 -- one entry of a sum changes
 change : sumTo 3 (λ k. k) + 9 ≡ sumTo 3 (upd (λ k. k) 2 9) + 2
@@ -82,6 +91,17 @@ swept = (
   sweep-above pairs 0 (λ n w. n + w) words (omega arith) (omega arith) 1 2 (omega arith) (omega arith),
 )
 
+-- a sweep over both leaves the other field and the other kind
+swept-else : (col pairs 1 (sweep pairs 0 2 (λ n w. n + w) words) 2 ≡ 13) × (col single 0 (sweep pairs 0 2 (λ n w. n + w) words) 1 ≡ 14)
+swept-else = (
+  sweep-other pairs 1 0 2 (λ n w. n + w) words (omega arith) (omega arith) (omega arith) 2,
+  sweep-apart single pairs 0 0 2 (λ n w. n + w) words (omega arith) (omega arith) (inr (omega arith)) (omega arith) 1 (omega arith),
+)
+
+-- the last kind's base less one record is 4
+as-code : (col single 0 words 1 ≡ getD words 5 0) × (store single 0 words 1 7 ≡ set words 5 7)
+as-code = (col-word single 0 4 words refl 1 (omega arith), store-word single 0 4 words refl 1 7 (omega arith))
+
 -- a store and its undoing give the list back: by its columns, word by word
 restored : store pairs 1 (store pairs 1 words 2 7) 2 13 ≡ words
 restored = columns-ext 1 (pairs ∷ single ∷ []) _ words refl (refl, omega arith, (refl, omega arith, refl)) head (one, (two, tt))
@@ -120,24 +140,28 @@ mapped-within = map-within (λ i. i < 5) (λ i j r. (λ h. omega arith, λ h. om
 
 -- ---- one cycle of four, 1 3 2 4, among 1..5
 
+-- what each goes to
 abbrev nx : ℕ → ℕ
 nx i = getD (0 ∷ 3 ∷ 4 ∷ 2 ∷ 1 ∷ []) i 0
 
+-- and comes from
 abbrev pv : ℕ → ℕ
 pv i = getD (0 ∷ 4 ∷ 3 ∷ 1 ∷ 2 ∷ []) i 0
 
+-- one label
 abbrev lab : ℕ → ℕ
 lab i = 1
 
 -- the numbers in use
-abbrev below : ℕ → Bool
+abbrev pub below : ℕ → Bool
 below i = leb i 4
 
-abbrev U : ℕ → Type 0
+-- as a set
+abbrev pub U : ℕ → Type 0
 U = Used 5 below
 
 -- a statement about each number in use
-each : (P : ℕ → Type 0) → P 1 → P 2 → P 3 → P 4 → (i : ℕ) → U i → P i
+pub each : (P : ℕ → Type 0) → P 1 → P 2 → P 3 → P 4 → (i : ℕ) → U i → P i
 each P a b c d zero u = absurd (omega (arith, u .0))
 each P a b c d (suc zero) u = a
 each P a b c d (suc (suc zero)) u = b
@@ -146,21 +170,26 @@ each P a b c d (suc (suc (suc (suc zero)))) u = d
 each P a b c d (suc (suc (suc (suc (suc i))))) u = absurd (omega (arith, leb→le (suc (suc (suc (suc (suc i))))) 4 (u .2)))
 
 -- each of 1..4 is in use
-use-of : (i : ℕ) → 1 ≤ i → T (leb i 4) → U i
+pub use-of : (i : ℕ) → 1 ≤ i → T (leb i 4) → U i
 use-of i l t = (l, omega (arith, leb→le i 4 t), t)
 
--- the rule computes
-rule : T (cyclesb 5 below nx pv lab (λ l. 1))
-unfolding cyclesb allTo meets
-rule = tt
+-- the tests compute
+tests : T (allStep 5 below nx pv lab) × T (allMet 5 below nx (λ l. 1) lab)
+unfolding allStep allMet allTo meets
+tests = (tt, tt)
 
--- and the cycle follows from it
+-- and the cycle follows from them
 ring : Cycles 5 U nx lab
-ring = cycles-of 5 below nx pv lab (λ l. 1) (λ i u. use-of 1 (omega arith) tt) rule
+ring = cycles-of 5 below nx (λ l. 1) lab pv (λ i u. use-of 1 (omega arith) tt) (tests .0) (tests .1)
 
--- and the rule from the cycle
-rule-again : T (cyclesb 5 below nx pv lab (λ l. 1))
-rule-again = of-cycles 5 below nx pv lab (λ l. 1) (λ i u. (use-of 1 (omega arith) tt, refl)) (each (λ i. pv (nx i) ≡ i) refl refl refl refl) ring
+-- and the tests from the cycle
+tests-again : T (allStep 5 below nx pv lab) × T (allMet 5 below nx (λ l. 1) lab)
+tests-again = of-cycles 5 below nx (λ l. 1) lab pv (λ i u. (use-of 1 (omega arith) tt, refl)) (each (λ i. pv (nx i) ≡ i) refl refl refl refl) ring
+
+-- the same cycle of functions that agree with it on the numbers in use
+ring-again : Cycles 5 U (upd nx 5 7) (upd lab 5 7)
+ring-again = agree ring (λ i u. u) (λ i u. u) (each (λ i. upd nx 5 7 i ≡ nx i) (upd-off nx 7 (omega arith)) (upd-off nx 7 (omega arith)) (upd-off nx 7 (omega arith)) (upd-off nx 7 (omega arith)))
+    (each (λ i. upd lab 5 7 i ≡ lab i) (upd-off lab 7 (omega arith)) (upd-off lab 7 (omega arith)) (upd-off lab 7 (omega arith)) (upd-off lab 7 (omega arith)))
 
 -- two of three numbers of 1..2 are equal
 twice : Twice 2 (λ i. getD (1 ∷ 2 ∷ 1 ∷ []) i 0)
@@ -183,6 +212,13 @@ soon-met = soon (ring .perm) 90 90 1 (omega arith) (use-of 1 (omega arith) tt)
 -- pv undoes nx on the other side too
 other-side : nx (pv 4) ≡ 4
 other-side = redo (ring .perm) pv (each (λ i. pv (nx i) ≡ i) refl refl refl refl) 4 (use-of 4 (omega arith) tt)
+
+-- what undoes nx is pv on the numbers in use, and stays there
+only-pv : (g : ℕ → ℕ) → ((i : ℕ) → U i → g (nx i) ≡ i) → (g 4 ≡ 2) × U (g 4)
+only-pv g h = (
+  inverse-same (ring .perm) nx pv g (each (λ i. pv (nx i) ≡ i) refl refl refl refl) h (λ i u. refl) 4 (use-of 4 (omega arith) tt),
+  undo-in (ring .perm) g h 4 (use-of 4 (omega arith) tt),
+)
 
 -- ---- the six moves
 
@@ -273,11 +309,12 @@ off-run : Till nx 2 1 1
 unfolding first
 off-run = run-no ring (use-of 1 (omega arith) tt) (use-of 4 (omega arith) tt) (use-of 2 (omega arith) tt) refl (omega arith) refl 1 (use-of 1 (omega arith) tt) (omega arith) refl refl
 
--- two steps from 3 lead to 4, and to it for the first time
+-- two steps from 3 lead to 4
 two-steps : iter nx 2 3 ≡ 4
 unfolding iter
 two-steps = refl
 
+-- and not sooner
 no-sooner : (t : ℕ) → t < 2 → iter nx t 3 ≢ 4
 unfolding iter
 no-sooner zero l = omega arith

@@ -12,4 +12,6 @@ pub mod Moves
 pub mod Walks
 pub mod Marks
 pub mod Closure
+pub mod Union
 pub mod Instances
+pub mod LinearInstances

@@ -9,11 +9,11 @@ use native.Mathlib.Omega.{arith}
 use lib.Dec.{T, eqb, eqb→eq, not-T, T-not}
 use lib.ListN.{length, getD, set, replicate, length-set, List·getD-eq-default}
 use lib.Seq.{getD-set-same, getD-set-other}
-use Rattle.laws.specs.Bools.{pick, le?, T-true, true-T, same-T, imp-T, T-imp, split, eqb-same, eqb-other}
-use Rattle.laws.specs.Search.{allTo, all-at, all-of, all-ext}
+use Rattle.laws.specs.Bools.{pick, le?, T-true, true-T, same-T, imp-same, split, eqb-same, eqb-other}
+use Rattle.laws.specs.Search.{allTo, all-ext}
 use Rattle.laws.specs.Permutations.{iter, iter-last, iter-in, Perm, soon}
 use Rattle.laws.specs.Cycles.{Cycles}
-use Rattle.laws.specs.Walks.{meets, meets-iter, met-soon, met-cycles, cycles-met, Used}
+use Rattle.laws.specs.Walks.{meets, meets-iter, met-soon, met-cycles, cycles-met, Used, allMet, met-at, met-of}
 
 -- k is marked
 abbrev pub marked : List ℕ → ℕ → Bool
@@ -96,7 +96,7 @@ set-here marks k l = mark-is (set marks k 1) k (λ e. omega (arith, getD-set-sam
 pub set-there : (marks : List ℕ) (k z : ℕ) → z ≢ k → marked (set marks k 1) z ≡ marked marks z
 set-there marks k z h = rw (getD-set-other marks k z 1 0 h)
 
--- and all that was
+-- and what was marked stays so
 pub set-kept : (marks : List ℕ) (k z : ℕ) → T (marked marks z) → T (marked (set marks k 1) z)
 set-kept marks k z t = split z k (λ e. rw e (set-here marks k (subst (λ i. i < length marks) e within))) (λ h. rw (set-there marks k z h) t)
   where
@@ -113,7 +113,7 @@ module _ (f : ℕ → ℕ) where
       (mark-sound n (f k) z (set marks k 1) (rw (mark-on f n k marks e) at t)))
       (λ h. inl (rw (mark-stop f (suc n) k marks h) at t))
 
-  -- what was marked stays so
+  -- and what was marked before still is
   pub mark-kept : (n k z : ℕ) (marks : List ℕ) → T (marked marks z) → T (marked (markFrom f n k marks) z)
   unfolding markFrom
   mark-kept zero k z marks t = t
@@ -229,19 +229,7 @@ module _ {n m : ℕ} {U : ℕ → Type 0} {f rep lab : ℕ → ℕ} (h : Labelle
       done : Done m (markTo f n rep m marks)
       done = done-all marks long clean m (omega arith)
 
-  -- marks that hold for all in use make the cycles
-  pub marks-cycles : (marks : List ℕ) → n < length marks → ((k : ℕ) → k ≤ n → getD marks k 0 ≡ 0) → ((k : ℕ) → U k → T (marked (markTo f n rep m marks) k)) → Cycles n U f lab
-  marks-cycles marks long clean all = met-cycles (h .perm) (h .keeps) rep (λ i u. rep-of i u .0) (λ i u. sym (marks-meet marks long clean i u) ∙ T-true (all i u))
-
-  -- and back
-  pub cycles-marks : (marks : List ℕ) → n < length marks → ((k : ℕ) → k ≤ n → getD marks k 0 ≡ 0) → Cycles n U f lab → (k : ℕ) → U k → T (marked (markTo f n rep m marks) k)
-  cycles-marks marks long clean c k u = true-T (marks-meet marks long clean k u ∙ cycles-met c rep rep-of k u)
-
 -- ---- the test over all numbers of 1..n that are in use
-
--- each number in use is met from its label's representative: the readable test
-unfoldable pub allMet : ℕ → (ℕ → Bool) → (ℕ → ℕ) → (ℕ → ℕ) → (ℕ → ℕ) → Bool
-allMet n used f rep lab = allTo n (λ k. not (used k) || meets f n (rep (lab k)) k)
 
 -- each number in use is marked: the test of the code
 unfoldable pub allMarked : ℕ → (ℕ → Bool) → List ℕ → Bool
@@ -251,16 +239,12 @@ allMarked n used marks = allTo n (λ k. not (used k) || marked marks k)
 pub marked-met : (n m : ℕ) (used : ℕ → Bool) (f rep lab : ℕ → ℕ) (marks : List ℕ) → Labelled n m (Used n used) f rep lab → n < length marks → ((k : ℕ) → k ≤ n → getD marks k 0 ≡ 0)
     → allMarked n used (markTo f n rep m marks) ≡ allMet n used f rep lab
 unfolding allMarked allMet
-marked-met n m used f rep lab marks h long clean = all-ext n _ _ (λ k l u. same-T
-    (λ t. T-imp (used k) _ (λ v. subst T (marks-meet h marks long clean k (l, u, v)) (imp-T (used k) _ t v)))
-    (λ t. T-imp (used k) _ (λ v. subst T (sym (marks-meet h marks long clean k (l, u, v))) (imp-T (used k) _ t v))))
+marked-met n m used f rep lab marks h long clean = all-ext n _ _ (λ k l u. imp-same (used k) (λ v. marks-meet h marks long clean k (l, u, v)))
 
 -- the readable test says what `Cycles` says of one cycle for each label
 pub met-all-cycles : (n m : ℕ) (used : ℕ → Bool) (f rep lab : ℕ → ℕ) → Labelled n m (Used n used) f rep lab → T (allMet n used f rep lab) → Cycles n (Used n used) f lab
-unfolding allMet
-met-all-cycles n m used f rep lab h t = met-cycles (h .perm) (h .keeps) rep (λ i u. rep-of h i u .0) (λ i u. T-true (imp-T (used i) _ (all-at n _ t i (u .0) (u .1)) (u .2)))
+met-all-cycles n m used f rep lab h t = met-cycles (h .perm) (h .keeps) rep (λ i u. rep-of h i u .0) (met-at n used f rep lab t)
 
 -- and back
 pub cycles-all-met : (n m : ℕ) (used : ℕ → Bool) (f rep lab : ℕ → ℕ) → Labelled n m (Used n used) f rep lab → Cycles n (Used n used) f lab → T (allMet n used f rep lab)
-unfolding allMet
-cycles-all-met n m used f rep lab h c = all-of n _ (λ k l u. T-imp (used k) _ (λ v. true-T (cycles-met c rep (rep-of h) k (l, u, v))))
+cycles-all-met n m used f rep lab h c = met-of n used f rep lab (cycles-met c rep (rep-of h))

@@ -42,6 +42,11 @@ pub relabel-off : (f : ℕ → ℕ) (v w : ℕ) {i : ℕ} → f i ≢ v → rela
 unfolding relabel
 relabel-off f v w h = rw (eqb-other h)
 
+-- equal entries stay equal
+pub relabel-same : (f : ℕ → ℕ) (v w : ℕ) {i j : ℕ} → f i ≡ f j → relabel f v w i ≡ relabel f v w j
+unfolding relabel
+relabel-same f v w e = ap (λ k. pick (eqb k v) w k) e
+
 -- four numbers that differ, and all twelve ways to say so as variables, where simp finds them
 pub record Apart (k a p q : ℕ) : Type 0 where
   pub ka : k ≢ a

@@ -1,5 +1,5 @@
 -- Walks that compute, with fuel, and the cycles that they speak of: what is met from a number, the run between two numbers as a
--- test and as a loop of code walks it, and a rule in Bool form that says the same as `Cycles`.
+-- test and as a loop of code walks it, and the tests over 1..n that say what `Cycles` says.
 use mathlib.Core.Path.{_≡_, refl, sym, ap, _∙_, subst}
 use mathlib.Core.Logic.{_≢_, ⊎-elim}
 use mathlib.Core.Bool.{Bool, true, false, not, _||_, false≢true}
@@ -90,67 +90,92 @@ unfolding iter
 chain c zero s u = same refl
 chain {f = f} c (suc m) s u = via (f s) (link (u, refl)) (chain c m (f s) (c s u))
 
--- if each is met from its label's root, those of one label are in one cycle
-pub met-cycles : {n : ℕ} {U : ℕ → Type 0} {f lab : ℕ → ℕ} → Perm n U f → ((i : ℕ) → U i → lab (f i) ≡ lab i) → (root : ℕ → ℕ) → ((i : ℕ) → U i → U (root (lab i)))
-    → ((i : ℕ) → U i → meets f n (root (lab i)) i ≡ true) → Cycles n U f lab
-met-cycles {n} {U} {f} {lab} p keeps root rooted met = record {
+-- if each is met from its label's representative, those of one label are in one cycle
+pub met-cycles : {n : ℕ} {U : ℕ → Type 0} {f lab : ℕ → ℕ} → Perm n U f → ((i : ℕ) → U i → lab (f i) ≡ lab i) → (rep : ℕ → ℕ) → ((i : ℕ) → U i → U (rep (lab i)))
+    → ((i : ℕ) → U i → meets f n (rep (lab i)) i ≡ true) → Cycles n U f lab
+met-cycles {n} {U} {f} {lab} p keeps rep rooted met = record {
   perm = p;
   keeps = keeps;
-  one = λ i j v w e. via (root (lab i)) (back (from i v)) (subst (λ k. Linked (Step U f) k j) (ap root (sym e)) (from j w));
+  one = λ i j v w e. via (rep (lab i)) (back (from i v)) (subst (λ k. Linked (Step U f) k j) (ap rep (sym e)) (from j w));
 }
   where
-    from : (i : ℕ) → U i → Linked (Step U f) (root (lab i)) i
-    from i v = let r = meets-iter f n (root (lab i)) i (met i v) in subst (Linked (Step U f) (root (lab i))) (r .2) (chain (p .f-in) (r .0) (root (lab i)) (rooted i v))
+    from : (i : ℕ) → U i → Linked (Step U f) (rep (lab i)) i
+    from i v = let r = meets-iter f n (rep (lab i)) i (met i v) in subst (Linked (Step U f) (rep (lab i))) (r .2) (chain (p .f-in) (r .0) (rep (lab i)) (rooted i v))
 
 -- and back: n steps are enough for each walk
-pub cycles-met : {n : ℕ} {U : ℕ → Type 0} {f lab : ℕ → ℕ} → Cycles n U f lab → (root : ℕ → ℕ) → ((i : ℕ) → U i → U (root (lab i)) × (lab (root (lab i)) ≡ lab i))
-    → (i : ℕ) → U i → meets f n (root (lab i)) i ≡ true
-cycles-met {n} {U} {f} {lab} c root rooted i v =
-    let m = forwards (c .perm) (c .one (root (lab i)) i (rooted i v .0) v (rooted i v .1)) in
+pub cycles-met : {n : ℕ} {U : ℕ → Type 0} {f lab : ℕ → ℕ} → Cycles n U f lab → (rep : ℕ → ℕ) → ((i : ℕ) → U i → U (rep (lab i)) × (lab (rep (lab i)) ≡ lab i))
+    → (i : ℕ) → U i → meets f n (rep (lab i)) i ≡ true
+cycles-met {n} {U} {f} {lab} c rep rooted i v =
+    let m = forwards (c .perm) (c .one (rep (lab i)) i (rooted i v .0) v (rooted i v .1)) in
     met-soon (c .perm) (rooted i v .0) (m .0 .0) (m .0 .1)
 
--- ---- a rule that computes, and the cycles
-
--- the tests of one number: g undoes f, f keeps the label and stays in use, and it is met from its label's root
-abbrev pub cycle-tests : ℕ → (ℕ → Bool) → (ℕ → ℕ) → (ℕ → ℕ) → (ℕ → ℕ) → (ℕ → ℕ) → ℕ → List Bool
-cycle-tests n u f g lab root i = leb 1 (f i) ∷ leb (f i) n ∷ u (f i) ∷ eqb (g (f i)) i ∷ eqb (lab (f i)) (lab i) ∷ meets f n (root (lab i)) i ∷ []
-
--- all of 1..n that are in use pass their tests
-unfoldable pub cyclesb : ℕ → (ℕ → Bool) → (ℕ → ℕ) → (ℕ → ℕ) → (ℕ → ℕ) → (ℕ → ℕ) → Bool
-cyclesb n u f g lab root = allTo n (λ i. not (u i) || allb (cycle-tests n u f g lab root i))
+-- ---- the same as tests over 1..n
 
 -- i is of 1..n and in use
 abbrev pub Used : ℕ → (ℕ → Bool) → ℕ → Type 0
 Used n u i = (1 ≤ i) × (i ≤ n) × T (u i)
 
--- the facts of one number
-facts : (n : ℕ) (u : ℕ → Bool) (f g lab root : ℕ → ℕ) → T (cyclesb n u f g lab root) → (i : ℕ) → Used n u i → All (cycle-tests n u f g lab root i)
-unfolding cyclesb
-facts n u f g lab root t i v = allb-T (cycle-tests n u f g lab root i) (imp-T (u i) _ (all-at n _ t i (v .0) (v .1)) (v .2))
+-- the tests of one number: f leads to a number of 1..n in use, g leads back, and the label is kept
+abbrev pub step-tests : ℕ → (ℕ → Bool) → (ℕ → ℕ) → (ℕ → ℕ) → (ℕ → ℕ) → ℕ → List Bool
+step-tests n u f g lab i = leb 1 (f i) ∷ leb (f i) n ∷ u (f i) ∷ eqb (g (f i)) i ∷ eqb (lab (f i)) (lab i) ∷ []
 
--- from the test to the cycles
-pub cycles-of : (n : ℕ) (u : ℕ → Bool) (f g lab root : ℕ → ℕ) → ((i : ℕ) → Used n u i → Used n u (root (lab i))) → T (cyclesb n u f g lab root) → Cycles n (Used n u) f lab
-cycles-of n u f g lab root rooted t = met-cycles
-    (record { low = λ i v. v .0; high = λ i v. v .1; f-in = into; inv = g; undo = λ i v. eqb→eq _ _ (fact i v .1 .1 .1 .0) })
-    (λ i v. eqb→eq _ _ (fact i v .1 .1 .1 .1 .0)) root rooted (λ i v. T-true (fact i v .1 .1 .1 .1 .1 .0))
-  where
-    fact : (i : ℕ) → Used n u i → All (cycle-tests n u f g lab root i)
-    fact = facts n u f g lab root t
+-- each number in use passes them
+unfoldable pub allStep : ℕ → (ℕ → Bool) → (ℕ → ℕ) → (ℕ → ℕ) → (ℕ → ℕ) → Bool
+allStep n u f g lab = allTo n (λ i. not (u i) || allb (step-tests n u f g lab i))
 
-    into : (i : ℕ) → Used n u i → Used n u (f i)
-    into i v = (leb→le _ _ (fact i v .0), leb→le _ _ (fact i v .1 .0), fact i v .1 .1 .0)
+-- each number in use is met from its label's representative
+unfoldable pub allMet : ℕ → (ℕ → Bool) → (ℕ → ℕ) → (ℕ → ℕ) → (ℕ → ℕ) → Bool
+allMet n u f rep lab = allTo n (λ k. not (u k) || meets f n (rep (lab k)) k)
 
--- and back
-pub of-cycles : (n : ℕ) (u : ℕ → Bool) (f g lab root : ℕ → ℕ) → ((i : ℕ) → Used n u i → Used n u (root (lab i)) × (lab (root (lab i)) ≡ lab i)) → ((i : ℕ) → Used n u i → g (f i) ≡ i)
-    → Cycles n (Used n u) f lab → T (cyclesb n u f g lab root)
-unfolding cyclesb
-of-cycles n u f g lab root rooted gf c = all-of n _ λ i l h. T-imp (u i) _ λ t.
-    let v : Used n u i = (l, h, t) in
-    let w = c .perm .f-in i v in
-    T-allb (cycle-tests n u f g lab root i)
-    (le→leb _ _ (w .0), (le→leb _ _ (w .1), (w .2, (true-T (eqb-same (gf i v)), (true-T (eqb-same (c .keeps i v)), (true-T (cycles-met c root rooted i v), tt))))))
+module _ (n : ℕ) (u : ℕ → Bool) (f g lab : ℕ → ℕ) where
+  -- the facts of one number
+  facts : T (allStep n u f g lab) → (i : ℕ) → Used n u i → All (step-tests n u f g lab i)
+  unfolding allStep
+  facts t i v = allb-T (step-tests n u f g lab i) (imp-T (u i) _ (all-at n _ t i (v .0) (v .1)) (v .2))
 
--- ---- the run after k up to a, as a test: of the half-edges of k's cycle, those from which a is met before k
+  -- the first test says that f permutes the numbers in use
+  pub steps-perm : T (allStep n u f g lab) → Perm n (Used n u) f
+  steps-perm t = record {
+    low = λ i v. v .0;
+    high = λ i v. v .1;
+    f-in = λ i v. let a = facts t i v in (leb→le _ _ (a .0), leb→le _ _ (a .1 .0), a .1 .1 .0);
+    inv = g;
+    undo = λ i v. eqb→eq _ _ (facts t i v .1 .1 .1 .0);
+  }
+
+  -- and keeps labels
+  pub steps-keep : T (allStep n u f g lab) → (i : ℕ) → Used n u i → lab (f i) ≡ lab i
+  steps-keep t i v = eqb→eq _ _ (facts t i v .1 .1 .1 .1 .0)
+
+  -- and back
+  pub perm-steps : Perm n (Used n u) f → ((i : ℕ) → Used n u i → g (f i) ≡ i) → ((i : ℕ) → Used n u i → lab (f i) ≡ lab i) → T (allStep n u f g lab)
+  unfolding allStep
+  perm-steps p gf keeps = all-of n _ λ i l h. T-imp (u i) _ λ t.
+      let v : Used n u i = (l, h, t) in
+      let w = p .f-in i v in
+      T-allb (step-tests n u f g lab i) (le→leb _ _ (w .0), (le→leb _ _ (w .1), (w .2, (true-T (eqb-same (gf i v)), (true-T (eqb-same (keeps i v)), tt)))))
+
+module _ (n : ℕ) (u : ℕ → Bool) (f rep lab : ℕ → ℕ) where
+  -- the second test says that each is met
+  pub met-at : T (allMet n u f rep lab) → (i : ℕ) → Used n u i → meets f n (rep (lab i)) i ≡ true
+  unfolding allMet
+  met-at t i v = T-true (imp-T (u i) _ (all-at n _ t i (v .0) (v .1)) (v .2))
+
+  -- and back
+  pub met-of : ((i : ℕ) → Used n u i → meets f n (rep (lab i)) i ≡ true) → T (allMet n u f rep lab)
+  unfolding allMet
+  met-of h = all-of n _ (λ i l r. T-imp (u i) _ (λ t. true-T (h i (l, r, t))))
+
+  -- both tests say what `Cycles` says
+  pub cycles-of : (g : ℕ → ℕ) → ((i : ℕ) → Used n u i → Used n u (rep (lab i))) → T (allStep n u f g lab) → T (allMet n u f rep lab) → Cycles n (Used n u) f lab
+  cycles-of g rooted s t = met-cycles (steps-perm n u f g lab s) (steps-keep n u f g lab s) rep rooted (met-at t)
+
+  -- and back
+  pub of-cycles : (g : ℕ → ℕ) → ((i : ℕ) → Used n u i → Used n u (rep (lab i)) × (lab (rep (lab i)) ≡ lab i)) → ((i : ℕ) → Used n u i → g (f i) ≡ i)
+      → Cycles n (Used n u) f lab → T (allStep n u f g lab) × T (allMet n u f rep lab)
+  of-cycles g rooted gf c = (perm-steps n u f g lab (c .perm) gf (c .keeps), met-of (cycles-met c rep rooted))
+
+-- ---- the run after k up to a, as a test: of the numbers of k's cycle, those from which a is met before k
 
 module _ {n : ℕ} {U : ℕ → Type 0} {f lab : ℕ → ℕ} (c : Cycles n U f lab) {k a q : ℕ} (uk : U k) (ua : U a) (uq : U q) (qa : f q ≡ a) (ka : k ≢ a) (one : lab k ≡ lab a) where
   -- from a number other than a: where a is met before k, its predecessor q is
