@@ -1,2 +1,4 @@
 pub mod Surgery
 pub mod Operators
+pub mod Exec
+pub mod Examples

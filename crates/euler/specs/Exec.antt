@@ -1,0 +1,159 @@
+-- One operator on a table: a refusal, or the new table with the operator that undoes it. Refusals in document 01's order:
+-- all operands 5; all 6 and 7 from left to right; 8.
+use Prim.Native.Nat.{ℕ, _+_, _*_}
+use mathlib.Core.Bool.{Bool, true, not, _&&_, _||_}
+use mathlib.Core.List.{List, [], _∷_}
+use lib.Dec.{eqb}
+use lib.IntN.{ℤ, pos}
+use lib.ListN.{getD}
+use Rattle.laws.specs.Bools.{pick}
+use Rattle.script.specs.declared.Limits.{Limits}
+use Rattle.script.specs.declared.Operator.{Operator}
+use Rattle.script.specs.Operands.{pattern, oldSolid, newSolid, newSolidOrNone, oldFace, newFace, oldLoop, newLoop, newEdge, oldHalf, oldHalfOrNone, newVertex, among, inRanges}
+use Rattle.script.specs.Operator.{operandOf, numbersOf, blankOf}
+use Rattle.layout.specs.declared.shape.Shape.{Shape}
+use Rattle.layout.specs.Layout.{solidUsed, faceSolid, faceOuter, loopFace, loopIsolated, startOf, nextOf, vertexUsed}
+use Rattle.layout.specs.Mate.{mate}
+use Rattle.euler.specs.Surgery.{some, halfBy, putPoint}
+use Rattle.euler.specs.Operators.{faceIn, mvsfLinks, mvsfInverse, kvsfTest, kvsfLinks, kvsfInverse, mevTest, mevLinks, mevInverse, kevTest, kevLinks, kevInverse, mefTest, mefLinks, mefInverse, kefTest, kefLinks, kefInverse, kemrTest, kemrLinks, kemrInverse, mekrTest, mekrLinks, mekrInverse, kfmrhTest, kfmrhLinks, kfmrhInverse, mfkrhTest, mfkrhLinks, mfkrhInverse, semvLinks, semvInverse, jekvTest, jekvLinks, jekvInverse, rmovTest, rmovLinks, rmovInverse}
+
+-- links and points
+pub record Table : Type 0 where
+  pub links : List ℕ
+  pub points : List ℤ
+
+-- ---- 5: operands out of a table's range
+
+-- a table's capacities as limits
+abbrev pub limits : Shape → Limits
+limits sh = record { solids = sh .solids; faces = sh .faces; loops = sh .loops; edges = sh .edges; vertices = sh .vertices }
+
+-- as in writing: 4 for no such code; 5 for another count of operands, one out of range, or an unused one that is not 0
+unfoldable pub rangeRefusal : Shape → Operator → ℕ
+rangeRefusal sh o =
+    pick (eqb (pattern (o .code) .count) 0) 4
+    (pick (eqb (o .count) (pattern (o .code) .count)) (pick (inRanges (limits sh) (pattern (o .code) .kinds) (numbersOf o)) 0 5) 5)
+
+-- ---- 6 and 7: an old item is free, a new number is in use
+
+-- the word that tells whether item n of an operand's kind is in use; a new edge by its second half
+unfoldable pub useWord : Shape → List ℕ → ℕ → ℕ → ℕ
+useWord sh x kind n =
+    getD
+    (0 ∷ solidUsed sh x n ∷ solidUsed sh x n ∷ solidUsed sh x n ∷ faceSolid sh x n ∷ faceSolid sh x n ∷ loopFace sh x n ∷ loopFace sh x n
+    ∷ startOf sh x (2 * n) ∷ startOf sh x n ∷ startOf sh x n ∷ vertexUsed sh x n ∷ [])
+    kind 0
+
+-- an operand 0 names no item
+unfoldable pub useRefusal : Shape → List ℕ → ℕ → ℕ → ℕ
+useRefusal sh x kind n =
+    pick (eqb n 0) 0
+    (pick (among kind (oldSolid ∷ oldFace ∷ oldLoop ∷ oldHalf ∷ oldHalfOrNone ∷ [])) (pick (eqb (useWord sh x kind n) 0) 6 0)
+    (pick (among kind (newSolid ∷ newSolidOrNone ∷ newFace ∷ newLoop ∷ newEdge ∷ newVertex ∷ [])) (pick (eqb (useWord sh x kind n) 0) 0 7) 0))
+
+-- the first refusal of the operands of these kinds from place i on
+unfoldable pub useRefusals : Shape → List ℕ → Operator → List ℕ → ℕ → ℕ
+useRefusals sh x o [] i = 0
+useRefusals sh x o (k ∷ ks) i =
+    pick (eqb (useRefusal sh x k (operandOf o i)) 0) (useRefusals sh x o ks (i + 1)) (useRefusal sh x k (operandOf o i))
+
+-- ---- 8, effect and inverse by code
+
+-- the condition that document 01 writes for the code
+unfoldable pub condition : Shape → List ℕ → Operator → Bool
+condition sh x o =
+    getD
+    (true ∷ true ∷ kvsfTest sh x (a 0) ∷ mevTest sh x (a 0) (a 1) ∷ kevTest sh x (a 0) ∷ mefTest sh x (a 0) (a 1) (a 2) (a 6)
+    ∷ kefTest sh x (a 0) ∷ kemrTest sh x (a 0) ∷ mekrTest sh x (a 0) (a 1) (a 2) (a 3) ∷ kfmrhTest sh x (a 0) (a 1)
+    ∷ mfkrhTest sh x (a 0) (a 1) (a 2) ∷ true ∷ jekvTest sh x (a 0) ∷ rmovTest sh x (a 0) (a 1) ∷ [])
+    (o .code) true
+  where
+    a : ℕ → ℕ
+    a = operandOf o
+
+-- the links afterwards
+unfoldable pub linksAfter : Shape → List ℕ → Operator → List ℕ
+linksAfter sh x o =
+    getD
+    (x ∷ mvsfLinks sh x (a 0) (a 1) (a 2) (a 3)
+    ∷ kvsfLinks sh x (a 0) (faceIn sh x (a 0)) (faceOuter sh x (faceIn sh x (a 0))) (loopIsolated sh x (faceOuter sh x (faceIn sh x (a 0))))
+    ∷ mevLinks sh x (a 0) (a 1) (halfBy (a 2) (a 4)) (a 3) ∷ kevLinks sh x (a 0)
+    ∷ mefLinks sh x (a 0) (a 1) (a 2) (halfBy (a 3) (a 6)) (a 4) (a 5) (a 6) ∷ kefLinks sh x (a 0) ∷ kemrLinks sh x (a 0) (a 1)
+    ∷ mekrLinks sh x (a 0) (a 1) (a 2) (a 3) (halfBy (a 4) (a 5)) ∷ kfmrhLinks sh x (a 0) (a 1) ∷ mfkrhLinks sh x (a 0) (a 1) (a 2)
+    ∷ semvLinks sh x (a 0) (halfBy (a 1) (a 3)) (a 2) ∷ jekvLinks sh x (a 0) (nextOf sh x (a 0)) ∷ rmovLinks sh x (a 0) (a 1) ∷ [])
+    (o .code) x
+  where
+    a : ℕ → ℕ
+    a = operandOf o
+
+-- the vertex that an operator kills: of kvsf, kev and jekv; 0 for the others
+unfoldable pub killedVertex : Shape → List ℕ → Operator → ℕ
+killedVertex sh x o =
+    getD
+    (0 ∷ 0 ∷ loopIsolated sh x (faceOuter sh x (faceIn sh x (a 0))) ∷ 0 ∷ startOf sh x (mate (a 0)) ∷ 0 ∷ 0 ∷ 0 ∷ 0 ∷ 0 ∷ 0 ∷ 0
+    ∷ startOf sh x (nextOf sh x (a 0)) ∷ 0 ∷ [])
+    (o .code) 0
+  where
+    a : ℕ → ℕ
+    a = operandOf o
+
+-- coordinate i of the operator's operands
+abbrev pub coordinateOf : Operator → ℕ → ℤ
+coordinateOf o i = getD (o .args) i (pos 0)
+
+-- the point that stands at operands i, i + 1, i + 2 goes to vertex v
+abbrev pub pointTo : List ℤ → Operator → ℕ → ℕ → List ℤ
+pointTo p o v i = putPoint p v (coordinateOf o i) (coordinateOf o (i + 1)) (coordinateOf o (i + 2))
+
+-- the points afterwards: a new vertex gets its own, a killed one's is cleared
+unfoldable pub pointsAfter : Shape → List ℕ → List ℤ → Operator → List ℤ
+pointsAfter sh x p o =
+    getD
+    (p ∷ pointTo p o (a 3) 4 ∷ cleared ∷ pointTo p o (a 3) 5 ∷ cleared ∷ p ∷ p ∷ p ∷ p ∷ p ∷ p ∷ pointTo p o (a 2) 4 ∷ cleared ∷ p ∷ [])
+    (o .code) p
+  where
+    a : ℕ → ℕ
+    a = operandOf o
+
+    cleared : List ℤ
+    cleared = putPoint p (killedVertex sh x o) (pos 0) (pos 0) (pos 0)
+
+-- the operator that undoes it
+unfoldable pub inverse : Shape → List ℕ → List ℤ → Operator → Operator
+inverse sh x p o =
+    getD
+    (blankOf 0 0 ∷ mvsfInverse (a 0)
+    ∷ kvsfInverse p (a 0) (faceIn sh x (a 0)) (faceOuter sh x (faceIn sh x (a 0))) (killedVertex sh x o)
+    ∷ mevInverse (halfBy (a 2) (a 4)) ∷ kevInverse sh x p (a 0) ∷ mefInverse (mate (halfBy (a 3) (a 6))) ∷ kefInverse sh x (a 0)
+    ∷ kemrInverse sh x (a 0) (a 1) ∷ mekrInverse (halfBy (a 4) (a 5)) (a 2) ∷ kfmrhInverse sh x (a 0) (a 1) ∷ mfkrhInverse sh x (a 0) (a 1)
+    ∷ semvInverse (a 0) ∷ jekvInverse sh x p (a 0) (nextOf sh x (a 0)) ∷ rmovInverse sh x (a 0) (a 1) ∷ [])
+    (o .code) (blankOf 0 0)
+  where
+    a : ℕ → ℕ
+    a = operandOf o
+
+-- ---- the whole
+
+-- the refusal of operator o on a table: 4, 5, 6, 7 or 8; 0 where it is accepted
+unfoldable pub refusalOf : Shape → List ℕ → Operator → ℕ
+refusalOf sh x o =
+    pick (eqb (rangeRefusal sh o) 0)
+    (pick (eqb (useRefusals sh x o (pattern (o .code) .kinds) 0) 0) (pick (condition sh x o) 0 8)
+    (useRefusals sh x o (pattern (o .code) .kinds) 0))
+    (rangeRefusal sh o)
+
+-- what is left: the refusal, the table, and the operator that undoes it (the blank operator where it is refused)
+pub record Executed : Type 0 where
+  pub refusal : ℕ
+  pub inverse : Operator
+  pub table : Table
+
+unfoldable pub exec : Shape → Operator → Table → Executed
+exec sh o t =
+    pick (eqb (refusalOf sh (t .links) o) 0)
+    (record {
+      refusal = 0;
+      inverse = inverse sh (t .links) (t .points) o;
+      table = record { links = linksAfter sh (t .links) o; points = pointsAfter sh (t .links) (t .points) o };
+    })
+    (record { refusal = refusalOf sh (t .links) o; inverse = blankOf 0 0; table = t })
