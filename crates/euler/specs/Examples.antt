@@ -38,7 +38,7 @@ unfolding run empty exec
 links-d = run (shapeFrom 1 2 2 2 2) (operator 1 (1 ∷ 1 ∷ 1 ∷ 1 ∷ 0 ∷ 0 ∷ 0 ∷ []) ∷ operator 3 (1 ∷ 0 ∷ 1 ∷ 2 ∷ 0 ∷ 100 ∷ 0 ∷ 0 ∷ []) ∷ operator 5 (1 ∷ 1 ∷ 2 ∷ 2 ∷ 2 ∷ 2 ∷ 0 ∷ []) ∷ []) empty .table .links
 
 d-holds : sameWords links-d
-  (1 ∷ 2 ∷ 2 ∷ 2 ∷ 2 ∷ 1 ∷ 1 ∷ 1 ∷ 1 ∷ 2 ∷ 1 ∷ 2 ∷ 0 ∷ 2 ∷ 1 ∷ 0 ∷
-   1 ∷ 2 ∷ 4 ∷ 4 ∷ 2 ∷ 1 ∷ 3 ∷ 3 ∷ 1 ∷ 1 ∷ 2 ∷ 2 ∷ 2 ∷ 2 ∷ 1 ∷ 1 ∷ 1 ∷ 1 ∷ []) ≡ true
+    (1 ∷ 2 ∷ 2 ∷ 2 ∷ 2 ∷ 1 ∷ 1 ∷ 1 ∷ 1 ∷ 2 ∷ 1 ∷ 2 ∷ 0 ∷ 2 ∷ 1 ∷ 0 ∷
+    1 ∷ 2 ∷ 4 ∷ 4 ∷ 2 ∷ 1 ∷ 3 ∷ 3 ∷ 1 ∷ 1 ∷ 2 ∷ 2 ∷ 2 ∷ 2 ∷ 1 ∷ 1 ∷ 1 ∷ 1 ∷ []) ≡ true
 unfolding links-d run empty exec refusalOf rangeRefusal pattern rows inRanges inRange wire limitOf zig zeroAllowed useRefusals useRefusal useWord condition linksAfter pointsAfter killedVertex inverse corner edgeIn edgeOut relabel leastOn renew mate sumTo leastFrom sweep mvsfLinks kvsfTest kvsfLinks mevLinks kevTest kevLinks mefTest mefEdge mefLinks kefTest kefEdge kefLinks kemrTest kemrLinks mekrTest mekrEdge mekrLinks kfmrhTest kfmrhLinks linkedAfter mfkrhTest mfkrhLinks semvLinks jekvTest jekvLinks rmovTest rmovLinks
 d-holds = refl

@@ -2,3 +2,4 @@ pub mod Surgery
 pub mod Operators
 pub mod Exec
 pub mod Examples
+pub mod SurgeryLaws

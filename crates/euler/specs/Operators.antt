@@ -39,7 +39,8 @@ operatorAt code ns p v = withPoint (fill (blankOf code (length ns + 3)) 0 ns) (l
     withPoint : Operator → ℕ → List ℤ → ℕ → Operator
     withPoint op i p v =
         record {
-          code = op .code; count = op .count;
+          code = op .code;
+          count = op .count;
           args = set (set (set (op .args) i (coordinate p v 0)) (i + 1) (coordinate p v 1)) (i + 2) (coordinate p v 2);
         }
 

@@ -1,1 +1,4 @@
-// The thirteen Euler operators.
+// The thirteen Euler operators: what they share in code. The definitions of all thirteen are in `specs/`.
+pub mod records;
+pub mod surgery;
+pub mod walks;
