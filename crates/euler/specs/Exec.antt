@@ -14,7 +14,7 @@ use Rattle.script.specs.Operator.{operandOf, numbersOf, blankOf}
 use Rattle.layout.specs.declared.shape.Shape.{Shape}
 use Rattle.layout.specs.Layout.{solidUsed, faceSolid, faceOuter, loopFace, loopIsolated, startOf, nextOf, vertexUsed}
 use Rattle.layout.specs.Mate.{mate}
-use Rattle.euler.specs.Surgery.{some, halfBy, putPoint}
+use Rattle.euler.specs.Surgery.{halfBy, putPoint, pointTo}
 use Rattle.euler.specs.Operators.{faceIn, mvsfLinks, mvsfInverse, kvsfTest, kvsfLinks, kvsfInverse, mevTest, mevLinks, mevInverse, kevTest, kevLinks, kevInverse, mefTest, mefLinks, mefInverse, kefTest, kefLinks, kefInverse, kemrTest, kemrLinks, kemrInverse, mekrTest, mekrLinks, mekrInverse, kfmrhTest, kfmrhLinks, kfmrhInverse, mfkrhTest, mfkrhLinks, mfkrhInverse, semvLinks, semvInverse, jekvTest, jekvLinks, jekvInverse, rmovTest, rmovLinks, rmovInverse}
 
 -- links and points
@@ -96,14 +96,6 @@ killedVertex sh x o =
   where
     a : ℕ → ℕ
     a = operandOf o
-
--- coordinate i of the operator's operands
-abbrev pub coordinateOf : Operator → ℕ → ℤ
-coordinateOf o i = getD (o .args) i (pos 0)
-
--- the point that stands at operands i, i + 1, i + 2 goes to vertex v
-abbrev pub pointTo : List ℤ → Operator → ℕ → ℕ → List ℤ
-pointTo p o v i = putPoint p v (coordinateOf o i) (coordinateOf o (i + 1)) (coordinateOf o (i + 2))
 
 -- the points afterwards: a new vertex gets its own, a killed one's is cleared
 unfoldable pub pointsAfter : Shape → List ℕ → List ℤ → Operator → List ℤ

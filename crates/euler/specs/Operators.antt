@@ -6,7 +6,7 @@ use mathlib.Core.Bool.{Bool, true, not, _&&_, _||_}
 use mathlib.Core.List.{List, [], _∷_}
 use lib.Dec.{eqb, leb}
 use lib.IntN.{ℤ}
-use lib.ListN.{length, set}
+use lib.ListN.{length}
 use Rattle.laws.specs.Bools.{pick}
 use Rattle.laws.specs.Every.{every}
 use Rattle.laws.specs.Search.{least}
@@ -18,8 +18,7 @@ use Rattle.script.specs.Operator.{blankOf, withNumber}
 use Rattle.layout.specs.declared.shape.Shape.{Shape}
 use Rattle.layout.specs.Layout.{kind, solidUsed, faceSolid, faceOuter, loopFace, loopFirst, loopIsolated, startOf, loopOf, nextOf, prevOf, vertexUsed, setSolidUsed, setFaceSolid, setFaceOuter, setLoopFace, setStart, setVertexUsed}
 use Rattle.layout.specs.Mate.{mate, edgeOf}
-use Rattle.layout.specs.Points.{coordinate}
-use Rattle.euler.specs.Surgery.{some, halfBy, wayOf, corner, cornerVertex, putFace, putLoop, putHalf, between, edgeIn, edgeOut, tie, relabelRun, renew}
+use Rattle.euler.specs.Surgery.{some, halfBy, wayOf, corner, cornerVertex, withPoint, putFace, putLoop, putHalf, between, edgeIn, edgeOut, tie, relabelRun, renew}
 
 -- ---- operators as records
 
@@ -35,14 +34,6 @@ operator code ns = fill (blankOf code (length ns)) 0 ns
 -- the same with the point of vertex v behind them
 abbrev pub operatorAt : ℕ → List ℕ → List ℤ → ℕ → Operator
 operatorAt code ns p v = withPoint (fill (blankOf code (length ns + 3)) 0 ns) (length ns) p v
-  where
-    withPoint : Operator → ℕ → List ℤ → ℕ → Operator
-    withPoint op i p v =
-        record {
-          code = op .code;
-          count = op .count;
-          args = set (set (set (op .args) i (coordinate p v 0)) (i + 1) (coordinate p v 1)) (i + 2) (coordinate p v 2);
-        }
 
 -- ---- counting and looking for neighbours
 

@@ -5,11 +5,13 @@ use mathlib.Core.Bool.{Bool, not, _&&_, _||_}
 use mathlib.Core.List.{List}
 use lib.Dec.{eqb, ltb}
 use lib.IntN.{ℤ, pos}
+use lib.ListN.{getD, set}
 use Rattle.laws.specs.Bools.{pick}
+use Rattle.script.specs.declared.Operator.{Operator}
 use Rattle.layout.specs.declared.shape.Shape.{Shape}
 use Rattle.layout.specs.Layout.{loopFirst, loopIsolated, startOf, loopOf, nextOf, prevOf, setFaceSolid, setFaceOuter, setLoopFace, setLoopFirst, setLoopIsolated, setStart, setLoop, setNext, setPrev}
 use Rattle.layout.specs.Mate.{mate}
-use Rattle.layout.specs.Points.{setCoordinate}
+use Rattle.layout.specs.Points.{coordinate, setCoordinate}
 
 -- a number is there
 abbrev pub some : ℕ → Bool
@@ -49,6 +51,18 @@ putHalf sh x k v l n p = setPrev sh (setNext sh (setLoop sh (setStart sh x k v) 
 -- the three coordinates of vertex v
 abbrev pub putPoint : List ℤ → ℕ → ℤ → ℤ → ℤ → List ℤ
 putPoint p v a b c = setCoordinate (setCoordinate (setCoordinate p v 0 a) v 1 b) v 2 c
+
+-- the point that stands at operands i, i + 1, i + 2 goes to vertex v
+abbrev pub pointTo : List ℤ → Operator → ℕ → ℕ → List ℤ
+pointTo p o v i = putPoint p v (getD (o .args) i (pos 0)) (getD (o .args) (i + 1) (pos 0)) (getD (o .args) (i + 2) (pos 0))
+
+-- an operator with c for operand i
+abbrev pub withOperand : Operator → ℕ → ℤ → Operator
+withOperand o i c = record { code = o .code; count = o .count; args = set (o .args) i c }
+
+-- an operator with the point of vertex v for operands i, i + 1, i + 2
+abbrev pub withPoint : Operator → ℕ → List ℤ → ℕ → Operator
+withPoint o i p v = withOperand (withOperand (withOperand o i (coordinate p v 0)) (i + 1) (coordinate p v 1)) (i + 2) (coordinate p v 2)
 
 -- ---- an edge goes in, an edge comes out
 
