@@ -9,12 +9,12 @@ use lib.ListN.{getD}
 use Rattle.laws.specs.Bools.{pick}
 use Rattle.script.specs.declared.Limits.{Limits}
 use Rattle.script.specs.declared.Operator.{Operator}
-use Rattle.script.specs.Operands.{pattern, oldSolid, newSolid, newSolidOrNone, oldFace, newFace, oldLoop, newLoop, newEdge, oldHalf, oldHalfOrNone, newVertex, among, inRanges}
-use Rattle.script.specs.Operator.{operandOf, numbersOf, blankOf}
+use Rattle.script.specs.Operands.{pattern, largests, inRanges}
+use Rattle.script.specs.Operator.{numbersOf, blankOf}
 use Rattle.layout.specs.declared.shape.Shape.{Shape}
 use Rattle.layout.specs.Layout.{solidUsed, faceSolid, faceOuter, loopFace, loopIsolated, startOf, nextOf, vertexUsed}
 use Rattle.layout.specs.Mate.{mate}
-use Rattle.euler.specs.Surgery.{halfBy, putPoint, pointTo}
+use Rattle.euler.specs.Surgery.{itemOf, halfBy, putPoint, pointTo}
 use Rattle.euler.specs.Operators.{faceIn, mvsfLinks, mvsfInverse, kvsfTest, kvsfLinks, kvsfInverse, mevTest, mevLinks, mevInverse, kevTest, kevLinks, kevInverse, mefTest, mefLinks, mefInverse, kefTest, kefLinks, kefInverse, kemrTest, kemrLinks, kemrInverse, mekrTest, mekrLinks, mekrInverse, kfmrhTest, kfmrhLinks, kfmrhInverse, mfkrhTest, mfkrhLinks, mfkrhInverse, semvLinks, semvInverse, jekvTest, jekvLinks, jekvInverse, rmovTest, rmovLinks, rmovInverse}
 
 -- links and points
@@ -32,7 +32,7 @@ limits sh = record { solids = sh .solids; faces = sh .faces; loops = sh .loops; 
 unfoldable pub rangeRefusal : Shape → Operator → ℕ
 rangeRefusal sh o =
     pick (eqb (pattern (o .code) .count) 0) 4
-    (pick (eqb (o .count) (pattern (o .code) .count)) (pick (inRanges (limits sh) (pattern (o .code) .kinds) (numbersOf o)) 0 5) 5)
+    (pick (eqb (o .count) (pattern (o .code) .count)) (pick (inRanges (largests (limits sh)) (pattern (o .code) .kinds) (numbersOf o)) 0 5) 5)
 
 -- ---- 6 and 7: an old item is free, a new number is in use
 
@@ -44,18 +44,22 @@ useWord sh x kind n =
     ∷ startOf sh x (2 * n) ∷ startOf sh x n ∷ startOf sh x n ∷ vertexUsed sh x n ∷ [])
     kind 0
 
+-- the refusal of a kind of operand whose item is free, and of one whose item is in use, the kinds in order
+abbrev pub whenFree : List ℕ
+whenFree = 0 ∷ 6 ∷ 0 ∷ 0 ∷ 6 ∷ 0 ∷ 6 ∷ 0 ∷ 0 ∷ 6 ∷ 6 ∷ 0 ∷ []
+
+abbrev pub whenUsed : List ℕ
+whenUsed = 0 ∷ 0 ∷ 7 ∷ 7 ∷ 0 ∷ 7 ∷ 0 ∷ 7 ∷ 7 ∷ 0 ∷ 0 ∷ 7 ∷ []
+
 -- an operand 0 names no item
 unfoldable pub useRefusal : Shape → List ℕ → ℕ → ℕ → ℕ
-useRefusal sh x kind n =
-    pick (eqb n 0) 0
-    (pick (among kind (oldSolid ∷ oldFace ∷ oldLoop ∷ oldHalf ∷ oldHalfOrNone ∷ [])) (pick (eqb (useWord sh x kind n) 0) 6 0)
-    (pick (among kind (newSolid ∷ newSolidOrNone ∷ newFace ∷ newLoop ∷ newEdge ∷ newVertex ∷ [])) (pick (eqb (useWord sh x kind n) 0) 0 7) 0))
+useRefusal sh x kind n = pick (eqb n 0) 0 (pick (eqb (useWord sh x kind n) 0) (getD whenFree kind 0) (getD whenUsed kind 0))
 
 -- the first refusal of the operands of these kinds from place i on
 unfoldable pub useRefusals : Shape → List ℕ → Operator → List ℕ → ℕ → ℕ
 useRefusals sh x o [] i = 0
 useRefusals sh x o (k ∷ ks) i =
-    pick (eqb (useRefusal sh x k (operandOf o i)) 0) (useRefusals sh x o ks (i + 1)) (useRefusal sh x k (operandOf o i))
+    pick (eqb (useRefusal sh x k (itemOf o i)) 0) (useRefusals sh x o ks (i + 1)) (useRefusal sh x k (itemOf o i))
 
 -- ---- 8, effect and inverse by code
 
@@ -69,7 +73,7 @@ condition sh x o =
     (o .code) true
   where
     a : ℕ → ℕ
-    a = operandOf o
+    a = itemOf o
 
 -- the links afterwards
 unfoldable pub linksAfter : Shape → List ℕ → Operator → List ℕ
@@ -84,7 +88,7 @@ linksAfter sh x o =
     (o .code) x
   where
     a : ℕ → ℕ
-    a = operandOf o
+    a = itemOf o
 
 -- the vertex that an operator kills: of kvsf, kev and jekv; 0 for the others
 unfoldable pub killedVertex : Shape → List ℕ → Operator → ℕ
@@ -95,7 +99,7 @@ killedVertex sh x o =
     (o .code) 0
   where
     a : ℕ → ℕ
-    a = operandOf o
+    a = itemOf o
 
 -- the points afterwards: a new vertex gets its own, a killed one's is cleared
 unfoldable pub pointsAfter : Shape → List ℕ → List ℤ → Operator → List ℤ
@@ -105,7 +109,7 @@ pointsAfter sh x p o =
     (o .code) p
   where
     a : ℕ → ℕ
-    a = operandOf o
+    a = itemOf o
 
     cleared : List ℤ
     cleared = putPoint p (killedVertex sh x o) (pos 0) (pos 0) (pos 0)
@@ -122,7 +126,7 @@ inverse sh x p o =
     (o .code) (blankOf 0 0)
   where
     a : ℕ → ℕ
-    a = operandOf o
+    a = itemOf o
 
 -- ---- the whole
 

@@ -1,0 +1,76 @@
+// Refusals 6 and 7: an old item is free, a new number is in use. One table of operand kinds says which is asked of which operand.
+ghost use mathlib.Core.Path.{_≡_};
+ghost use Prim.Native.Nat.{ℕ, _≤_, _<_};
+ghost use lib.ListN.{getD};
+ghost use Rattle.euler.specs.Exec.{useWord, useRefusal, useRefusals, whenFree, whenUsed};
+use crate::records::item_of;
+use layout::columns::{face_solid, loop_face, solid_used, start_of, vertex_used};
+use layout::shape::Shape;
+use script::Operator;
+
+// The word that tells whether item n of an operand's kind is in use.
+fn use_word(links: &[u16], sh: Shape, kind: u8, n: usize) -> usize
+    requires { ⌜ n ≤ 8192 ⌝ }
+    ensures { λ r. ⌜ r ≡ useWord sh (now (links .entry)) kind n ⌝ }
+{
+    match kind {
+        1 | 2 | 3 => solid_used(links, sh, n),
+        4 | 5 => face_solid(links, sh, n),
+        6 | 7 => loop_face(links, sh, n),
+        8 => start_of(links, sh, 2 * n),
+        9 | 10 => start_of(links, sh, n),
+        11 => vertex_used(links, sh, n),
+        _ => 0,
+    }
+}
+
+// 6 for the kinds that name an old item.
+fn when_free(kind: u8) -> u8
+    ensures { λ r. ⌜ r ≡ getD whenFree kind 0 ⌝ }
+{
+    match kind {
+        1 | 4 | 6 | 9 | 10 => 6,
+        _ => 0,
+    }
+}
+
+// 7 for the kinds that name a new one.
+fn when_used(kind: u8) -> u8
+    ensures { λ r. ⌜ r ≡ getD whenUsed kind 0 ⌝ }
+{
+    match kind {
+        2 | 3 | 5 | 7 | 8 | 11 => 7,
+        _ => 0,
+    }
+}
+
+// The refusal of operand n of a kind; an operand 0 names no item.
+fn use_refusal(links: &[u16], sh: Shape, kind: u8, n: usize) -> u8
+    requires { ⌜ n ≤ 8192 ⌝ }
+    ensures { λ r. ⌜ r ≡ useRefusal sh (now (links .entry)) kind n ⌝ }
+{
+    if n == 0 {
+        return 0;
+    }
+    if use_word(links, sh, kind, n) == 0 {
+        return when_free(kind);
+    }
+    when_used(kind)
+}
+
+// The first refusal of the operands from left to right.
+pub fn use_refusals(links: &[u16], sh: Shape, op: Operator, kinds: [u8; 8]) -> u8
+    ensures { λ r. ⌜ r ≡ useRefusals sh (now (links .entry)) op kinds 0 ⌝ }
+{
+    let mut i: usize = 0;
+    while i < 8 {
+        let kind = kinds[i];
+        let n = item_of(op, i);
+        let r = use_refusal(links, sh, kind, n);
+        if r != 0 {
+            return r;
+        }
+        i += 1;
+    }
+    0
+}
