@@ -36,13 +36,15 @@ rangeRefusal sh o =
 
 -- ---- 6 and 7: an old item is free, a new number is in use
 
--- the word that tells whether item n of an operand's kind is in use; a new edge by its second half
+-- the words that tell whether item n is in use, the operand kinds in order; a new edge by its second half
+abbrev pub useWords : Shape → List ℕ → ℕ → List ℕ
+useWords sh x n =
+    0 ∷ solidUsed sh x n ∷ solidUsed sh x n ∷ solidUsed sh x n ∷ faceSolid sh x n ∷ faceSolid sh x n ∷ loopFace sh x n ∷ loopFace sh x n
+    ∷ startOf sh x (2 * n) ∷ startOf sh x n ∷ startOf sh x n ∷ vertexUsed sh x n ∷ []
+
+-- the one of a kind
 unfoldable pub useWord : Shape → List ℕ → ℕ → ℕ → ℕ
-useWord sh x kind n =
-    getD
-    (0 ∷ solidUsed sh x n ∷ solidUsed sh x n ∷ solidUsed sh x n ∷ faceSolid sh x n ∷ faceSolid sh x n ∷ loopFace sh x n ∷ loopFace sh x n
-    ∷ startOf sh x (2 * n) ∷ startOf sh x n ∷ startOf sh x n ∷ vertexUsed sh x n ∷ [])
-    kind 0
+useWord sh x kind n = getD (useWords sh x n) kind 0
 
 -- the refusal of a kind of operand whose item is free, and of one whose item is in use, the kinds in order
 abbrev pub whenFree : List ℕ

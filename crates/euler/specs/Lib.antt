@@ -1,5 +1,6 @@
 pub mod Surgery
 pub mod Operators
 pub mod Exec
+pub mod AdmitLaws
 pub mod Examples
 pub mod SurgeryLaws

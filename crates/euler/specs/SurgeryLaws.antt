@@ -4,7 +4,7 @@ use mathlib.Core.Path.{_≡_, refl, sym, _∙_}
 use Prim.Native.Nat.{ℕ, suc, _+_, _-_, _*_, _%_, _<_, _≤_}
 use native.Mathlib.Omega.{arith}
 use mathlib.Core.List.{List}
-use lib.Dec.{eqb, leb, ltb, le→leb, leb→le}
+use lib.Dec.{eqb, ltb}
 use lib.IntN.{ℤ, pos}
 use lib.ListN.{length, getD, set, List·getD-eq-default}
 use lib.Seq.{set-set}
@@ -12,14 +12,13 @@ use mir.Syntax.{w32}
 use mir.Val.{SFits, toZ, ofZ}
 use mir.Facts.{toZ-ofZ}
 use borrow.Author.Tests.{eq-eqb, ne-eqb}
-use Rattle.laws.specs.Bools.{pick, pick-ind, T-true, T-false}
+use Rattle.laws.specs.Bools.{pick, pick-ind}
 use Rattle.layout.specs.declared.shape.Shape.{Shape}
 use Rattle.layout.specs.Layout.{nextOf, setLoop}
 use Rattle.script.specs.declared.Operator.{Operator}
-use Rattle.script.specs.Operator.{operandOf}
 use Rattle.layout.specs.Points.{coordinate, setCoordinate}
 use Rattle.layout.specs.PointsLaws.{coordinate-at, setCoordinate-at}
-use Rattle.euler.specs.Surgery.{itemOf, halfBy, relabel, leastOn, withOperand, withPoint}
+use Rattle.euler.specs.Surgery.{halfBy, relabel, leastOn, withOperand, withPoint}
 
 module _ (sh : Shape) (left : ℕ) (x : List ℕ) (k stop l : ℕ) (whole : List ℕ) (rest : relabel sh left x k stop l ≡ whole) where
   pub relabel-stop : 0 < left → k ≡ stop → x ≡ whole
@@ -72,11 +71,3 @@ point-steps o i p v a b r e f g = rw (g, f, e)
 -- edge 0 has no half
 pub half-none : (w : ℕ) → 0 ≡ halfBy 0 w
 half-none w = pick-ind (λ n. 0 ≡ n) (eqb (w % 2) 0) _ _ refl refl
-
--- an operand as an item's number
-module _ (o : Operator) (i n : ℕ) (e : n ≡ operandOf o i) where
-  pub item-in : n ≤ 8192 → (n ≡ itemOf o i) × (n ≤ 8192)
-  item-in h = (rw (← e, T-true {b = leb n 8192} (le→leb n 8192 h)), h)
-
-  pub item-out : 8192 < n → (0 ≡ itemOf o i) × (0 ≤ 8192)
-  item-out h = (rw (← e, T-false {b = leb n 8192} (λ t. omega (arith, leb→le n 8192 t))), omega arith)

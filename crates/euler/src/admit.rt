@@ -8,51 +8,56 @@ use layout::columns::{face_solid, loop_face, solid_used, start_of, vertex_used};
 use layout::shape::Shape;
 use script::Operator;
 
-// The word that tells whether item n of an operand's kind is in use.
-fn use_word(links: &[u16], sh: Shape, kind: u8, n: usize) -> usize
+// The word that tells whether item n of an operand's kind is in use. All six are read, so that the kind is one index.
+fn use_word(links: &[u16], sh: Shape, kind: usize, n: usize) -> usize
     requires { ⌜ n ≤ 8192 ⌝ }
     ensures { λ r. ⌜ r ≡ useWord sh (now (links .entry)) kind n ⌝ }
 {
-    match kind {
-        1 | 2 | 3 => solid_used(links, sh, n),
-        4 | 5 => face_solid(links, sh, n),
-        6 | 7 => loop_face(links, sh, n),
-        8 => start_of(links, sh, 2 * n),
-        9 | 10 => start_of(links, sh, n),
-        11 => vertex_used(links, sh, n),
-        _ => 0,
+    let s = solid_used(links, sh, n);
+    let f = face_solid(links, sh, n);
+    let l = loop_face(links, sh, n);
+    let e = start_of(links, sh, 2 * n);
+    let k = start_of(links, sh, n);
+    let v = vertex_used(links, sh, n);
+    let words = [0, s, s, s, f, f, l, l, e, k, k, v];
+    if kind < 12 {
+        return words[kind];
     }
+    0
 }
 
 // 6 for the kinds that name an old item.
-fn when_free(kind: u8) -> u8
+fn when_free(kind: usize) -> u8
     ensures { λ r. ⌜ r ≡ getD whenFree kind 0 ⌝ }
 {
-    match kind {
-        1 | 4 | 6 | 9 | 10 => 6,
-        _ => 0,
+    let refusals = [0u8, 6, 0, 0, 6, 0, 6, 0, 0, 6, 6, 0];
+    if kind < 12 {
+        return refusals[kind];
     }
+    0
 }
 
 // 7 for the kinds that name a new one.
-fn when_used(kind: u8) -> u8
+fn when_used(kind: usize) -> u8
     ensures { λ r. ⌜ r ≡ getD whenUsed kind 0 ⌝ }
 {
-    match kind {
-        2 | 3 | 5 | 7 | 8 | 11 => 7,
-        _ => 0,
+    let refusals = [0u8, 0, 7, 7, 0, 7, 0, 7, 7, 0, 0, 7];
+    if kind < 12 {
+        return refusals[kind];
     }
+    0
 }
 
 // The refusal of operand n of a kind; an operand 0 names no item.
-fn use_refusal(links: &[u16], sh: Shape, kind: u8, n: usize) -> u8
+fn use_refusal(links: &[u16], sh: Shape, kind: usize, n: usize) -> u8
     requires { ⌜ n ≤ 8192 ⌝ }
     ensures { λ r. ⌜ r ≡ useRefusal sh (now (links .entry)) kind n ⌝ }
 {
     if n == 0 {
         return 0;
     }
-    if use_word(links, sh, kind, n) == 0 {
+    let word = use_word(links, sh, kind, n);
+    if word == 0 {
         return when_free(kind);
     }
     when_used(kind)
@@ -64,7 +69,7 @@ pub fn use_refusals(links: &[u16], sh: Shape, op: Operator, kinds: [u8; 8]) -> u
 {
     let mut i: usize = 0;
     while i < 8 {
-        let kind = kinds[i];
+        let kind = kinds[i] as usize;
         let n = item_of(op, i);
         let r = use_refusal(links, sh, kind, n);
         if r != 0 {

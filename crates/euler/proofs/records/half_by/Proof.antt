@@ -10,7 +10,7 @@ use Rattle.euler.proofs.records.half_by.Lts as lts
 
 -- src/records.rt:50:9
 returns : tie.Need-returns
-returns c = rw (c .if1 .taken) (half-none _, omega arith)
+returns c = rw (c .if1 .taken) (half-none (c .before .args .w), omega arith)
 
 -- src/records.rt:53:16
 mul-result : tie.Need-mul-result

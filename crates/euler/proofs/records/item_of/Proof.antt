@@ -1,4 +1,5 @@
-use Rattle.euler.specs.SurgeryLaws.{item-in, item-out}
+use native.Mathlib.Omega.{arith}
+use borrow.Author.Tests.{le-leb, lt-leb}
 use borrow.Author.Needs.{needs}
 use Rattle.euler.proofs.records.item_of.Statement.{statement}
 use Rattle.euler.proofs.records.item_of.Tie as tie
@@ -12,11 +13,11 @@ operand-requires c κs = search needs
 
 -- src/records.rt:39:9
 returns : tie.Need-returns
-returns c = item-in _ _ _ (c↑1 .operand .ensures .0) (c .if1 .taken)
+returns c = (rw (← (c .before .operand .ensures .0), le-leb _ _ (c .if1 .taken)), c .if1 .taken)
 
 -- src/records.rt:34:1
 returns-2 : tie.Need-returns-2
-returns-2 c = item-out _ _ _ (c↑1 .operand .ensures .0) (c .if1 .left)
+returns-2 c = (rw (← (c .before .operand .ensures .0), lt-leb _ _ (c .if1 .left)), omega arith)
 
 pub item-of-spec : {M : Type 1} → statement M
 item-of-spec = tie.close (tie.spec operand-requires returns returns-2)
