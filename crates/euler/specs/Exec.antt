@@ -63,72 +63,70 @@ useRefusals sh x o [] i = 0
 useRefusals sh x o (k ∷ ks) i =
     pick (eqb (useRefusal sh x k (itemOf o i)) 0) (useRefusals sh x o ks (i + 1)) (useRefusal sh x k (itemOf o i))
 
--- ---- 8, effect and inverse by code
+-- ---- 8, effect and inverse by code: lists from code 0, which is none, to 13; `a` are the operands as items
 
--- the condition that document 01 writes for the code
-unfoldable pub condition : Shape → List ℕ → Operator → Bool
-condition sh x o =
-    getD
-    (true ∷ true ∷ kvsfTest sh x (a 0) ∷ mevTest sh x (a 0) (a 1) ∷ kevTest sh x (a 0) ∷ mefTest sh x (a 0) (a 1) (a 2) (a 6)
+-- the conditions that document 01 writes for the codes
+abbrev pub conditions : Shape → List ℕ → (ℕ → ℕ) → List Bool
+conditions sh x a =
+    true ∷ true ∷ kvsfTest sh x (a 0) ∷ mevTest sh x (a 0) (a 1) ∷ kevTest sh x (a 0) ∷ mefTest sh x (a 0) (a 1) (a 2) (a 6)
     ∷ kefTest sh x (a 0) ∷ kemrTest sh x (a 0) ∷ mekrTest sh x (a 0) (a 1) (a 2) (a 3) ∷ kfmrhTest sh x (a 0) (a 1)
-    ∷ mfkrhTest sh x (a 0) (a 1) (a 2) ∷ true ∷ jekvTest sh x (a 0) ∷ rmovTest sh x (a 0) (a 1) ∷ [])
-    (o .code) true
-  where
-    a : ℕ → ℕ
-    a = itemOf o
+    ∷ mfkrhTest sh x (a 0) (a 1) (a 2) ∷ true ∷ jekvTest sh x (a 0) ∷ rmovTest sh x (a 0) (a 1) ∷ []
+
+unfoldable pub condition : Shape → List ℕ → Operator → Bool
+condition sh x o = getD (conditions sh x (itemOf o)) (o .code) true
+
+-- the solid that kvsf kills: its face, that face's loop, and the loop's vertex
+abbrev pub onlyLoop : Shape → List ℕ → ℕ → ℕ
+onlyLoop sh x s = faceOuter sh x (faceIn sh x s)
+
+abbrev pub onlyVertex : Shape → List ℕ → ℕ → ℕ
+onlyVertex sh x s = loopIsolated sh x (onlyLoop sh x s)
 
 -- the links afterwards
-unfoldable pub linksAfter : Shape → List ℕ → Operator → List ℕ
-linksAfter sh x o =
-    getD
-    (x ∷ mvsfLinks sh x (a 0) (a 1) (a 2) (a 3)
-    ∷ kvsfLinks sh x (a 0) (faceIn sh x (a 0)) (faceOuter sh x (faceIn sh x (a 0))) (loopIsolated sh x (faceOuter sh x (faceIn sh x (a 0))))
+abbrev pub linksBy : Shape → List ℕ → (ℕ → ℕ) → List (List ℕ)
+linksBy sh x a =
+    x ∷ mvsfLinks sh x (a 0) (a 1) (a 2) (a 3)
+    ∷ kvsfLinks sh x (a 0) (faceIn sh x (a 0)) (onlyLoop sh x (a 0)) (onlyVertex sh x (a 0))
     ∷ mevLinks sh x (a 0) (a 1) (halfBy (a 2) (a 4)) (a 3) ∷ kevLinks sh x (a 0)
     ∷ mefLinks sh x (a 0) (a 1) (a 2) (halfBy (a 3) (a 6)) (a 4) (a 5) (a 6) ∷ kefLinks sh x (a 0) ∷ kemrLinks sh x (a 0) (a 1)
     ∷ mekrLinks sh x (a 0) (a 1) (a 2) (a 3) (halfBy (a 4) (a 5)) ∷ kfmrhLinks sh x (a 0) (a 1) ∷ mfkrhLinks sh x (a 0) (a 1) (a 2)
-    ∷ semvLinks sh x (a 0) (halfBy (a 1) (a 3)) (a 2) ∷ jekvLinks sh x (a 0) (nextOf sh x (a 0)) ∷ rmovLinks sh x (a 0) (a 1) ∷ [])
-    (o .code) x
-  where
-    a : ℕ → ℕ
-    a = itemOf o
+    ∷ semvLinks sh x (a 0) (halfBy (a 1) (a 3)) (a 2) ∷ jekvLinks sh x (a 0) (nextOf sh x (a 0)) ∷ rmovLinks sh x (a 0) (a 1) ∷ []
+
+unfoldable pub linksAfter : Shape → List ℕ → Operator → List ℕ
+linksAfter sh x o = getD (linksBy sh x (itemOf o)) (o .code) x
 
 -- the vertex that an operator kills: of kvsf, kev and jekv; 0 for the others
+abbrev pub killed : Shape → List ℕ → (ℕ → ℕ) → List ℕ
+killed sh x a =
+    0 ∷ 0 ∷ onlyVertex sh x (a 0) ∷ 0 ∷ startOf sh x (mate (a 0)) ∷ 0 ∷ 0 ∷ 0 ∷ 0 ∷ 0 ∷ 0 ∷ 0 ∷ startOf sh x (nextOf sh x (a 0)) ∷ 0 ∷ []
+
 unfoldable pub killedVertex : Shape → List ℕ → Operator → ℕ
-killedVertex sh x o =
-    getD
-    (0 ∷ 0 ∷ loopIsolated sh x (faceOuter sh x (faceIn sh x (a 0))) ∷ 0 ∷ startOf sh x (mate (a 0)) ∷ 0 ∷ 0 ∷ 0 ∷ 0 ∷ 0 ∷ 0 ∷ 0
-    ∷ startOf sh x (nextOf sh x (a 0)) ∷ 0 ∷ [])
-    (o .code) 0
-  where
-    a : ℕ → ℕ
-    a = itemOf o
+killedVertex sh x o = getD (killed sh x (itemOf o)) (o .code) 0
 
--- the points afterwards: a new vertex gets its own, a killed one's is cleared
+-- the point of vertex v cleared
+abbrev pub clearPoint : List ℤ → ℕ → List ℤ
+clearPoint p v = putPoint p v (pos 0) (pos 0) (pos 0)
+
+-- the points afterwards: a new vertex gets the operator's, a killed one's, v, is cleared
+abbrev pub pointsBy : List ℤ → Operator → (ℕ → ℕ) → ℕ → List (List ℤ)
+pointsBy p o a v =
+    p ∷ pointTo p o (a 3) 4 ∷ clearPoint p v ∷ pointTo p o (a 3) 5 ∷ clearPoint p v ∷ p ∷ p ∷ p ∷ p ∷ p ∷ p ∷ pointTo p o (a 2) 4
+    ∷ clearPoint p v ∷ p ∷ []
+
 unfoldable pub pointsAfter : Shape → List ℕ → List ℤ → Operator → List ℤ
-pointsAfter sh x p o =
-    getD
-    (p ∷ pointTo p o (a 3) 4 ∷ cleared ∷ pointTo p o (a 3) 5 ∷ cleared ∷ p ∷ p ∷ p ∷ p ∷ p ∷ p ∷ pointTo p o (a 2) 4 ∷ cleared ∷ p ∷ [])
-    (o .code) p
-  where
-    a : ℕ → ℕ
-    a = itemOf o
-
-    cleared : List ℤ
-    cleared = putPoint p (killedVertex sh x o) (pos 0) (pos 0) (pos 0)
+pointsAfter sh x p o = getD (pointsBy p o (itemOf o) (killedVertex sh x o)) (o .code) p
 
 -- the operator that undoes it
-unfoldable pub inverse : Shape → List ℕ → List ℤ → Operator → Operator
-inverse sh x p o =
-    getD
-    (blankOf 0 0 ∷ mvsfInverse (a 0)
-    ∷ kvsfInverse p (a 0) (faceIn sh x (a 0)) (faceOuter sh x (faceIn sh x (a 0))) (killedVertex sh x o)
+abbrev pub inverses : Shape → List ℕ → List ℤ → (ℕ → ℕ) → List Operator
+inverses sh x p a =
+    blankOf 0 0 ∷ mvsfInverse (a 0)
+    ∷ kvsfInverse p (a 0) (faceIn sh x (a 0)) (onlyLoop sh x (a 0)) (onlyVertex sh x (a 0))
     ∷ mevInverse (halfBy (a 2) (a 4)) ∷ kevInverse sh x p (a 0) ∷ mefInverse (mate (halfBy (a 3) (a 6))) ∷ kefInverse sh x (a 0)
     ∷ kemrInverse sh x (a 0) (a 1) ∷ mekrInverse (halfBy (a 4) (a 5)) (a 2) ∷ kfmrhInverse sh x (a 0) (a 1) ∷ mfkrhInverse sh x (a 0) (a 1)
-    ∷ semvInverse (a 0) ∷ jekvInverse sh x p (a 0) (nextOf sh x (a 0)) ∷ rmovInverse sh x (a 0) (a 1) ∷ [])
-    (o .code) (blankOf 0 0)
-  where
-    a : ℕ → ℕ
-    a = itemOf o
+    ∷ semvInverse (a 0) ∷ jekvInverse sh x p (a 0) (nextOf sh x (a 0)) ∷ rmovInverse sh x (a 0) (a 1) ∷ []
+
+unfoldable pub inverse : Shape → List ℕ → List ℤ → Operator → Operator
+inverse sh x p o = getD (inverses sh x p (itemOf o)) (o .code) (blankOf 0 0)
 
 -- ---- the whole
 

@@ -4,7 +4,11 @@ ghost use Prim.Native.Nat.{ℕ, _≤_, _<_};
 ghost use lib.ListN.{getD};
 ghost use Rattle.euler.specs.Exec.{useWord, useRefusal, useRefusals, whenFree, whenUsed};
 use crate::records::item_of;
-use layout::columns::{face_solid, loop_face, solid_used, start_of, vertex_used};
+use layout::columns::face_solid;
+use layout::columns::loop_face;
+use layout::columns::solid_used;
+use layout::columns::start_of;
+use layout::columns::vertex_used;
 use layout::shape::Shape;
 use script::Operator;
 

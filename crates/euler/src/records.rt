@@ -17,7 +17,8 @@ use layout::columns::set_prev;
 use layout::columns::set_start;
 use layout::columns::start_of;
 use layout::shape::Shape;
-use script::{operand, Operator};
+use script::Operator;
+use script::operand;
 
 // a where the test holds, else b.
 pub fn choose(test: bool, a: usize, b: usize) -> usize
