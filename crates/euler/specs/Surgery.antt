@@ -1,0 +1,114 @@
+-- What the operators share: corners, an edge going in, an edge coming out, a run given another loop, a loop's first anew.
+-- `sh` is the table's shape, `x` its links. Walks carry fuel of 2E steps; on a sound table that cuts nothing off.
+use Prim.Native.Nat.{ℕ, zero, suc, _+_, _-_, _*_, _%_}
+use mathlib.Core.Bool.{Bool, not, _&&_, _||_}
+use mathlib.Core.List.{List}
+use lib.Dec.{eqb, leb, ltb}
+use lib.IntN.{ℤ, pos}
+use lib.ListN.{getD, set}
+use Rattle.laws.specs.Bools.{pick}
+use Rattle.script.specs.declared.Operator.{Operator}
+use Rattle.script.specs.Operator.{operandOf}
+use Rattle.layout.specs.declared.shape.Shape.{Shape}
+use Rattle.layout.specs.Layout.{loopFirst, loopIsolated, startOf, loopOf, nextOf, prevOf, setFaceSolid, setFaceOuter, setLoopFace, setLoopFirst, setLoopIsolated, setStart, setLoop, setNext, setPrev}
+use Rattle.layout.specs.Mate.{mate}
+use Rattle.layout.specs.Points.{coordinate, setCoordinate}
+
+-- a number is there
+abbrev pub some : ℕ → Bool
+some n = not (eqb n 0)
+
+-- operand i as the number of an item; past 8,192, the most that any table has, it names none
+abbrev pub itemOf : Operator → ℕ → ℕ
+itemOf o i = pick (leb (operandOf o i) 8192) (operandOf o i) 0
+
+-- ---- ways
+
+-- the half of edge e that a way names: 2e − 1 for an even way, 2e for an odd one
+abbrev pub halfBy : ℕ → ℕ → ℕ
+halfBy e w = pick (eqb (w % 2) 0) (2 * e - 1) (2 * e)
+
+-- the way that names half-edge k: 0 for an odd one, 1 for an even one
+abbrev pub wayOf : ℕ → ℕ
+wayOf k = pick (eqb (k % 2) 1) 0 1
+
+-- ---- corners
+
+-- (l, h) is a corner: h is a half-edge of l, or h is 0 and l isolated (document 01: lone)
+unfoldable pub corner : Shape → List ℕ → ℕ → ℕ → Bool
+corner sh x l h = (eqb h 0 && some (loopIsolated sh x l)) || (some h && eqb (loopOf sh x h) l)
+
+-- its vertex
+abbrev pub cornerVertex : Shape → List ℕ → ℕ → ℕ → ℕ
+cornerVertex sh x l h = pick (eqb h 0) (loopIsolated sh x l) (startOf sh x h)
+
+-- ---- whole records
+
+abbrev pub putFace : Shape → List ℕ → ℕ → ℕ → ℕ → List ℕ
+putFace sh x f s l = setFaceOuter sh (setFaceSolid sh x f s) f l
+
+abbrev pub putLoop : Shape → List ℕ → ℕ → ℕ → ℕ → ℕ → List ℕ
+putLoop sh x l f k v = setLoopIsolated sh (setLoopFirst sh (setLoopFace sh x l f) l k) l v
+
+abbrev pub putHalf : Shape → List ℕ → ℕ → ℕ → ℕ → ℕ → ℕ → List ℕ
+putHalf sh x k v l n p = setPrev sh (setNext sh (setLoop sh (setStart sh x k v) k l) k n) k p
+
+-- the three coordinates of vertex v
+abbrev pub putPoint : List ℤ → ℕ → ℤ → ℤ → ℤ → List ℤ
+putPoint p v a b c = setCoordinate (setCoordinate (setCoordinate p v 0 a) v 1 b) v 2 c
+
+-- the point that stands at operands i, i + 1, i + 2 goes to vertex v
+abbrev pub pointTo : List ℤ → Operator → ℕ → ℕ → List ℤ
+pointTo p o v i = putPoint p v (getD (o .args) i (pos 0)) (getD (o .args) (i + 1) (pos 0)) (getD (o .args) (i + 2) (pos 0))
+
+-- an operator with c for operand i
+abbrev pub withOperand : Operator → ℕ → ℤ → Operator
+withOperand o i c = record { code = o .code; count = o .count; args = set (o .args) i c }
+
+-- an operator with the point of vertex v for operands i, i + 1, i + 2
+abbrev pub withPoint : Operator → ℕ → List ℤ → ℕ → Operator
+withPoint o i p v = withOperand (withOperand (withOperand o i (coordinate p v 0)) (i + 1) (coordinate p v 1)) (i + 2) (coordinate p v 2)
+
+-- ---- an edge goes in, an edge comes out
+
+-- a is followed by b
+abbrev pub tie : Shape → List ℕ → ℕ → ℕ → List ℕ
+tie sh x a b = setPrev sh (setNext sh x a b) b a
+
+-- k stands between p and n, as these see it
+abbrev pub between : Shape → List ℕ → ℕ → ℕ → ℕ → List ℕ
+between sh x p k n = setPrev sh (setNext sh x p k) n k
+
+-- half-edge k from vertex u in loop l between p and n, and its mate from u′ in l′ between p′ and n′
+unfoldable pub edgeIn : Shape → List ℕ → ℕ → ℕ → ℕ → ℕ → ℕ → ℕ → ℕ → ℕ → ℕ → List ℕ
+edgeIn sh x k u l n p u′ l′ n′ p′ =
+    between sh (between sh (putHalf sh (putHalf sh x k u l n p) (mate k) u′ l′ n′ p′) p k n) p′ (mate k) n′
+
+-- the edge of k is killed: p is followed by n, and p′ by n′. (Where these are k or its mate, what is stored is cleared with them.)
+unfoldable pub edgeOut : Shape → List ℕ → ℕ → ℕ → ℕ → ℕ → ℕ → List ℕ
+edgeOut sh x k p n p′ n′ = putHalf sh (putHalf sh (tie sh (tie sh x p n) p′ n′) k 0 0 0 0) (mate k) 0 0 0 0
+
+-- ---- walks
+
+-- the half-edges from k up to before stop, at most n of them, are given loop l
+unfoldable pub relabel : Shape → ℕ → List ℕ → ℕ → ℕ → ℕ → List ℕ
+relabel sh zero x k stop l = x
+relabel sh (suc n) x k stop l = pick (eqb k stop) x (relabel sh n (setLoop sh x k l) (nextOf sh (setLoop sh x k l) k) stop l)
+
+-- the least of `best` and the half-edges from k up to before stop, at most n of them
+unfoldable pub leastOn : Shape → ℕ → List ℕ → ℕ → ℕ → ℕ → ℕ
+leastOn sh zero x k stop best = best
+leastOn sh (suc n) x k stop best = pick (eqb k stop) best (leastOn sh n x (nextOf sh x k) stop (pick (ltb k best) k best))
+
+-- a run given loop l
+abbrev pub relabelRun : Shape → List ℕ → ℕ → ℕ → ℕ → List ℕ
+relabelRun sh x k stop l = relabel sh (2 * sh .edges) x k stop l
+
+-- the least half-edge of k's cycle
+abbrev pub cycleLeast : Shape → List ℕ → ℕ → ℕ
+cycleLeast sh x k = leastOn sh (2 * sh .edges) x (nextOf sh x k) k k
+
+-- loop l now has the cycle of half-edge k, and first is the least of it; where k is 0, l is isolated at vertex u
+unfoldable pub renew : Shape → List ℕ → ℕ → ℕ → ℕ → List ℕ
+renew sh x l k u =
+    setLoopIsolated sh (setLoopFirst sh x l (pick (eqb k 0) 0 (cycleLeast sh x k))) l (pick (eqb k 0) u 0)

@@ -1,0 +1,6 @@
+// The thirteen Euler operators: what they share in code. The definitions of all thirteen are in `specs/`.
+pub mod admit;
+pub mod points;
+pub mod records;
+pub mod surgery;
+pub mod walks;

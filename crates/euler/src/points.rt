@@ -1,0 +1,60 @@
+// The point of a vertex: stored from an operator's operands, cleared, and read into an operator.
+ghost use mathlib.Core.Path.{_≡_};
+ghost use Prim.Native.Nat.{ℕ, _+_, _<_, _≤_};
+ghost use lib.IntN.{ℤ, pos};
+ghost use lib.ListN.{getD};
+ghost use Rattle.layout.specs.Points.{coordinate, setCoordinate};
+ghost use Rattle.euler.specs.Surgery.{pointTo, withOperand, withPoint};
+use script::Operator;
+
+// Coordinate i of vertex v becomes operand j of the operator; total, as for the links.
+fn put_coordinate(points: &mut [i32], v: usize, i: usize, op: Operator, j: usize)
+    requires { ⌜ (v ≤ 65536) × (i < 3) × (j < 8) ⌝ }
+    ensures { λ _. ⌜ now (points .exit) ≡ setCoordinate (now (points .entry)) v i (getD (op .args) j (pos 0)) ⌝ }
+{
+    if v == 0 {
+        return;
+    }
+    let at = 3 * (v - 1) + i;
+    if at < points.len() {
+        points[at] = op.args[j];
+    }
+}
+
+// The point at operands i, i + 1, i + 2 goes to vertex v.
+pub fn put_point(points: &mut [i32], v: usize, op: Operator, i: usize)
+    requires { ⌜ (v ≤ 65536) × (i < 6) ⌝ }
+    ensures { λ _. ⌜ now (points .exit) ≡ pointTo (now (points .entry)) op v i ⌝ }
+{
+    put_coordinate(points, v, 0, op, i);
+    put_coordinate(points, v, 1, op, i + 1);
+    put_coordinate(points, v, 2, op, i + 2);
+}
+
+// The operator with coordinate j of vertex v for operand i.
+fn with_coordinate(op: Operator, i: usize, points: &[i32], v: usize, j: usize) -> Operator
+    requires { ⌜ (v ≤ 65536) × (j < 3) × (i < 8) ⌝ }
+    ensures { λ r. ⌜ r ≡ withOperand op i (coordinate (now (points .entry)) v j) ⌝ }
+{
+    let mut next = op;
+    next.args[i] = 0;
+    if v == 0 {
+        return next;
+    }
+    let at = 3 * (v - 1) + j;
+    if at < points.len() {
+        next.args[i] = points[at];
+        return next;
+    }
+    next
+}
+
+// The operator with the point of vertex v for operands i, i + 1, i + 2.
+pub fn with_point(op: Operator, i: usize, points: &[i32], v: usize) -> Operator
+    requires { ⌜ (v ≤ 65536) × (i < 6) ⌝ }
+    ensures { λ r. ⌜ r ≡ withPoint op i (now (points .entry)) v ⌝ }
+{
+    let a = with_coordinate(op, i, points, v, 0);
+    let b = with_coordinate(a, i + 1, points, v, 1);
+    with_coordinate(b, i + 2, points, v, 2)
+}
