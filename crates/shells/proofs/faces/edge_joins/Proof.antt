@@ -1,0 +1,70 @@
+use Rattle.shells.specs.Shells.{joins}
+use borrow.Author.Needs.{needs}
+use Rattle.shells.proofs.faces.edge_joins.Statement.{statement}
+use Rattle.shells.proofs.faces.edge_joins.Tie as tie
+use Rattle.shells.proofs.faces.edge_joins.Reads as reads
+use Rattle.shells.proofs.faces.edge_joins.Lts as lts
+use Rattle.layout.proofs.columns.start_of.Reads as start-of-reads
+use Rattle.shells.proofs.faces.is_within.Reads as is-within-reads
+use Rattle.shells.proofs.faces.side_of.Reads as side-of-reads
+
+-- src/faces.rt:37:13
+cast-n : tie.Need-cast-n
+cast-n c = search needs
+
+-- src/faces.rt:38:37
+mul-start-of : tie.Need-mul-start-of
+mul-start-of c = search needs
+
+-- src/faces.rt:38:9
+start-of-requires : tie.Need-start-of-requires
+start-of-requires c κs = search needs
+
+-- src/faces.rt:39:32
+mul-side-of : tie.Need-mul-side-of
+mul-side-of c = search needs
+
+-- src/faces.rt:39:32
+sub-side-of : tie.Need-sub-side-of
+sub-side-of c = search needs
+
+-- src/faces.rt:39:9
+side-of-requires : tie.Need-side-of-requires
+side-of-requires c κs = search needs
+
+-- src/faces.rt:40:32
+mul-side-of-2 : tie.Need-mul-side-of-2
+mul-side-of-2 c = search needs
+
+-- src/faces.rt:40:9
+side-of-requires-2 : tie.Need-side-of-requires-2
+side-of-requires-2 c κs = search needs
+
+-- src/faces.rt:41:20
+is-within-requires : tie.Need-is-within-requires
+is-within-requires c κs = search needs
+
+-- src/faces.rt:41:38
+is-within-requires-2 : tie.Need-is-within-requires-2
+is-within-requires-2 c κs = search needs
+
+-- src/faces.rt:33:1
+returns : tie.Need-returns
+unfolding joins
+returns c = cc
+
+pub edge-joins-spec : {M : Type 1} → statement M
+edge-joins-spec =
+    tie.close
+    (tie.spec
+    cast-n
+    mul-start-of
+    start-of-requires
+    mul-side-of
+    sub-side-of
+    side-of-requires
+    mul-side-of-2
+    side-of-requires-2
+    is-within-requires
+    is-within-requires-2
+    returns)

@@ -1,0 +1,14 @@
+use mathlib.Core.Path.{refl}
+use Rattle.shells.specs.Shells.{within}
+use Rattle.shells.proofs.faces.is_within.Statement.{statement}
+use Rattle.shells.proofs.faces.is_within.Tie as tie
+use Rattle.shells.proofs.faces.is_within.Reads as reads
+use Rattle.shells.proofs.faces.is_within.Lts as lts
+
+-- src/faces.rt:26:1
+returns : tie.Need-returns
+unfolding within
+returns c = refl
+
+pub is-within-spec : {M : Type 1} → statement M
+is-within-spec = tie.close (tie.spec returns)

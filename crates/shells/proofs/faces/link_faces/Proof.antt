@@ -1,0 +1,67 @@
+use mathlib.Core.Path.{_≡_}
+use Prim.Native.Nat.{_-_, _≤_}
+use native.Mathlib.Omega.{arith}
+use borrow.Author.Needs.{needs}
+use Rattle.shells.specs.Shells.{Joined}
+use Rattle.shells.specs.ShellsLaws.{joined-start, joined-shells}
+use Rattle.shells.proofs.faces.link_faces.Statement.{statement}
+use Rattle.shells.proofs.faces.link_faces.Tie as tie
+use Rattle.shells.proofs.faces.link_faces.Reads as reads
+use Rattle.shells.proofs.faces.link_faces.Lts as lts
+use Rattle.shells.proofs.faces.link_edge.Reads as link-edge-reads
+use Rattle.shells.proofs.forest.separate.Reads as separate-reads
+
+abbrev Inv-loop : tie.InvT-loop
+Inv-loop links sh parent₀ n k₀ parent k = (k ≤ n) × Joined sh links k parent
+
+abbrev μ-loop : tie.MeasureT-loop
+μ-loop links sh parent₀ n k₀ parent k = n - k
+
+-- src/faces.rt:67:5
+separate-requires : tie.Need-separate-requires Inv-loop μ-loop
+separate-requires c κs = c .before .before .pre .1
+
+-- src/faces.rt:68:13
+cast-n : tie.Need-cast-n Inv-loop μ-loop
+cast-n c = search needs
+
+-- src/faces.rt:70:5
+loop-holds : tie.Need-loop-holds Inv-loop μ-loop
+loop-holds c = (omega arith, joined-start (c .before .separate .ensures) (c .before .before .before .before .pre .0 .0))
+
+-- src/faces.rt:71:9
+link-edge-requires : tie.Need-link-edge-requires Inv-loop μ-loop
+link-edge-requires c κs = ((c .before .before .before .before .before .before .before .pre .0 .0, omega arith), c .before .before .loop .inv .1)
+
+-- src/faces.rt:72:9
+add-k : tie.Need-add-k Inv-loop μ-loop
+add-k c = omega arith
+
+-- src/faces.rt:70:5
+loop-less : tie.Need-loop-less Inv-loop μ-loop
+loop-less c = omega arith
+
+-- src/faces.rt:70:5
+loop-again : tie.Need-loop-again Inv-loop μ-loop
+loop-again c = (omega arith, c .link-edge .ensures)
+
+-- src/faces.rt:62:1
+returns : tie.Need-returns Inv-loop μ-loop
+returns c =
+    let n : c .before .loop .k ≡ c .before .before .before .before .before .before .args .sh .edges = omega arith in
+    joined-shells (rw n at (c .before .loop .inv .1))
+
+pub link-faces-spec : {M : Type 1} → statement M
+link-faces-spec =
+    tie.close
+    (tie.spec
+    Inv-loop
+    μ-loop
+    separate-requires
+    cast-n
+    loop-holds
+    link-edge-requires
+    add-k
+    loop-less
+    loop-again
+    returns)
