@@ -273,14 +273,15 @@ unfoldable pub mfkrhTest : Shape → List ℕ → ℕ → ℕ → ℕ → Bool
 mfkrhTest sh x l f s =
     isRing sh x l && ((linkedAfter sh x l f f (loopFace sh x l) && eqb s 0) || (not (linkedAfter sh x l f f (loopFace sh x l)) && some s))
 
--- where s is 0, f stays in the old solid
+-- l is the outer loop of f, in the solid of its old face
+abbrev pub ringFace : Shape → List ℕ → ℕ → ℕ → List ℕ
+ringFace sh x l f = setLoopFace sh (putFace sh x f (faceSolid sh x (loopFace sh x l)) l) l f
+
+-- where s is 0, f stays in that solid
 unfoldable pub mfkrhLinks : Shape → List ℕ → ℕ → ℕ → ℕ → List ℕ
 mfkrhLinks sh x l f s =
-    pick (eqb s 0) joined
-    (sweep (kind (sh .face0) 2) 0 (sh .faces) (λ g old. pick (linkedAfter sh x l f f g) s old) (setSolidUsed sh joined s 1))
-  where
-    joined : List ℕ
-    joined = setLoopFace sh (putFace sh x f (faceSolid sh x (loopFace sh x l)) l) l f
+    pick (eqb s 0) (ringFace sh x l f)
+    (sweep (kind (sh .face0) 2) 0 (sh .faces) (λ g old. pick (linkedAfter sh x l f f g) s old) (setSolidUsed sh (ringFace sh x l f) s 1))
 
 abbrev pub mfkrhInverse : Shape → List ℕ → ℕ → ℕ → Operator
 mfkrhInverse sh x l f = operator 9 (loopFace sh x l ∷ f ∷ [])

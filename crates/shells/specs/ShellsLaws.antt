@@ -1,5 +1,5 @@
 -- Union and find over the edges of a table, one edge after another, finds its shells; and what the code asks of them.
-use mathlib.Core.Path.{_≡_, refl, subst, fun-ext}
+use mathlib.Core.Path.{_≡_, refl, _∙_, subst, fun-ext}
 use mathlib.Core.Logic.{_≢_}
 use mathlib.Core.Bool.{Bool, true, false, not, _&&_}
 use Prim.Native.Nat.{ℕ, suc, _+_, _≤_}
@@ -62,6 +62,11 @@ module _ (sh : Shape) (x : List ℕ) (s : ℕ → ℕ) where
   pub ends : (e : ℕ) → Used (sh .edges) (joins sh x s) e → Ends (sh .faces) s e
   ends e u = joins-T e (u .2) .1
 
+-- shortened paths change no answer
+pub one-root-short : {p q : List ℕ} (n : ℕ) → SameRoots p q → (f g : ℕ) → oneRoot n q f g ≡ oneRoot n p f g
+unfolding oneRoot
+one-root-short n r f g = rw (r .roots f, r .roots g)
+
 -- ---- edge after edge
 
 module _ {sh : Shape} {x : List ℕ} {s : ℕ → ℕ} {p : List ℕ} where
@@ -102,8 +107,7 @@ module _ {sh : Shape} {x : List ℕ} {s : ℕ → ℕ} {p : List ℕ} where
 
   -- shortened paths change no shell
   pub shells-short : {q : List ℕ} → Shells sh x s p → SameRoots p q → Shells sh x s q
-  unfolding oneRoot
-  shells-short c r = record { forest = forest-short (c .forest) r; one = λ f g. rw (r .roots f, r .roots g) (c .one f g) }
+  shells-short c r = record { forest = forest-short (c .forest) r; one = λ f g. one-root-short (sh .faces) r f g ∙ c .one f g }
 
 -- ---- one root or not
 

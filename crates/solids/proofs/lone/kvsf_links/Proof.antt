@@ -1,0 +1,44 @@
+use borrow.Author.Needs.{needs}
+use Rattle.solids.proofs.lone.kvsf_links.Statement.{statement}
+use Rattle.solids.proofs.lone.kvsf_links.Tie as tie
+use Rattle.solids.proofs.lone.kvsf_links.Reads as reads
+use Rattle.solids.proofs.lone.kvsf_links.Lts as lts
+use Rattle.euler.proofs.records.put_face.Reads as put-face-reads
+use Rattle.euler.proofs.records.put_loop.Reads as put-loop-reads
+use Rattle.layout.proofs.columns.set_solid_used.Reads as set-solid-used-reads
+use Rattle.layout.proofs.columns.set_vertex_used.Reads as set-vertex-used-reads
+
+-- src/lone.rt:36:5
+set-solid-used-requires : tie.Need-set-solid-used-requires
+set-solid-used-requires c κs = search needs
+
+-- src/lone.rt:37:5
+put-face-requires : tie.Need-put-face-requires
+put-face-requires c κs = search needs
+
+-- src/lone.rt:38:5
+put-loop-requires : tie.Need-put-loop-requires
+put-loop-requires c κs = search needs
+
+-- src/lone.rt:39:5
+set-vertex-used-requires : tie.Need-set-vertex-used-requires
+set-vertex-used-requires c κs = search needs
+
+-- src/lone.rt:32:1
+same-length : tie.Need-same-length
+same-length c = search needs
+
+-- src/lone.rt:32:1
+returns : tie.Need-returns
+returns c = ?
+
+pub kvsf-links-spec : {M : Type 1} → statement M
+kvsf-links-spec =
+    tie.close
+    (tie.spec
+    set-solid-used-requires
+    put-face-requires
+    put-loop-requires
+    set-vertex-used-requires
+    same-length
+    returns)

@@ -1,0 +1,80 @@
+use Rattle.solids.proofs.moves.move_faces.Statement.{statement}
+use Rattle.solids.proofs.moves.move_faces.Tie as tie
+use Rattle.solids.proofs.moves.move_faces.Reads as reads
+use Rattle.solids.proofs.moves.move_faces.Lts as lts
+use Rattle.euler.proofs.records.choose.Reads as choose-reads
+use Rattle.layout.proofs.columns.face_solid.Reads as face-solid-reads
+use Rattle.layout.proofs.columns.set_face_solid.Reads as set-face-solid-reads
+
+abbrev Inv-loop : tie.InvT-loop
+Inv-loop links₀ sh s t n k₀ links k = ?
+
+abbrev μ-loop : tie.MeasureT-loop
+μ-loop links₀ sh s t n k₀ links k = ?
+
+-- src/moves.rt:18:13
+cast-n : tie.Need-cast-n Inv-loop μ-loop
+cast-n c = ?
+
+-- src/moves.rt:20:5
+loop-holds : tie.Need-loop-holds Inv-loop μ-loop
+loop-holds c = ?
+
+-- src/moves.rt:21:41
+add-face-solid : tie.Need-add-face-solid Inv-loop μ-loop
+add-face-solid c = ?
+
+-- src/moves.rt:21:13
+face-solid-requires : tie.Need-face-solid-requires Inv-loop μ-loop
+face-solid-requires c κs = ?
+
+-- src/moves.rt:22:13
+choose-requires : tie.Need-choose-requires Inv-loop μ-loop
+choose-requires c κs = ?
+
+-- src/moves.rt:23:35
+add-set-face-solid : tie.Need-add-set-face-solid Inv-loop μ-loop
+add-set-face-solid c = ?
+
+-- src/moves.rt:23:9
+set-face-solid-requires : tie.Need-set-face-solid-requires Inv-loop μ-loop
+set-face-solid-requires c κs = ?
+
+-- src/moves.rt:24:9
+add-k : tie.Need-add-k Inv-loop μ-loop
+add-k c = ?
+
+-- src/moves.rt:20:5
+loop-less : tie.Need-loop-less Inv-loop μ-loop
+loop-less c = ?
+
+-- src/moves.rt:20:5
+loop-again : tie.Need-loop-again Inv-loop μ-loop
+loop-again c = ?
+
+-- src/moves.rt:14:1
+same-length : tie.Need-same-length Inv-loop μ-loop
+same-length c = ?
+
+-- src/moves.rt:14:1
+returns : tie.Need-returns Inv-loop μ-loop
+returns c = ?
+
+pub move-faces-spec : {M : Type 1} → statement M
+move-faces-spec =
+    tie.close
+    (tie.spec
+    Inv-loop
+    μ-loop
+    cast-n
+    loop-holds
+    add-face-solid
+    face-solid-requires
+    choose-requires
+    add-set-face-solid
+    set-face-solid-requires
+    add-k
+    loop-less
+    loop-again
+    same-length
+    returns)

@@ -1,0 +1,91 @@
+use Rattle.solids.proofs.moves.move_shell.Statement.{statement}
+use Rattle.solids.proofs.moves.move_shell.Tie as tie
+use Rattle.solids.proofs.moves.move_shell.Reads as reads
+use Rattle.solids.proofs.moves.move_shell.Lts as lts
+use Rattle.euler.proofs.records.choose.Reads as choose-reads
+use Rattle.layout.proofs.columns.face_solid.Reads as face-solid-reads
+use Rattle.layout.proofs.columns.set_face_solid.Reads as set-face-solid-reads
+use Rattle.shells.proofs.faces.same_shell.Reads as same-shell-reads
+
+abbrev Inv-loop : tie.InvT-loop
+Inv-loop links₀ sh parent₀ f s n k₀ links parent k = ?
+
+abbrev μ-loop : tie.MeasureT-loop
+μ-loop links₀ sh parent₀ f s n k₀ links parent k = ?
+
+-- src/moves.rt:34:13
+cast-n : tie.Need-cast-n Inv-loop μ-loop
+cast-n c = ?
+
+-- src/moves.rt:36:5
+loop-holds : tie.Need-loop-holds Inv-loop μ-loop
+loop-holds c = ?
+
+-- src/moves.rt:37:41
+add-face-solid : tie.Need-add-face-solid Inv-loop μ-loop
+add-face-solid c = ?
+
+-- src/moves.rt:37:13
+face-solid-requires : tie.Need-face-solid-requires Inv-loop μ-loop
+face-solid-requires c κs = ?
+
+-- src/moves.rt:38:46
+add-same-shell : tie.Need-add-same-shell Inv-loop μ-loop
+add-same-shell c = ?
+
+-- src/moves.rt:38:13
+same-shell-requires : tie.Need-same-shell-requires Inv-loop μ-loop
+same-shell-requires c κs = ?
+
+-- src/moves.rt:39:13
+choose-requires : tie.Need-choose-requires Inv-loop μ-loop
+choose-requires c κs = ?
+
+-- src/moves.rt:40:35
+add-set-face-solid : tie.Need-add-set-face-solid Inv-loop μ-loop
+add-set-face-solid c = ?
+
+-- src/moves.rt:40:9
+set-face-solid-requires : tie.Need-set-face-solid-requires Inv-loop μ-loop
+set-face-solid-requires c κs = ?
+
+-- src/moves.rt:41:9
+add-k : tie.Need-add-k Inv-loop μ-loop
+add-k c = ?
+
+-- src/moves.rt:36:5
+loop-less : tie.Need-loop-less Inv-loop μ-loop
+loop-less c = ?
+
+-- src/moves.rt:36:5
+loop-again : tie.Need-loop-again Inv-loop μ-loop
+loop-again c = ?
+
+-- src/moves.rt:29:1
+same-length : tie.Need-same-length Inv-loop μ-loop
+same-length c = ?
+
+-- src/moves.rt:29:1
+returns : tie.Need-returns Inv-loop μ-loop
+returns c = ?
+
+pub move-shell-spec : {M : Type 1} → statement M
+move-shell-spec =
+    tie.close
+    (tie.spec
+    Inv-loop
+    μ-loop
+    cast-n
+    loop-holds
+    add-face-solid
+    face-solid-requires
+    add-same-shell
+    same-shell-requires
+    choose-requires
+    add-set-face-solid
+    set-face-solid-requires
+    add-k
+    loop-less
+    loop-again
+    same-length
+    returns)
