@@ -3,3 +3,4 @@ pub mod Operators
 pub mod Exec
 pub mod Examples
 pub mod SurgeryLaws
+pub mod Scans
