@@ -42,21 +42,31 @@ module _ (base width : ℕ) (x : List ℕ) (label i s : ℕ) (done : s ≡ count
 pub least-all : (n : ℕ) (p : ℕ → Bool) → leastFrom (n + 1 - 1) 1 p ≡ least n p
 least-all n p = let e : n + 1 - 1 ≡ n = omega arith in rw e
 
+-- any test: record i passes, it does not, or all have been asked
+module _ (p : ℕ → Bool) (n i whole : ℕ) (rest : leastFrom (n + 1 - i) i p ≡ whole) where
+  pub found-here : i ≤ n → p i ≡ true → i ≡ whole
+  unfolding leastFrom
+  found-here h e = let m : n + 1 - i ≡ suc (n - i) = omega arith in rw (m, e) at rest
+
+  pub found-on : i ≤ n → p i ≡ false → leastFrom (n + 1 - (i + 1)) (i + 1) p ≡ whole
+  unfolding leastFrom
+  found-on h e =
+      let m : n + 1 - i ≡ suc (n - i) = omega arith in
+      let k : n + 1 - (i + 1) ≡ n - i = omega arith in
+      rw (k, add-one i) (rw (m, e) at rest)
+
+  pub found-none : n < i → 0 ≡ whole
+  unfolding leastFrom
+  found-none h = let m : n + 1 - i ≡ 0 = omega arith in rw m at rest
+
+-- the test of a label
 module _ (base width : ℕ) (x : List ℕ) (label n i whole : ℕ) (rest : leastFrom (n + 1 - i) i (naming base width x label) ≡ whole) where
   pub least-here : i ≤ n → (owner : ℕ) → owner ≡ col (kind base width) 0 x i → owner ≡ label → i ≡ whole
-  unfolding leastFrom
-  least-here h owner e q =
-      let m : n + 1 - i ≡ suc (n - i) = omega arith in
-      rw (m, ← e, eq-eqb owner label q) at rest
+  least-here h owner e q = found-here (naming base width x label) n i whole rest h (rw (← e) (eq-eqb owner label q))
 
   pub least-on : i ≤ n → (owner : ℕ) → owner ≡ col (kind base width) 0 x i → (owner ≡ label → ⊥)
       → leastFrom (n + 1 - (i + 1)) (i + 1) (naming base width x label) ≡ whole
-  unfolding leastFrom
-  least-on h owner e q =
-      let m : n + 1 - i ≡ suc (n - i) = omega arith in
-      let k : n + 1 - (i + 1) ≡ n - i = omega arith in
-      rw (k, add-one i) (rw (m, ← e, ne-eqb owner label q) at rest)
+  least-on h owner e q = found-on (naming base width x label) n i whole rest h (rw (← e) (ne-eqb owner label q))
 
   pub least-past : n < i → 0 ≡ whole
-  unfolding leastFrom
-  least-past h = let m : n + 1 - i ≡ 0 = omega arith in rw m at rest
+  least-past h = found-none (naming base width x label) n i whole rest h

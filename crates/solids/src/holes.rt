@@ -2,9 +2,11 @@
 // or kills a hole through it; between two it joins or divides solids.
 ghost use mathlib.Core.Path.{_≡_};
 ghost use Prim.Native.Nat.{ℕ, _<_, _≤_};
-ghost use Rattle.euler.specs.Operators.{kfmrhLinks, kfmrhInverse, ringFace, mfkrhTest, mfkrhLinks, mfkrhInverse};
+ghost use Rattle.euler.specs.Operators.{kfmrhTest, kfmrhLinks, kfmrhInverse, ringFace, mfkrhTest, mfkrhLinks, mfkrhInverse};
 use crate::moves::move_faces;
 use crate::moves::move_shell;
+use euler::faces::is_ring;
+use euler::faces::loops_in;
 use euler::records::choose;
 use euler::records::put_face;
 use layout::columns::face_outer;
@@ -18,6 +20,14 @@ use script::blank;
 use script::with_number;
 use shells::faces::link_faces;
 use shells::faces::linked_faces;
+
+pub fn kfmrh_fits(links: &[u16], sh: Shape, f1: usize, f2: usize) -> bool
+    requires { ⌜ sh .loops < 65536 ⌝ }
+    ensures { λ r. ⌜ r ≡ kfmrhTest sh (now (links .entry)) f1 f2 ⌝ }
+{
+    let loops = loops_in(links, sh, f2);
+    (f1 != f2) & (loops == 1)
+}
 
 // Where both faces lie in one solid, its faces pass to it and its mark is set again: nothing changes for them.
 pub fn kfmrh_links(links: &mut [u16], sh: Shape, f1: usize, f2: usize)
@@ -53,9 +63,9 @@ pub fn mfkrh_fits(links: &[u16], sh: Shape, l: usize, f: usize, s: usize) -> boo
     ensures { λ r. ⌜ r ≡ mfkrhTest sh (now (links .entry)) l f s ⌝ }
 {
     let old = loop_face(links, sh, l);
-    let outer = face_outer(links, sh, old);
+    let ring = is_ring(links, sh, l);
     let linked = linked_faces(links, sh, l, f, f, old);
-    (outer != l) & ((linked & (s == 0)) | (!linked & (s != 0)))
+    ring & ((linked & (s == 0)) | (!linked & (s != 0)))
 }
 
 // Ring l becomes the outer loop of the new face f, in the solid of its old face.

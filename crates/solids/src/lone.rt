@@ -1,9 +1,14 @@
 // A solid of one face with one lone loop: mvsf makes it, kvsf kills it.
 ghost use mathlib.Core.Path.{_≡_};
 ghost use Prim.Native.Nat.{ℕ, _<_, _≤_};
-ghost use Rattle.euler.specs.Operators.{mvsfLinks, mvsfInverse, kvsfLinks};
+ghost use Rattle.euler.specs.Operators.{faceIn, facesIn, mvsfLinks, mvsfInverse, kvsfTest, kvsfLinks};
+use euler::faces::loops_in;
 use euler::records::put_face;
 use euler::records::put_loop;
+use euler::scans::count_naming;
+use euler::scans::least_naming_one;
+use layout::columns::face_outer;
+use layout::columns::loop_isolated;
 use layout::columns::set_solid_used;
 use layout::columns::set_vertex_used;
 use layout::shape::Shape;
@@ -26,6 +31,34 @@ pub fn mvsf_inverse(s: usize) -> Operator
     ensures { λ r. ⌜ r ≡ mvsfInverse s ⌝ }
 {
     with_number(blank(2, 1), 0, s)
+}
+
+// The least face of solid s; 0 where it has none.
+pub fn face_in(links: &[u16], sh: Shape, s: usize) -> usize
+    requires { ⌜ sh .faces < 65536 ⌝ }
+    ensures { λ r. ⌜ (r ≡ faceIn sh (now (links .entry)) s) × (r < 65536) ⌝ }
+{
+    least_naming_one(links, sh.face0, 2, sh.faces as usize, s)
+}
+
+// How many faces solid s has.
+pub fn faces_in(links: &[u16], sh: Shape, s: usize) -> usize
+    requires { ⌜ sh .faces < 65536 ⌝ }
+    ensures { λ r. ⌜ (r ≡ facesIn sh (now (links .entry)) s) × (r < 65536) ⌝ }
+{
+    count_naming(links, sh.face0, 2, sh.faces as usize, s)
+}
+
+pub fn kvsf_fits(links: &[u16], sh: Shape, s: usize) -> bool
+    requires { ⌜ (sh .faces < 65536) × (sh .loops < 65536) ⌝ }
+    ensures { λ r. ⌜ r ≡ kvsfTest sh (now (links .entry)) s ⌝ }
+{
+    let f = face_in(links, sh, s);
+    let faces = faces_in(links, sh, s);
+    let loops = loops_in(links, sh, f);
+    let l = face_outer(links, sh, f);
+    let v = loop_isolated(links, sh, l);
+    (faces == 1) & (loops == 1) & (v != 0)
 }
 
 // Solid s has the face f alone, f the loop l alone, and l is lone at vertex v.

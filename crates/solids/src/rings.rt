@@ -1,7 +1,10 @@
 // rmov: a ring becomes the outer loop of its face, or passes to a neighbouring face.
 ghost use mathlib.Core.Path.{_≡_};
-ghost use Prim.Native.Nat.{ℕ, _<_, _≤_};
-ghost use Rattle.euler.specs.Operators.{sharesOutside, rmovLinks, rmovInverse};
+ghost use Prim.Native.Nat.{ℕ, _*_, _<_, _≤_};
+ghost use Rattle.laws.specs.Search.{least};
+ghost use Rattle.euler.specs.Operators.{sharesOutside, rmovTest, rmovLinks, rmovInverse};
+use euler::faces::is_ring;
+use euler::faces::side_of;
 use euler::records::choose;
 use layout::columns::face_outer;
 use layout::columns::loop_face;
@@ -22,12 +25,37 @@ fn shares_outside(links: &[u16], sh: Shape, l: usize, f: usize, k: usize) -> boo
 {
     let start = start_of(links, sh, k);
     let owner = loop_of(links, sh, k);
-    let here = loop_face(links, sh, owner);
+    let here = side_of(links, sh, k);
     let old = loop_face(links, sh, l);
-    let m = mate_of(k);
-    let across = loop_of(links, sh, m);
-    let there = loop_face(links, sh, across);
+    let there = side_of(links, sh, mate_of(k));
     (start != 0) & (here == old) & (owner != l) & (there == f)
+}
+
+// The least half-edge that does so; 0 where none does.
+fn sharing_half(links: &[u16], sh: Shape, l: usize, f: usize) -> usize
+    requires { ⌜ (sh .edges ≤ 4096) × (l < 65536) ⌝ }
+    ensures { λ r. ⌜ r ≡ least (2 * sh .edges) (sharesOutside sh (now (links .entry)) l f) ⌝ }
+{
+    let n = 2 * sh.edges as usize;
+    let mut k: usize = 1;
+    while k <= n {
+        let shares = shares_outside(links, sh, l, f, k);
+        if shares {
+            return k;
+        }
+        k += 1;
+    }
+    0
+}
+
+pub fn rmov_fits(links: &[u16], sh: Shape, l: usize, f: usize) -> bool
+    requires { ⌜ (sh .edges ≤ 4096) × (l < 65536) ⌝ }
+    ensures { λ r. ⌜ r ≡ rmovTest sh (now (links .entry)) l f ⌝ }
+{
+    let old = loop_face(links, sh, l);
+    let ring = is_ring(links, sh, l);
+    let k = sharing_half(links, sh, l, f);
+    ring & ((f == old) | (k != 0))
 }
 
 pub fn rmov_links(links: &mut [u16], sh: Shape, l: usize, f: usize)

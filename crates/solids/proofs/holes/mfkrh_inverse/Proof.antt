@@ -25,7 +25,7 @@ with-number-requires-2 c κs = search needs
 
 -- src/holes.rt:87:1
 returns : tie.Need-returns
-returns c = ?
+returns c = rw (c .with-number2 .ensures, c .before .with-number .ensures, c .before .before .blank .ensures, c .before .before .before .loop-face .ensures .0)
 
 pub mfkrh-inverse-spec : {M : Type 1} → statement M
 mfkrh-inverse-spec =

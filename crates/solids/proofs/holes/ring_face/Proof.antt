@@ -30,7 +30,7 @@ same-length c = search needs
 
 -- src/holes.rt:62:1
 returns : tie.Need-returns
-returns c = ?
+returns c = cc
 
 pub ring-face-spec : {M : Type 1} → statement M
 ring-face-spec =

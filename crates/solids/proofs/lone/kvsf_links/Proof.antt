@@ -1,3 +1,4 @@
+use Rattle.euler.specs.Operators.{kvsfLinks}
 use borrow.Author.Needs.{needs}
 use Rattle.solids.proofs.lone.kvsf_links.Statement.{statement}
 use Rattle.solids.proofs.lone.kvsf_links.Tie as tie
@@ -30,7 +31,8 @@ same-length c = search needs
 
 -- src/lone.rt:32:1
 returns : tie.Need-returns
-returns c = ?
+unfolding kvsfLinks
+returns c = cc
 
 pub kvsf-links-spec : {M : Type 1} → statement M
 kvsf-links-spec =

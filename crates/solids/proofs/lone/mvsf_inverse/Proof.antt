@@ -16,7 +16,7 @@ with-number-requires c κs = search needs
 
 -- src/lone.rt:24:1
 returns : tie.Need-returns
-returns c = ?
+returns c = cc
 
 pub mvsf-inverse-spec : {M : Type 1} → statement M
 mvsf-inverse-spec = tie.close (tie.spec blank-requires with-number-requires returns)

@@ -1,3 +1,4 @@
+use Rattle.euler.specs.Operators.{mvsfLinks}
 use borrow.Author.Needs.{needs}
 use Rattle.solids.proofs.lone.mvsf_links.Statement.{statement}
 use Rattle.solids.proofs.lone.mvsf_links.Tie as tie
@@ -30,7 +31,8 @@ same-length c = search needs
 
 -- src/lone.rt:14:1
 returns : tie.Need-returns
-returns c = ?
+unfolding mvsfLinks
+returns c = cc
 
 pub mvsf-links-spec : {M : Type 1} → statement M
 mvsf-links-spec =

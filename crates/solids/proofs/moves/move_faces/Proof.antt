@@ -1,3 +1,12 @@
+use borrow.Author.Needs.{needs}
+use mathlib.Core.Path.{_≡_}
+use native.Mathlib.Omega.{arith}
+use Prim.Native.Nat.{_-_, _≤_}
+use lib.Dec.{eqb}
+use lib.ListN.{length}
+use Rattle.laws.specs.Bools.{pick}
+use Rattle.solids.specs.Moves.{sweepFaces}
+use Rattle.solids.specs.SolidsLaws.{sweep-none, sweep-more, sweep-all}
 use Rattle.solids.proofs.moves.move_faces.Statement.{statement}
 use Rattle.solids.proofs.moves.move_faces.Tie as tie
 use Rattle.solids.proofs.moves.move_faces.Reads as reads
@@ -7,58 +16,58 @@ use Rattle.layout.proofs.columns.face_solid.Reads as face-solid-reads
 use Rattle.layout.proofs.columns.set_face_solid.Reads as set-face-solid-reads
 
 abbrev Inv-loop : tie.InvT-loop
-Inv-loop links₀ sh s t n k₀ links k = ?
+Inv-loop links₀ sh s t n k₀ links k = (k ≤ n) × (length links ≡ length links₀) × (links ≡ sweepFaces sh k (λ f old. pick (eqb old s) t old) links₀)
 
 abbrev μ-loop : tie.MeasureT-loop
-μ-loop links₀ sh s t n k₀ links k = ?
+μ-loop links₀ sh s t n k₀ links k = n - k
 
 -- src/moves.rt:18:13
 cast-n : tie.Need-cast-n Inv-loop μ-loop
-cast-n c = ?
+cast-n c = search needs
 
 -- src/moves.rt:20:5
 loop-holds : tie.Need-loop-holds Inv-loop μ-loop
-loop-holds c = ?
+loop-holds c = (omega arith, omega arith, sweep-none (c .before .before .args .sh) _ _)
 
 -- src/moves.rt:21:41
 add-face-solid : tie.Need-add-face-solid Inv-loop μ-loop
-add-face-solid c = ?
+add-face-solid c = omega arith
 
 -- src/moves.rt:21:13
 face-solid-requires : tie.Need-face-solid-requires Inv-loop μ-loop
-face-solid-requires c κs = ?
+face-solid-requires c κs = omega arith
 
 -- src/moves.rt:22:13
 choose-requires : tie.Need-choose-requires Inv-loop μ-loop
-choose-requires c κs = ?
+choose-requires c κs = search needs
 
 -- src/moves.rt:23:35
 add-set-face-solid : tie.Need-add-set-face-solid Inv-loop μ-loop
-add-set-face-solid c = ?
+add-set-face-solid c = omega arith
 
 -- src/moves.rt:23:9
 set-face-solid-requires : tie.Need-set-face-solid-requires Inv-loop μ-loop
-set-face-solid-requires c κs = ?
+set-face-solid-requires c κs = search needs
 
 -- src/moves.rt:24:9
 add-k : tie.Need-add-k Inv-loop μ-loop
-add-k c = ?
+add-k c = omega arith
 
 -- src/moves.rt:20:5
 loop-less : tie.Need-loop-less Inv-loop μ-loop
-loop-less c = ?
+loop-less c = omega arith
 
 -- src/moves.rt:20:5
 loop-again : tie.Need-loop-again Inv-loop μ-loop
-loop-again c = ?
+loop-again c = (omega arith, omega arith, sweep-more (c .before .before .before .before .before .before .before .before .before .before .before .args .sh) _ _ _ _ _ _ _ (c .before .before .before .before .before .before .before .before .loop .inv .2) (c .before .before .before .before .before .face-solid .ensures .0) (c .before .before .before .before .choose .ensures .0) (c .before .before .set-face-solid .ensures))
 
 -- src/moves.rt:14:1
 same-length : tie.Need-same-length Inv-loop μ-loop
-same-length c = ?
+same-length c = omega arith
 
 -- src/moves.rt:14:1
 returns : tie.Need-returns Inv-loop μ-loop
-returns c = ?
+returns c = sweep-all (c .before .before .before .before .args .sh) _ _ _ _ _ (omega arith) (omega arith) (c .before .loop .inv .2)
 
 pub move-faces-spec : {M : Type 1} → statement M
 move-faces-spec =

@@ -1,3 +1,4 @@
+use Rattle.solids.specs.SolidsLaws.{rmov-within, rmov-over}
 use borrow.Author.Needs.{needs}
 use Rattle.solids.proofs.rings.rmov_links.Statement.{statement}
 use Rattle.solids.proofs.rings.rmov_links.Tie as tie
@@ -21,7 +22,9 @@ same-length c = search needs
 
 -- src/rings.rt:40:9
 returns : tie.Need-returns
-returns c = ?
+returns c = 
+    let a = c .before .before .before .before .before .before .before .before .args in
+    rmov-within (a .sh) (a .links .now) (a .l) (a .f) _ _ (c .before .before .before .before .before .loop-face .ensures .0) (c .before .before .before .before .if1 .taken) (c .before .before .set-face-outer .ensures)
 
 -- src/rings.rt:42:5
 set-loop-face-requires : tie.Need-set-loop-face-requires
@@ -33,7 +36,9 @@ same-length-2 c = search needs
 
 -- src/rings.rt:33:1
 returns-2 : tie.Need-returns-2
-returns-2 c = ?
+returns-2 c = 
+    let a = c .before .before .before .before .before .before .before .before .args in
+    rmov-over (a .sh) (a .links .now) (a .l) (a .f) _ _ (c .before .before .before .before .before .loop-face .ensures .0) (c .before .before .before .before .if1 .left) (c .before .before .set-loop-face .ensures)
 
 pub rmov-links-spec : {M : Type 1} → statement M
 rmov-links-spec =

@@ -3,42 +3,39 @@ use Rattle.solids.proofs.rings.shares_outside.Statement.{statement}
 use Rattle.solids.proofs.rings.shares_outside.Tie as tie
 use Rattle.solids.proofs.rings.shares_outside.Reads as reads
 use Rattle.solids.proofs.rings.shares_outside.Lts as lts
+use Rattle.euler.proofs.faces.side_of.Reads as side-of-reads
 use Rattle.layout.proofs.columns.loop_face.Reads as loop-face-reads
 use Rattle.layout.proofs.columns.loop_of.Reads as loop-of-reads
 use Rattle.layout.proofs.columns.start_of.Reads as start-of-reads
 use Rattle.layout.proofs.mates.mate_of.Reads as mate-of-reads
 
--- src/rings.rt:23:9
+-- src/rings.rt:26:9
 start-of-requires : tie.Need-start-of-requires
 start-of-requires c κs = search needs
 
--- src/rings.rt:24:9
+-- src/rings.rt:27:9
 loop-of-requires : tie.Need-loop-of-requires
 loop-of-requires c κs = search needs
 
--- src/rings.rt:25:9
+-- src/rings.rt:28:9
+side-of-requires : tie.Need-side-of-requires
+side-of-requires c κs = search needs
+
+-- src/rings.rt:29:9
 loop-face-requires : tie.Need-loop-face-requires
 loop-face-requires c κs = search needs
 
--- src/rings.rt:26:9
-loop-face-requires-2 : tie.Need-loop-face-requires-2
-loop-face-requires-2 c κs = search needs
-
--- src/rings.rt:27:9
+-- src/rings.rt:30:36
 mate-of-requires : tie.Need-mate-of-requires
 mate-of-requires c κs = search needs
 
--- src/rings.rt:28:9
-loop-of-requires-2 : tie.Need-loop-of-requires-2
-loop-of-requires-2 c κs = search needs
+-- src/rings.rt:30:9
+side-of-requires-2 : tie.Need-side-of-requires-2
+side-of-requires-2 c κs = search needs
 
--- src/rings.rt:29:9
-loop-face-requires-3 : tie.Need-loop-face-requires-3
-loop-face-requires-3 c κs = search needs
-
--- src/rings.rt:19:1
+-- src/rings.rt:22:1
 returns : tie.Need-returns
-returns c = ?
+returns c = cc
 
 pub shares-outside-spec : {M : Type 1} → statement M
 shares-outside-spec =
@@ -46,9 +43,8 @@ shares-outside-spec =
     (tie.spec
     start-of-requires
     loop-of-requires
+    side-of-requires
     loop-face-requires
-    loop-face-requires-2
     mate-of-requires
-    loop-of-requires-2
-    loop-face-requires-3
+    side-of-requires-2
     returns)
