@@ -52,6 +52,10 @@ Ends n s e = (1 ≤ sideA s e) × (sideA s e ≤ n) × (1 ≤ sideB s e) × (sid
 pub record Sided (sh : Shape) (x : List ℕ) (s : ℕ → ℕ) : Type 0 where
   pub at : (e : ℕ) → 1 ≤ e → e ≤ sh .edges → T (edgeUsed sh x e) → Ends (sh .faces) s e
 
+-- one of the edges 1 to m joins f to g
+abbrev pub Joins : Shape → List ℕ → (ℕ → ℕ) → ℕ → ℕ → ℕ → Type 0
+Joins sh x s m = Edge (Used m (joins sh x s)) (sideA s) (sideB s)
+
 -- f and g are faces, and a chain of faces links them
 unfoldable pub linkedBy : Shape → List ℕ → (ℕ → ℕ) → ℕ → ℕ → Bool
 linkedBy sh x s f g =
@@ -89,4 +93,4 @@ pub record Shells (sh : Shape) (x : List ℕ) (s : ℕ → ℕ) (p : List ℕ) :
 -- the classes are what the edges 1 to m link
 pub record Joined (sh : Shape) (x : List ℕ) (s : ℕ → ℕ) (m : ℕ) (p : List ℕ) : Type 0 where
   pub forest : Forest p
-  pub classes : Classes (sh .faces) (Edge (Used m (joins sh x s)) (sideA s) (sideB s)) p
+  pub classes : Classes (sh .faces) (Joins sh x s m) p

@@ -5,6 +5,7 @@ ghost use lib.ListN.{length};
 ghost use Rattle.laws.specs.Union.{root, SameRoots, United};
 ghost use Rattle.shells.specs.Forest.{Forest, Apart};
 
+// A word as an index.
 pub fn wide(x: u16) -> usize
     ensures { λ r. ⌜ r ≡ x ⌝ }
 {

@@ -1,5 +1,5 @@
 // Which faces belong together: the shells of a table, found by union and find in near-linear time.
 //
 // Nothing is asked of the table but that its capacities are small: an edge with a side that is no face is passed over.
-mod forest;
 pub mod faces;
+mod forest;

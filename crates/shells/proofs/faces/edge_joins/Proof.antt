@@ -8,47 +8,36 @@ use Rattle.layout.proofs.columns.start_of.Reads as start-of-reads
 use Rattle.shells.proofs.faces.is_within.Reads as is-within-reads
 use Rattle.shells.proofs.faces.side_as.Reads as side-as-reads
 
--- src/faces.rt:37:13
 cast-n : tie.Need-cast-n
 cast-n c = search needs
 
--- src/faces.rt:38:37
 mul-start-of : tie.Need-mul-start-of
 mul-start-of c = search needs
 
--- src/faces.rt:38:9
 start-of-requires : tie.Need-start-of-requires
 start-of-requires c κs = search needs
 
--- src/faces.rt:39:32
 mul-side-as : tie.Need-mul-side-as
 mul-side-as c = search needs
 
--- src/faces.rt:39:32
 sub-side-as : tie.Need-sub-side-as
 sub-side-as c = search needs
 
--- src/faces.rt:39:9
 side-as-requires : tie.Need-side-as-requires
 side-as-requires c κs = search needs
 
--- src/faces.rt:40:32
 mul-side-as-2 : tie.Need-mul-side-as-2
 mul-side-as-2 c = search needs
 
--- src/faces.rt:40:9
 side-as-requires-2 : tie.Need-side-as-requires-2
 side-as-requires-2 c κs = search needs
 
--- src/faces.rt:41:20
 is-within-requires : tie.Need-is-within-requires
 is-within-requires c κs = search needs
 
--- src/faces.rt:41:38
 is-within-requires-2 : tie.Need-is-within-requires-2
 is-within-requires-2 c κs = search needs
 
--- src/faces.rt:33:1
 returns : tie.Need-returns
 unfolding joins
 returns c = cc

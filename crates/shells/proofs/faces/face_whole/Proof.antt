@@ -9,23 +9,18 @@ use Rattle.layout.proofs.columns.face_solid.Reads as face-solid-reads
 use Rattle.shells.proofs.faces.leader_of.Reads as leader-of-reads
 use Rattle.shells.proofs.faces.same_shell.Reads as same-shell-reads
 
--- src/faces.rt:118:9
 face-solid-requires : tie.Need-face-solid-requires
 face-solid-requires c κs = search needs
 
--- src/faces.rt:120:9
 returns : tie.Need-returns
 returns c = (whole-free _ _ _ _ (sym (c .before .face-solid .ensures .0) ∙ c .if1 .taken), c .before .before .before .pre .1)
 
--- src/faces.rt:122:9
 leader-of-requires : tie.Need-leader-of-requires
 leader-of-requires c κs = search needs
 
--- src/faces.rt:123:5
 same-shell-requires : tie.Need-same-shell-requires
 same-shell-requires c κs = search needs
 
--- src/faces.rt:113:1
 returns-2 : tie.Need-returns-2
 returns-2 c =
     let r = c .same-shell .ensures in

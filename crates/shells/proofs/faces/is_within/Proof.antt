@@ -5,7 +5,6 @@ use Rattle.shells.proofs.faces.is_within.Tie as tie
 use Rattle.shells.proofs.faces.is_within.Reads as reads
 use Rattle.shells.proofs.faces.is_within.Lts as lts
 
--- src/faces.rt:26:1
 returns : tie.Need-returns
 unfolding within
 returns c = refl

@@ -8,23 +8,18 @@ use Rattle.shells.proofs.faces.leader_of.Reads as reads
 use Rattle.shells.proofs.faces.leader_of.Lts as lts
 use Rattle.shells.proofs.forest.wide.Reads as wide-reads
 
--- src/faces.rt:107:21
 mul-wide : tie.Need-mul-wide
 mul-wide c = search needs
 
--- src/faces.rt:107:21
 element-copy-out-wide : tie.Need-element-copy-out-wide
 element-copy-out-wide c = search needs
 
--- src/faces.rt:107:9
 wide-requires : tie.Need-wide-requires
 wide-requires c κs = search needs
 
--- src/faces.rt:107:9
 returns : tie.Need-returns
 returns c = search needs
 
--- src/faces.rt:102:1
 returns-2 : tie.Need-returns-2
 returns-2 c = sym (List·getD-eq-default (c .before .args .leaders .now) 0 (omega arith))
 

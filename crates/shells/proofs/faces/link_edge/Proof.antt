@@ -11,45 +11,35 @@ use Rattle.shells.proofs.faces.edge_joins.Reads as edge-joins-reads
 use Rattle.shells.proofs.faces.side_as.Reads as side-as-reads
 use Rattle.shells.proofs.forest.unite.Reads as unite-reads
 
--- src/faces.rt:51:13
 add-e : tie.Need-add-e
 add-e c = search needs
 
--- src/faces.rt:52:9
 edge-joins-requires : tie.Need-edge-joins-requires
 edge-joins-requires c κs = search needs
 
--- src/faces.rt:54:9
 returns : tie.Need-returns
 returns c = joined-skip _ (sym (c .before .edge-joins .ensures) ∙ not-true _ (c .if1 .taken)) (c .before .before .before .pre .1)
 
--- src/faces.rt:56:32
 mul-side-as : tie.Need-mul-side-as
 mul-side-as c = search needs
 
--- src/faces.rt:56:32
 sub-side-as : tie.Need-sub-side-as
 sub-side-as c = search needs
 
--- src/faces.rt:56:9
 side-as-requires : tie.Need-side-as-requires
 side-as-requires c κs = search needs
 
--- src/faces.rt:57:32
 mul-side-as-2 : tie.Need-mul-side-as-2
 mul-side-as-2 c = search needs
 
--- src/faces.rt:57:9
 side-as-requires-2 : tie.Need-side-as-requires-2
 side-as-requires-2 c κs = search needs
 
--- src/faces.rt:58:5
 unite-requires : tie.Need-unite-requires
 unite-requires c κs =
     let low = joins-low _ _ _ _ (sym (c .before .before .before .before .edge-joins .ensures) ∙ not-false _ (c .before .before .before .if1 .left)) (c .before .before .before .before .before .before .pre .0 .0) in
     (c .before .before .before .before .before .before .pre .1 .forest, (omega (arith, c .before .before .side-as .ensures .0), omega (arith, c .before .side-as2 .ensures .0)))
 
--- src/faces.rt:46:1
 returns-2 : tie.Need-returns-2
 returns-2 c =
     joined-edge _ (sym (c .before .before .before .before .before .edge-joins .ensures) ∙ not-false _ (c .before .before .before .before .if1 .left)) (c .before .before .before .before .before .before .before .pre .1)

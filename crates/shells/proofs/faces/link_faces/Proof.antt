@@ -17,35 +17,27 @@ Inv-loop links sh l t parent₀ n k₀ parent k = (k ≤ n) × Joined sh links (
 abbrev μ-loop : tie.MeasureT-loop
 μ-loop links sh l t parent₀ n k₀ parent k = n - k
 
--- src/faces.rt:67:5
 separate-requires : tie.Need-separate-requires Inv-loop μ-loop
 separate-requires c κs = c .before .before .pre .1
 
--- src/faces.rt:68:13
 cast-n : tie.Need-cast-n Inv-loop μ-loop
 cast-n c = search needs
 
--- src/faces.rt:70:5
 loop-holds : tie.Need-loop-holds Inv-loop μ-loop
 loop-holds c = (omega arith, joined-start (c .before .separate .ensures) (c .before .before .before .before .pre .0 .0))
 
--- src/faces.rt:71:9
 link-edge-requires : tie.Need-link-edge-requires Inv-loop μ-loop
 link-edge-requires c κs = ((c .before .before .before .before .before .before .before .pre .0 .0, c .before .before .before .before .before .before .before .pre .0 .2, omega arith), c .before .before .loop .inv .1)
 
--- src/faces.rt:72:9
 add-k : tie.Need-add-k Inv-loop μ-loop
 add-k c = omega arith
 
--- src/faces.rt:70:5
 loop-less : tie.Need-loop-less Inv-loop μ-loop
 loop-less c = omega arith
 
--- src/faces.rt:70:5
 loop-again : tie.Need-loop-again Inv-loop μ-loop
 loop-again c = (omega arith, c .link-edge .ensures)
 
--- src/faces.rt:62:1
 returns : tie.Need-returns Inv-loop μ-loop
 returns c =
     let n : c .before .loop .k ≡ c .before .before .before .before .before .before .args .sh .edges = omega arith in

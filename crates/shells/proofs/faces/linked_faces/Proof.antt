@@ -9,15 +9,12 @@ use Rattle.shells.proofs.faces.linked_faces.Lts as lts
 use Rattle.shells.proofs.faces.link_faces.Reads as link-faces-reads
 use Rattle.shells.proofs.faces.same_shell.Reads as same-shell-reads
 
--- src/faces.rt:97:5
 link-faces-requires : tie.Need-link-faces-requires
 link-faces-requires c κs = (c .before .before .pre, length-replicate {A = ℕ} 4097 0)
 
--- src/faces.rt:98:5
 same-shell-requires : tie.Need-same-shell-requires
 same-shell-requires c κs = search needs
 
--- src/faces.rt:92:1
 returns : tie.Need-returns
 returns c = c .same-shell .ensures .0 ∙ c .before .before .link-faces .ensures .one _ _
 

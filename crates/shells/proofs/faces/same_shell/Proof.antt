@@ -9,35 +9,28 @@ use Rattle.shells.proofs.faces.same_shell.Lts as lts
 use Rattle.shells.proofs.faces.is_within.Reads as is-within-reads
 use Rattle.shells.proofs.forest.find_root.Reads as find-root-reads
 
--- src/faces.rt:80:13
 cast-n : tie.Need-cast-n
 cast-n c = search needs
 
--- src/faces.rt:81:16
 is-within-requires : tie.Need-is-within-requires
 is-within-requires c κs = search needs
 
--- src/faces.rt:81:34
 is-within-requires-2 : tie.Need-is-within-requires-2
 is-within-requires-2 c κs = search needs
 
--- src/faces.rt:83:9
 returns : tie.Need-returns
 returns c = (one-root-none _ _ _ (c .before .before .is-within .ensures) (c .before .is-within2 .ensures) (c .if1 .taken) _, same-roots-here (c .before .before .before .before .pre .1 .down))
 
--- src/faces.rt:85:9
 find-root-requires : tie.Need-find-root-requires
 find-root-requires c κs =
     let low = faces-low _ _ _ (c .before .before .before .is-within .ensures) (c .before .before .is-within2 .ensures) (c .before .if1 .left) (c .before .before .before .before .before .pre .0) in
     (c .before .before .before .before .before .pre .1, low .0)
 
--- src/faces.rt:86:9
 find-root-requires-2 : tie.Need-find-root-requires-2
 find-root-requires-2 c κs =
     let low = faces-low _ _ _ (c .before .before .before .before .before .is-within .ensures) (c .before .before .before .before .is-within2 .ensures) (c .before .before .before .if1 .left) (c .before .before .before .before .before .before .before .pre .0) in
     (forest-short (c .before .before .before .before .before .before .before .pre .1) (c .before .find-root .ensures .2), low .1)
 
--- src/faces.rt:75:1
 returns-2 : tie.Need-returns-2
 returns-2 c =
     let s = c .before .before .find-root .ensures in

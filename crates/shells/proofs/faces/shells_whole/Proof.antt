@@ -22,45 +22,35 @@ Inv-loop links sh leaders parent₀ n k₀ parent k =
 abbrev μ-loop : tie.MeasureT-loop
 μ-loop links sh leaders parent₀ n k₀ parent k = n - k
 
--- src/faces.rt:134:5
 link-faces-requires : tie.Need-link-faces-requires Inv-loop μ-loop
 link-faces-requires c κs = ((c .before .before .pre .0, c .before .before .pre .1, omega arith), length-replicate {A = ℕ} 4097 0)
 
--- src/faces.rt:135:13
 cast-n : tie.Need-cast-n Inv-loop μ-loop
 cast-n c = search needs
 
--- src/faces.rt:137:5
 loop-holds : tie.Need-loop-holds Inv-loop μ-loop
 loop-holds c = (omega arith, shells-here (c .before .link-faces .ensures), all-start _)
 
--- src/faces.rt:138:52
 add-face-whole : tie.Need-add-face-whole Inv-loop μ-loop
 add-face-whole c = omega arith
 
--- src/faces.rt:138:13
 face-whole-requires : tie.Need-face-whole-requires Inv-loop μ-loop
 face-whole-requires c κs = ((c .before .before .before .before .before .before .before .pre .0, omega arith, c .before .before .before .before .before .before .before .pre .2), c .before .before .loop .inv .1)
 
--- src/faces.rt:140:13
 returns : tie.Need-returns Inv-loop μ-loop
 returns c = all-fail _ _ _ _ (c .before .before .before .loop-test .taken) (c .before .face-whole .ensures .0) (c .if1 .taken)
 
--- src/faces.rt:142:9
 add-k : tie.Need-add-k Inv-loop μ-loop
 add-k c = omega arith
 
--- src/faces.rt:137:5
 loop-less : tie.Need-loop-less Inv-loop μ-loop
 loop-less c = omega arith
 
--- src/faces.rt:137:5
 loop-again : tie.Need-loop-again Inv-loop μ-loop
 loop-again c =
     let r = c .before .face-whole .ensures in
     (omega arith, r .1, all-turn _ _ _ (c .before .before .before .before .loop .inv .2) (r .0) (c .if1 .left))
 
--- src/faces.rt:129:1
 returns-2 : tie.Need-returns-2 Inv-loop μ-loop
 returns-2 c = all-end _ _ _ (c .before .loop .inv .0) (c .loop-test .left) (c .before .loop .inv .2)
 

@@ -8,21 +8,17 @@ use Rattle.shells.proofs.faces.side_as.Lts as lts
 use Rattle.layout.proofs.columns.loop_face.Reads as loop-face-reads
 use Rattle.layout.proofs.columns.loop_of.Reads as loop-of-reads
 
--- src/faces.rt:24:9
 loop-of-requires : tie.Need-loop-of-requires
 loop-of-requires c κs = search needs
 
--- src/faces.rt:26:9
 returns : tie.Need-returns
 returns c =
     let a = c .before .before .before .args in
     (side-moved (a .sh) (a .links .now) _ _ (a .k) _ (c .before .loop-of .ensures .0) (c .if1 .taken), omega arith)
 
--- src/faces.rt:28:5
 loop-face-requires : tie.Need-loop-face-requires
 loop-face-requires c κs = search needs
 
--- src/faces.rt:20:1
 returns-2 : tie.Need-returns-2
 returns-2 c =
     let a = c .before .before .before .before .args in

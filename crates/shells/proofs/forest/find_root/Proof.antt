@@ -16,63 +16,48 @@ Inv-loop parent₀ x k₀ p₀ parent k p = (p ≡ getD parent k 0) × Climb par
 abbrev μ-loop : tie.MeasureT-loop
 μ-loop parent₀ x k₀ p₀ parent k p = k
 
--- src/forest.rt:32:22
 mul-wide : tie.Need-mul-wide Inv-loop μ-loop
 mul-wide c = search needs
 
--- src/forest.rt:32:22
 element-copy-out-wide : tie.Need-element-copy-out-wide Inv-loop μ-loop
 element-copy-out-wide c = search needs
 
--- src/forest.rt:32:9
 wide-requires : tie.Need-wide-requires Inv-loop μ-loop
 wide-requires c κs = search needs
 
--- src/forest.rt:33:5
 loop-holds : tie.Need-loop-holds Inv-loop μ-loop
 loop-holds c = (c .wide .ensures, climb-start _ _ (c .before .before .pre .0 .down))
 
--- src/forest.rt:34:21
 mul-grand : tie.Need-mul-grand Inv-loop μ-loop
 mul-grand c = omega (arith, c .before .loop .inv .1 .kept .down .at (c .before .loop .k))
 
--- src/forest.rt:34:21
 element-copy-out-grand : tie.Need-element-copy-out-grand Inv-loop μ-loop
 element-copy-out-grand c = omega (arith, c .before .loop .inv .1 .kept .down .at (c .before .loop .k))
 
--- src/forest.rt:35:9
 mul-parent : tie.Need-mul-parent Inv-loop μ-loop
 mul-parent c = omega arith
 
--- src/forest.rt:35:9
 element-write-parent : tie.Need-element-write-parent Inv-loop μ-loop
 element-write-parent c = omega arith
 
--- src/forest.rt:36:9
 wide-requires-2 : tie.Need-wide-requires-2 Inv-loop μ-loop
 wide-requires-2 c κs = search needs
 
--- src/forest.rt:37:18
 mul-wide-2 : tie.Need-mul-wide-2 Inv-loop μ-loop
 mul-wide-2 c = omega (arith, climb-less (c .before .before .before .loop .inv .1) _ _ (c .before .before .before .loop .inv .0) (c .before .before .loop-test .taken) (c .wide2 .ensures))
 
--- src/forest.rt:37:18
 element-copy-out-wide-2 : tie.Need-element-copy-out-wide-2 Inv-loop μ-loop
 element-copy-out-wide-2 c = omega (arith, climb-less (c .before .before .before .loop .inv .1) _ _ (c .before .before .before .loop .inv .0) (c .before .before .loop-test .taken) (c .wide2 .ensures))
 
--- src/forest.rt:37:9
 wide-requires-3 : tie.Need-wide-requires-3 Inv-loop μ-loop
 wide-requires-3 c κs = search needs
 
--- src/forest.rt:33:5
 loop-less : tie.Need-loop-less Inv-loop μ-loop
 loop-less c = climb-less (c .before .before .before .before .before .loop .inv .1) _ _ (c .before .before .before .before .before .loop .inv .0) (c .before .before .before .before .loop-test .taken) (c .before .before .wide2 .ensures)
 
--- src/forest.rt:33:5
 loop-again : tie.Need-loop-again Inv-loop μ-loop
 loop-again c = (c .wide3 .ensures, climb-turn (c .before .before .before .before .before .loop .inv .1) _ _ (c .before .before .before .before .before .loop .inv .0) (c .before .before .wide2 .ensures))
 
--- src/forest.rt:26:1
 returns : tie.Need-returns Inv-loop μ-loop
 returns c = (climb-end (c .before .loop .inv .1) (sym (c .before .loop .inv .0) ∙ c .loop-test .left), c .before .loop .inv .1 .low, c .before .loop .inv .1 .kept)
 

@@ -15,35 +15,27 @@ Inv-loop parent₀ i₀ parent i = (i ≤ 4097) × Apart parent i
 abbrev μ-loop : tie.MeasureT-loop
 μ-loop parent₀ i₀ parent i = 4097 - i
 
--- src/forest.rt:19:5
 loop-holds : tie.Need-loop-holds Inv-loop μ-loop
 loop-holds c = (omega arith, record { long = c .pre; own = λ i l. absurd (omega arith) })
 
--- src/forest.rt:20:21
 cast-parent : tie.Need-cast-parent Inv-loop μ-loop
 cast-parent c = search needs
 
--- src/forest.rt:20:9
 mul-parent : tie.Need-mul-parent Inv-loop μ-loop
 mul-parent c = search needs
 
--- src/forest.rt:20:9
 element-write-parent : tie.Need-element-write-parent Inv-loop μ-loop
 element-write-parent c = search needs
 
--- src/forest.rt:21:9
 add-i : tie.Need-add-i Inv-loop μ-loop
 add-i c = search needs
 
--- src/forest.rt:19:5
 loop-less : tie.Need-loop-less Inv-loop μ-loop
 loop-less c = search needs
 
--- src/forest.rt:19:5
 loop-again : tie.Need-loop-again Inv-loop μ-loop
 loop-again c = (omega arith, apart-more (c .before .loop .inv .1) (omega arith))
 
--- src/forest.rt:15:1
 returns : tie.Need-returns Inv-loop μ-loop
 returns c = let e : c .before .loop .i ≡ 4097 = omega arith in rw e at (c .before .loop .inv .1)
 

@@ -6,43 +6,33 @@ use Rattle.shells.proofs.forest.unite.Reads as reads
 use Rattle.shells.proofs.forest.unite.Lts as lts
 use Rattle.shells.proofs.forest.find_root.Reads as find-root-reads
 
--- src/forest.rt:48:9
 find-root-requires : tie.Need-find-root-requires
 find-root-requires c κs = search needs
 
--- src/forest.rt:49:9
 find-root-requires-2 : tie.Need-find-root-requires-2
 find-root-requires-2 c κs = search needs
 
--- src/forest.rt:51:21
 cast-parent : tie.Need-cast-parent
 cast-parent c = search needs
 
--- src/forest.rt:51:9
 mul-parent : tie.Need-mul-parent
 mul-parent c = search needs
 
--- src/forest.rt:51:9
 element-write-parent : tie.Need-element-write-parent
 element-write-parent c = search needs
 
--- src/forest.rt:52:9
 returns : tie.Need-returns
 returns c = hung-low (c .before .before .before .before .before .pre .0) (c .before .before .before .find-root .ensures .2) (c .before .find-root2 .ensures .2) _ _ _ _ (c .before .before .before .before .before .pre .1 .0) (c .before .before .before .before .before .pre .1 .1) (c .before .before .before .find-root .ensures .0) (c .before .find-root2 .ensures .0) (c .if1 .taken)
 
--- src/forest.rt:54:17
 cast-parent-2 : tie.Need-cast-parent-2
 cast-parent-2 c = search needs
 
--- src/forest.rt:54:5
 mul-parent-2 : tie.Need-mul-parent-2
 mul-parent-2 c = search needs
 
--- src/forest.rt:54:5
 element-write-parent-2 : tie.Need-element-write-parent-2
 element-write-parent-2 c = search needs
 
--- src/forest.rt:43:1
 returns-2 : tie.Need-returns-2
 returns-2 c = hung-high (c .before .before .before .before .before .pre .0) (c .before .before .before .find-root .ensures .2) (c .before .find-root2 .ensures .2) _ _ _ _ (c .before .before .before .before .before .pre .1 .0) (c .before .before .before .before .before .pre .1 .1) (c .before .before .before .find-root .ensures .0) (c .before .find-root2 .ensures .0) (c .if1 .left)
 
