@@ -9,12 +9,12 @@ use lib.ListN.{getD}
 use Rattle.laws.specs.Bools.{pick}
 use Rattle.script.specs.declared.Limits.{Limits}
 use Rattle.script.specs.declared.Operator.{Operator}
-use Rattle.script.specs.Operands.{pattern, oldSolid, newSolid, newSolidOrNone, oldFace, newFace, oldLoop, newLoop, newEdge, oldHalf, oldHalfOrNone, newVertex, among, inRanges}
-use Rattle.script.specs.Operator.{operandOf, numbersOf, blankOf}
+use Rattle.script.specs.Operands.{pattern, largests, inRanges}
+use Rattle.script.specs.Operator.{numbersOf, blankOf}
 use Rattle.layout.specs.declared.shape.Shape.{Shape}
 use Rattle.layout.specs.Layout.{solidUsed, faceSolid, faceOuter, loopFace, loopIsolated, startOf, nextOf, vertexUsed}
 use Rattle.layout.specs.Mate.{mate}
-use Rattle.euler.specs.Surgery.{halfBy, putPoint, pointTo}
+use Rattle.euler.specs.Surgery.{itemOf, halfBy, putPoint, pointTo}
 use Rattle.euler.specs.Operators.{faceIn, mvsfLinks, mvsfInverse, kvsfTest, kvsfLinks, kvsfInverse, mevTest, mevLinks, mevInverse, kevTest, kevLinks, kevInverse, mefTest, mefLinks, mefInverse, kefTest, kefLinks, kefInverse, kemrTest, kemrLinks, kemrInverse, mekrTest, mekrLinks, mekrInverse, kfmrhTest, kfmrhLinks, kfmrhInverse, mfkrhTest, mfkrhLinks, mfkrhInverse, semvLinks, semvInverse, jekvTest, jekvLinks, jekvInverse, rmovTest, rmovLinks, rmovInverse}
 
 -- links and points
@@ -32,97 +32,101 @@ limits sh = record { solids = sh .solids; faces = sh .faces; loops = sh .loops; 
 unfoldable pub rangeRefusal : Shape → Operator → ℕ
 rangeRefusal sh o =
     pick (eqb (pattern (o .code) .count) 0) 4
-    (pick (eqb (o .count) (pattern (o .code) .count)) (pick (inRanges (limits sh) (pattern (o .code) .kinds) (numbersOf o)) 0 5) 5)
+    (pick (eqb (o .count) (pattern (o .code) .count)) (pick (inRanges (largests (limits sh)) (pattern (o .code) .kinds) (numbersOf o)) 0 5) 5)
 
 -- ---- 6 and 7: an old item is free, a new number is in use
 
--- the word that tells whether item n of an operand's kind is in use; a new edge by its second half
+-- the words that tell whether item n is in use, the operand kinds in order; a new edge by its second half
+abbrev pub useWords : Shape → List ℕ → ℕ → List ℕ
+useWords sh x n =
+    0 ∷ solidUsed sh x n ∷ solidUsed sh x n ∷ solidUsed sh x n ∷ faceSolid sh x n ∷ faceSolid sh x n ∷ loopFace sh x n ∷ loopFace sh x n
+    ∷ startOf sh x (2 * n) ∷ startOf sh x n ∷ startOf sh x n ∷ vertexUsed sh x n ∷ []
+
+-- the one of a kind
 unfoldable pub useWord : Shape → List ℕ → ℕ → ℕ → ℕ
-useWord sh x kind n =
-    getD
-    (0 ∷ solidUsed sh x n ∷ solidUsed sh x n ∷ solidUsed sh x n ∷ faceSolid sh x n ∷ faceSolid sh x n ∷ loopFace sh x n ∷ loopFace sh x n
-    ∷ startOf sh x (2 * n) ∷ startOf sh x n ∷ startOf sh x n ∷ vertexUsed sh x n ∷ [])
-    kind 0
+useWord sh x kind n = getD (useWords sh x n) kind 0
+
+-- the refusal of a kind of operand whose item is free, and of one whose item is in use, the kinds in order
+abbrev pub whenFree : List ℕ
+whenFree = 0 ∷ 6 ∷ 0 ∷ 0 ∷ 6 ∷ 0 ∷ 6 ∷ 0 ∷ 0 ∷ 6 ∷ 6 ∷ 0 ∷ []
+
+abbrev pub whenUsed : List ℕ
+whenUsed = 0 ∷ 0 ∷ 7 ∷ 7 ∷ 0 ∷ 7 ∷ 0 ∷ 7 ∷ 7 ∷ 0 ∷ 0 ∷ 7 ∷ []
 
 -- an operand 0 names no item
 unfoldable pub useRefusal : Shape → List ℕ → ℕ → ℕ → ℕ
-useRefusal sh x kind n =
-    pick (eqb n 0) 0
-    (pick (among kind (oldSolid ∷ oldFace ∷ oldLoop ∷ oldHalf ∷ oldHalfOrNone ∷ [])) (pick (eqb (useWord sh x kind n) 0) 6 0)
-    (pick (among kind (newSolid ∷ newSolidOrNone ∷ newFace ∷ newLoop ∷ newEdge ∷ newVertex ∷ [])) (pick (eqb (useWord sh x kind n) 0) 0 7) 0))
+useRefusal sh x kind n = pick (eqb n 0) 0 (pick (eqb (useWord sh x kind n) 0) (getD whenFree kind 0) (getD whenUsed kind 0))
 
 -- the first refusal of the operands of these kinds from place i on
 unfoldable pub useRefusals : Shape → List ℕ → Operator → List ℕ → ℕ → ℕ
 useRefusals sh x o [] i = 0
 useRefusals sh x o (k ∷ ks) i =
-    pick (eqb (useRefusal sh x k (operandOf o i)) 0) (useRefusals sh x o ks (i + 1)) (useRefusal sh x k (operandOf o i))
+    pick (eqb (useRefusal sh x k (itemOf o i)) 0) (useRefusals sh x o ks (i + 1)) (useRefusal sh x k (itemOf o i))
 
--- ---- 8, effect and inverse by code
+-- ---- 8, effect and inverse by code: lists from code 0, which is none, to 13; `a` are the operands as items
 
--- the condition that document 01 writes for the code
-unfoldable pub condition : Shape → List ℕ → Operator → Bool
-condition sh x o =
-    getD
-    (true ∷ true ∷ kvsfTest sh x (a 0) ∷ mevTest sh x (a 0) (a 1) ∷ kevTest sh x (a 0) ∷ mefTest sh x (a 0) (a 1) (a 2) (a 6)
+-- the conditions that document 01 writes for the codes
+abbrev pub conditions : Shape → List ℕ → (ℕ → ℕ) → List Bool
+conditions sh x a =
+    true ∷ true ∷ kvsfTest sh x (a 0) ∷ mevTest sh x (a 0) (a 1) ∷ kevTest sh x (a 0) ∷ mefTest sh x (a 0) (a 1) (a 2) (a 6)
     ∷ kefTest sh x (a 0) ∷ kemrTest sh x (a 0) ∷ mekrTest sh x (a 0) (a 1) (a 2) (a 3) ∷ kfmrhTest sh x (a 0) (a 1)
-    ∷ mfkrhTest sh x (a 0) (a 1) (a 2) ∷ true ∷ jekvTest sh x (a 0) ∷ rmovTest sh x (a 0) (a 1) ∷ [])
-    (o .code) true
-  where
-    a : ℕ → ℕ
-    a = operandOf o
+    ∷ mfkrhTest sh x (a 0) (a 1) (a 2) ∷ true ∷ jekvTest sh x (a 0) ∷ rmovTest sh x (a 0) (a 1) ∷ []
+
+unfoldable pub condition : Shape → List ℕ → Operator → Bool
+condition sh x o = getD (conditions sh x (itemOf o)) (o .code) true
+
+-- the solid that kvsf kills: its face, that face's loop, and the loop's vertex
+abbrev pub onlyLoop : Shape → List ℕ → ℕ → ℕ
+onlyLoop sh x s = faceOuter sh x (faceIn sh x s)
+
+abbrev pub onlyVertex : Shape → List ℕ → ℕ → ℕ
+onlyVertex sh x s = loopIsolated sh x (onlyLoop sh x s)
 
 -- the links afterwards
-unfoldable pub linksAfter : Shape → List ℕ → Operator → List ℕ
-linksAfter sh x o =
-    getD
-    (x ∷ mvsfLinks sh x (a 0) (a 1) (a 2) (a 3)
-    ∷ kvsfLinks sh x (a 0) (faceIn sh x (a 0)) (faceOuter sh x (faceIn sh x (a 0))) (loopIsolated sh x (faceOuter sh x (faceIn sh x (a 0))))
+abbrev pub linksBy : Shape → List ℕ → (ℕ → ℕ) → List (List ℕ)
+linksBy sh x a =
+    x ∷ mvsfLinks sh x (a 0) (a 1) (a 2) (a 3)
+    ∷ kvsfLinks sh x (a 0) (faceIn sh x (a 0)) (onlyLoop sh x (a 0)) (onlyVertex sh x (a 0))
     ∷ mevLinks sh x (a 0) (a 1) (halfBy (a 2) (a 4)) (a 3) ∷ kevLinks sh x (a 0)
     ∷ mefLinks sh x (a 0) (a 1) (a 2) (halfBy (a 3) (a 6)) (a 4) (a 5) (a 6) ∷ kefLinks sh x (a 0) ∷ kemrLinks sh x (a 0) (a 1)
     ∷ mekrLinks sh x (a 0) (a 1) (a 2) (a 3) (halfBy (a 4) (a 5)) ∷ kfmrhLinks sh x (a 0) (a 1) ∷ mfkrhLinks sh x (a 0) (a 1) (a 2)
-    ∷ semvLinks sh x (a 0) (halfBy (a 1) (a 3)) (a 2) ∷ jekvLinks sh x (a 0) (nextOf sh x (a 0)) ∷ rmovLinks sh x (a 0) (a 1) ∷ [])
-    (o .code) x
-  where
-    a : ℕ → ℕ
-    a = operandOf o
+    ∷ semvLinks sh x (a 0) (halfBy (a 1) (a 3)) (a 2) ∷ jekvLinks sh x (a 0) (nextOf sh x (a 0)) ∷ rmovLinks sh x (a 0) (a 1) ∷ []
+
+unfoldable pub linksAfter : Shape → List ℕ → Operator → List ℕ
+linksAfter sh x o = getD (linksBy sh x (itemOf o)) (o .code) x
 
 -- the vertex that an operator kills: of kvsf, kev and jekv; 0 for the others
+abbrev pub killed : Shape → List ℕ → (ℕ → ℕ) → List ℕ
+killed sh x a =
+    0 ∷ 0 ∷ onlyVertex sh x (a 0) ∷ 0 ∷ startOf sh x (mate (a 0)) ∷ 0 ∷ 0 ∷ 0 ∷ 0 ∷ 0 ∷ 0 ∷ 0 ∷ startOf sh x (nextOf sh x (a 0)) ∷ 0 ∷ []
+
 unfoldable pub killedVertex : Shape → List ℕ → Operator → ℕ
-killedVertex sh x o =
-    getD
-    (0 ∷ 0 ∷ loopIsolated sh x (faceOuter sh x (faceIn sh x (a 0))) ∷ 0 ∷ startOf sh x (mate (a 0)) ∷ 0 ∷ 0 ∷ 0 ∷ 0 ∷ 0 ∷ 0 ∷ 0
-    ∷ startOf sh x (nextOf sh x (a 0)) ∷ 0 ∷ [])
-    (o .code) 0
-  where
-    a : ℕ → ℕ
-    a = operandOf o
+killedVertex sh x o = getD (killed sh x (itemOf o)) (o .code) 0
 
--- the points afterwards: a new vertex gets its own, a killed one's is cleared
+-- the point of vertex v cleared
+abbrev pub clearPoint : List ℤ → ℕ → List ℤ
+clearPoint p v = putPoint p v (pos 0) (pos 0) (pos 0)
+
+-- the points afterwards: a new vertex gets the operator's, a killed one's, v, is cleared
+abbrev pub pointsBy : List ℤ → Operator → (ℕ → ℕ) → ℕ → List (List ℤ)
+pointsBy p o a v =
+    p ∷ pointTo p o (a 3) 4 ∷ clearPoint p v ∷ pointTo p o (a 3) 5 ∷ clearPoint p v ∷ p ∷ p ∷ p ∷ p ∷ p ∷ p ∷ pointTo p o (a 2) 4
+    ∷ clearPoint p v ∷ p ∷ []
+
 unfoldable pub pointsAfter : Shape → List ℕ → List ℤ → Operator → List ℤ
-pointsAfter sh x p o =
-    getD
-    (p ∷ pointTo p o (a 3) 4 ∷ cleared ∷ pointTo p o (a 3) 5 ∷ cleared ∷ p ∷ p ∷ p ∷ p ∷ p ∷ p ∷ pointTo p o (a 2) 4 ∷ cleared ∷ p ∷ [])
-    (o .code) p
-  where
-    a : ℕ → ℕ
-    a = operandOf o
-
-    cleared : List ℤ
-    cleared = putPoint p (killedVertex sh x o) (pos 0) (pos 0) (pos 0)
+pointsAfter sh x p o = getD (pointsBy p o (itemOf o) (killedVertex sh x o)) (o .code) p
 
 -- the operator that undoes it
-unfoldable pub inverse : Shape → List ℕ → List ℤ → Operator → Operator
-inverse sh x p o =
-    getD
-    (blankOf 0 0 ∷ mvsfInverse (a 0)
-    ∷ kvsfInverse p (a 0) (faceIn sh x (a 0)) (faceOuter sh x (faceIn sh x (a 0))) (killedVertex sh x o)
+abbrev pub inverses : Shape → List ℕ → List ℤ → (ℕ → ℕ) → List Operator
+inverses sh x p a =
+    blankOf 0 0 ∷ mvsfInverse (a 0)
+    ∷ kvsfInverse p (a 0) (faceIn sh x (a 0)) (onlyLoop sh x (a 0)) (onlyVertex sh x (a 0))
     ∷ mevInverse (halfBy (a 2) (a 4)) ∷ kevInverse sh x p (a 0) ∷ mefInverse (mate (halfBy (a 3) (a 6))) ∷ kefInverse sh x (a 0)
     ∷ kemrInverse sh x (a 0) (a 1) ∷ mekrInverse (halfBy (a 4) (a 5)) (a 2) ∷ kfmrhInverse sh x (a 0) (a 1) ∷ mfkrhInverse sh x (a 0) (a 1)
-    ∷ semvInverse (a 0) ∷ jekvInverse sh x p (a 0) (nextOf sh x (a 0)) ∷ rmovInverse sh x (a 0) (a 1) ∷ [])
-    (o .code) (blankOf 0 0)
-  where
-    a : ℕ → ℕ
-    a = operandOf o
+    ∷ semvInverse (a 0) ∷ jekvInverse sh x p (a 0) (nextOf sh x (a 0)) ∷ rmovInverse sh x (a 0) (a 1) ∷ []
+
+unfoldable pub inverse : Shape → List ℕ → List ℤ → Operator → Operator
+inverse sh x p o = getD (inverses sh x p (itemOf o)) (o .code) (blankOf 0 0)
 
 -- ---- the whole
 

@@ -1,6 +1,8 @@
 pub mod Surgery
 pub mod Operators
 pub mod Exec
+pub mod ByCode
+pub mod AdmitLaws
 pub mod Examples
 pub mod SurgeryLaws
 pub mod Scans

@@ -3,11 +3,12 @@
 use Prim.Native.Nat.{ℕ, zero, suc, _+_, _-_, _*_, _%_}
 use mathlib.Core.Bool.{Bool, not, _&&_, _||_}
 use mathlib.Core.List.{List}
-use lib.Dec.{eqb, ltb}
+use lib.Dec.{eqb, leb, ltb}
 use lib.IntN.{ℤ, pos}
 use lib.ListN.{getD, set}
 use Rattle.laws.specs.Bools.{pick}
 use Rattle.script.specs.declared.Operator.{Operator}
+use Rattle.script.specs.Operator.{operandOf}
 use Rattle.layout.specs.declared.shape.Shape.{Shape}
 use Rattle.layout.specs.Layout.{loopFirst, loopIsolated, startOf, loopOf, nextOf, prevOf, setFaceSolid, setFaceOuter, setLoopFace, setLoopFirst, setLoopIsolated, setStart, setLoop, setNext, setPrev}
 use Rattle.layout.specs.Mate.{mate}
@@ -16,6 +17,10 @@ use Rattle.layout.specs.Points.{coordinate, setCoordinate}
 -- a number is there
 abbrev pub some : ℕ → Bool
 some n = not (eqb n 0)
+
+-- operand i as the number of an item; past 8,192, the most that any table has, it names none
+abbrev pub itemOf : Operator → ℕ → ℕ
+itemOf o i = pick (leb (operandOf o i) 8192) (operandOf o i) 0
 
 -- ---- ways
 

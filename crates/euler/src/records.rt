@@ -3,7 +3,7 @@ ghost use mathlib.Core.Path.{_≡_};
 ghost use mathlib.Core.Bool.{Bool};
 ghost use Prim.Native.Nat.{ℕ, _+_, _*_, _<_, _≤_};
 ghost use Rattle.laws.specs.Bools.{pick};
-ghost use Rattle.euler.specs.Surgery.{halfBy, wayOf, corner, cornerVertex, putFace, putLoop, putHalf};
+ghost use Rattle.euler.specs.Surgery.{itemOf, halfBy, wayOf, corner, cornerVertex, putFace, putLoop, putHalf};
 use layout::columns::loop_isolated;
 use layout::columns::loop_of;
 use layout::columns::set_face_outer;
@@ -17,6 +17,8 @@ use layout::columns::set_prev;
 use layout::columns::set_start;
 use layout::columns::start_of;
 use layout::shape::Shape;
+use script::Operator;
+use script::operand;
 
 // a where the test holds, else b.
 pub fn choose(test: bool, a: usize, b: usize) -> usize
@@ -29,11 +31,25 @@ pub fn choose(test: bool, a: usize, b: usize) -> usize
     b
 }
 
+// Operand i as the number of an item; past 8,192 it names none.
+pub fn item_of(op: Operator, i: usize) -> usize
+    ensures { λ r. ⌜ (r ≡ itemOf op i) × (r ≤ 8192) ⌝ }
+{
+    let n = operand(op, i);
+    if n <= 8192 {
+        return n;
+    }
+    0
+}
+
 // The half of edge e that way w names.
 pub fn half_by(e: usize, w: usize) -> usize
-    requires { ⌜ (1 ≤ e) × (e < 32768) ⌝ }
-    ensures { λ r. ⌜ (r ≡ halfBy e w) × (1 ≤ r) × (r ≤ 2 * e) ⌝ }
+    requires { ⌜ e < 32768 ⌝ }
+    ensures { λ r. ⌜ (r ≡ halfBy e w) × (r ≤ 2 * e) ⌝ }
 {
+    if e == 0 {
+        return 0;
+    }
     if w % 2 == 0 {
         return 2 * e - 1;
     }

@@ -10,7 +10,7 @@ use Rattle.laws.specs.Bools.{pick, allb}
 use Rattle.script.specs.declared.Operator.{Operator}
 use Rattle.script.specs.declared.ReadAnswer.{ReadAnswer}
 use Rattle.script.specs.Number.{readNumber, groups}
-use Rattle.script.specs.Operands.{zig, zag, rows, pattern, zeroAllowed, limitOf, widest, inRange, inRanges, wire, unwire}
+use Rattle.script.specs.Operands.{zig, zag, rows, pattern, widest, inRange, inRanges, wire, unwire}
 use Rattle.script.specs.Operator.{refused, readOperand, readOperands, readBehind, readOperator, operandBytes, operandsBytes, operatorBytes, operatorRefusal}
 
 abbrev pub same : List ℕ → List ℕ → Bool
@@ -45,7 +45,7 @@ refuses bytes refusal = record { bytes = bytes; answer = refused refusal 0 }
 
 -- and an operator that is accepted is written as these bytes
 unfoldable pub holds : Row → Bool
-unfolding sameAnswer readNumber groups pattern zeroAllowed limitOf inRange inRanges zag wire unwire readOperand readOperands readBehind readOperator operandBytes operandsBytes operatorBytes operatorRefusal
+unfolding sameAnswer readNumber groups pattern inRange inRanges zag wire unwire readOperand readOperands readBehind readOperator operandBytes operandsBytes operatorBytes operatorRefusal
 holds row =
     sameAnswer (readOperator widest (row .bytes) 0) (row .answer)
     && pick (eqb (row .answer .refusal) 0)

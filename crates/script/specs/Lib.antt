@@ -4,4 +4,13 @@ pub mod Operands
 pub mod Operator
 pub mod SignedLaws
 pub mod OperandLaws
+pub mod ReadLaws
+pub mod WriteLaws
+pub mod OperatorLaws
+pub mod NumberTrip
+pub mod Ranges
+pub mod OperandTrip
+pub mod Accepted
+pub mod RoundTrip
+pub mod Scripts
 pub mod Examples

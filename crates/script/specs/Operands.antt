@@ -1,10 +1,10 @@
 -- The operands of each code: what kind of item each names, its range, and the number it travels as.
-use Prim.Native.Nat.{ℕ, zero, suc, _+_, _*_, _/_, _%_}
+use Prim.Native.Nat.{ℕ, zero, suc, _+_, _*_, _/_, _%_, _<_}
 use mathlib.Core.Bool.{Bool, true, false}
 use mathlib.Core.List.{List, [], _∷_}
 use lib.ListN.{length, getD}
 use lib.IntN.{ℤ, pos, negsuc}
-use lib.Dec.{leb, eqb}
+use lib.Dec.{ltb, leb, eqb}
 use Rattle.laws.specs.Bools.{pick}
 use Rattle.script.specs.declared.Limits.{Limits}
 use Rattle.script.specs.declared.operands.Pattern.{Pattern}
@@ -104,35 +104,29 @@ unfoldable pub pattern : ℕ → Pattern
 unfolding rows
 pattern code = getD rows code (row [])
 
--- is it one of a list
-abbrev pub among : ℕ → List ℕ → Bool
-among k [] = false
-among k (j ∷ js) = pick (eqb k j) true (among k js)
+-- the least number of each kind, the kinds in order: 0 where 0 is allowed
+abbrev pub leasts : List ℕ
+leasts = 0 ∷ 1 ∷ 1 ∷ 0 ∷ 1 ∷ 1 ∷ 1 ∷ 1 ∷ 1 ∷ 1 ∷ 0 ∷ 1 ∷ 0 ∷ 0 ∷ 0 ∷ []
 
--- where 0 is allowed (in an unused operand nothing else is)
-unfoldable pub zeroAllowed : ℕ → Bool
-zeroAllowed kind = among kind (unused ∷ newSolidOrNone ∷ oldHalfOrNone ∷ way ∷ wayOfMef ∷ coordinate ∷ [])
-
--- the largest number of each kind, the kinds in order; coordinates, -50,000 to 50,000, travel as 0 to 100,000
-unfoldable pub limitOf : Limits → ℕ → ℕ
-limitOf lim kind =
-    getD
-    (0 ∷ lim .solids ∷ lim .solids ∷ lim .solids ∷ lim .faces ∷ lim .faces ∷ lim .loops ∷ lim .loops ∷ lim .edges
-    ∷ (2 * lim .edges) ∷ (2 * lim .edges) ∷ lim .vertices ∷ 1 ∷ 3 ∷ 100000 ∷ [])
-    kind 0
+-- the largest of each kind, the kinds in order; coordinates, -50,000 to 50,000, travel as 0 to 100,000
+abbrev pub largests : Limits → List ℕ
+largests lim =
+    0 ∷ lim .solids ∷ lim .solids ∷ lim .solids ∷ lim .faces ∷ lim .faces ∷ lim .loops ∷ lim .loops ∷ lim .edges
+    ∷ (2 * lim .edges) ∷ (2 * lim .edges) ∷ lim .vertices ∷ 1 ∷ 3 ∷ 100000 ∷ []
 
 -- the limits of an operator that is read or written without a table
 abbrev pub widest : Limits
 widest = record { solids = 4096; faces = 4096; loops = 4096; edges = 4096; vertices = 4096 }
 
--- is the number n, as it travels, in range (5)
-unfoldable pub inRange : Limits → ℕ → ℕ → Bool
-inRange lim kind n = pick (eqb n 0) (zeroAllowed kind) (leb n (limitOf lim kind))
+-- is the number n, as it travels, in range (5); `most` has the largest of each kind
+-- (of a number that is no kind, as of `unused`, only 0)
+unfoldable pub inRange : List ℕ → ℕ → ℕ → Bool
+inRange most kind n = pick (ltb n (getD leasts kind 0)) false (leb n (getD most kind 0))
 
-unfoldable pub inRanges : Limits → List ℕ → List ℕ → Bool
-inRanges lim [] ns = true
-inRanges lim (k ∷ ks) [] = true
-inRanges lim (k ∷ ks) (n ∷ ns) = pick (inRange lim k n) (inRanges lim ks ns) false
+unfoldable pub inRanges : List ℕ → List ℕ → List ℕ → Bool
+inRanges most [] ns = true
+inRanges most (k ∷ ks) [] = true
+inRanges most (k ∷ ks) (n ∷ ns) = pick (inRange most k n) (inRanges most ks ns) false
 
 -- a coordinate c travels as 2c when c ≥ 0, as -2c - 1 when negative; negsuc n is -n - 1
 unfoldable pub zig : ℤ → ℕ
@@ -171,3 +165,7 @@ wires = each wire
 
 abbrev pub unwires : List ℕ → List ℕ → List ℤ
 unwires = each unwire
+
+-- each fits three groups
+pub record Small (ns : List ℕ) : Type 0 where
+  pub at : (i : ℕ) → getD ns i 0 < 2097152

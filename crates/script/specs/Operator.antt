@@ -9,12 +9,13 @@ use lib.Dec.{ltb, leb, eqb}
 use Rattle.laws.specs.Bools.{pick}
 use Rattle.script.specs.declared.number.Num.{Num}
 use Rattle.script.specs.declared.number.Num.the-variants.{Got, Bad}
+use Rattle.script.specs.declared.bytes.NumbersAnswer.{NumbersAnswer}
 use Rattle.script.specs.declared.Limits.{Limits}
 use Rattle.script.specs.declared.Operator.{Operator}
 use Rattle.script.specs.declared.ReadAnswer.{ReadAnswer}
 use Rattle.script.specs.declared.WriteAnswer.{WriteAnswer}
 use Rattle.script.specs.Number.{readNumber, groups, onNum}
-use Rattle.script.specs.Operands.{unused, pattern, widest, inRanges, wires, unwires}
+use Rattle.script.specs.Operands.{unused, pattern, widest, largests, inRanges, wires, unwires}
 
 -- an operator with the operands 0
 abbrev pub blankOf : ℕ → ℕ → Operator
@@ -53,6 +54,11 @@ readOperands [] s at = Read [] at
 readOperands (k ∷ ks) s at =
     onNum (readOperand k s at) (λ n next. onNumbers (readOperands ks s next) (λ ns end. Read (n ∷ ns) end) Cut) Cut
 
+-- as the code has them: on a refusal the place handed in and zeros
+abbrev pub numbersAnswer : ℕ → Numbers → NumbersAnswer
+numbersAnswer at (Read ns next) = record { refusal = 0; next = next; numbers = ns }
+numbersAnswer at Cut = record { refusal = 3; next = at; numbers = replicate 8 0 }
+
 -- a refused read answers the place it was given and the blank operator 0
 abbrev pub refused : ℕ → ℕ → ReadAnswer
 refused refusal at = record { refusal = refusal; next = at; op = blankOf 0 0 }
@@ -63,7 +69,7 @@ readBehind lim s at code behind =
     pick (eqb (pattern code .count) 0) (refused 4 at)
     (onNumbers (readOperands (pattern code .kinds) s behind)
     (λ ns next.
-    pick (inRanges lim (pattern code .kinds) ns)
+    pick (inRanges (largests lim) (pattern code .kinds) ns)
     (record {
       refusal = 0;
       next = next;
@@ -96,7 +102,7 @@ operatorBytes op = groups (op .code) ++ operandsBytes (pattern (op .code) .kinds
 unfoldable pub operatorRefusal : Operator → ℕ
 operatorRefusal op =
     pick (eqb (pattern (op .code) .count) 0) 4
-    (pick (eqb (op .count) (pattern (op .code) .count)) (pick (inRanges widest (pattern (op .code) .kinds) (numbersOf op)) 0 5) 5)
+    (pick (eqb (op .count) (pattern (op .code) .count)) (pick (inRanges (largests widest) (pattern (op .code) .kinds) (numbersOf op)) 0 5) 5)
 
 -- the bytes at `at`, if they fit; else nothing changes
 unfoldable pub putBytes : List ℕ → ℕ → List ℕ → List ℕ

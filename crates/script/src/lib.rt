@@ -1,10 +1,14 @@
 // Operators as bytes: numbers in groups of seven bits, an operator as its code and operands.
 pub mod number; // numbers
 pub mod operands; // what each operand is
+pub mod bytes; // operands as bytes
 
 ghost use mathlib.Core.Path.{_≡_};
 ghost use Prim.Native.Nat.{ℕ, _+_, _≤_, _<_};
-ghost use Rattle.script.specs.Operator.{blankOf, operandOf, withNumber};
+ghost use lib.ListN.{length};
+ghost use Rattle.script.specs.Operands.{widest};
+ghost use Rattle.script.specs.Operator.{blankOf, operandOf, withNumber, refused, readBehind, readOperator, numbersOf, operatorBytes, operatorRefusal, putBytes, written, writeOperator};
+use number::Num;
 
 // An operator: its code, how many operands it has, and the operands, zeros behind them.
 pub struct Operator {
@@ -68,4 +72,152 @@ pub fn with_number(op: Operator, i: usize, v: usize) -> Operator
     let mut next = op;
     next.args[i] = v as i32;
     next
+}
+
+// The limits of an operator that is read or written without a table.
+fn widest() -> Limits
+    ensures { λ r. ⌜ r ≡ widest ⌝ }
+{
+    Limits {
+        solids: 4096,
+        faces: 4096,
+        loops: 4096,
+        edges: 4096,
+        vertices: 4096,
+    }
+}
+
+// The answer of a refused read.
+fn refused(refusal: u8, at: usize) -> ReadAnswer
+    ensures { λ r. ⌜ r ≡ refused refusal at ⌝ }
+{
+    let op = blank(0, 0);
+    ReadAnswer {
+        refusal,
+        next: at,
+        op,
+    }
+}
+
+// The operator whose code was read at `at`, its operands behind it.
+fn read_behind(script: &[u8], at: usize, code: u8, behind: usize, limits: Limits) -> ReadAnswer
+    ensures { λ r. ⌜ r ≡ readBehind limits (now (script .entry)) at code behind ⌝ }
+{
+    let pattern = operands::pattern_of(code);
+    let count = pattern.count;
+    if count == 0 {
+        return refused(4, at);
+    }
+    let kinds = pattern.kinds;
+    let read = bytes::read_operands(kinds, script, behind);
+    if read.refusal != 0 {
+        return refused(3, at);
+    }
+    let numbers = read.numbers;
+    if !operands::in_ranges(operands::largest(limits), kinds, numbers) {
+        return refused(5, at);
+    }
+    let args = operands::from_wires(kinds, numbers);
+    let op = Operator { code, count, args };
+    ReadAnswer {
+        refusal: 0,
+        next: read.next,
+        op,
+    }
+}
+
+// The operator that stands at `at`, its numbers within the limits: refusal 3, 4 or 5.
+pub fn read_within(script: &[u8], at: usize, limits: Limits) -> ReadAnswer
+    ensures { λ r. ⌜ r ≡ readOperator limits (now (script .entry)) at ⌝ }
+{
+    let x = number::read_number(script, at);
+    match x {
+        Num::Got(n, behind) => {
+            if n > 13 {
+                return refused(4, at);
+            }
+            read_behind(script, at, n as u8, behind, limits)
+        }
+        Num::Bad => refused(3, at),
+    }
+}
+
+// The operator that stands at `at`, read without a table.
+pub fn read_operator(script: &[u8], at: usize) -> ReadAnswer
+    ensures { λ r. ⌜ r ≡ readOperator widest (now (script .entry)) at ⌝ }
+{
+    read_within(script, at, widest())
+}
+
+// The refusal of writing an operator into enough space: 4, 5, or 0 for none.
+pub fn operator_refusal(op: Operator) -> u8
+    ensures { λ r. ⌜ r ≡ operatorRefusal op ⌝ }
+{
+    let pattern = operands::pattern_of(op.code);
+    if pattern.count == 0 {
+        return 4;
+    }
+    if op.count != pattern.count {
+        return 5;
+    }
+    let kinds = pattern.kinds;
+    let args = op.args;
+    let numbers = operands::to_wires(kinds, args);
+    if operands::in_ranges(operands::largest(widest()), kinds, numbers) {
+        return 0;
+    }
+    5
+}
+
+// How many bytes an operator takes.
+pub fn operator_size(op: Operator) -> usize
+    ensures { λ r. ⌜ (r ≡ length (operatorBytes op)) × (r ≤ 27) ⌝ }
+{
+    let pattern = operands::pattern_of(op.code);
+    let kinds = pattern.kinds;
+    let args = op.args;
+    let numbers = operands::to_wires(kinds, args);
+    number::number_size(op.code as u32) + bytes::operands_size(kinds, numbers)
+}
+
+// The operator's bytes at `at`, where they fit; else nothing changes.
+pub fn put_operator(op: Operator, out: &mut [u8], at: usize)
+    ensures { λ _. ⌜ now (out .exit) ≡ putBytes (now (out .entry)) at (operatorBytes op) ⌝ }
+{
+    let size = operator_size(op);
+    let n = out.len();
+    if n < size {
+        return;
+    }
+    if n - size < at {
+        return;
+    }
+    let pattern = operands::pattern_of(op.code);
+    let kinds = pattern.kinds;
+    let args = op.args;
+    let numbers = operands::to_wires(kinds, args);
+    let behind = number::write_number(out, at, op.code as u32);
+    bytes::write_operands(out, behind, kinds, numbers);
+}
+
+// The operator at the front of `out`: refusal 4 or 5, then 9 where it does not fit, with `out` left as it is.
+pub fn write_operator(op: Operator, out: &mut [u8]) -> WriteAnswer
+    ensures { λ r. ⌜ written r (now (out .exit)) ≡ writeOperator op (now (out .entry)) ⌝ }
+{
+    let refusal = operator_refusal(op);
+    if refusal != 0 {
+        return WriteAnswer { refusal, length: 0 };
+    }
+    let size = operator_size(op);
+    if out.len() < size {
+        return WriteAnswer {
+            refusal: 9,
+            length: 0,
+        };
+    }
+    put_operator(op, out, 0);
+    WriteAnswer {
+        refusal: 0,
+        length: size,
+    }
 }

@@ -1,6 +1,8 @@
 // The operands of each code: their kinds, ranges, and the numbers they travel as.
 ghost use mathlib.Core.Path.{_≡_};
-ghost use Rattle.script.specs.Operands.{pattern};
+ghost use Prim.Native.Nat.{ℕ, _+_, _*_, _≤_, _<_};
+ghost use Rattle.script.specs.Operands.{pattern, largests, inRange, inRanges, zig, zag, wire, unwire, wires, unwires, Small};
+use crate::Limits;
 
 // Kinds of operands. OLD must be in use, NEW must be free.
 pub const NONE: u8 = 0; // unused
@@ -87,4 +89,126 @@ pub fn pattern_of(code: u8) -> Pattern
         13 => made(2, RMOV),
         _ => made(0, [NONE; 8]),
     }
+}
+
+fn wide(x: u16) -> u32
+    ensures { λ r. ⌜ (r ≡ x) × (r < 65536) ⌝ }
+{
+    x as u32
+}
+
+// The least number of each kind, the kinds in order: 0 where 0 is allowed.
+const LEAST: [u32; 15] = [0, 1, 1, 0, 1, 1, 1, 1, 1, 1, 0, 1, 0, 0, 0];
+
+// The largest number of each kind, the kinds in order, as it travels.
+pub fn largest(limits: Limits) -> [u32; 15]
+    ensures { λ r. ⌜ r ≡ largests limits ⌝ }
+{
+    let s = wide(limits.solids);
+    let f = wide(limits.faces);
+    let l = wide(limits.loops);
+    let e = wide(limits.edges);
+    let h = 2 * e;
+    let v = wide(limits.vertices);
+    [0, s, s, s, f, f, l, l, e, h, h, v, 1, 3, 100000]
+}
+
+// Is the number, as it travels, in the range of its kind?
+fn in_range(most: [u32; 15], kind: u8, n: u32) -> bool
+    ensures { λ r. ⌜ r ≡ inRange most kind n ⌝ }
+{
+    let k = kind as usize;
+    if k < 15 {
+        if n < LEAST[k] {
+            return false;
+        }
+        return n <= most[k];
+    }
+    n == 0
+}
+
+// Are all eight in range?
+pub fn in_ranges(most: [u32; 15], kinds: [u8; 8], numbers: [u32; 8]) -> bool
+    ensures { λ r. ⌜ r ≡ inRanges most kinds numbers ⌝ }
+{
+    let mut i: usize = 0;
+    while i < 8 {
+        if !in_range(most, kinds[i], numbers[i]) {
+            return false;
+        }
+        i += 1;
+    }
+    true
+}
+
+// A coordinate as it travels: 2c, or -2c - 1 when negative.
+fn zigzag(c: i32) -> u32
+    ensures { λ r. ⌜ r ≡ zig c ⌝ }
+{
+    if c < 0 {
+        return 2 * ((-1 - c) as u32) + 1;
+    }
+    2 * (c as u32)
+}
+
+// The coordinate that travels as n.
+fn unzigzag(n: u32) -> i32
+    ensures { λ r. ⌜ r ≡ zag n ⌝ }
+{
+    let half = n >> 1;
+    if n & 1 == 1 {
+        return -1 - (half as i32);
+    }
+    half as i32
+}
+
+// An operand of the record, as it travels; a negative number that is no coordinate is past every range.
+fn to_wire(kind: u8, a: i32) -> u32
+    ensures { λ r. ⌜ r ≡ wire kind a ⌝ }
+{
+    if kind == COORD {
+        return zigzag(a);
+    }
+    if a < 0 {
+        return 2097152;
+    }
+    a as u32
+}
+
+// A number that travelled, as the record has it.
+fn from_wire(kind: u8, n: u32) -> i32
+    requires { ⌜ n < 2097152 ⌝ }
+    ensures { λ r. ⌜ r ≡ unwire kind n ⌝ }
+{
+    if kind == COORD {
+        return unzigzag(n);
+    }
+    n as i32
+}
+
+// The operands of a record, as they travel.
+pub fn to_wires(kinds: [u8; 8], args: [i32; 8]) -> [u32; 8]
+    ensures { λ r. ⌜ r ≡ wires kinds args ⌝ }
+{
+    let mut numbers = [0u32; 8];
+    let mut i: usize = 0;
+    while i < 8 {
+        numbers[i] = to_wire(kinds[i], args[i]);
+        i += 1;
+    }
+    numbers
+}
+
+// The numbers that travelled, as the record has them.
+pub fn from_wires(kinds: [u8; 8], numbers: [u32; 8]) -> [i32; 8]
+    requires { ⌜ Small numbers ⌝ }
+    ensures { λ r. ⌜ r ≡ unwires kinds numbers ⌝ }
+{
+    let mut args = [0i32; 8];
+    let mut i: usize = 0;
+    while i < 8 {
+        args[i] = from_wire(kinds[i], numbers[i]);
+        i += 1;
+    }
+    args
 }

@@ -1,8 +1,9 @@
 // A solid of one face with one lone loop: mvsf makes it, kvsf kills it.
 ghost use mathlib.Core.Path.{_≡_};
 ghost use Prim.Native.Nat.{ℕ, _<_, _≤_};
-ghost use Rattle.euler.specs.Operators.{faceIn, facesIn, mvsfLinks, mvsfInverse, kvsfTest, kvsfLinks};
+ghost use Rattle.euler.specs.Operators.{faceIn, facesIn, mvsfLinks, mvsfInverse, kvsfTest, kvsfLinks, kvsfInverse};
 use euler::faces::loops_in;
+use euler::points::with_point;
 use euler::records::put_face;
 use euler::records::put_loop;
 use euler::scans::count_naming;
@@ -70,4 +71,15 @@ pub fn kvsf_links(links: &mut [u16], sh: Shape, s: usize, f: usize, l: usize, v:
     put_face(links, sh, f, 0, 0);
     put_loop(links, sh, l, 0, 0, 0);
     set_vertex_used(links, sh, v, 0);
+}
+
+pub fn kvsf_inverse(points: &[i32], s: usize, f: usize, l: usize, v: usize) -> Operator
+    requires { ⌜ (s < 65536) × (f < 65536) × (l < 65536) × (v < 65536) ⌝ }
+    ensures { λ r. ⌜ r ≡ kvsfInverse (now (points .entry)) s f l v ⌝ }
+{
+    let a = with_number(blank(1, 7), 0, s);
+    let b = with_number(a, 1, f);
+    let c = with_number(b, 2, l);
+    let d = with_number(c, 3, v);
+    with_point(d, 4, points, v)
 }

@@ -1,0 +1,23 @@
+use mathlib.Core.Path.{sym}
+use lib.ListN.{List·getD-eq-default}
+use Rattle.euler.specs.Exec.{whenUsed}
+use borrow.Author.Needs.{needs}
+use Rattle.euler.proofs.admit.when_used.Statement.{statement}
+use Rattle.euler.proofs.admit.when_used.Tie as tie
+use Rattle.euler.proofs.admit.when_used.Reads as reads
+use Rattle.euler.proofs.admit.when_used.Lts as lts
+
+-- src/admit.rt:46:16
+array-read-result : tie.Need-array-read-result
+array-read-result c = search needs
+
+-- src/admit.rt:46:9
+returns : tie.Need-returns
+returns c = search needs
+
+-- src/admit.rt:41:1
+returns-2 : tie.Need-returns-2
+returns-2 c = sym (List·getD-eq-default whenUsed 0 (c .if1 .left))
+
+pub when-used-spec : {M : Type 1} → statement M
+when-used-spec = tie.close (tie.spec array-read-result returns returns-2)

@@ -1,0 +1,85 @@
+// Refusals 6 and 7: an old item is free, a new number is in use. One table of operand kinds says which is asked of which operand.
+ghost use mathlib.Core.Path.{_≡_};
+ghost use Prim.Native.Nat.{ℕ, _≤_, _<_};
+ghost use lib.ListN.{getD};
+ghost use Rattle.euler.specs.Exec.{useWord, useRefusal, useRefusals, whenFree, whenUsed};
+use crate::records::item_of;
+use layout::columns::face_solid;
+use layout::columns::loop_face;
+use layout::columns::solid_used;
+use layout::columns::start_of;
+use layout::columns::vertex_used;
+use layout::shape::Shape;
+use script::Operator;
+
+// The word that tells whether item n of an operand's kind is in use. All six are read, so that the kind is one index.
+fn use_word(links: &[u16], sh: Shape, kind: usize, n: usize) -> usize
+    requires { ⌜ n ≤ 8192 ⌝ }
+    ensures { λ r. ⌜ r ≡ useWord sh (now (links .entry)) kind n ⌝ }
+{
+    let s = solid_used(links, sh, n);
+    let f = face_solid(links, sh, n);
+    let l = loop_face(links, sh, n);
+    let e = start_of(links, sh, 2 * n);
+    let k = start_of(links, sh, n);
+    let v = vertex_used(links, sh, n);
+    let words = [0, s, s, s, f, f, l, l, e, k, k, v];
+    if kind < 12 {
+        return words[kind];
+    }
+    0
+}
+
+// 6 for the kinds that name an old item.
+fn when_free(kind: usize) -> u8
+    ensures { λ r. ⌜ r ≡ getD whenFree kind 0 ⌝ }
+{
+    let refusals = [0u8, 6, 0, 0, 6, 0, 6, 0, 0, 6, 6, 0];
+    if kind < 12 {
+        return refusals[kind];
+    }
+    0
+}
+
+// 7 for the kinds that name a new one.
+fn when_used(kind: usize) -> u8
+    ensures { λ r. ⌜ r ≡ getD whenUsed kind 0 ⌝ }
+{
+    let refusals = [0u8, 0, 7, 7, 0, 7, 0, 7, 7, 0, 0, 7];
+    if kind < 12 {
+        return refusals[kind];
+    }
+    0
+}
+
+// The refusal of operand n of a kind; an operand 0 names no item.
+fn use_refusal(links: &[u16], sh: Shape, kind: usize, n: usize) -> u8
+    requires { ⌜ n ≤ 8192 ⌝ }
+    ensures { λ r. ⌜ r ≡ useRefusal sh (now (links .entry)) kind n ⌝ }
+{
+    if n == 0 {
+        return 0;
+    }
+    let word = use_word(links, sh, kind, n);
+    if word == 0 {
+        return when_free(kind);
+    }
+    when_used(kind)
+}
+
+// The first refusal of the operands from left to right.
+pub fn use_refusals(links: &[u16], sh: Shape, op: Operator, kinds: [u8; 8]) -> u8
+    ensures { λ r. ⌜ r ≡ useRefusals sh (now (links .entry)) op kinds 0 ⌝ }
+{
+    let mut i: usize = 0;
+    while i < 8 {
+        let kind = kinds[i] as usize;
+        let n = item_of(op, i);
+        let r = use_refusal(links, sh, kind, n);
+        if r != 0 {
+            return r;
+        }
+        i += 1;
+    }
+    0
+}

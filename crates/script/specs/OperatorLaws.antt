@@ -1,0 +1,68 @@
+-- The ways out of the code that writes an operator.
+use mathlib.Core.Path.{_≡_, refl, sym, ap, _∙_}
+use Prim.Native.Nat.{ℕ, _+_, _≤_, _<_}
+use native.Mathlib.Omega.{arith}
+use mathlib.Core.Bool.{Bool, true, false}
+use mathlib.Core.List.{List, [], _∷_, _++_}
+use lib.ListN.{length, length-append}
+use lib.Seq.{sets}
+use borrow.Author.Tests.{le-leb, lt-leb, eq-eqb, ne-eqb}
+use Rattle.script.specs.declared.Operator.{Operator}
+use Rattle.script.specs.declared.operands.Pattern.{Pattern}
+use Rattle.script.specs.Number.{groups}
+use Rattle.script.specs.Operands.{pattern, widest, largests, inRanges, wires}
+use Rattle.script.specs.Operator.{operandsBytes, operatorBytes, operatorRefusal, putBytes, written, notWritten, writeOperator}
+use Rattle.script.specs.WriteLaws.{sets-append}
+
+module _ (op : Operator) (p : Pattern) (e : p ≡ pattern (op .code)) where
+  pub refusal-code : p .count ≡ 0 → 4 ≡ operatorRefusal op
+  unfolding operatorRefusal
+  refusal-code z = rw (← e, eq-eqb (p .count) 0 z)
+
+  pub refusal-count : (p .count ≡ 0 → ⊥) → (op .count ≡ p .count → ⊥) → 5 ≡ operatorRefusal op
+  unfolding operatorRefusal
+  refusal-count z n = rw (← e, ne-eqb (p .count) 0 z, ne-eqb (op .count) (p .count) n)
+
+  module _ (ns : List ℕ) (f : ns ≡ wires (p .kinds) (op .args)) where
+    pub refusal-range : (p .count ≡ 0 → ⊥) → op .count ≡ p .count → (most : List ℕ) → most ≡ largests widest → inRanges most (p .kinds) ns ≡ false → 5 ≡ operatorRefusal op
+    unfolding operatorRefusal
+    refusal-range z n most m t = rw (← e, ne-eqb (p .count) 0 z, eq-eqb (op .count) (p .count) n, ← f, ← m, t)
+
+    pub refusal-none : (p .count ≡ 0 → ⊥) → op .count ≡ p .count → (most : List ℕ) → most ≡ largests widest → inRanges most (p .kinds) ns ≡ true → 0 ≡ operatorRefusal op
+    unfolding operatorRefusal
+    refusal-none z n most m t = rw (← e, ne-eqb (p .count) 0 z, eq-eqb (op .count) (p .count) n, ← f, ← m, t)
+
+    bytes-are : operatorBytes op ≡ groups (op .code) ++ operandsBytes (p .kinds) ns
+    unfolding operatorBytes
+    bytes-are = rw (← e, ← f)
+
+    pub size-is : length (operatorBytes op) ≡ length (groups (op .code)) + length (operandsBytes (p .kinds) ns)
+    size-is = rw bytes-are (length-append (groups (op .code)) (operandsBytes (p .kinds) ns))
+
+    pub put-done : (l y z : List ℕ) (at behind : ℕ) → at + length (operatorBytes op) ≤ length l → y ≡ sets l at (groups (op .code))
+        → behind ≡ at + length (groups (op .code)) → z ≡ sets y behind (operandsBytes (p .kinds) ns) → z ≡ putBytes l at (operatorBytes op)
+    unfolding putBytes
+    put-done l y z at behind h a b d =
+        rw (le-leb (at + length (operatorBytes op)) (length l) h, bytes-are, d, b, a) (sym (sets-append l at (groups (op .code)) (operandsBytes (p .kinds) ns)))
+
+pub put-not : (l : List ℕ) (at : ℕ) (bytes : List ℕ) → length l < at + length bytes → l ≡ putBytes l at bytes
+unfolding putBytes
+put-not l at bytes h = rw (lt-leb (at + length bytes) (length l) h)
+
+module _ (op : Operator) (out : List ℕ) (r : ℕ) (e : r ≡ operatorRefusal op) where
+  pub write-refused : (r ≡ 0 → ⊥) → notWritten r out ≡ writeOperator op out
+  unfolding writeOperator
+  write-refused n = rw (← e, ne-eqb r 0 n)
+
+  module _ (z : r ≡ 0) (size : ℕ) (f : size ≡ length (operatorBytes op)) where
+    pub write-short : length out < size → notWritten 9 out ≡ writeOperator op out
+    unfolding writeOperator
+    write-short h = rw (← e, eq-eqb r 0 z, ← f, lt-leb size (length out) h)
+
+    pub write-done : size ≤ length out → (y : List ℕ) → y ≡ putBytes out 0 (operatorBytes op) → written (record { refusal = 0; length = size }) y ≡ writeOperator op out
+    unfolding writeOperator putBytes
+    write-done h y g =
+        let k : length (operatorBytes op) ≤ length out = omega arith in
+        let n : 0 + length (operatorBytes op) ≡ length (operatorBytes op) = omega arith in
+        rw (← e, eq-eqb r 0 z, f, le-leb (length (operatorBytes op)) (length out) k)
+        (ap (λ (l : List ℕ). written (record { refusal = 0; length = length (operatorBytes op) }) l) (rw (n, le-leb (length (operatorBytes op)) (length out) k) at g))
