@@ -19,7 +19,7 @@ same-length c = search needs
 
 -- src/holes.rt:88:9
 returns : tie.Need-returns
-returns c = 
+returns c =
     let a = c .before .before .before .before .before .before .args in
     mfkrh-stays (a .sh) (a .links .now) (a .l) (a .f) (a .s) (c .before .before .before .before .if1 .taken) _ (c .before .before .ring-face .ensures)
 
@@ -45,7 +45,7 @@ same-length-2 c = search needs
 
 -- src/holes.rt:82:1
 returns-2 : tie.Need-returns-2
-returns-2 c = 
+returns-2 c =
     let a = c .before .before .before .before .before .before .before .before .before .before .before .before .before .before .before .before .before .before .args in
     mfkrh-leaves (a .sh) (a .links .now) (a .l) (a .f) (a .s) (c .before .before .before .before .before .before .before .before .before .before .before .before .before .before .before .before .if1 .left) _ (c .before .before .before .before .before .before .before .before .before .before .before .before .before .link-faces .ensures) _ _ _
     (c .before .before .before .before .before .before .before .before .before .before .before .ring-face2 .ensures) (c .before .before .before .before .before .before .before .set-solid-used .ensures) (c .before .before .move-shell .ensures)

@@ -69,7 +69,7 @@ loop-less c = omega arith
 
 -- src/moves.rt:36:5
 loop-again : tie.Need-loop-again Inv-loop μ-loop
-loop-again c = 
+loop-again c =
     let r = c .before .before .before .before .before .same-shell .ensures in
     let i = c .before .before .before .before .before .before .before .before .before .before .loop .inv in
     (omega arith, omega arith, forest-short (i .2) (r .1), same-roots-then (i .3) (r .1), sweep-more (c .before .before .before .before .before .before .before .before .before .before .before .before .before .args .sh) _ _ _ _ _ _ _ (i .4) (c .before .before .before .before .before .before .before .face-solid .ensures .0) (by-root (c .before .before .before .before .before .before .before .before .before .before .before .before .before .args .sh) (i .3) _ _ _ _ _ _ (r .0) (c .before .before .before .before .choose .ensures .0)) (c .before .before .set-face-solid .ensures))

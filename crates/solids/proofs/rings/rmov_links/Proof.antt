@@ -22,7 +22,7 @@ same-length c = search needs
 
 -- src/rings.rt:40:9
 returns : tie.Need-returns
-returns c = 
+returns c =
     let a = c .before .before .before .before .before .before .before .before .args in
     rmov-within (a .sh) (a .links .now) (a .l) (a .f) _ _ (c .before .before .before .before .before .loop-face .ensures .0) (c .before .before .before .before .if1 .taken) (c .before .before .set-face-outer .ensures)
 
@@ -36,7 +36,7 @@ same-length-2 c = search needs
 
 -- src/rings.rt:33:1
 returns-2 : tie.Need-returns-2
-returns-2 c = 
+returns-2 c =
     let a = c .before .before .before .before .before .before .before .before .args in
     rmov-over (a .sh) (a .links .now) (a .l) (a .f) _ _ (c .before .before .before .before .before .loop-face .ensures .0) (c .before .before .before .before .if1 .left) (c .before .before .set-loop-face .ensures)
 
