@@ -6,11 +6,9 @@ use Rattle.solids.proofs.holes.kfmrh_fits.Reads as reads
 use Rattle.solids.proofs.holes.kfmrh_fits.Lts as lts
 use Rattle.euler.proofs.faces.loops_in.Reads as loops-in-reads
 
--- src/holes.rt:28:9
 loops-in-requires : tie.Need-loops-in-requires
 loops-in-requires c κs = search needs
 
--- src/holes.rt:24:1
 returns : tie.Need-returns
 unfolding kfmrhTest
 returns c = cc

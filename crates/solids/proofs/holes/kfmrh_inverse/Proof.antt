@@ -9,39 +9,30 @@ use Rattle.layout.proofs.columns.face_solid.Reads as face-solid-reads
 use Rattle.script.proofs.blank.Reads as blank-reads
 use Rattle.script.proofs.with_number.Reads as with-number-reads
 
--- src/holes.rt:41:9
 face-outer-requires : tie.Need-face-outer-requires
 face-outer-requires c κs = search needs
 
--- src/holes.rt:42:9
 face-solid-requires : tie.Need-face-solid-requires
 face-solid-requires c κs = search needs
 
--- src/holes.rt:43:9
 face-solid-requires-2 : tie.Need-face-solid-requires-2
 face-solid-requires-2 c κs = search needs
 
--- src/holes.rt:44:9
 choose-requires : tie.Need-choose-requires
 choose-requires c κs = search needs
 
--- src/holes.rt:45:25
 blank-requires : tie.Need-blank-requires
 blank-requires c κs = search needs
 
--- src/holes.rt:45:9
 with-number-requires : tie.Need-with-number-requires
 with-number-requires c κs = search needs
 
--- src/holes.rt:46:9
 with-number-requires-2 : tie.Need-with-number-requires-2
 with-number-requires-2 c κs = search needs
 
--- src/holes.rt:47:5
 with-number-requires-3 : tie.Need-with-number-requires-3
 with-number-requires-3 c κs = search needs
 
--- src/holes.rt:37:1
 returns : tie.Need-returns
 returns c = rw (c .with-number3 .ensures, c .before .with-number2 .ensures, c .before .before .with-number .ensures, c .before .before .before .blank .ensures, c .before .before .before .before .choose .ensures .0, c .before .before .before .before .before .face-solid2 .ensures .0, c .before .before .before .before .before .before .face-solid .ensures .0, c .before .before .before .before .before .before .before .face-outer .ensures .0)
 

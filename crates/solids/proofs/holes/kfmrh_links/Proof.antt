@@ -11,43 +11,33 @@ use Rattle.layout.proofs.columns.set_loop_face.Reads as set-loop-face-reads
 use Rattle.layout.proofs.columns.set_solid_used.Reads as set-solid-used-reads
 use Rattle.solids.proofs.moves.move_faces.Reads as move-faces-reads
 
--- src/holes.rt:37:9
 face-outer-requires : tie.Need-face-outer-requires
 face-outer-requires c κs = search needs
 
--- src/holes.rt:38:9
 face-solid-requires : tie.Need-face-solid-requires
 face-solid-requires c κs = search needs
 
--- src/holes.rt:39:9
 face-solid-requires-2 : tie.Need-face-solid-requires-2
 face-solid-requires-2 c κs = search needs
 
--- src/holes.rt:40:5
 set-loop-face-requires : tie.Need-set-loop-face-requires
 set-loop-face-requires c κs = search needs
 
--- src/holes.rt:41:5
 put-face-requires : tie.Need-put-face-requires
 put-face-requires c κs = search needs
 
--- src/holes.rt:42:5
 move-faces-requires : tie.Need-move-faces-requires
 move-faces-requires c κs = search needs
 
--- src/holes.rt:43:5
 set-solid-used-requires : tie.Need-set-solid-used-requires
 set-solid-used-requires c κs = search needs
 
--- src/holes.rt:44:5
 set-solid-used-requires-2 : tie.Need-set-solid-used-requires-2
 set-solid-used-requires-2 c κs = search needs
 
--- src/holes.rt:33:1
 same-length : tie.Need-same-length
 same-length c = search needs
 
--- src/holes.rt:33:1
 returns : tie.Need-returns
 returns c =
     let a = c .before .before .before .before .before .before .before .before .before .before .before .before .before .before .before .before .before .before .before .before .before .before .before .before .before .before .before .args in

@@ -8,19 +8,15 @@ use Rattle.euler.proofs.faces.is_ring.Reads as is-ring-reads
 use Rattle.layout.proofs.columns.loop_face.Reads as loop-face-reads
 use Rattle.shells.proofs.faces.linked_faces.Reads as linked-faces-reads
 
--- src/holes.rt:65:9
 loop-face-requires : tie.Need-loop-face-requires
 loop-face-requires c κs = search needs
 
--- src/holes.rt:66:9
 is-ring-requires : tie.Need-is-ring-requires
 is-ring-requires c κs = search needs
 
--- src/holes.rt:67:9
 linked-faces-requires : tie.Need-linked-faces-requires
 linked-faces-requires c κs = search needs
 
--- src/holes.rt:61:1
 returns : tie.Need-returns
 unfolding mfkrhTest linkedAfter
 returns c = cc

@@ -7,23 +7,18 @@ use Rattle.layout.proofs.columns.loop_face.Reads as loop-face-reads
 use Rattle.script.proofs.blank.Reads as blank-reads
 use Rattle.script.proofs.with_number.Reads as with-number-reads
 
--- src/holes.rt:91:9
 loop-face-requires : tie.Need-loop-face-requires
 loop-face-requires c κs = search needs
 
--- src/holes.rt:92:29
 blank-requires : tie.Need-blank-requires
 blank-requires c κs = search needs
 
--- src/holes.rt:92:17
 with-number-requires : tie.Need-with-number-requires
 with-number-requires c κs = search needs
 
--- src/holes.rt:92:5
 with-number-requires-2 : tie.Need-with-number-requires-2
 with-number-requires-2 c κs = search needs
 
--- src/holes.rt:87:1
 returns : tie.Need-returns
 returns c = rw (c .with-number2 .ensures, c .before .with-number .ensures, c .before .before .blank .ensures, c .before .before .before .loop-face .ensures .0)
 

@@ -9,41 +9,32 @@ use Rattle.shells.proofs.faces.link_faces.Reads as link-faces-reads
 use Rattle.solids.proofs.holes.ring_face.Reads as ring-face-reads
 use Rattle.solids.proofs.moves.move_shell.Reads as move-shell-reads
 
--- src/holes.rt:87:9
 ring-face-requires : tie.Need-ring-face-requires
 ring-face-requires c κs = search needs
 
--- src/holes.rt:88:9
 same-length : tie.Need-same-length
 same-length c = search needs
 
--- src/holes.rt:88:9
 returns : tie.Need-returns
 returns c =
     let a = c .before .before .before .before .before .before .args in
     mfkrh-stays (a .sh) (a .links .now) (a .l) (a .f) (a .s) (c .before .before .before .before .if1 .taken) _ (c .before .before .ring-face .ensures)
 
--- src/holes.rt:91:5
 link-faces-requires : tie.Need-link-faces-requires
 link-faces-requires c κs = search needs
 
--- src/holes.rt:92:5
 ring-face-requires-2 : tie.Need-ring-face-requires-2
 ring-face-requires-2 c κs = search needs
 
--- src/holes.rt:93:5
 set-solid-used-requires : tie.Need-set-solid-used-requires
 set-solid-used-requires c κs = search needs
 
--- src/holes.rt:94:5
 move-shell-requires : tie.Need-move-shell-requires
 move-shell-requires c κs = search needs
 
--- src/holes.rt:82:1
 same-length-2 : tie.Need-same-length-2
 same-length-2 c = search needs
 
--- src/holes.rt:82:1
 returns-2 : tie.Need-returns-2
 returns-2 c =
     let a = c .before .before .before .before .before .before .before .before .before .before .before .before .before .before .before .before .before .before .args in

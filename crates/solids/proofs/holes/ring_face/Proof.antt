@@ -8,27 +8,21 @@ use Rattle.layout.proofs.columns.face_solid.Reads as face-solid-reads
 use Rattle.layout.proofs.columns.loop_face.Reads as loop-face-reads
 use Rattle.layout.proofs.columns.set_loop_face.Reads as set-loop-face-reads
 
--- src/holes.rt:66:9
 loop-face-requires : tie.Need-loop-face-requires
 loop-face-requires c κs = search needs
 
--- src/holes.rt:67:9
 face-solid-requires : tie.Need-face-solid-requires
 face-solid-requires c κs = search needs
 
--- src/holes.rt:68:5
 put-face-requires : tie.Need-put-face-requires
 put-face-requires c κs = search needs
 
--- src/holes.rt:69:5
 set-loop-face-requires : tie.Need-set-loop-face-requires
 set-loop-face-requires c κs = search needs
 
--- src/holes.rt:62:1
 same-length : tie.Need-same-length
 same-length c = search needs
 
--- src/holes.rt:62:1
 returns : tie.Need-returns
 returns c = cc
 

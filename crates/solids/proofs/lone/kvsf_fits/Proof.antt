@@ -10,27 +10,21 @@ use Rattle.layout.proofs.columns.loop_isolated.Reads as loop-isolated-reads
 use Rattle.solids.proofs.lone.face_in.Reads as face-in-reads
 use Rattle.solids.proofs.lone.faces_in.Reads as faces-in-reads
 
--- src/lone.rt:56:9
 face-in-requires : tie.Need-face-in-requires
 face-in-requires c κs = search needs
 
--- src/lone.rt:57:9
 faces-in-requires : tie.Need-faces-in-requires
 faces-in-requires c κs = search needs
 
--- src/lone.rt:58:9
 loops-in-requires : tie.Need-loops-in-requires
 loops-in-requires c κs = search needs
 
--- src/lone.rt:59:9
 face-outer-requires : tie.Need-face-outer-requires
 face-outer-requires c κs = search needs
 
--- src/lone.rt:60:9
 loop-isolated-requires : tie.Need-loop-isolated-requires
 loop-isolated-requires c κs = search needs
 
--- src/lone.rt:52:1
 returns : tie.Need-returns
 unfolding kvsfTest
 returns c = rw (c .loop-isolated .ensures .0, c .before .face-outer .ensures .0, c .before .before .loops-in .ensures .0, c .before .before .before .faces-in .ensures .0, c .before .before .before .before .face-in .ensures .0)

@@ -7,31 +7,24 @@ use Rattle.euler.proofs.points.with_point.Reads as with-point-reads
 use Rattle.script.proofs.blank.Reads as blank-reads
 use Rattle.script.proofs.with_number.Reads as with-number-reads
 
--- src/lone.rt:80:25
 blank-requires : tie.Need-blank-requires
 blank-requires c κs = search needs
 
--- src/lone.rt:80:9
 with-number-requires : tie.Need-with-number-requires
 with-number-requires c κs = search needs
 
--- src/lone.rt:81:9
 with-number-requires-2 : tie.Need-with-number-requires-2
 with-number-requires-2 c κs = search needs
 
--- src/lone.rt:82:9
 with-number-requires-3 : tie.Need-with-number-requires-3
 with-number-requires-3 c κs = search needs
 
--- src/lone.rt:83:9
 with-number-requires-4 : tie.Need-with-number-requires-4
 with-number-requires-4 c κs = search needs
 
--- src/lone.rt:84:5
 with-point-requires : tie.Need-with-point-requires
 with-point-requires c κs = search needs
 
--- src/lone.rt:76:1
 returns : tie.Need-returns
 returns c = rw (c .with-point .ensures, c .before .with-number4 .ensures, c .before .before .with-number3 .ensures, c .before .before .before .with-number2 .ensures, c .before .before .before .before .with-number .ensures, c .before .before .before .before .before .blank .ensures)
 

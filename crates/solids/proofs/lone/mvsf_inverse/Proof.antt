@@ -6,15 +6,12 @@ use Rattle.solids.proofs.lone.mvsf_inverse.Lts as lts
 use Rattle.script.proofs.blank.Reads as blank-reads
 use Rattle.script.proofs.with_number.Reads as with-number-reads
 
--- src/lone.rt:28:17
 blank-requires : tie.Need-blank-requires
 blank-requires c κs = search needs
 
--- src/lone.rt:28:5
 with-number-requires : tie.Need-with-number-requires
 with-number-requires c κs = search needs
 
--- src/lone.rt:24:1
 returns : tie.Need-returns
 returns c = cc
 

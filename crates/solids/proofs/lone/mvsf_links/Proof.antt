@@ -9,27 +9,21 @@ use Rattle.euler.proofs.records.put_loop.Reads as put-loop-reads
 use Rattle.layout.proofs.columns.set_solid_used.Reads as set-solid-used-reads
 use Rattle.layout.proofs.columns.set_vertex_used.Reads as set-vertex-used-reads
 
--- src/lone.rt:18:5
 set-solid-used-requires : tie.Need-set-solid-used-requires
 set-solid-used-requires c κs = search needs
 
--- src/lone.rt:19:5
 put-face-requires : tie.Need-put-face-requires
 put-face-requires c κs = search needs
 
--- src/lone.rt:20:5
 put-loop-requires : tie.Need-put-loop-requires
 put-loop-requires c κs = search needs
 
--- src/lone.rt:21:5
 set-vertex-used-requires : tie.Need-set-vertex-used-requires
 set-vertex-used-requires c κs = search needs
 
--- src/lone.rt:14:1
 same-length : tie.Need-same-length
 same-length c = search needs
 
--- src/lone.rt:14:1
 returns : tie.Need-returns
 unfolding mvsfLinks
 returns c = cc

@@ -21,51 +21,39 @@ Inv-loop links₀ sh s t n k₀ links k = (k ≤ n) × (length links ≡ length 
 abbrev μ-loop : tie.MeasureT-loop
 μ-loop links₀ sh s t n k₀ links k = n - k
 
--- src/moves.rt:18:13
 cast-n : tie.Need-cast-n Inv-loop μ-loop
 cast-n c = search needs
 
--- src/moves.rt:20:5
 loop-holds : tie.Need-loop-holds Inv-loop μ-loop
 loop-holds c = (omega arith, omega arith, sweep-none (c .before .before .args .sh) _ _)
 
--- src/moves.rt:21:41
 add-face-solid : tie.Need-add-face-solid Inv-loop μ-loop
 add-face-solid c = omega arith
 
--- src/moves.rt:21:13
 face-solid-requires : tie.Need-face-solid-requires Inv-loop μ-loop
 face-solid-requires c κs = omega arith
 
--- src/moves.rt:22:13
 choose-requires : tie.Need-choose-requires Inv-loop μ-loop
 choose-requires c κs = search needs
 
--- src/moves.rt:23:35
 add-set-face-solid : tie.Need-add-set-face-solid Inv-loop μ-loop
 add-set-face-solid c = omega arith
 
--- src/moves.rt:23:9
 set-face-solid-requires : tie.Need-set-face-solid-requires Inv-loop μ-loop
 set-face-solid-requires c κs = search needs
 
--- src/moves.rt:24:9
 add-k : tie.Need-add-k Inv-loop μ-loop
 add-k c = omega arith
 
--- src/moves.rt:20:5
 loop-less : tie.Need-loop-less Inv-loop μ-loop
 loop-less c = omega arith
 
--- src/moves.rt:20:5
 loop-again : tie.Need-loop-again Inv-loop μ-loop
 loop-again c = (omega arith, omega arith, sweep-more (c .before .before .before .before .before .before .before .before .before .before .before .args .sh) _ _ _ _ _ _ _ (c .before .before .before .before .before .before .before .before .loop .inv .2) (c .before .before .before .before .before .face-solid .ensures .0) (c .before .before .before .before .choose .ensures .0) (c .before .before .set-face-solid .ensures))
 
--- src/moves.rt:14:1
 same-length : tie.Need-same-length Inv-loop μ-loop
 same-length c = omega arith
 
--- src/moves.rt:14:1
 returns : tie.Need-returns Inv-loop μ-loop
 returns c = sweep-all (c .before .before .before .before .args .sh) _ _ _ _ _ (omega arith) (omega arith) (c .before .loop .inv .2)
 

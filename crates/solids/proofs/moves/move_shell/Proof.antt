@@ -23,62 +23,48 @@ Inv-loop links₀ sh parent₀ f s n k₀ links parent k = (k ≤ n) × (length 
 abbrev μ-loop : tie.MeasureT-loop
 μ-loop links₀ sh parent₀ f s n k₀ links parent k = n - k
 
--- src/moves.rt:34:13
 cast-n : tie.Need-cast-n Inv-loop μ-loop
 cast-n c = search needs
 
--- src/moves.rt:36:5
 loop-holds : tie.Need-loop-holds Inv-loop μ-loop
 loop-holds c = (omega arith, omega arith, c .before .before .pre .1, same-roots-here (c .before .before .pre .1 .down), sweep-none (c .before .before .args .sh) _ _)
 
--- src/moves.rt:37:41
 add-face-solid : tie.Need-add-face-solid Inv-loop μ-loop
 add-face-solid c = omega arith
 
--- src/moves.rt:37:13
 face-solid-requires : tie.Need-face-solid-requires Inv-loop μ-loop
 face-solid-requires c κs = omega arith
 
--- src/moves.rt:38:46
 add-same-shell : tie.Need-add-same-shell Inv-loop μ-loop
 add-same-shell c = omega arith
 
--- src/moves.rt:38:13
 same-shell-requires : tie.Need-same-shell-requires Inv-loop μ-loop
 same-shell-requires c κs = (c .before .before .before .before .before .before .before .pre .0 .0, c .before .before .before .before .loop .inv .2)
 
--- src/moves.rt:39:13
 choose-requires : tie.Need-choose-requires Inv-loop μ-loop
 choose-requires c κs = search needs
 
--- src/moves.rt:40:35
 add-set-face-solid : tie.Need-add-set-face-solid Inv-loop μ-loop
 add-set-face-solid c = omega arith
 
--- src/moves.rt:40:9
 set-face-solid-requires : tie.Need-set-face-solid-requires Inv-loop μ-loop
 set-face-solid-requires c κs = search needs
 
--- src/moves.rt:41:9
 add-k : tie.Need-add-k Inv-loop μ-loop
 add-k c = omega arith
 
--- src/moves.rt:36:5
 loop-less : tie.Need-loop-less Inv-loop μ-loop
 loop-less c = omega arith
 
--- src/moves.rt:36:5
 loop-again : tie.Need-loop-again Inv-loop μ-loop
 loop-again c =
     let r = c .before .before .before .before .before .same-shell .ensures in
     let i = c .before .before .before .before .before .before .before .before .before .before .loop .inv in
     (omega arith, omega arith, forest-short (i .2) (r .1), same-roots-then (i .3) (r .1), sweep-more (c .before .before .before .before .before .before .before .before .before .before .before .before .before .args .sh) _ _ _ _ _ _ _ (i .4) (c .before .before .before .before .before .before .before .face-solid .ensures .0) (by-root (c .before .before .before .before .before .before .before .before .before .before .before .before .before .args .sh) (i .3) _ _ _ _ _ _ (r .0) (c .before .before .before .before .choose .ensures .0)) (c .before .before .set-face-solid .ensures))
 
--- src/moves.rt:29:1
 same-length : tie.Need-same-length Inv-loop μ-loop
 same-length c = omega arith
 
--- src/moves.rt:29:1
 returns : tie.Need-returns Inv-loop μ-loop
 unfolding moveShell
 returns c = sweep-all (c .before .before .before .before .args .sh) _ _ _ _ _ (omega arith) (omega arith) (c .before .loop .inv .4)

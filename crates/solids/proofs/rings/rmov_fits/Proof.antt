@@ -8,19 +8,15 @@ use Rattle.euler.proofs.faces.is_ring.Reads as is-ring-reads
 use Rattle.layout.proofs.columns.loop_face.Reads as loop-face-reads
 use Rattle.solids.proofs.rings.sharing_half.Reads as sharing-half-reads
 
--- src/rings.rt:55:9
 loop-face-requires : tie.Need-loop-face-requires
 loop-face-requires c κs = search needs
 
--- src/rings.rt:56:9
 is-ring-requires : tie.Need-is-ring-requires
 is-ring-requires c κs = search needs
 
--- src/rings.rt:57:9
 sharing-half-requires : tie.Need-sharing-half-requires
 sharing-half-requires c κs = search needs
 
--- src/rings.rt:51:1
 returns : tie.Need-returns
 unfolding rmovTest
 returns c = cc

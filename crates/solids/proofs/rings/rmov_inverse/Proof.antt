@@ -9,35 +9,27 @@ use Rattle.layout.proofs.columns.loop_face.Reads as loop-face-reads
 use Rattle.script.proofs.blank.Reads as blank-reads
 use Rattle.script.proofs.with_number.Reads as with-number-reads
 
--- src/rings.rt:50:9
 loop-face-requires : tie.Need-loop-face-requires
 loop-face-requires c κs = search needs
 
--- src/rings.rt:51:9
 face-outer-requires : tie.Need-face-outer-requires
 face-outer-requires c κs = search needs
 
--- src/rings.rt:52:9
 choose-requires : tie.Need-choose-requires
 choose-requires c κs = search needs
 
--- src/rings.rt:53:9
 choose-requires-2 : tie.Need-choose-requires-2
 choose-requires-2 c κs = search needs
 
--- src/rings.rt:54:29
 blank-requires : tie.Need-blank-requires
 blank-requires c κs = search needs
 
--- src/rings.rt:54:17
 with-number-requires : tie.Need-with-number-requires
 with-number-requires c κs = search needs
 
--- src/rings.rt:54:5
 with-number-requires-2 : tie.Need-with-number-requires-2
 with-number-requires-2 c κs = search needs
 
--- src/rings.rt:46:1
 returns : tie.Need-returns
 returns c = rw (c .with-number2 .ensures, c .before .with-number .ensures, c .before .before .blank .ensures, c .before .before .before .choose2 .ensures .0, c .before .before .before .before .choose .ensures .0, c .before .before .before .before .before .face-outer .ensures .0, c .before .before .before .before .before .before .loop-face .ensures .0)
 

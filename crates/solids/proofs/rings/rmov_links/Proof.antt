@@ -8,33 +8,26 @@ use Rattle.layout.proofs.columns.loop_face.Reads as loop-face-reads
 use Rattle.layout.proofs.columns.set_face_outer.Reads as set-face-outer-reads
 use Rattle.layout.proofs.columns.set_loop_face.Reads as set-loop-face-reads
 
--- src/rings.rt:37:9
 loop-face-requires : tie.Need-loop-face-requires
 loop-face-requires c κs = search needs
 
--- src/rings.rt:39:9
 set-face-outer-requires : tie.Need-set-face-outer-requires
 set-face-outer-requires c κs = search needs
 
--- src/rings.rt:40:9
 same-length : tie.Need-same-length
 same-length c = search needs
 
--- src/rings.rt:40:9
 returns : tie.Need-returns
 returns c =
     let a = c .before .before .before .before .before .before .before .before .args in
     rmov-within (a .sh) (a .links .now) (a .l) (a .f) _ _ (c .before .before .before .before .before .loop-face .ensures .0) (c .before .before .before .before .if1 .taken) (c .before .before .set-face-outer .ensures)
 
--- src/rings.rt:42:5
 set-loop-face-requires : tie.Need-set-loop-face-requires
 set-loop-face-requires c κs = search needs
 
--- src/rings.rt:33:1
 same-length-2 : tie.Need-same-length-2
 same-length-2 c = search needs
 
--- src/rings.rt:33:1
 returns-2 : tie.Need-returns-2
 returns-2 c =
     let a = c .before .before .before .before .before .before .before .before .args in

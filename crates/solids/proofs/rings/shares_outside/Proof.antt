@@ -9,31 +9,24 @@ use Rattle.layout.proofs.columns.loop_of.Reads as loop-of-reads
 use Rattle.layout.proofs.columns.start_of.Reads as start-of-reads
 use Rattle.layout.proofs.mates.mate_of.Reads as mate-of-reads
 
--- src/rings.rt:26:9
 start-of-requires : tie.Need-start-of-requires
 start-of-requires c κs = search needs
 
--- src/rings.rt:27:9
 loop-of-requires : tie.Need-loop-of-requires
 loop-of-requires c κs = search needs
 
--- src/rings.rt:28:9
 side-of-requires : tie.Need-side-of-requires
 side-of-requires c κs = search needs
 
--- src/rings.rt:29:9
 loop-face-requires : tie.Need-loop-face-requires
 loop-face-requires c κs = search needs
 
--- src/rings.rt:30:36
 mate-of-requires : tie.Need-mate-of-requires
 mate-of-requires c κs = search needs
 
--- src/rings.rt:30:9
 side-of-requires-2 : tie.Need-side-of-requires-2
 side-of-requires-2 c κs = search needs
 
--- src/rings.rt:22:1
 returns : tie.Need-returns
 returns c = cc
 

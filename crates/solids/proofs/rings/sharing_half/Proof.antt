@@ -17,39 +17,30 @@ Inv-loop links sh l f n k₀ k = (1 ≤ k) × (k ≤ n + 1) × (leastFrom (n + 1
 abbrev μ-loop : tie.MeasureT-loop
 μ-loop links sh l f n k₀ k = n + 1 - k
 
--- src/rings.rt:39:17
 cast-n : tie.Need-cast-n Inv-loop μ-loop
 cast-n c = search needs
 
--- src/rings.rt:39:13
 mul-n : tie.Need-mul-n Inv-loop μ-loop
 mul-n c = search needs
 
--- src/rings.rt:41:5
 loop-holds : tie.Need-loop-holds Inv-loop μ-loop
 loop-holds c = (omega arith, omega arith, least-all _ _)
 
--- src/rings.rt:42:13
 shares-outside-requires : tie.Need-shares-outside-requires Inv-loop μ-loop
 shares-outside-requires c κs = search needs
 
--- src/rings.rt:44:13
 returns : tie.Need-returns Inv-loop μ-loop
 returns c = found-here _ _ _ _ (c .before .before .before .loop .inv .2) (omega arith) (sym (c .before .shares-outside .ensures) ∙ c .if1 .taken)
 
--- src/rings.rt:46:9
 add-k : tie.Need-add-k Inv-loop μ-loop
 add-k c = omega arith
 
--- src/rings.rt:41:5
 loop-less : tie.Need-loop-less Inv-loop μ-loop
 loop-less c = omega arith
 
--- src/rings.rt:41:5
 loop-again : tie.Need-loop-again Inv-loop μ-loop
 loop-again c = (omega arith, omega arith, found-on _ _ _ _ (c .before .before .before .loop .inv .2) (omega arith) (sym (c .before .shares-outside .ensures) ∙ c .if1 .left))
 
--- src/rings.rt:35:1
 returns-2 : tie.Need-returns-2 Inv-loop μ-loop
 returns-2 c = found-none _ _ _ _ (c .before .loop .inv .2) (omega arith)
 
