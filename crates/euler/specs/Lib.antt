@@ -5,3 +5,4 @@ pub mod ByCode
 pub mod AdmitLaws
 pub mod Examples
 pub mod SurgeryLaws
+pub mod Scans

@@ -12,12 +12,12 @@ use Rattle.laws.specs.Every.{every}
 use Rattle.laws.specs.Search.{least}
 use Rattle.laws.specs.Sums.{countTo}
 use Rattle.laws.specs.Columns.{sweep}
-use Rattle.laws.specs.Closure.{linkedb}
 use Rattle.script.specs.declared.Operator.{Operator}
 use Rattle.script.specs.Operator.{blankOf, withNumber}
 use Rattle.layout.specs.declared.shape.Shape.{Shape}
 use Rattle.layout.specs.Layout.{kind, solidUsed, faceSolid, faceOuter, loopFace, loopFirst, loopIsolated, startOf, loopOf, nextOf, prevOf, vertexUsed, setSolidUsed, setFaceSolid, setFaceOuter, setLoopFace, setStart, setVertexUsed}
 use Rattle.layout.specs.Mate.{mate, edgeOf}
+use Rattle.shells.specs.Shells.{facesLinkedAs}
 use Rattle.euler.specs.Surgery.{some, halfBy, wayOf, corner, cornerVertex, withPoint, putFace, putLoop, putHalf, between, edgeIn, edgeOut, tie, relabelRun, renew}
 
 -- ---- operators as records
@@ -265,27 +265,23 @@ kfmrhInverse sh x f1 f2 =
 -- ---- 10 mfkrh l f s: ring l becomes outer loop of new face f. If f is then unlinked (rule 6) from l's old face, f and all faces
 -- linked to it form new solid s, which must not be 0; otherwise s must be 0
 
--- the face of half-edge k once loop l lies in face f
-abbrev pub sideAfter : Shape → List ℕ → ℕ → ℕ → ℕ → ℕ
-sideAfter sh x l f k = pick (eqb (loopOf sh x k) l) f (side sh x k)
-
 -- faces g and h are linked once loop l lies in face f
 unfoldable pub linkedAfter : Shape → List ℕ → ℕ → ℕ → ℕ → ℕ → Bool
-linkedAfter sh x l f =
-    linkedb (sh .faces) (sh .edges) (λ e. some (startOf sh x (2 * e))) (λ e. sideAfter sh x l f (2 * e - 1)) (λ e. sideAfter sh x l f (2 * e))
+linkedAfter sh x l f g h = facesLinkedAs sh x l f g h
 
 unfoldable pub mfkrhTest : Shape → List ℕ → ℕ → ℕ → ℕ → Bool
 mfkrhTest sh x l f s =
     isRing sh x l && ((linkedAfter sh x l f f (loopFace sh x l) && eqb s 0) || (not (linkedAfter sh x l f f (loopFace sh x l)) && some s))
 
--- where s is 0, f stays in the old solid
+-- l is the outer loop of f, in the solid of its old face
+abbrev pub ringFace : Shape → List ℕ → ℕ → ℕ → List ℕ
+ringFace sh x l f = setLoopFace sh (putFace sh x f (faceSolid sh x (loopFace sh x l)) l) l f
+
+-- where s is 0, f stays in that solid
 unfoldable pub mfkrhLinks : Shape → List ℕ → ℕ → ℕ → ℕ → List ℕ
 mfkrhLinks sh x l f s =
-    pick (eqb s 0) joined
-    (sweep (kind (sh .face0) 2) 0 (sh .faces) (λ g old. pick (linkedAfter sh x l f f g) s old) (setSolidUsed sh joined s 1))
-  where
-    joined : List ℕ
-    joined = setLoopFace sh (putFace sh x f (faceSolid sh x (loopFace sh x l)) l) l f
+    pick (eqb s 0) (ringFace sh x l f)
+    (sweep (kind (sh .face0) 2) 0 (sh .faces) (λ g old. pick (linkedAfter sh x l f f g) s old) (setSolidUsed sh (ringFace sh x l f) s 1))
 
 abbrev pub mfkrhInverse : Shape → List ℕ → ℕ → ℕ → Operator
 mfkrhInverse sh x l f = operator 9 (loopFace sh x l ∷ f ∷ [])

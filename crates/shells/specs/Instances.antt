@@ -6,7 +6,7 @@ use Prim.Native.Nat.{ℕ}
 use Rattle.laws.specs.Search.{allTo}
 use Rattle.laws.specs.Closure.{across, pass, rounds, linkedb}
 use Rattle.layout.specs.Layout.{shapeOf}
-use Rattle.shells.specs.Shells.{within, joins, facesLinked, faceWhole, shellsWhole}
+use Rattle.shells.specs.Shells.{within, joins, linkedBy, facesLinked, facesLinkedAs, faceWhole, shellsWhole}
 
 -- document 01, example d: two faces share edge 2, and edge 1 too
 abbrev linkedPair : List ℕ
@@ -25,9 +25,14 @@ abbrev answers : List ℕ → List Bool
 answers x = facesLinked (shapeOf x) x 1 2 ∷ facesLinked (shapeOf x) x 1 1 ∷ facesLinked (shapeOf x) x 1 0 ∷ shellsWhole (shapeOf x) x leaders ∷ []
 
 linked-answers : answers linkedPair ≡ true ∷ true ∷ false ∷ true ∷ []
-unfolding facesLinked faceWhole joins within linkedb rounds pass across allTo
+unfolding linkedBy faceWhole joins within linkedb rounds pass across allTo
 linked-answers = refl
 
 lone-answers : answers lonePair ≡ false ∷ true ∷ false ∷ false ∷ []
-unfolding facesLinked faceWhole joins within linkedb rounds pass across allTo
+unfolding linkedBy faceWhole joins within linkedb rounds pass across allTo
 lone-answers = refl
+
+-- example d once loop 2 lies in face 1: both edges then have face 1 on both sides
+moved-answers : facesLinkedAs (shapeOf linkedPair) linkedPair 2 1 1 2 ∷ facesLinkedAs (shapeOf linkedPair) linkedPair 2 1 1 1 ∷ [] ≡ false ∷ true ∷ []
+unfolding linkedBy joins within linkedb rounds pass across allTo
+moved-answers = refl

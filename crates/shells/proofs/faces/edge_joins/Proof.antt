@@ -6,7 +6,7 @@ use Rattle.shells.proofs.faces.edge_joins.Reads as reads
 use Rattle.shells.proofs.faces.edge_joins.Lts as lts
 use Rattle.layout.proofs.columns.start_of.Reads as start-of-reads
 use Rattle.shells.proofs.faces.is_within.Reads as is-within-reads
-use Rattle.shells.proofs.faces.side_of.Reads as side-of-reads
+use Rattle.shells.proofs.faces.side_as.Reads as side-as-reads
 
 cast-n : tie.Need-cast-n
 cast-n c = search needs
@@ -17,20 +17,20 @@ mul-start-of c = search needs
 start-of-requires : tie.Need-start-of-requires
 start-of-requires c κs = search needs
 
-mul-side-of : tie.Need-mul-side-of
-mul-side-of c = search needs
+mul-side-as : tie.Need-mul-side-as
+mul-side-as c = search needs
 
-sub-side-of : tie.Need-sub-side-of
-sub-side-of c = search needs
+sub-side-as : tie.Need-sub-side-as
+sub-side-as c = search needs
 
-side-of-requires : tie.Need-side-of-requires
-side-of-requires c κs = search needs
+side-as-requires : tie.Need-side-as-requires
+side-as-requires c κs = search needs
 
-mul-side-of-2 : tie.Need-mul-side-of-2
-mul-side-of-2 c = search needs
+mul-side-as-2 : tie.Need-mul-side-as-2
+mul-side-as-2 c = search needs
 
-side-of-requires-2 : tie.Need-side-of-requires-2
-side-of-requires-2 c κs = search needs
+side-as-requires-2 : tie.Need-side-as-requires-2
+side-as-requires-2 c κs = search needs
 
 is-within-requires : tie.Need-is-within-requires
 is-within-requires c κs = search needs
@@ -49,11 +49,11 @@ edge-joins-spec =
     cast-n
     mul-start-of
     start-of-requires
-    mul-side-of
-    sub-side-of
-    side-of-requires
-    mul-side-of-2
-    side-of-requires-2
+    mul-side-as
+    sub-side-as
+    side-as-requires
+    mul-side-as-2
+    side-as-requires-2
     is-within-requires
     is-within-requires-2
     returns)

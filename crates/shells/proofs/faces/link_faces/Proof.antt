@@ -2,7 +2,7 @@ use mathlib.Core.Path.{_≡_}
 use Prim.Native.Nat.{_-_, _≤_}
 use native.Mathlib.Omega.{arith}
 use borrow.Author.Needs.{needs}
-use Rattle.shells.specs.Shells.{Joined}
+use Rattle.shells.specs.Shells.{sideAs, Joined}
 use Rattle.shells.specs.ShellsLaws.{joined-start, joined-shells}
 use Rattle.shells.proofs.faces.link_faces.Statement.{statement}
 use Rattle.shells.proofs.faces.link_faces.Tie as tie
@@ -12,10 +12,10 @@ use Rattle.shells.proofs.faces.link_edge.Reads as link-edge-reads
 use Rattle.shells.proofs.forest.separate.Reads as separate-reads
 
 abbrev Inv-loop : tie.InvT-loop
-Inv-loop links sh parent₀ n k₀ parent k = (k ≤ n) × Joined sh links k parent
+Inv-loop links sh l t parent₀ n k₀ parent k = (k ≤ n) × Joined sh links (sideAs sh links l t) k parent
 
 abbrev μ-loop : tie.MeasureT-loop
-μ-loop links sh parent₀ n k₀ parent k = n - k
+μ-loop links sh l t parent₀ n k₀ parent k = n - k
 
 separate-requires : tie.Need-separate-requires Inv-loop μ-loop
 separate-requires c κs = c .before .before .pre .1
@@ -27,7 +27,7 @@ loop-holds : tie.Need-loop-holds Inv-loop μ-loop
 loop-holds c = (omega arith, joined-start (c .before .separate .ensures) (c .before .before .before .before .pre .0 .0))
 
 link-edge-requires : tie.Need-link-edge-requires Inv-loop μ-loop
-link-edge-requires c κs = ((c .before .before .before .before .before .before .before .pre .0 .0, omega arith), c .before .before .loop .inv .1)
+link-edge-requires c κs = ((c .before .before .before .before .before .before .before .pre .0 .0, c .before .before .before .before .before .before .before .pre .0 .2, omega arith), c .before .before .loop .inv .1)
 
 add-k : tie.Need-add-k Inv-loop μ-loop
 add-k c = omega arith

@@ -5,7 +5,8 @@ use native.Mathlib.Omega.{arith}
 use lib.ListN.{length-replicate}
 use borrow.Author.Needs.{needs}
 use Rattle.laws.specs.Search.{allTo}
-use Rattle.shells.specs.Shells.{faceWhole, Shells}
+use Rattle.shells.specs.Shells.{side, faceWhole, Shells}
+use Rattle.shells.specs.ShellsLaws.{shells-here}
 use Rattle.shells.specs.ScanLaws.{all-start, all-turn, all-fail, all-end}
 use Rattle.shells.proofs.faces.shells_whole.Statement.{statement}
 use Rattle.shells.proofs.faces.shells_whole.Tie as tie
@@ -16,19 +17,19 @@ use Rattle.shells.proofs.faces.link_faces.Reads as link-faces-reads
 
 abbrev Inv-loop : tie.InvT-loop
 Inv-loop links sh leaders parent₀ n k₀ parent k =
-    (k ≤ n) × Shells sh links parent × (allTo k (faceWhole sh links leaders) ≡ true)
+    (k ≤ n) × Shells sh links (side sh links) parent × (allTo k (faceWhole sh links leaders) ≡ true)
 
 abbrev μ-loop : tie.MeasureT-loop
 μ-loop links sh leaders parent₀ n k₀ parent k = n - k
 
 link-faces-requires : tie.Need-link-faces-requires Inv-loop μ-loop
-link-faces-requires c κs = ((c .before .before .pre .0, c .before .before .pre .1), length-replicate {A = ℕ} 4097 0)
+link-faces-requires c κs = ((c .before .before .pre .0, c .before .before .pre .1, omega arith), length-replicate {A = ℕ} 4097 0)
 
 cast-n : tie.Need-cast-n Inv-loop μ-loop
 cast-n c = search needs
 
 loop-holds : tie.Need-loop-holds Inv-loop μ-loop
-loop-holds c = (omega arith, c .before .link-faces .ensures, all-start _)
+loop-holds c = (omega arith, shells-here (c .before .link-faces .ensures), all-start _)
 
 add-face-whole : tie.Need-add-face-whole Inv-loop μ-loop
 add-face-whole c = omega arith

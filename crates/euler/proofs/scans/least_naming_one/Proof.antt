@@ -1,0 +1,59 @@
+use borrow.Author.Needs.{needs}
+use Prim.Native.Nat.{_+_, _≤_, _-_}
+use mathlib.Core.Path.{_≡_}
+use native.Mathlib.Omega.{arith}
+use Rattle.laws.specs.Search.{least, leastFrom}
+use Rattle.euler.specs.Scans.{naming, least-all, least-here, least-on, least-past}
+use Rattle.euler.proofs.scans.least_naming_one.Statement.{statement}
+use Rattle.euler.proofs.scans.least_naming_one.Tie as tie
+use Rattle.euler.proofs.scans.least_naming_one.Reads as reads
+use Rattle.euler.proofs.scans.least_naming_one.Lts as lts
+use Rattle.layout.proofs.cells.cell.Reads as cell-reads
+
+abbrev Inv-loop : tie.InvT-loop
+Inv-loop links base width n label i₀ i = (1 ≤ i) × (i ≤ n + 1) × (leastFrom (n + 1 - i) i (naming base width links label) ≡ least n (naming base width links label))
+
+abbrev μ-loop : tie.MeasureT-loop
+μ-loop links base width n label i₀ i = n + 1 - i
+
+-- src/scans.rt:31:5
+loop-holds : tie.Need-loop-holds Inv-loop μ-loop
+loop-holds c = (omega arith, omega arith, least-all _ _)
+
+-- src/scans.rt:32:13
+cell-requires : tie.Need-cell-requires Inv-loop μ-loop
+cell-requires c κs = search needs
+
+-- src/scans.rt:34:13
+returns : tie.Need-returns Inv-loop μ-loop
+returns c = (least-here _ _ _ _ _ _ _ (c .before .before .before .loop .inv .2) (omega arith) _ (c .before .cell .ensures .0) (c .if1 .taken), omega arith)
+
+-- src/scans.rt:36:9
+add-i : tie.Need-add-i Inv-loop μ-loop
+add-i c = search needs
+
+-- src/scans.rt:31:5
+loop-less : tie.Need-loop-less Inv-loop μ-loop
+loop-less c = search needs
+
+-- src/scans.rt:31:5
+loop-again : tie.Need-loop-again Inv-loop μ-loop
+loop-again c = (omega arith, omega arith, least-on _ _ _ _ _ _ _ (c .before .before .before .loop .inv .2) (omega arith) _ (c .before .cell .ensures .0) (c .if1 .left))
+
+-- src/scans.rt:26:1
+returns-2 : tie.Need-returns-2 Inv-loop μ-loop
+returns-2 c = (least-past _ _ _ _ _ _ _ (c .before .loop .inv .2) (omega arith), omega arith)
+
+pub least-naming-one-spec : {M : Type 1} → statement M
+least-naming-one-spec =
+    tie.close
+    (tie.spec
+    Inv-loop
+    μ-loop
+    loop-holds
+    cell-requires
+    returns
+    add-i
+    loop-less
+    loop-again
+    returns-2)

@@ -1,0 +1,85 @@
+// A solid of one face with one lone loop: mvsf makes it, kvsf kills it.
+ghost use mathlib.Core.Path.{_≡_};
+ghost use Prim.Native.Nat.{ℕ, _<_, _≤_};
+ghost use Rattle.euler.specs.Operators.{faceIn, facesIn, mvsfLinks, mvsfInverse, kvsfTest, kvsfLinks, kvsfInverse};
+use euler::faces::loops_in;
+use euler::points::with_point;
+use euler::records::put_face;
+use euler::records::put_loop;
+use euler::scans::count_naming;
+use euler::scans::least_naming_one;
+use layout::columns::face_outer;
+use layout::columns::loop_isolated;
+use layout::columns::set_solid_used;
+use layout::columns::set_vertex_used;
+use layout::shape::Shape;
+use script::Operator;
+use script::blank;
+use script::with_number;
+
+pub fn mvsf_links(links: &mut [u16], sh: Shape, s: usize, f: usize, l: usize, v: usize)
+    requires { ⌜ (s < 65536) × (f < 65536) × (l < 65536) × (v < 65536) ⌝ }
+    ensures { λ _. ⌜ now (links .exit) ≡ mvsfLinks sh (now (links .entry)) s f l v ⌝ }
+{
+    set_solid_used(links, sh, s, 1);
+    put_face(links, sh, f, s, l);
+    put_loop(links, sh, l, f, 0, v);
+    set_vertex_used(links, sh, v, 1);
+}
+
+pub fn mvsf_inverse(s: usize) -> Operator
+    requires { ⌜ s < 65536 ⌝ }
+    ensures { λ r. ⌜ r ≡ mvsfInverse s ⌝ }
+{
+    with_number(blank(2, 1), 0, s)
+}
+
+// The least face of solid s; 0 where it has none.
+pub fn face_in(links: &[u16], sh: Shape, s: usize) -> usize
+    requires { ⌜ sh .faces < 65536 ⌝ }
+    ensures { λ r. ⌜ (r ≡ faceIn sh (now (links .entry)) s) × (r < 65536) ⌝ }
+{
+    least_naming_one(links, sh.face0, 2, sh.faces as usize, s)
+}
+
+// How many faces solid s has.
+pub fn faces_in(links: &[u16], sh: Shape, s: usize) -> usize
+    requires { ⌜ sh .faces < 65536 ⌝ }
+    ensures { λ r. ⌜ (r ≡ facesIn sh (now (links .entry)) s) × (r < 65536) ⌝ }
+{
+    count_naming(links, sh.face0, 2, sh.faces as usize, s)
+}
+
+pub fn kvsf_fits(links: &[u16], sh: Shape, s: usize) -> bool
+    requires { ⌜ (sh .faces < 65536) × (sh .loops < 65536) ⌝ }
+    ensures { λ r. ⌜ r ≡ kvsfTest sh (now (links .entry)) s ⌝ }
+{
+    let f = face_in(links, sh, s);
+    let faces = faces_in(links, sh, s);
+    let loops = loops_in(links, sh, f);
+    let l = face_outer(links, sh, f);
+    let v = loop_isolated(links, sh, l);
+    (faces == 1) & (loops == 1) & (v != 0)
+}
+
+// Solid s has the face f alone, f the loop l alone, and l is lone at vertex v.
+pub fn kvsf_links(links: &mut [u16], sh: Shape, s: usize, f: usize, l: usize, v: usize)
+    requires { ⌜ (s < 65536) × (f < 65536) × (l < 65536) × (v < 65536) ⌝ }
+    ensures { λ _. ⌜ now (links .exit) ≡ kvsfLinks sh (now (links .entry)) s f l v ⌝ }
+{
+    set_solid_used(links, sh, s, 0);
+    put_face(links, sh, f, 0, 0);
+    put_loop(links, sh, l, 0, 0, 0);
+    set_vertex_used(links, sh, v, 0);
+}
+
+pub fn kvsf_inverse(points: &[i32], s: usize, f: usize, l: usize, v: usize) -> Operator
+    requires { ⌜ (s < 65536) × (f < 65536) × (l < 65536) × (v < 65536) ⌝ }
+    ensures { λ r. ⌜ r ≡ kvsfInverse (now (points .entry)) s f l v ⌝ }
+{
+    let a = with_number(blank(1, 7), 0, s);
+    let b = with_number(a, 1, f);
+    let c = with_number(b, 2, l);
+    let d = with_number(c, 3, v);
+    with_point(d, 4, points, v)
+}
