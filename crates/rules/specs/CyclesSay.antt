@@ -39,7 +39,7 @@ module _ (sh : Shape) (x : List ℕ) where
 
   -- f and g are the two sides of an edge in use
   abbrev pub Across : ℕ → ℕ → Type 0
-  Across = Edge (Used (sh .edges) (edgeUsed sh x)) (sideA sh x) (sideB sh x)
+  Across = Edge (Used (sh .edges) (edgeUsed sh x)) (sideA (side sh x)) (sideB (side sh x))
 
   -- an edge's two sides lie in one solid, and any two faces of a solid are linked
   pub record Rule6 : Type 0 where
@@ -136,7 +136,7 @@ module _ (sh : Shape) (x : List ℕ) (p : List ℤ) (r1 : Rule1 sh x p) (r2 : Ru
 
   -- ---- rule 6
 
-  ends : (e : ℕ) → Used (sh .edges) (edgeUsed sh x) e → (1 ≤ sideA sh x e) × (sideA sh x e ≤ sh .faces) × (1 ≤ sideB sh x e) × (sideB sh x e ≤ sh .faces)
+  ends : (e : ℕ) → Used (sh .edges) (edgeUsed sh x) e → (1 ≤ sideA (side sh x) e) × (sideA (side sh x) e ≤ sh .faces) × (1 ≤ sideB (side sh x) e) × (sideB (side sh x) e ≤ sh .faces)
   ends e u = sided sh x p r1 r2 .at e (u .0) (u .1) (u .2)
 
   says-sides : Says (allTo (2 * sh .edges) (halfSides sh x))
@@ -155,7 +155,7 @@ module _ (sh : Shape) (x : List ℕ) (p : List ℤ) (r1 : Rule1 sh x p) (r2 : Ru
   says-linked = says-all (sh .faces) says-faceLinked
 
   to-leader : ((f : ℕ) → 1 ≤ f → f ≤ sh .faces → ByLeader f) → (f : ℕ) → 1 ≤ f → f ≤ sh .faces → faceSolid sh x f ≢ 0 → Linked (Across sh x) (faceIn sh x (faceSolid sh x f)) f
-  to-leader h f l u s = linked-sound (sh .faces) (sh .edges) (edgeUsed sh x) (sideA sh x) (sideB sh x) ends (faceIn sh x (faceSolid sh x f)) f (h f l u s)
+  to-leader h f l u s = linked-sound (sh .faces) (sh .edges) (edgeUsed sh x) (sideA (side sh x)) (sideB (side sh x)) ends (faceIn sh x (faceSolid sh x f)) f (h f l u s)
 
   abbrev tests-6 : List Bool
   tests-6 = allTo (2 * sh .edges) (halfSides sh x) ∷ allTo (sh .faces) (faceLinked sh x) ∷ []
@@ -177,7 +177,7 @@ module _ (sh : Shape) (x : List ℕ) (p : List ℤ) (r1 : Rule1 sh x p) (r2 : Ru
       (
         says-linked .back (λ f l u d.
             let b = leader-of sh x f l u in
-            linked-complete (sh .faces) (sh .edges) (edgeUsed sh x) (sideA sh x) (sideB sh x) ends (faceIn sh x (faceSolid sh x f)) f (b .0) (b .1)
+            linked-complete (sh .faces) (sh .edges) (edgeUsed sh x) (sideA (side sh x)) (sideB (side sh x)) ends (faceIn sh x (faceSolid sh x f)) f (b .0) (b .1)
             (r .linked (faceIn sh x (faceSolid sh x f)) f (b .0) (b .1) l u (λ z. d (sym (b .2) ∙ z)) (b .2))),
         tt,
       ),

@@ -57,7 +57,7 @@ module _ (sh : Shape) (x : List ℕ) (p : List ℤ) (r1 : Rule1 sh x p) (r2 : Ru
       (omega arith, r1 .loop (loopOf sh x k) (loop-low k u) (loop-high k u) .face)
 
   -- each edge in use has a face on each side
-  pub sided : Sided sh x
+  pub sided : Sided sh x (side sh x)
   sided = record {
     at = λ e l u t.
         let h : Half sh x (2 * e) = (omega arith, omega arith, t) in
