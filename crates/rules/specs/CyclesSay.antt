@@ -1,5 +1,5 @@
 -- What rules 4 to 6 say in plain words, given the rules below: one cycle for each loop and for each vertex, one shell for each solid.
-use mathlib.Core.Path.{_≡_, refl, sym, ap, _∙_, subst}
+use mathlib.Core.Path.{_≡_, refl, sym, _∙_, subst}
 use mathlib.Core.Logic.{_≢_}
 use mathlib.Core.Bool.{Bool}
 use mathlib.Core.List.{List, [], _∷_}

@@ -1,17 +1,16 @@
 -- What rules 1, 2 and the joins of rule 4 give to the walks and the shells: the facts that the linear passes ask of a table.
-use mathlib.Core.Path.{_≡_, refl, sym, ap, _∙_, subst}
+use mathlib.Core.Path.{_≡_, subst}
 use mathlib.Core.Logic.{_≢_, _⊎_, ⊎-elim}
 use mathlib.Core.List.{List}
-use Prim.Native.Nat.{ℕ, _+_, _-_, _*_, _%_, _≤_}
+use Prim.Native.Nat.{ℕ, _-_, _*_, _≤_}
 use native.Mathlib.Omega.{arith}
-use lib.Dec.{T}
 use lib.IntN.{ℤ}
 use Rattle.layout.specs.declared.shape.Shape.{Shape}
-use Rattle.layout.specs.Layout.{faceSolid, loopFace, loopFirst, startOf, loopOf, nextOf, prevOf}
+use Rattle.layout.specs.Layout.{loopFirst, startOf, loopOf, nextOf}
 use Rattle.layout.specs.Mate.{mate}
 use Rattle.layout.specs.MateLaws.{mate-even}
 use Rattle.orbits.specs.OrbitsLaws.{Half, NextFacts, LoopFacts, VertexFacts}
-use Rattle.shells.specs.Shells.{edgeUsed, Sided}
+use Rattle.shells.specs.Shells.{Sided}
 use Rattle.items.specs.Rules.{side}
 use Rattle.rules.specs.Says.{says-some}
 use Rattle.rules.specs.RulesSay.{Together, OnlyWith, Rule1, Rule2, HalfLinks}

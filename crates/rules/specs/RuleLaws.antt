@@ -1,22 +1,20 @@
 -- The code's way of testing each rule is the rule: scans joined by `&`, and linear passes for cycles and shells.
 use mathlib.Core.Path.{_≡_, refl, sym, ap, _∙_}
-use mathlib.Core.Logic.{_≢_}
 use mathlib.Core.Bool.{Bool, true, false, not, _&&_}
 use mathlib.Core.List.{List}
 use Prim.Native.Nat.{ℕ, zero, suc, _*_, _≤_}
 use native.Mathlib.Omega.{arith}
 use lib.IntN.{ℤ}
-use lib.ListN.{length, getD, set, length-set, length-replicate}
+use lib.ListN.{length, set, length-set, length-replicate}
 use borrow.Author.Tests.{not-true, not-false}
 use Rattle.laws.specs.Bools.{true-T, T-true, and-T}
 use Rattle.laws.specs.Search.{allTo, all-ext}
-
 use Rattle.layout.specs.declared.shape.Shape.{Shape}
-use Rattle.layout.specs.Layout.{faceSolid, loopFirst, loopIsolated, startOf, loopOf, nextOf}
+use Rattle.layout.specs.Layout.{faceSolid, loopFirst, loopIsolated, startOf}
 use Rattle.orbits.specs.Labels.{blank, down, leastNaming, tally, copied}
 use Rattle.orbits.specs.LabelsLaws.{least-at, tally-at}
 use Rattle.orbits.specs.Cycles.{oneCycleEach}
-use Rattle.orbits.specs.OrbitsLaws.{LoopFacts, VertexFacts, loops-one-cycle, vertices-one-cycle}
+use Rattle.orbits.specs.OrbitsLaws.{LoopFacts, loops-one-cycle, vertices-one-cycle}
 use Rattle.shells.specs.Shells.{shellsWhole}
 use Rattle.shells.specs.RuleLaws.{whole-is}
 use Rattle.items.specs.declared.scan.Test.the-variants.{SolidRange, FaceRange, LoopRange, HalfRange, VertexRange, FaceNames, LoopNames, HalfNames, HalfLinks, FirstNames, HalfSides}
@@ -25,7 +23,7 @@ use Rattle.items.specs.Rules.{rule1, solidNames, rule2, halfLinks, firstNames, 
 use Rattle.items.specs.Scan.{itemTest}
 use Rattle.rules.specs.Labels.{labelTest}
 use Rattle.rules.specs.Small.{Small}
-use Rattle.rules.specs.Says.{Says, says-all}
+use Rattle.rules.specs.Says.{says-all}
 use Rattle.rules.specs.RulesSay.{Rule1, Rule2, says-rule1, says-rule2, says-halfLinks, says-firstNames}
 use Rattle.rules.specs.RuleFacts.{loop-facts, vertex-facts, sided}
 use Rattle.rules.specs.CyclesSay.{met-loops, met-vertices, says-rule4}

@@ -2,7 +2,6 @@
 -- parts that look at one item are here, and the cycles and chains in CyclesSay.
 use mathlib.Core.Path.{_≡_}
 use mathlib.Core.Logic.{_≢_, _⊎_}
-use mathlib.Core.Bool.{Bool}
 use mathlib.Core.List.{List}
 use Prim.Native.Nat.{ℕ, _*_, _≤_}
 use lib.IntN.{ℤ, pos, negsuc}
@@ -29,6 +28,10 @@ OnlyWith a b = (a ≢ 0) ⊎ (b ≡ 0)
 
 says-onlyWith : (a b : ℕ) → Says (onlyWith a b) (OnlyWith a b)
 says-onlyWith a b = says-or (says-some a) (says-eq b 0)
+
+-- one is there and the other is not
+abbrev pub Either : ℕ → ℕ → Type 0
+Either a b = ((a ≢ 0) × (b ≡ 0)) ⊎ ((a ≡ 0) × (b ≢ 0))
 
 -- −50,000 ≤ c ≤ 50,000
 abbrev pub InRange : ℤ → Type 0
@@ -178,10 +181,6 @@ module _ (sh : Shape) (x : List ℕ) where
       (says-every (more (says-all (sh .faces) says-faceNames) (more (says-all (sh .loops) says-loopNames) (more (says-all (2 * sh .edges) says-halfNames) (last (says-all (sh .solids) says-solidNames))))))
 
   -- ---- rule 3
-
-  -- one is there and the other is not
-  abbrev pub Either : ℕ → ℕ → Type 0
-  Either a b = ((a ≢ 0) × (b ≡ 0)) ⊎ ((a ≡ 0) × (b ≢ 0))
 
   pub says-loopEither : (l : ℕ) → Says (loopEither sh x l) (loopFace sh x l ≢ 0 → Either (loopFirst sh x l) (loopIsolated sh x l))
   unfolding loopEither

@@ -1,13 +1,13 @@
 -- What a test that computes says in plain words, both ways. A rule is a test made of small ones, and what it says is made of what they say.
-use mathlib.Core.Path.{_≡_, refl, sym, subst}
+use mathlib.Core.Path.{_≡_}
 use mathlib.Core.Logic.{_≢_, _⊎_, inl, inr, ⊎-elim}
-use mathlib.Core.Bool.{Bool, true, false, not, _&&_, _||_}
+use mathlib.Core.Bool.{Bool, not, _&&_, _||_}
 use mathlib.Core.List.{List, [], _∷_}
 use Prim.Native.Nat.{ℕ, _≤_}
 use lib.Dec.{T, eqb, leb, eqb→eq, leb→le, le→leb, T-not, not-T}
-use lib.IntN.{ℤ, pos, negsuc}
+use lib.IntN.{ℤ}
 use lib.Signed.{leZ, _≤ℤ_}
-use Rattle.laws.specs.Bools.{All, true-T, and-T, T-and, or-T, T-or-l, T-or-r, imp-T, T-imp, split, eqb-same}
+use Rattle.laws.specs.Bools.{All, true-T, and-T, T-and, or-T, T-or-l, T-or-r, split, eqb-same}
 use Rattle.laws.specs.Every.{every, every-T, T-every}
 use Rattle.laws.specs.Search.{allTo, all-at, all-of}
 

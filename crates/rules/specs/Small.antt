@@ -1,5 +1,5 @@
 -- What the rules ask of a table's shape.
-use Prim.Native.Nat.{ℕ, _≤_}
+use Prim.Native.Nat.{_≤_}
 use Rattle.layout.specs.declared.shape.Shape.{Shape}
 
 -- the capacities of a shape are small, so that no number of a scan wraps

@@ -1,22 +1,20 @@
 -- The ways out of the check, and what a passed check says.
-use mathlib.Core.Path.{_≡_, refl, sym, ap, _∙_}
+use mathlib.Core.Path.{_≡_, sym, _∙_}
 use mathlib.Core.Logic.{_≢_, ⊎-elim}
 use mathlib.Core.Bool.{Bool, true, false, not}
 use mathlib.Core.List.{List}
 use Prim.Native.Nat.{ℕ}
 use native.Mathlib.Omega.{arith}
-use lib.Dec.{eqb}
 use lib.IntN.{ℤ}
 use borrow.Author.Tests.{not-true, not-false, eq-eqb, ne-eqb}
-use Rattle.laws.specs.Bools.{ask, pick}
+use Rattle.laws.specs.Bools.{ask}
 use Rattle.layout.specs.declared.shape.Shape.{Shape}
 use Rattle.layout.specs.Layout.{shapeOf}
-use Rattle.table.specs.declared.check.CheckAnswer.{CheckAnswer}
 use Rattle.items.specs.Rules.{brokenRule}
 use Rattle.table.specs.Sizes.{tableFits}
 use Rattle.rules.specs.Small.{Small}
 use Rattle.table.specs.SizesLaws.{fits-small}
-use Rattle.table.specs.Check.{answer, ruled, checkOf}
+use Rattle.table.specs.Check.{answer, checkOf}
 
 module _ (x : List ℕ) (p : List ℤ) (b : Bool) (h : b ≡ tableFits x p) where
   pub check-refused : not b ≡ true → answer 1 0 ≡ checkOf x p

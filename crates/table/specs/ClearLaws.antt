@@ -1,17 +1,17 @@
 -- Zeroing a list, for any type of element and any zero, and the ways out of clearing.
-use mathlib.Core.Path.{_≡_, refl, sym, ap, _∙_}
+use mathlib.Core.Path.{_≡_, sym, _∙_}
 use mathlib.Core.Bool.{Bool, true, false, not}
 use mathlib.Core.List.{List}
 use Prim.Native.Nat.{ℕ, suc, _+_, _*_, _≤_, _<_}
 use native.Mathlib.Omega.{arith}
 use lib.IntN.{ℤ, pos}
-use lib.ListN.{length, getD, set, replicate, length-set, length-replicate, getD-replicate}
+use lib.ListN.{length, getD, set, replicate, length-replicate, getD-replicate}
 use lib.Seq.{getD-set-same, getD-set-other, ext-getD}
 use borrow.Author.Tests.{not-true, not-false}
 use Rattle.laws.specs.Bools.{split}
 use Rattle.table.specs.Sizes.{linksLength, sizesFit}
 use Rattle.table.specs.SizesLaws.{sizes-are}
-use Rattle.table.specs.Clear.{emptyLinks, emptyPoints, withCapacities, Cleared, cleared, clearOf}
+use Rattle.table.specs.Clear.{emptyLinks, withCapacities, cleared, clearOf}
 
 -- the elements below i are z
 pub record Filled {A : Type 0} (z : A) (l : List A) (i : ℕ) : Type 0 where

@@ -1,13 +1,11 @@
 -- A table is valid when the check answers 0: its lengths fit its capacities and the six rules hold.
-use mathlib.Core.Path.{_≡_, refl, sym, ap, _∙_}
-use mathlib.Core.Logic.{⊎-elim}
+use mathlib.Core.Path.{_≡_, refl, ap}
 use mathlib.Core.Bool.{Bool, true, false}
 use mathlib.Core.List.{List}
 use Prim.Native.Nat.{ℕ}
 use native.Mathlib.Omega.{arith}
-use lib.Dec.{eqb}
 use lib.IntN.{ℤ}
-use Rattle.laws.specs.Bools.{pick, split, eqb-same, eqb-other}
+use Rattle.laws.specs.Bools.{pick, split, eqb-other}
 use Rattle.layout.specs.Layout.{shapeOf}
 use Rattle.items.specs.Rules.{rule1, rule2, rule3, rule4, rule5, rule6, brokenRule}
 use Rattle.table.specs.Sizes.{tableFits}

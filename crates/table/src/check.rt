@@ -1,9 +1,9 @@
 // Checking a table: is it sound, and if not, which rule is the lowest that is broken.
 ghost use mathlib.Core.Path.{_≡_};
 ghost use Rattle.table.specs.Check.{checkOf};
-use rules::rules::broken_rule;
 use crate::sizes::table_fits;
 use layout::shape::shape_of;
+use rules::rules::broken_rule;
 
 #[repr(C)]
 pub struct CheckAnswer {

@@ -1,5 +1,3 @@
-use mathlib.Core.Path.{sym, _∙_}
-use borrow.Author.Needs.{needs}
 use Rattle.rules.specs.RuleLaws.{holds, fails, broken-1, broken-2, broken-3, broken-4, broken-5, broken-6, broken-none}
 use Rattle.rules.proofs.rules.broken_rule.Statement.{statement}
 use Rattle.rules.proofs.rules.broken_rule.Tie as tie
