@@ -1,14 +1,24 @@
--- The ways out of the loops that walk along next, one law each: what is left of the walk is the whole of it.
+-- The ways out of the loops that walk along next, one law each: what is left of the walk is the whole of it. And coordinates,
+-- which the machine holds as bits, as they go in and out of an operator.
 use mathlib.Core.Path.{_≡_, refl, sym, _∙_}
-use Prim.Native.Nat.{ℕ, suc, _-_, _<_, _≤_}
+use Prim.Native.Nat.{ℕ, suc, _+_, _-_, _*_, _<_, _≤_}
 use native.Mathlib.Omega.{arith}
 use mathlib.Core.List.{List}
 use lib.Dec.{ltb}
+use lib.IntN.{ℤ, pos}
+use lib.ListN.{length, getD, set, List·getD-eq-default}
+use lib.Seq.{set-set}
+use mir.Syntax.{w32}
+use mir.Val.{SFits, toZ, ofZ}
+use mir.Facts.{toZ-ofZ}
 use borrow.Author.Tests.{eq-eqb, ne-eqb}
 use Rattle.laws.specs.Bools.{pick}
 use Rattle.layout.specs.declared.shape.Shape.{Shape}
 use Rattle.layout.specs.Layout.{nextOf, setLoop}
-use Rattle.euler.specs.Surgery.{relabel, leastOn}
+use Rattle.script.specs.declared.Operator.{Operator}
+use Rattle.layout.specs.Points.{coordinate, setCoordinate}
+use Rattle.layout.specs.PointsLaws.{coordinate-at, setCoordinate-at}
+use Rattle.euler.specs.Surgery.{relabel, leastOn, withOperand, withPoint}
 
 module _ (sh : Shape) (left : ℕ) (x : List ℕ) (k stop l : ℕ) (whole : List ℕ) (rest : relabel sh left x k stop l ≡ whole) where
   pub relabel-stop : 0 < left → k ≡ stop → x ≡ whole
@@ -37,3 +47,23 @@ module _ (sh : Shape) (left : ℕ) (x : List ℕ) (k stop best whole : ℕ) (res
   pub least-out : left ≤ 0 → best ≡ whole
   unfolding leastOn
   least-out h = let n : left ≡ 0 = omega arith in rw n at rest
+
+-- a coordinate that the machine reads back, stored
+pub stored-coordinate : (p : List ℤ) (v i : ℕ) (z : ℤ) → SFits w32 z → (v ≡ 0 → ⊥) → set p (3 * (v - 1) + i) (toZ w32 (ofZ w32 z)) ≡ setCoordinate p v i z
+stored-coordinate p v i z f h = rw (toZ-ofZ f) (setCoordinate-at p v i z h)
+
+-- and read into an operator
+pub read-coordinate : (o : Operator) (i : ℕ) (p : List ℤ) (v j : ℕ) → SFits w32 (getD p (3 * (v - 1) + j) (pos 0)) → (v ≡ 0 → ⊥)
+    → record { code = o .code; count = o .count; args = set (set (o .args) i (pos 0)) i (toZ w32 (ofZ w32 (getD p (3 * (v - 1) + j) (pos 0)))) }
+    ≡ withOperand o i (coordinate p v j)
+read-coordinate o i p v j f h = rw (set-set (o .args) i (pos 0) (toZ w32 (ofZ w32 (getD p (3 * (v - 1) + j) (pos 0)))), toZ-ofZ f, coordinate-at p v j h)
+
+-- past the end it is 0
+pub no-coordinate : (o : Operator) (i : ℕ) (p : List ℤ) (v j : ℕ) → length p ≤ 3 * (v - 1) + j → (v ≡ 0 → ⊥)
+    → record { code = o .code; count = o .count; args = set (o .args) i (pos 0) } ≡ withOperand o i (coordinate p v j)
+no-coordinate o i p v j l h = rw (← coordinate-at p v j h, List·getD-eq-default p (pos 0) l)
+
+-- the three of a point, one after the other
+pub point-steps : (o : Operator) (i : ℕ) (p : List ℤ) (v : ℕ) (a b r : Operator) → a ≡ withOperand o i (coordinate p v 0)
+    → b ≡ withOperand a (i + 1) (coordinate p v 1) → r ≡ withOperand b (i + 2) (coordinate p v 2) → r ≡ withPoint o i p v
+point-steps o i p v a b r e f g = rw (g, f, e)

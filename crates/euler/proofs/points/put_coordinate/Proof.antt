@@ -1,8 +1,7 @@
-use mathlib.Core.Path.{ap, sym, _∙_}
-use lib.ListN.{set}
+use mathlib.Core.Path.{sym, _∙_}
 use lib.Seq.{set-out}
-use mir.Facts.{toZ-ofZ}
 use Rattle.layout.specs.PointsLaws.{setCoordinate-at}
+use Rattle.euler.specs.SurgeryLaws.{stored-coordinate}
 use borrow.Author.Needs.{needs}
 use Rattle.euler.proofs.points.put_coordinate.Statement.{statement}
 use Rattle.euler.proofs.points.put_coordinate.Tie as tie
@@ -47,7 +46,7 @@ same-length c = search needs
 
 -- src/points.rt:11:1
 returns-2 : tie.Need-returns-2
-returns-2 c = ap (λ z. set _ _ z) (toZ-ofZ (search needs)) ∙ setCoordinate-at _ _ _ _ (c .before .before .if1 .left)
+returns-2 c = stored-coordinate _ _ _ _ (search needs) (c .before .before .if1 .left)
 
 -- src/points.rt:11:1
 returns-3 : tie.Need-returns-3

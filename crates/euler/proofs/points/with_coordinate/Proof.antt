@@ -1,10 +1,4 @@
-use mathlib.Core.Path.{ap, sym, _∙_}
-use lib.IntN.{pos}
-use lib.ListN.{List·getD-eq-default}
-use lib.Seq.{set-set}
-use mir.Facts.{toZ-ofZ}
-use Rattle.layout.specs.PointsLaws.{coordinate-at}
-use Rattle.euler.specs.Surgery.{withOperand}
+use Rattle.euler.specs.SurgeryLaws.{read-coordinate, no-coordinate}
 use borrow.Author.Needs.{needs}
 use Rattle.euler.proofs.points.with_coordinate.Statement.{statement}
 use Rattle.euler.proofs.points.with_coordinate.Tie as tie
@@ -53,11 +47,11 @@ element-set-from-next c = search needs
 
 -- src/points.rt:47:9
 returns-2 : tie.Need-returns-2
-returns-2 c = rw (set-set _ _ _ _, toZ-ofZ (search needs)) (ap (withOperand _ _) (coordinate-at _ _ _ (c .before .before .if1 .left)))
+returns-2 c = read-coordinate (c .before .before .before .args .op) (c .before .before .before .args .i) (c .before .before .before .args .points .now) (c .before .before .before .args .v) (c .before .before .before .args .j) (search needs) (c .before .before .if1 .left)
 
 -- src/points.rt:35:1
 returns-3 : tie.Need-returns-3
-returns-3 c = ap (withOperand _ _) (sym (List·getD-eq-default _ (pos 0) (c .if2 .left)) ∙ coordinate-at _ _ _ (c .before .if1 .left))
+returns-3 c = no-coordinate (c .before .before .args .op) (c .before .before .args .i) (c .before .before .args .points .now) (c .before .before .args .v) (c .before .before .args .j) (c .if2 .left) (c .before .if1 .left)
 
 pub with-coordinate-spec : {M : Type 1} → statement M
 with-coordinate-spec =

@@ -1,3 +1,4 @@
+use Rattle.euler.specs.SurgeryLaws.{point-steps}
 use borrow.Author.Needs.{needs}
 use Rattle.euler.proofs.points.with_point.Statement.{statement}
 use Rattle.euler.proofs.points.with_point.Tie as tie
@@ -27,7 +28,7 @@ with-coordinate-requires-3 c κs = search needs
 
 -- src/points.rt:53:1
 returns : tie.Need-returns
-returns c = cc
+returns c = point-steps (c .before .before .before .args .op) (c .before .before .before .args .i) (c .before .before .before .args .points .now) (c .before .before .before .args .v) _ _ _ (c .before .before .with-coordinate .ensures) (c .before .with-coordinate2 .ensures) (c .with-coordinate3 .ensures)
 
 pub with-point-spec : {M : Type 1} → statement M
 with-point-spec =
