@@ -38,7 +38,7 @@ same-length c = search needs
 
 -- src/mef_kef.rt:135:1
 returns : tie.Need-returns
-returns c = kef-edge-steps _ _ _ _ _ (c↑12 .mate-of .ensures .0) (c↑10 .choose .ensures .0) (c↑8 .choose2 .ensures .0) (c↑6 .choose3 .ensures .0) (c↑4 .choose4 .ensures .0) (c↑2 .edge-out .ensures)
+returns c = kef-edge-steps _ _ _ _ _ (c .before .before .before .before .before .before .before .before .before .before .before .before .mate-of .ensures .0) (c .before .before .before .before .before .before .before .before .before .before .choose .ensures .0) (c .before .before .before .before .before .before .before .before .choose2 .ensures .0) (c .before .before .before .before .before .before .choose3 .ensures .0) (c .before .before .before .before .choose4 .ensures .0) (c .before .before .edge-out .ensures)
 
 pub kef-edge-spec : {M : Type 1} → statement M
 kef-edge-spec =

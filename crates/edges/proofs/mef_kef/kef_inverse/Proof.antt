@@ -1,3 +1,5 @@
+use mathlib.Core.Bool.{not, _&&_}
+use lib.Dec.{eqb}
 use native.Mathlib.Omega.{arith}
 use Rattle.edges.specs.StepLaws.{kef-undone, two-at-most}
 use borrow.Author.Needs.{needs}
@@ -66,15 +68,15 @@ with-three-requires c κs = search needs
 
 -- src/mef_kef.rt:180:17
 with-three-requires-2 : tie.Need-with-three-requires-2
-with-three-requires-2 c κs = (omega arith, omega (arith, c↑2 .edge-of .ensures .1), omega (arith, c↑9 .loop-face .ensures .1), omega (arith, c↑11 .half-at .ensures .owner-small))
+with-three-requires-2 c κs = (omega arith, omega (arith, c .before .before .edge-of .ensures .1), omega (arith, c .before .before .before .before .before .before .before .before .before .loop-face .ensures .1), omega (arith, c .before .before .before .before .before .before .before .before .before .before .before .half-at .ensures .owner-small))
 
 -- src/mef_kef.rt:180:5
 with-number-requires : tie.Need-with-number-requires
-with-number-requires c κs = (omega arith, omega (arith, c↑7 .way-of .ensures .1, two-at-most _ _ (c↑4 .choose .ensures .0)))
+with-number-requires c κs = (omega arith, omega (arith, c .before .before .before .before .before .before .before .way-of .ensures .1, two-at-most (eqb (c .before .before .before .before .before .before .before .before .before .before .before .half-at2 .result .next) (c .before .before .before .before .before .before .before .before .before .before .before .before .before .mate-of .result) && not (eqb (c .before .before .before .before .before .before .before .before .before .before .before .before .half-at .result .next) (c .before .before .before .before .before .before .before .before .before .before .before .before .before .before .before .args .k))) _ (c .before .before .before .before .choose .ensures .0)))
 
 -- src/mef_kef.rt:167:1
 returns : tie.Need-returns
-returns c = kef-undone _ _ _ (c↑14 .mate-of .ensures .0) (c↑13 .half-at .ensures) (c↑12 .half-at2 .ensures) (c↑11 .loop-face .ensures .0) (c↑10 .rest-of .ensures .0) (c↑9 .rest-of2 .ensures .0) (c↑8 .way-of .ensures .0) (c↑5 .choose .ensures .0) (c↑4 .edge-of .ensures .0) (c↑3 .blank .ensures) (c↑2 .with-three .ensures) (c↑1 .with-three2 .ensures) (c .with-number .ensures)
+returns c = kef-undone _ _ _ (c .before .before .before .before .before .before .before .before .before .before .before .before .before .before .mate-of .ensures .0) (c .before .before .before .before .before .before .before .before .before .before .before .before .before .half-at .ensures) (c .before .before .before .before .before .before .before .before .before .before .before .before .half-at2 .ensures) (c .before .before .before .before .before .before .before .before .before .before .before .loop-face .ensures .0) (c .before .before .before .before .before .before .before .before .before .before .rest-of .ensures .0) (c .before .before .before .before .before .before .before .before .before .rest-of2 .ensures .0) (c .before .before .before .before .before .before .before .before .way-of .ensures .0) (c .before .before .before .before .before .choose .ensures .0) (c .before .before .before .before .edge-of .ensures .0) (c .before .before .before .blank .ensures) (c .before .before .with-three .ensures) (c .before .with-three2 .ensures) (c .with-number .ensures)
 
 pub kef-inverse-spec : {M : Type 1} → statement M
 kef-inverse-spec =

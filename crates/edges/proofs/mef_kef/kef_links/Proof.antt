@@ -53,7 +53,7 @@ put-loop-requires c κs = search needs
 
 -- src/mef_kef.rt:163:5
 renew-loop-requires : tie.Need-renew-loop-requires
-renew-loop-requires c κs = (omega (arith, c↑20 .half-at2 .ensures .owner-small), omega (arith, c↑17 .rest-of .ensures .1), omega (arith, c↑22 .half-at .ensures .start-small))
+renew-loop-requires c κs = (omega (arith, c .before .before .before .before .before .before .before .before .before .before .before .before .before .before .before .before .before .before .before .before .half-at2 .ensures .owner-small), omega (arith, c .before .before .before .before .before .before .before .before .before .before .before .before .before .before .before .before .before .rest-of .ensures .1), omega (arith, c .before .before .before .before .before .before .before .before .before .before .before .before .before .before .before .before .before .before .before .before .before .before .half-at .ensures .start-small))
 
 -- src/mef_kef.rt:150:1
 same-length : tie.Need-same-length
@@ -61,7 +61,7 @@ same-length c = search needs
 
 -- src/mef_kef.rt:150:1
 returns : tie.Need-returns
-returns c = kef-steps _ _ _ (c↑27 .mate-of .ensures .0) (c↑25 .half-at .ensures) (c↑23 .half-at2 .ensures) (c↑21 .loop-face .ensures .0) (c↑20 .rest-of .ensures .0) (c↑18 .relabel-run .ensures) (c↑14 .kef-edge .ensures) (c↑10 .put-face .ensures) (c↑6 .put-loop .ensures) (c↑2 .renew-loop .ensures)
+returns c = kef-steps _ _ _ (c .before .before .before .before .before .before .before .before .before .before .before .before .before .before .before .before .before .before .before .before .before .before .before .before .before .before .before .mate-of .ensures .0) (c .before .before .before .before .before .before .before .before .before .before .before .before .before .before .before .before .before .before .before .before .before .before .before .before .before .half-at .ensures) (c .before .before .before .before .before .before .before .before .before .before .before .before .before .before .before .before .before .before .before .before .before .before .before .half-at2 .ensures) (c .before .before .before .before .before .before .before .before .before .before .before .before .before .before .before .before .before .before .before .before .before .loop-face .ensures .0) (c .before .before .before .before .before .before .before .before .before .before .before .before .before .before .before .before .before .before .before .before .rest-of .ensures .0) (c .before .before .before .before .before .before .before .before .before .before .before .before .before .before .before .before .before .before .relabel-run .ensures) (c .before .before .before .before .before .before .before .before .before .before .before .before .before .before .kef-edge .ensures) (c .before .before .before .before .before .before .before .before .before .before .put-face .ensures) (c .before .before .before .before .before .before .put-loop .ensures) (c .before .before .renew-loop .ensures)
 
 pub kef-links-spec : {M : Type 1} → statement M
 kef-links-spec =

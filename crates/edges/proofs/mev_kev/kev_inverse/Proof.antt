@@ -60,7 +60,7 @@ with-point-requires c κs = search needs
 
 -- src/mev_kev.rt:92:1
 returns : tie.Need-returns
-returns c = kev-undone _ _ (c↑13 .args .points .now) _ (c↑11 .mate-of .ensures .0) (c↑10 .half-at .ensures) (c↑9 .half-at2 .ensures) (c↑7 .choose .ensures .0) (c↑6 .edge-of .ensures .0) (c↑5 .way-of .ensures .0) (c↑4 .blank .ensures) (c↑3 .with-three .ensures) (c↑2 .with-number .ensures) (c↑1 .with-number2 .ensures) (c .with-point .ensures)
+returns c = kev-undone _ _ (c .before .before .before .before .before .before .before .before .before .before .before .before .before .args .points .now) _ (c .before .before .before .before .before .before .before .before .before .before .before .mate-of .ensures .0) (c .before .before .before .before .before .before .before .before .before .before .half-at .ensures) (c .before .before .before .before .before .before .before .before .before .half-at2 .ensures) (c .before .before .before .before .before .before .before .choose .ensures .0) (c .before .before .before .before .before .before .edge-of .ensures .0) (c .before .before .before .before .before .way-of .ensures .0) (c .before .before .before .before .blank .ensures) (c .before .before .before .with-three .ensures) (c .before .before .with-number .ensures) (c .before .with-number2 .ensures) (c .with-point .ensures)
 
 pub kev-inverse-spec : {M : Type 1} → statement M
 kev-inverse-spec =

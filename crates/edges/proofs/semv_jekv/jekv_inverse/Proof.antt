@@ -42,7 +42,7 @@ with-point-requires c κs = search needs
 
 -- src/semv_jekv.rt:115:1
 returns : tie.Need-returns
-returns c = jekv-undone (c↑8 .args .sh) (c↑8 .args .links .now) (c↑8 .args .points .now) (c↑8 .args .k) (c↑8 .args .n) (c↑6 .start-of .ensures .0) (c↑5 .edge-of .ensures .0) (c↑4 .way-of .ensures .0) (c↑3 .blank .ensures) (c↑2 .with-three .ensures) (c↑1 .with-number .ensures) (c .with-point .ensures)
+returns c = jekv-undone (c .before .before .before .before .before .before .before .before .args .sh) (c .before .before .before .before .before .before .before .before .args .links .now) (c .before .before .before .before .before .before .before .before .args .points .now) (c .before .before .before .before .before .before .before .before .args .k) (c .before .before .before .before .before .before .before .before .args .n) (c .before .before .before .before .before .before .start-of .ensures .0) (c .before .before .before .before .before .edge-of .ensures .0) (c .before .before .before .before .way-of .ensures .0) (c .before .before .before .blank .ensures) (c .before .before .with-three .ensures) (c .before .with-number .ensures) (c .with-point .ensures)
 
 pub jekv-inverse-spec : {M : Type 1} → statement M
 jekv-inverse-spec =
