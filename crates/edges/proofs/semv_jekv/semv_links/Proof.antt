@@ -1,0 +1,85 @@
+use native.Mathlib.Omega.{arith}
+use Rattle.edges.specs.StepLaws.{semv-steps}
+use borrow.Author.Needs.{needs}
+use Rattle.edges.proofs.semv_jekv.semv_links.Statement.{statement}
+use Rattle.edges.proofs.semv_jekv.semv_links.Tie as tie
+use Rattle.edges.proofs.semv_jekv.semv_links.Reads as reads
+use Rattle.edges.proofs.semv_jekv.semv_links.Lts as lts
+use Rattle.edges.proofs.semv_jekv.insert_after.Reads as insert-after-reads
+use Rattle.edges.proofs.parts.renew_sides.Reads as renew-sides-reads
+use Rattle.layout.proofs.columns.loop_of.Reads as loop-of-reads
+use Rattle.layout.proofs.columns.prev_of.Reads as prev-of-reads
+use Rattle.layout.proofs.columns.set_start.Reads as set-start-reads
+use Rattle.layout.proofs.columns.set_vertex_used.Reads as set-vertex-used-reads
+use Rattle.layout.proofs.columns.start_of.Reads as start-of-reads
+use Rattle.layout.proofs.mates.mate_of.Reads as mate-of-reads
+
+-- src/semv_jekv.rt:47:9
+mate-of-requires : tie.Need-mate-of-requires
+mate-of-requires c κs = search needs
+
+-- src/semv_jekv.rt:48:9
+mate-of-requires-2 : tie.Need-mate-of-requires-2
+mate-of-requires-2 c κs = search needs
+
+-- src/semv_jekv.rt:49:9
+loop-of-requires : tie.Need-loop-of-requires
+loop-of-requires c κs = search needs
+
+-- src/semv_jekv.rt:50:9
+loop-of-requires-2 : tie.Need-loop-of-requires-2
+loop-of-requires-2 c κs = search needs
+
+-- src/semv_jekv.rt:51:9
+start-of-requires : tie.Need-start-of-requires
+start-of-requires c κs = search needs
+
+-- src/semv_jekv.rt:52:5
+insert-after-requires : tie.Need-insert-after-requires
+insert-after-requires c κs = search needs
+
+-- src/semv_jekv.rt:53:9
+prev-of-requires : tie.Need-prev-of-requires
+prev-of-requires c κs = search needs
+
+-- src/semv_jekv.rt:54:5
+insert-after-requires-2 : tie.Need-insert-after-requires-2
+insert-after-requires-2 c κs = search needs
+
+-- src/semv_jekv.rt:55:5
+set-start-requires : tie.Need-set-start-requires
+set-start-requires c κs = search needs
+
+-- src/semv_jekv.rt:56:5
+renew-sides-requires : tie.Need-renew-sides-requires
+renew-sides-requires c κs = search needs
+
+-- src/semv_jekv.rt:57:5
+set-vertex-used-requires : tie.Need-set-vertex-used-requires
+set-vertex-used-requires c κs = (omega (arith, c .before .before .before .before .before .before .before .before .before .before .before .before .before .before .before .before .before .before .before .before .before .before .before .before .before .before .before .before .pre), omega arith)
+
+-- src/semv_jekv.rt:43:1
+same-length : tie.Need-same-length
+same-length c = search needs
+
+-- src/semv_jekv.rt:43:1
+returns : tie.Need-returns
+returns c = semv-steps _ _ _ _ _ (c .before .before .before .before .before .before .before .before .before .before .before .before .before .before .before .before .before .before .before .before .before .before .before .before .before .before .before .before .before .mate-of .ensures .0) (c .before .before .before .before .before .before .before .before .before .before .before .before .before .before .before .before .before .before .before .before .before .before .before .before .before .before .before .before .mate-of2 .ensures .0) (c .before .before .before .before .before .before .before .before .before .before .before .before .before .before .before .before .before .before .before .before .before .before .before .before .before .before .loop-of .ensures .0) (c .before .before .before .before .before .before .before .before .before .before .before .before .before .before .before .before .before .before .before .before .before .before .before .before .loop-of2 .ensures .0) (c .before .before .before .before .before .before .before .before .before .before .before .before .before .before .before .before .before .before .before .before .before .before .start-of .ensures .0) (c .before .before .before .before .before .before .before .before .before .before .before .before .before .before .before .before .before .before .before .before .insert-after .ensures) (c .before .before .before .before .before .before .before .before .before .before .before .before .before .before .before .before .prev-of .ensures .0) (c .before .before .before .before .before .before .before .before .before .before .before .before .before .before .insert-after2 .ensures) (c .before .before .before .before .before .before .before .before .before .before .set-start .ensures) (c .before .before .before .before .before .before .renew-sides .ensures) (c .before .before .set-vertex-used .ensures)
+
+pub semv-links-spec : {M : Type 1} → statement M
+semv-links-spec =
+    tie.close
+    (tie.spec
+    mate-of-requires
+    mate-of-requires-2
+    loop-of-requires
+    loop-of-requires-2
+    start-of-requires
+    insert-after-requires
+    prev-of-requires
+    insert-after-requires-2
+    set-start-requires
+    renew-sides-requires
+    set-vertex-used-requires
+    same-length
+    returns)
