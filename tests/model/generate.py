@@ -248,7 +248,7 @@ def damage_word(rng, links, points):
     i, j = rng.choice(places), rng.choice(places)
     dice = rng.random()
     if dice < 0.5:
-        links[i] = rng.choice((0, 1, 2, 3, 4, max(1, links[i] - 1), links[i] + 1))
+        links[i] = rng.choice((0, 1, 2, 3, 4, max(1, links[i] - 1), min(65_535, links[i] + 1)))
     elif dice < 0.8:
         links[i], links[j] = links[j], links[i]
     elif dice < 0.9:
