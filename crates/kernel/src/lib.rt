@@ -8,7 +8,9 @@ ghost use Rattle.table.specs.Check.{checkOf};
 ghost use Rattle.table.specs.Clear.{cleared, clearOf};
 ghost use Rattle.table.specs.Count.{countOf};
 ghost use Rattle.kernel.specs.Kernel.{operatorOf};
-use script::{Operator, ReadAnswer, WriteAnswer};
+use script::Operator;
+use script::ReadAnswer;
+use script::WriteAnswer;
 use table::check::CheckAnswer;
 use table::clear::ClearAnswer;
 use table::count::CountAnswer;
@@ -57,7 +59,12 @@ pub extern "C" fn zoghvari_read(script: &[u8], at: usize) -> ReadAnswer
 
 // Writes an operator at the front of `out`: refusal 4 or 5, then 9 where it does not fit, with `out` left as it is.
 #[no_mangle]
-pub extern "C" fn zoghvari_write(code: u8, count: u8, args: &[i32; 8], out: &mut [u8]) -> WriteAnswer
+pub extern "C" fn zoghvari_write(
+    code: u8,
+    count: u8,
+    args: &[i32; 8],
+    out: &mut [u8],
+) -> WriteAnswer
     ensures { λ r. ⌜ written r (now (out .exit)) ≡ writeOperator (operatorOf code count (now (args .entry))) (now (out .entry)) ⌝ }
 {
     let held = *args;
