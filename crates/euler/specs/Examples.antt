@@ -1,4 +1,4 @@
--- Examples b, c, d and g of document 01, by computation: each row runs operators from an empty table.
+-- Example d of document 01, after b and c, by computation: three operators from an empty table, every word of the links.
 use Prim.Native.Nat.{ℕ, zero, suc, _+_, _*_}
 use mathlib.Core.Path.{_≡_, refl}
 use mathlib.Core.Bool.{Bool, true, false, _&&_}
