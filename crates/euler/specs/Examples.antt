@@ -18,7 +18,7 @@ use Rattle.script.specs.Operands.{pattern, rows, inRanges, inRange, wire, zig}
 use Rattle.layout.specs.Mate.{mate}
 use Rattle.euler.specs.Surgery.{corner, edgeIn, edgeOut, relabel, leastOn, renew}
 use Rattle.euler.specs.Operators.{mvsfLinks, kvsfTest, kvsfLinks, mevLinks, kevTest, kevLinks, mefTest, mefEdge, mefLinks, kefTest, kefEdge, kefLinks, kemrTest, kemrLinks, mekrTest, mekrEdge, mekrLinks, kfmrhTest, kfmrhLinks, linkedAfter, mfkrhTest, mfkrhLinks, semvLinks, jekvTest, jekvLinks, rmovTest, rmovLinks}
-use Rattle.euler.specs.Exec.{Table, Executed, exec, refusalOf, rangeRefusal, useRefusals, useRefusal, useWord, condition, linksAfter, pointsAfter, killedVertex, inverse}
+use Rattle.euler.specs.Exec.{Table, Executed, exec, refusalOf, admitOf, rangeRefusal, useRefusals, useRefusal, useWord, condition, linksAfter, pointsAfter, killedVertex, inverse}
 
 abbrev sameWords : List ℕ → List ℕ → Bool
 sameWords [] [] = true
@@ -40,5 +40,5 @@ links-d = run (shapeFrom 1 2 2 2 2) (operator 1 (1 ∷ 1 ∷ 1 ∷ 1 ∷ 0 ∷ 0
 d-holds : sameWords links-d
     (1 ∷ 2 ∷ 2 ∷ 2 ∷ 2 ∷ 1 ∷ 1 ∷ 1 ∷ 1 ∷ 2 ∷ 1 ∷ 2 ∷ 0 ∷ 2 ∷ 1 ∷ 0 ∷
     1 ∷ 2 ∷ 4 ∷ 4 ∷ 2 ∷ 1 ∷ 3 ∷ 3 ∷ 1 ∷ 1 ∷ 2 ∷ 2 ∷ 2 ∷ 2 ∷ 1 ∷ 1 ∷ 1 ∷ 1 ∷ []) ≡ true
-unfolding links-d run empty exec refusalOf rangeRefusal pattern rows inRanges inRange wire zig useRefusals useRefusal useWord condition linksAfter pointsAfter killedVertex inverse corner edgeIn edgeOut relabel leastOn renew mate sumTo leastFrom sweep mvsfLinks kvsfTest kvsfLinks mevLinks kevTest kevLinks mefTest mefEdge mefLinks kefTest kefEdge kefLinks kemrTest kemrLinks mekrTest mekrEdge mekrLinks kfmrhTest kfmrhLinks linkedAfter mfkrhTest mfkrhLinks semvLinks jekvTest jekvLinks rmovTest rmovLinks
+unfolding links-d run empty exec refusalOf admitOf rangeRefusal pattern rows inRanges inRange wire zig useRefusals useRefusal useWord condition linksAfter pointsAfter killedVertex inverse corner edgeIn edgeOut relabel leastOn renew mate sumTo leastFrom sweep mvsfLinks kvsfTest kvsfLinks mevLinks kevTest kevLinks mefTest mefEdge mefLinks kefTest kefEdge kefLinks kemrTest kemrLinks mekrTest mekrEdge mekrLinks kfmrhTest kfmrhLinks linkedAfter mfkrhTest mfkrhLinks semvLinks jekvTest jekvLinks rmovTest rmovLinks
 d-holds = refl

@@ -130,13 +130,15 @@ inverse sh x p o = getD (inverses sh x p (itemOf o)) (o .code) (blankOf 0 0)
 
 -- ---- the whole
 
+-- 6, 7 or 8 of an operator whose operands are in range; 0 where it is accepted
+unfoldable pub admitOf : Shape → List ℕ → Operator → ℕ
+admitOf sh x o =
+    pick (eqb (useRefusals sh x o (pattern (o .code) .kinds) 0) 0) (pick (condition sh x o) 0 8)
+    (useRefusals sh x o (pattern (o .code) .kinds) 0)
+
 -- the refusal of operator o on a table: 4, 5, 6, 7 or 8; 0 where it is accepted
 unfoldable pub refusalOf : Shape → List ℕ → Operator → ℕ
-refusalOf sh x o =
-    pick (eqb (rangeRefusal sh o) 0)
-    (pick (eqb (useRefusals sh x o (pattern (o .code) .kinds) 0) 0) (pick (condition sh x o) 0 8)
-    (useRefusals sh x o (pattern (o .code) .kinds) 0))
-    (rangeRefusal sh o)
+refusalOf sh x o = pick (eqb (rangeRefusal sh o) 0) (admitOf sh x o) (rangeRefusal sh o)
 
 -- what is left: the refusal, the table, and the operator that undoes it (the blank operator where it is refused)
 pub record Executed : Type 0 where

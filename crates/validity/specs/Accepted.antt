@@ -20,7 +20,7 @@ use Rattle.script.specs.Operator.{natOf, operandOf, numbersOf}
 use Rattle.layout.specs.declared.shape.Shape.{Shape}
 use Rattle.layout.specs.Points.{rangeTest}
 use Rattle.euler.specs.Surgery.{itemOf}
-use Rattle.euler.specs.Exec.{limits, rangeRefusal, useWord, whenFree, whenUsed, useRefusal, useRefusals, condition, refusalOf}
+use Rattle.euler.specs.Exec.{limits, admitOf, rangeRefusal, useWord, whenFree, whenUsed, useRefusal, useRefusals, condition, refusalOf}
 use Rattle.validity.specs.Sound.{In}
 
 -- ---- the refusals, one after the other
@@ -45,7 +45,7 @@ pub record Accepted (sh : Shape) (x : List ℕ) (o : Operator) : Type 0 where
   pub holds : condition sh x o ≡ true
 
 accepted : (sh : Shape) (x : List ℕ) (o : Operator) → refusalOf sh x o ≡ 0 → Accepted sh x o
-unfolding refusalOf rangeRefusal
+unfolding refusalOf admitOf rangeRefusal
 accepted sh x o h =
     let r = first-zero (rangeRefusal sh o) _ h in
     let u = first-zero (useRefusals sh x o (pattern (o .code) .kinds) 0) _ (r .1) in
@@ -57,7 +57,7 @@ accepted sh x o h =
 
 -- and they are all it takes
 pub accepted-back : (sh : Shape) (x : List ℕ) (o : Operator) → Accepted sh x o → refusalOf sh x o ≡ 0
-unfolding refusalOf rangeRefusal
+unfolding refusalOf admitOf rangeRefusal
 accepted-back sh x o a = rw (a .code, a .count, a .range, a .used, a .holds)
 
 -- ---- operands by place

@@ -1,0 +1,4 @@
+pub mod Capped
+pub mod Args
+pub mod Chosen
+pub mod Admitted
