@@ -7,7 +7,10 @@ ghost use Rattle.script.specs.Operator.{readOperator, writeOperator, written};
 ghost use Rattle.table.specs.Check.{checkOf};
 ghost use Rattle.table.specs.Clear.{cleared, clearOf};
 ghost use Rattle.table.specs.Count.{countOf};
+ghost use Rattle.runs.specs.Run.{state, leaves, runOf, restores, undoOf};
 ghost use Rattle.kernel.specs.Kernel.{operatorOf};
+use runs::run::RunAnswer;
+use runs::undo::UndoAnswer;
 use script::Operator;
 use script::ReadAnswer;
 use script::WriteAnswer;
@@ -74,4 +77,34 @@ pub extern "C" fn zoghvari_write(
         args: held,
     };
     script::write_operator(op, out)
+}
+
+// Runs a script on a table, each operator with its inverse in the log below `start`: refusal 1, or 2 with the rule; else the refusal of the
+// first operator that is refused, 3 to 9, or 0; the operators done, the script bytes they took, and the log's new start.
+#[no_mangle]
+pub extern "C" fn zoghvari_run(
+    links: &mut [u16],
+    points: &mut [i32],
+    log: &mut [u8],
+    start: usize,
+    script: &[u8],
+) -> RunAnswer
+    ensures { λ r. ⌜ leaves r (now (links .exit)) (now (points .exit)) (now (log .exit)) ≡ runOf (state (now (links .entry)) (now (points .entry)) (now (log .entry)) start) (now (script .entry)) ⌝ }
+{
+    runs::run::run(links, points, log, start, script)
+}
+
+// Undoes the last n operators by the log's live part, which begins at `start`; no byte of the log changes. Refusal 1, or 2 with the rule;
+// else 3 to 8 of a log that no run wrote, 11 where it ends too soon, or 0; the operators undone and the log's new start.
+#[no_mangle]
+pub extern "C" fn zoghvari_undo(
+    links: &mut [u16],
+    points: &mut [i32],
+    log: &[u8],
+    start: usize,
+    n: usize,
+) -> UndoAnswer
+    ensures { λ r. ⌜ restores r (now (links .exit)) (now (points .exit)) ≡ undoOf (state (now (links .entry)) (now (points .entry)) (now (log .entry)) start) n ⌝ }
+{
+    runs::undo::undo(links, points, log, start, n)
 }

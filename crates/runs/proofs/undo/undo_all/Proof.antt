@@ -1,0 +1,113 @@
+use borrow.Author.Needs.{needs}
+use Prim.Native.Nat.{_-_, _≤_, _<_}
+use mathlib.Core.Path.{_≡_, refl}
+use native.Mathlib.Omega.{arith}
+use lib.ListN.{length}
+use Rattle.runs.specs.Run.{undoFrom}
+use Rattle.runs.specs.RunLaws.{undo-begins, undo-out, undo-stop, undo-turn, undo-end}
+use Rattle.runs.proofs.undo.undo_all.Statement.{statement}
+use Rattle.runs.proofs.undo.undo_all.Tie as tie
+use Rattle.runs.proofs.undo.undo_all.Reads as reads
+use Rattle.runs.proofs.undo.undo_all.Lts as lts
+use Rattle.exec.proofs.effects.perform.Reads as perform-reads
+use Rattle.runs.proofs.steps.admit_read.Reads as admit-read-reads
+use Rattle.runs.proofs.steps.limits_of.Reads as limits-of-reads
+use Rattle.script.proofs.read_within.Reads as read-within-reads
+
+abbrev Inv-loop : tie.InvT-loop
+Inv-loop links₀ points₀ sh log start n limits at₀ undone₀ links points at undone = (length links ≡ length links₀) × (length points ≡ length points₀) × (undone ≤ n) × (undoFrom (n - undone) sh log at undone links points ≡ undoFrom n sh log start 0 links₀ points₀)
+
+abbrev μ-loop : tie.MeasureT-loop
+μ-loop links₀ points₀ sh log start n limits at₀ undone₀ links points at undone = n - undone
+
+-- src/undo.rt:37:9
+limits-of-requires : tie.Need-limits-of-requires Inv-loop μ-loop
+limits-of-requires c κs = search needs
+
+-- src/undo.rt:40:5
+loop-holds : tie.Need-loop-holds Inv-loop μ-loop
+loop-holds c = (refl, refl, omega arith, undo-begins _ _ _ _ _ _)
+
+-- src/undo.rt:42:13
+same-length : tie.Need-same-length Inv-loop μ-loop
+same-length c = search needs
+
+-- src/undo.rt:42:13
+same-length-2 : tie.Need-same-length-2 Inv-loop μ-loop
+same-length-2 c = search needs
+
+-- src/undo.rt:42:13
+returns : tie.Need-returns Inv-loop μ-loop
+returns c = undo-out _ _ _ _ _ _ _ _ (c .before .before .loop .inv .3) (omega arith) (omega arith)
+
+-- src/undo.rt:49:13
+read-within-requires : tie.Need-read-within-requires Inv-loop μ-loop
+read-within-requires c κs = search needs
+
+-- src/undo.rt:52:13
+admit-read-requires : tie.Need-admit-read-requires Inv-loop μ-loop
+admit-read-requires c κs = search needs
+
+-- src/undo.rt:54:13
+same-length-3 : tie.Need-same-length-3 Inv-loop μ-loop
+same-length-3 c = search needs
+
+-- src/undo.rt:54:13
+same-length-4 : tie.Need-same-length-4 Inv-loop μ-loop
+same-length-4 c = search needs
+
+-- src/undo.rt:54:13
+returns-2 : tie.Need-returns-2 Inv-loop μ-loop
+returns-2 c = undo-stop _ _ _ _ _ _ _ _ (c .before .before .before .before .before .before .before .loop .inv .3) (omega arith) (omega arith) _ (c .before .before .before .before .before .before .before .before .limits-of .ensures) _ (c .before .before .before .before .read-within .ensures) _ (c .before .admit-read .ensures) (c .if2 .taken)
+
+-- src/undo.rt:61:9
+perform-requires : tie.Need-perform-requires Inv-loop μ-loop
+perform-requires c κs = search needs
+
+-- src/undo.rt:63:9
+add-undone : tie.Need-add-undone Inv-loop μ-loop
+add-undone c = search needs
+
+-- src/undo.rt:40:5
+loop-less : tie.Need-loop-less Inv-loop μ-loop
+loop-less c = omega arith
+
+-- src/undo.rt:40:5
+loop-again : tie.Need-loop-again Inv-loop μ-loop
+loop-again c = (omega arith, omega arith, omega arith, undo-turn _ _ _ _ _ _ _ _ (c .before .before .before .before .before .before .before .before .before .before .before .before .before .loop .inv .3) (omega arith) (omega arith) _ (c .before .before .before .before .before .before .before .before .before .before .before .before .before .before .limits-of .ensures) _ (c .before .before .before .before .before .before .before .before .before .before .read-within .ensures) _ (c .before .before .before .before .before .before .before .admit-read .ensures) (c .before .before .before .before .before .before .if2 .left) _ (c .before .before .before .perform .ensures .0) _ (c .before .before .before .perform .ensures .1) _ (omega arith))
+
+-- src/undo.rt:24:1
+same-length-5 : tie.Need-same-length-5 Inv-loop μ-loop
+same-length-5 c = search needs
+
+-- src/undo.rt:24:1
+same-length-6 : tie.Need-same-length-6 Inv-loop μ-loop
+same-length-6 c = search needs
+
+-- src/undo.rt:24:1
+returns-3 : tie.Need-returns-3 Inv-loop μ-loop
+returns-3 c = undo-end _ _ _ _ _ _ _ _ (c .before .loop .inv .3) (omega arith)
+
+pub undo-all-spec : {M : Type 1} → statement M
+undo-all-spec =
+    tie.close
+    (tie.spec
+    Inv-loop
+    μ-loop
+    limits-of-requires
+    loop-holds
+    same-length
+    same-length-2
+    returns
+    read-within-requires
+    admit-read-requires
+    same-length-3
+    same-length-4
+    returns-2
+    perform-requires
+    add-undone
+    loop-less
+    loop-again
+    same-length-5
+    same-length-6
+    returns-3)

@@ -1,0 +1,157 @@
+-- Running a script and undoing (document 01, "Scripts and the log"). An operator is read (3, 4, 5) and admitted (6, 7, 8); a run also needs
+-- room for the inverse in front of the log's start (9); undo needs a log that has not ended (11).
+use Prim.Native.Nat.{ℕ, zero, suc, _+_, _-_}
+use mathlib.Core.List.{List}
+use lib.Dec.{eqb, leb, ltb}
+use lib.IntN.{ℤ}
+use lib.ListN.{length}
+use Rattle.laws.specs.Bools.{pick}
+use Rattle.script.specs.declared.Operator.{Operator}
+use Rattle.script.specs.declared.ReadAnswer.{ReadAnswer}
+use Rattle.script.specs.Operator.{readOperator, operatorBytes, putBytes}
+use Rattle.layout.specs.declared.shape.Shape.{Shape}
+use Rattle.layout.specs.Layout.{shapeOf}
+use Rattle.euler.specs.Exec.{limits, admitOf, linksAfter, pointsAfter, inverse}
+use Rattle.table.specs.declared.check.CheckAnswer.{CheckAnswer}
+use Rattle.table.specs.Check.{checkOf}
+use Rattle.runs.specs.declared.run.RunAnswer.{RunAnswer}
+use Rattle.runs.specs.declared.undo.UndoAnswer.{UndoAnswer}
+
+-- ---- one operator
+
+-- the operator that stands at a place of a script or log, its operands within the table's capacities
+abbrev pub readAt : Shape → List ℕ → ℕ → ReadAnswer
+readAt sh s at = readOperator (limits sh) s at
+
+-- 3 to 5 of what was read, else 6 to 8 of its operator
+unfoldable pub admitRead : Shape → List ℕ → ReadAnswer → ℕ
+admitRead sh x r = pick (eqb (r .refusal) 0) (admitOf sh x (r .op)) (r .refusal)
+
+-- the refusal of the operator at a place, 3 to 8
+abbrev pub refusalAt : Shape → List ℕ → List ℕ → ℕ → ℕ
+refusalAt sh x s at = admitRead sh x (readAt sh s at)
+
+-- ---- one step of a run
+
+-- a table and its log, whose live part begins at `start`
+pub record State : Type 0 where
+  pub links : List ℕ
+  pub points : List ℤ
+  pub log : List ℕ
+  pub start : ℕ
+
+abbrev pub state : List ℕ → List ℤ → List ℕ → ℕ → State
+state x p log start = record { links = x; points = p; log = log; start = start }
+
+-- the bytes of the operator that undoes o
+unfoldable pub inverseBytes : Shape → State → Operator → List ℕ
+inverseBytes sh t o = operatorBytes (inverse sh (t .links) (t .points) o)
+
+-- 3 to 8, then 9 where these bytes do not fit in front of the start
+unfoldable pub runRefusal : Shape → State → List ℕ → ℕ → ℕ
+runRefusal sh t s at =
+    pick (eqb (refusalAt sh (t .links) s at) 0)
+    (pick (leb (length (inverseBytes sh t (readAt sh s at .op))) (t .start)) 0 9)
+    (refusalAt sh (t .links) s at)
+
+-- operator o carried out, its inverse just below the start
+unfoldable pub stepped : Shape → State → Operator → State
+stepped sh t o = record {
+  links = linksAfter sh (t .links) o;
+  points = pointsAfter sh (t .links) (t .points) o;
+  log = putBytes (t .log) (t .start - length (inverseBytes sh t o)) (inverseBytes sh t o);
+  start = t .start - length (inverseBytes sh t o);
+}
+
+-- what a step leaves: its refusal, the place where the script goes on, and the state
+pub record Stepped : Type 0 where
+  pub refusal : ℕ
+  pub next : ℕ
+  pub state : State
+
+abbrev pub stepIs : ℕ → ℕ → State → Stepped
+stepIs refusal next t = record { refusal = refusal; next = next; state = t }
+
+-- the operator at a place of the script: carried out, or refused with nothing changed
+unfoldable pub stepOf : Shape → State → List ℕ → ℕ → Stepped
+stepOf sh t s at =
+    pick (eqb (runRefusal sh t s at) 0) (stepIs 0 (readAt sh s at .next) (stepped sh t (readAt sh s at .op)))
+    (stepIs (runRefusal sh t s at) at t)
+
+-- ---- run
+
+-- what a run leaves: its answer, the table and the log
+pub record Ran : Type 0 where
+  pub answer : RunAnswer
+  pub links : List ℕ
+  pub points : List ℤ
+  pub log : List ℕ
+
+abbrev pub leaves : RunAnswer → List ℕ → List ℤ → List ℕ → Ran
+leaves a x p log = record { answer = a; links = x; points = p; log = log }
+
+-- stopped with a refusal, 0 for none, after `done` operators that took `used` bytes
+abbrev pub ran : ℕ → ℕ → ℕ → State → Ran
+ran refusal done used t =
+    leaves (record { refusal = refusal; rule = 0; done = done; used = used; start = t .start }) (t .links) (t .points) (t .log)
+
+-- from a place of the script on, `done` operators done; at most n more, since each takes a byte
+unfoldable pub runFrom : ℕ → Shape → List ℕ → ℕ → ℕ → State → Ran
+runFrom zero sh s at done t = ran 0 done at t
+runFrom (suc n) sh s at done t =
+    pick (ltb at (length s))
+    (pick (eqb (runRefusal sh t s at) 0)
+    (runFrom n sh s (readAt sh s at .next) (done + 1) (stepped sh t (readAt sh s at .op)))
+    (ran (runRefusal sh t s at) done at t))
+    (ran 0 done at t)
+
+-- refused before the first operator, with 1, or with 2 and the rule
+abbrev pub notRun : ℕ → ℕ → State → Ran
+notRun refusal rule t =
+    leaves (record { refusal = refusal; rule = rule; done = 0; used = 0; start = t .start }) (t .links) (t .points) (t .log)
+
+-- the start is not beyond the log, and the table passes the check: 1, or 2 with the rule
+unfoldable pub entry : State → CheckAnswer
+entry t = pick (leb (t .start) (length (t .log))) (checkOf (t .links) (t .points)) (record { refusal = 1; rule = 0 })
+
+-- a script run on a table
+unfoldable pub runOf : State → List ℕ → Ran
+runOf t s =
+    pick (eqb (entry t .refusal) 0) (runFrom (length s) (shapeOf (t .links)) s 0 0 t)
+    (notRun (entry t .refusal) (entry t .rule) t)
+
+-- ---- undo
+
+-- what undo leaves: its answer and the table; it changes no byte of the log
+pub record Undid : Type 0 where
+  pub answer : UndoAnswer
+  pub links : List ℕ
+  pub points : List ℤ
+
+abbrev pub restores : UndoAnswer → List ℕ → List ℤ → Undid
+restores a x p = record { answer = a; links = x; points = p }
+
+-- stopped with a refusal, 0 for none, after `undone` operators, the log's live part now from `start` on
+abbrev pub undid : ℕ → ℕ → ℕ → List ℕ → List ℤ → Undid
+undid refusal undone start x p = restores (record { refusal = refusal; rule = 0; undone = undone; start = start }) x p
+
+-- n operators of the log from `at` on are due, `undone` are undone
+unfoldable pub undoFrom : ℕ → Shape → List ℕ → ℕ → ℕ → List ℕ → List ℤ → Undid
+undoFrom zero sh log at undone x p = undid 0 undone at x p
+undoFrom (suc n) sh log at undone x p =
+    pick (ltb at (length log))
+    (pick (eqb (refusalAt sh x log at) 0)
+    (undoFrom n sh log (readAt sh log at .next) (undone + 1) (linksAfter sh x (readAt sh log at .op)) (pointsAfter sh x p (readAt sh log at .op)))
+    (undid (refusalAt sh x log at) undone at x p))
+    (undid 11 undone at x p)
+
+-- refused before the first operator
+abbrev pub notUndone : ℕ → ℕ → State → Undid
+notUndone refusal rule t =
+    restores (record { refusal = refusal; rule = rule; undone = 0; start = t .start }) (t .links) (t .points)
+
+-- the first n operators of the live log, run unlogged
+unfoldable pub undoOf : State → ℕ → Undid
+undoOf t n =
+    pick (eqb (entry t .refusal) 0) (undoFrom n (shapeOf (t .links)) (t .log) (t .start) 0 (t .links) (t .points))
+    (notUndone (entry t .refusal) (entry t .rule) t)

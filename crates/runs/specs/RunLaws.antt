@@ -1,0 +1,187 @@
+-- The ways through a step, a run and an undo, one law each, over plain variables.
+use mathlib.Core.Path.{_≡_, refl, sym, ap, _∙_, subst}
+use mathlib.Core.Logic.{_≢_, ⊎-elim}
+use mathlib.Core.Bool.{Bool, true, false}
+use mathlib.Core.List.{List}
+use Prim.Native.Nat.{ℕ, zero, suc, _+_, _-_, _≤_, _<_}
+use native.Mathlib.Omega.{arith}
+use lib.Dec.{eqb, leb, ltb}
+use lib.IntN.{ℤ}
+use lib.ListN.{length}
+use borrow.Author.Tests.{lt-ltb, le-ltb, le-leb, lt-leb, eq-eqb, ne-eqb}
+use Rattle.laws.specs.Bools.{pick, ask, same?}
+use Rattle.script.specs.declared.Limits.{Limits}
+use Rattle.script.specs.declared.Operator.{Operator}
+use Rattle.script.specs.declared.ReadAnswer.{ReadAnswer}
+use Rattle.script.specs.Operator.{readOperator, operatorBytes, putBytes}
+use Rattle.script.specs.RoundTrip.{read-next}
+use Rattle.layout.specs.declared.shape.Shape.{Shape}
+use Rattle.layout.specs.Layout.{shapeOf}
+use Rattle.euler.specs.Exec.{limits, admitOf, linksAfter, pointsAfter, inverse}
+use Rattle.exec.specs.Capped.{Capped}
+use Rattle.table.specs.declared.check.CheckAnswer.{CheckAnswer}
+use Rattle.table.specs.Check.{checkOf}
+use Rattle.table.specs.CheckLaws.{checked-fits}
+use Rattle.table.specs.SizesLaws.{fits-small}
+use Rattle.runs.specs.Run.{State, state, admitRead, readAt, refusalAt, inverseBytes, runRefusal, stepped, Stepped, stepIs, stepOf, Ran, leaves, ran, runFrom, notRun, entry, runOf, Undid, restores, undid, undoFrom, notUndone, undoOf}
+
+-- what was read is refused, or its operator is
+module _ (sh : Shape) (x : List ℕ) (r : ReadAnswer) where
+  pub read-refused : r .refusal ≢ 0 → r .refusal ≡ admitRead sh x r
+  unfolding admitRead
+  read-refused z = rw (ne-eqb (r .refusal) 0 z)
+
+  pub read-admitted : r .refusal ≡ 0 → (a : ℕ) → a ≡ admitOf sh x (r .op) → a ≡ admitRead sh x r
+  unfolding admitRead
+  read-admitted z a e = rw (eq-eqb (r .refusal) 0 z) e
+
+-- an operator that is accepted was read whole
+pub admitted-read : (sh : Shape) (x : List ℕ) (r : ReadAnswer) → admitRead sh x r ≡ 0 → r .refusal ≡ 0
+unfolding admitRead
+admitted-read sh x r h = ⊎-elim (λ z. z) (λ z. absurd (z (rw (ne-eqb (r .refusal) 0 z) at h))) (same? (r .refusal) 0)
+
+-- one step: a refusal 3 to 8, no room, done
+module _ (sh : Shape) (x : List ℕ) (p : List ℤ) (log : List ℕ) (start : ℕ) (s : List ℕ) (at : ℕ) (lim : Limits) (el : lim ≡ limits sh)
+    (rd : ReadAnswer) (er : rd ≡ readOperator lim s at) (a : ℕ) (ea : a ≡ admitRead sh x rd) where
+  read-is : rd ≡ readAt sh s at
+  read-is = er ∙ ap (λ l. readOperator l s at) el
+
+  pub step-refused : a ≢ 0 → stepIs a at (state x p log start) ≡ stepOf sh (state x p log start) s at
+  unfolding stepOf runRefusal
+  step-refused z = rw (← read-is, ← ea, ne-eqb a 0 z, ne-eqb a 0 z)
+
+  module _ (z : a ≡ 0) (o : Operator) (eo : o ≡ inverse sh x p (rd .op)) (n : ℕ) (en : n ≡ length (operatorBytes o)) where
+    pub step-full : start < n → stepIs 9 at (state x p log start) ≡ stepOf sh (state x p log start) s at
+    unfolding stepOf runRefusal inverseBytes
+    step-full h = rw (← read-is, ← ea, eq-eqb a 0 z, ← eo, ← en, lt-leb n start h)
+
+    pub step-done : n ≤ start → (y : List ℕ) → y ≡ linksAfter sh x (rd .op) → (q : List ℤ) → q ≡ pointsAfter sh x p (rd .op)
+        → (m : List ℕ) → m ≡ putBytes log (start - n) (operatorBytes o)
+        → stepIs 0 (rd .next) (state y q m (start - n)) ≡ stepOf sh (state x p log start) s at
+    unfolding stepOf runRefusal stepped inverseBytes
+    step-done h y ey q eq m em = rw (← read-is, ← ea, eq-eqb a 0 z, ← eo, ← en, le-leb n start h, ey, eq, em)
+
+-- a step carried out, and one refused
+module _ (sh : Shape) (t : State) (s : List ℕ) (at : ℕ) where
+  step-taken : runRefusal sh t s at ≡ 0 → stepOf sh t s at ≡ stepIs 0 (readAt sh s at .next) (stepped sh t (readAt sh s at .op))
+  unfolding stepOf
+  step-taken z = rw (eq-eqb (runRefusal sh t s at) 0 z)
+
+  step-kept : runRefusal sh t s at ≢ 0 → stepOf sh t s at ≡ stepIs (runRefusal sh t s at) at t
+  unfolding stepOf
+  step-kept z = rw (ne-eqb (runRefusal sh t s at) 0 z)
+
+  -- where it is not refused, its operator was read and admitted
+  pub run-admitted : runRefusal sh t s at ≡ 0 → refusalAt sh (t .links) s at ≡ 0
+  unfolding runRefusal
+  run-admitted z = ⊎-elim (λ r. r) (λ r. absurd (r (rw (ne-eqb (refusalAt sh (t .links) s at) 0 r) at z))) (same? (refusalAt sh (t .links) s at) 0)
+
+  module _ (q : Stepped) (e : q ≡ stepOf sh t s at) where
+    -- a step answers 0 just where it is not refused
+    step-zero : q .refusal ≡ 0 → runRefusal sh t s at ≡ 0
+    step-zero z = ⊎-elim (λ r. r) (λ r. sym (ap (λ u. u .refusal) (e ∙ step-kept r)) ∙ z) (same? (runRefusal sh t s at) 0)
+
+    step-some : q .refusal ≢ 0 → runRefusal sh t s at ≢ 0
+    step-some z r = z (ap (λ u. u .refusal) (e ∙ step-taken r))
+
+    -- it has then gone on in the script
+    pub step-next : q .refusal ≡ 0 → (at < q .next) × (q .next ≤ length s)
+    step-next z =
+        let r = step-zero z in
+        let g = read-next (limits sh) s at (admitted-read sh (t .links) (readAt sh s at) (run-admitted r)) in
+        subst (λ n. (at < n) × (n ≤ length s)) (sym (ap (λ u. u .next) (e ∙ step-taken r))) g
+
+-- past the script's end nothing is done
+run-ended : (sh : Shape) (s : List ℕ) (n at done : ℕ) (t : State) → length s ≤ at → runFrom n sh s at done t ≡ ran 0 done at t
+unfolding runFrom
+run-ended sh s zero at done t h = refl
+run-ended sh s (suc n) at done t h = rw (le-ltb at (length s) h)
+
+-- as it begins, all is left
+pub run-begins : (sh : Shape) (s : List ℕ) (t : State) → runFrom (length s - 0) sh s 0 0 t ≡ runFrom (length s) sh s 0 0 t
+run-begins sh s t = let e : length s - 0 ≡ length s = omega arith in ap (λ n. runFrom n sh s 0 0 t) e
+
+pub undo-begins : (sh : Shape) (log : List ℕ) (n at : ℕ) (x : List ℕ) (p : List ℤ) → undoFrom (n - 0) sh log at 0 x p ≡ undoFrom n sh log at 0 x p
+undo-begins sh log n at x p = let e : n - 0 ≡ n = omega arith in ap (λ n. undoFrom n sh log at 0 x p) e
+
+-- a run: what is left of it is the whole; as it stops at a refusal, goes on, ends
+module _ (sh : Shape) (s : List ℕ) (n at done : ℕ) (t : State) (whole : Ran) (rest : runFrom n sh s at done t ≡ whole) where
+  pub run-end : length s ≤ at → ran 0 done at t ≡ whole
+  run-end h = sym (run-ended sh s n at done t h) ∙ rest
+
+  module _ (h : at < length s) (m : 0 < n) (q : Stepped) (e : q ≡ stepOf sh t s at) where
+    turn : pick (eqb (runRefusal sh t s at) 0) (runFrom (n - 1) sh s (readAt sh s at .next) (done + 1) (stepped sh t (readAt sh s at .op))) (ran (runRefusal sh t s at) done at t) ≡ whole
+    unfolding runFrom
+    turn = let k : n ≡ suc (n - 1) = omega (arith, m) in rw (k, lt-ltb at (length s) h) at rest
+
+    pub run-stop : q .refusal ≢ 0 → ran (q .refusal) done at (q .state) ≡ whole
+    run-stop z =
+        let r = step-some sh t s at q e z in
+        rw (e ∙ step-kept sh t s at r) (rw (ne-eqb (runRefusal sh t s at) 0 r) at turn)
+
+    pub run-turn : q .refusal ≡ 0 → (k : ℕ) → k ≡ n - 1 → runFrom k sh s (q .next) (done + 1) (q .state) ≡ whole
+    run-turn z k ek =
+        let r = step-zero sh t s at q e z in
+        rw (ek, e ∙ step-taken sh t s at r) (rw (eq-eqb (runRefusal sh t s at) 0 r) at turn)
+
+-- an undo: none is due, the log has ended, a refusal, one undone
+module _ (sh : Shape) (log : List ℕ) (n at k : ℕ) (x : List ℕ) (p : List ℤ) (whole : Undid) (rest : undoFrom n sh log at k x p ≡ whole) where
+  pub undo-end : n ≤ 0 → undid 0 k at x p ≡ whole
+  unfolding undoFrom
+  undo-end h = let z : n ≡ 0 = omega (arith, h) in rw z at rest
+
+  pub undo-out : 0 < n → length log ≤ at → undid 11 k at x p ≡ whole
+  unfolding undoFrom
+  undo-out m h = let e : n ≡ suc (n - 1) = omega (arith, m) in rw (e, le-ltb at (length log) h) at rest
+
+  module _ (m : 0 < n) (h : at < length log) (lim : Limits) (el : lim ≡ limits sh) (rd : ReadAnswer) (er : rd ≡ readOperator lim log at) (a : ℕ) (ea : a ≡ admitRead sh x rd) where
+    here : rd ≡ readAt sh log at
+    here = er ∙ ap (λ l. readOperator l log at) el
+
+    due : pick (eqb (refusalAt sh x log at) 0) (undoFrom (n - 1) sh log (readAt sh log at .next) (k + 1) (linksAfter sh x (readAt sh log at .op)) (pointsAfter sh x p (readAt sh log at .op))) (undid (refusalAt sh x log at) k at x p) ≡ whole
+    unfolding undoFrom
+    due = let e : n ≡ suc (n - 1) = omega (arith, m) in rw (e, lt-ltb at (length log) h) at rest
+
+    pub undo-stop : a ≢ 0 → undid a k at x p ≡ whole
+    undo-stop z = rw (← here, ← ea, ne-eqb a 0 z) at due
+
+    pub undo-turn : a ≡ 0 → (y : List ℕ) → y ≡ linksAfter sh x (rd .op) → (q : List ℤ) → q ≡ pointsAfter sh x p (rd .op) → (j : ℕ) → j ≡ n - 1 → undoFrom j sh log (rd .next) (k + 1) y q ≡ whole
+    undo-turn z y ey q eq j ej = rw (ej, ey, eq) (rw (← here, ← ea, eq-eqb a 0 z) at due)
+
+-- the way in: the start is beyond the log, or the check answers
+module _ (x : List ℕ) (p : List ℤ) (log : List ℕ) (start : ℕ) where
+  pub entry-beyond : length log < start → record { refusal = 1; rule = 0 } ≡ entry (state x p log start)
+  unfolding entry
+  entry-beyond h = rw (lt-leb start (length log) h)
+
+  pub entry-checked : start ≤ length log → (a : CheckAnswer) → a ≡ checkOf x p → a ≡ entry (state x p log start)
+  unfolding entry
+  entry-checked h a e = rw (le-leb start (length log) h) e
+
+  -- an entered table has been checked
+  pub entered-checked : entry (state x p log start) .refusal ≡ 0 → checkOf x p .refusal ≡ 0
+  unfolding entry
+  entered-checked z = ⊎-elim (λ f. rw f at z) (λ f. let n : _≡_ {A = ℕ} 1 0 = rw f at z in absurd (omega arith)) (ask (leb start (length log)))
+
+  module _ (a : CheckAnswer) (e : a ≡ entry (state x p log start)) where
+    pub run-refused : (s : List ℕ) → a .refusal ≢ 0 → notRun (a .refusal) (a .rule) (state x p log start) ≡ runOf (state x p log start) s
+    unfolding runOf
+    run-refused s z = rw (← e, ne-eqb (a .refusal) 0 z)
+
+    pub undo-refused : (n : ℕ) → a .refusal ≢ 0 → notUndone (a .refusal) (a .rule) (state x p log start) ≡ undoOf (state x p log start) n
+    unfolding undoOf
+    undo-refused n z = rw (← e, ne-eqb (a .refusal) 0 z)
+
+    module _ (z : a .refusal ≡ 0) (sh : Shape) (h : sh ≡ shapeOf x) where
+      pub entered-capped : Capped sh
+      entered-capped =
+          let f = fits-small x p (checked-fits x p (entered-checked (ap (λ c. c .refusal) (sym e) ∙ z))) in
+          rw h (record { solids = f .solids; faces = f .faces; loops = f .loops; edges = f .edges; vertices = f .vertices })
+
+      pub run-entered : (s : List ℕ) (r : Ran) → r ≡ runFrom (length s) sh s 0 0 (state x p log start) → r ≡ runOf (state x p log start) s
+      unfolding runOf
+      run-entered s r g = rw (← e, eq-eqb (a .refusal) 0 z, ← h) g
+
+      pub undo-entered : (n : ℕ) (r : Undid) → r ≡ undoFrom n sh log start 0 x p → r ≡ undoOf (state x p log start) n
+      unfolding undoOf
+      undo-entered n r g = rw (← e, eq-eqb (a .refusal) 0 z, ← h) g

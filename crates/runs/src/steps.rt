@@ -1,0 +1,91 @@
+// One operator of a script or log: read, admitted, carried out. What refuses and what finds the inverse only reads, so that a refused
+// operator changes nothing.
+ghost use mathlib.Core.Path.{_≡_};
+ghost use Prim.Native.Nat.{ℕ, _≤_, _<_};
+ghost use Rattle.euler.specs.Exec.{limits};
+ghost use Rattle.exec.specs.Capped.{Capped};
+ghost use Rattle.runs.specs.Run.{state, admitRead, stepIs, stepOf};
+use exec::admit::admit;
+use exec::effects::perform;
+use exec::inverses::inverse_of;
+use layout::shape::Shape;
+use script::Limits;
+use script::ReadAnswer;
+use script::operator_size;
+use script::put_operator;
+use script::read_within;
+
+// What a step of a run answers: its refusal, and where script and log go on.
+pub struct Step {
+    pub refusal: u8,
+    pub next: usize,
+    pub start: usize,
+}
+
+// A table's capacities as limits.
+pub fn limits_of(sh: Shape) -> Limits
+    requires { ⌜ Capped sh ⌝ }
+    ensures { λ r. ⌜ r ≡ limits sh ⌝ }
+{
+    Limits {
+        solids: sh.solids as u16,
+        faces: sh.faces as u16,
+        loops: sh.loops as u16,
+        edges: sh.edges as u16,
+        vertices: sh.vertices as u16,
+    }
+}
+
+// The refusal of an operator that was read, 3 to 8; 0 where it is accepted.
+pub fn admit_read(links: &[u16], sh: Shape, read: ReadAnswer) -> u8
+    requires { ⌜ Capped sh ⌝ }
+    ensures { λ r. ⌜ r ≡ admitRead sh (now (links .entry)) read ⌝ }
+{
+    if read.refusal != 0 {
+        return read.refusal;
+    }
+    admit(links, sh, read.op)
+}
+
+// One step of a run: the operator at a place of the script is carried out and its inverse written just below the log's start, or it is
+// refused and nothing changes.
+pub fn run_step(
+    links: &mut [u16],
+    points: &mut [i32],
+    log: &mut [u8],
+    sh: Shape,
+    start: usize,
+    script: &[u8],
+    at: usize,
+) -> Step
+    requires { ⌜ Capped sh ⌝ }
+    ensures { λ r. ⌜ stepIs (r .refusal) (r .next) (state (now (links .exit)) (now (points .exit)) (now (log .exit)) (r .start)) ≡ stepOf sh (state (now (links .entry)) (now (points .entry)) (now (log .entry)) start) (now (script .entry)) at ⌝ }
+{
+    let read = read_within(script, at, limits_of(sh));
+    let op = read.op;
+    let next = read.next;
+    let refusal = admit_read(links, sh, read);
+    if refusal != 0 {
+        return Step {
+            refusal,
+            next: at,
+            start,
+        };
+    }
+    let inverse = inverse_of(links, points, sh, op);
+    let size = operator_size(inverse);
+    if start < size {
+        return Step {
+            refusal: 9,
+            next: at,
+            start,
+        };
+    }
+    perform(links, points, sh, op);
+    put_operator(inverse, log, start - size);
+    Step {
+        refusal: 0,
+        next,
+        start: start - size,
+    }
+}
