@@ -3,6 +3,5 @@ pub mod Operators
 pub mod Exec
 pub mod ByCode
 pub mod AdmitLaws
-pub mod Examples
 pub mod SurgeryLaws
 pub mod Scans

@@ -1,4 +1,3 @@
-pub mod Capped
 pub mod Args
 pub mod Chosen
 pub mod Admitted

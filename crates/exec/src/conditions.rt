@@ -2,7 +2,7 @@
 ghost use mathlib.Core.Path.{_≡_};
 ghost use Prim.Native.Nat.{ℕ, _≤_};
 ghost use Rattle.euler.specs.Exec.{condition};
-ghost use Rattle.exec.specs.Capped.{Capped};
+ghost use Rattle.layout.specs.Small.{Small};
 use edges::kemr_mekr::kemr_fits;
 use edges::kemr_mekr::mekr_fits;
 use edges::mef_kef::kef_fits;
@@ -20,7 +20,7 @@ use solids::rings::rmov_fits;
 
 // The condition that document 01 writes for the operator holds.
 pub fn condition_holds(links: &[u16], sh: Shape, op: Operator) -> bool
-    requires { ⌜ Capped sh ⌝ }
+    requires { ⌜ Small sh ⌝ }
     ensures { λ r. ⌜ r ≡ condition sh (now (links .entry)) op ⌝ }
 {
     let a0 = item_of(op, 0);

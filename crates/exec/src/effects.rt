@@ -4,7 +4,7 @@ ghost use Prim.Native.Nat.{ℕ, _≤_, _<_};
 ghost use Rattle.layout.specs.Layout.{nextOf};
 ghost use Rattle.euler.specs.Operators.{faceIn, kvsfLinks, jekvLinks};
 ghost use Rattle.euler.specs.Exec.{linksAfter, pointsAfter, onlyLoop, onlyVertex, killedVertex};
-ghost use Rattle.exec.specs.Capped.{Capped};
+ghost use Rattle.layout.specs.Small.{Small};
 ghost use Rattle.exec.specs.Chosen.{pointsWith};
 use edges::kemr_mekr::kemr_links;
 use edges::kemr_mekr::mekr_links;
@@ -34,7 +34,7 @@ use solids::rings::rmov_links;
 
 // The vertex that kvsf of solid s kills.
 pub fn only_vertex(links: &[u16], sh: Shape, s: usize) -> usize
-    requires { ⌜ Capped sh ⌝ }
+    requires { ⌜ Small sh ⌝ }
     ensures { λ r. ⌜ (r ≡ onlyVertex sh (now (links .entry)) s) × (r < 65536) ⌝ }
 {
     let f = face_in(links, sh, s);
@@ -44,7 +44,7 @@ pub fn only_vertex(links: &[u16], sh: Shape, s: usize) -> usize
 
 // The vertex that the operator kills; 0 for none.
 pub fn killed_vertex(links: &[u16], sh: Shape, op: Operator) -> usize
-    requires { ⌜ Capped sh ⌝ }
+    requires { ⌜ Small sh ⌝ }
     ensures { λ r. ⌜ (r ≡ killedVertex sh (now (links .entry)) op) × (r < 65536) ⌝ }
 {
     let a0 = item_of(op, 0);
@@ -59,7 +59,7 @@ pub fn killed_vertex(links: &[u16], sh: Shape, op: Operator) -> usize
 
 // kvsf: the solid's only face, that face's loop and the loop's vertex are found first.
 fn kill_solid(links: &mut [u16], sh: Shape, s: usize)
-    requires { ⌜ (Capped sh) × (s ≤ 8192) ⌝ }
+    requires { ⌜ (Small sh) × (s ≤ 8192) ⌝ }
     ensures { λ _. ⌜ now (links .exit) ≡ kvsfLinks sh (now (links .entry)) s (faceIn sh (now (links .entry)) s) (onlyLoop sh (now (links .entry)) s) (onlyVertex sh (now (links .entry)) s) ⌝ }
 {
     let f = face_in(links, sh, s);
@@ -79,7 +79,7 @@ fn join_edges(links: &mut [u16], sh: Shape, k: usize)
 
 // The links after the operator.
 pub fn apply_links(links: &mut [u16], sh: Shape, op: Operator)
-    requires { ⌜ Capped sh ⌝ }
+    requires { ⌜ Small sh ⌝ }
     ensures { λ _. ⌜ now (links .exit) ≡ linksAfter sh (now (links .entry)) op ⌝ }
 {
     let a0 = item_of(op, 0);
@@ -128,7 +128,7 @@ pub fn apply_points(points: &mut [i32], op: Operator, v: usize)
 
 // The operator's effect on links and points.
 pub fn perform(links: &mut [u16], points: &mut [i32], sh: Shape, op: Operator)
-    requires { ⌜ Capped sh ⌝ }
+    requires { ⌜ Small sh ⌝ }
     ensures { λ _. ⌜ (now (links .exit) ≡ linksAfter sh (now (links .entry)) op) × (now (points .exit) ≡ pointsAfter sh (now (links .entry)) (now (points .entry)) op) ⌝ }
 {
     // the killed vertex is found before links change

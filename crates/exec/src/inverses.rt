@@ -7,7 +7,7 @@ ghost use Rattle.euler.specs.Operators.{faceIn, kvsfInverse, jekvInverse, mefIn
 ghost use Rattle.euler.specs.Surgery.{halfBy};
 ghost use Rattle.layout.specs.Mate.{mate};
 ghost use Rattle.euler.specs.Exec.{inverse, onlyLoop, onlyVertex};
-ghost use Rattle.exec.specs.Capped.{Capped};
+ghost use Rattle.layout.specs.Small.{Small};
 use edges::kemr_mekr::kemr_inverse;
 use edges::kemr_mekr::mekr_inverse;
 use edges::mef_kef::kef_inverse;
@@ -34,7 +34,7 @@ use solids::rings::rmov_inverse;
 
 // mvsf of the solid that kvsf kills.
 fn solid_again(links: &[u16], points: &[i32], sh: Shape, s: usize) -> Operator
-    requires { ⌜ (Capped sh) × (s ≤ 8192) ⌝ }
+    requires { ⌜ (Small sh) × (s ≤ 8192) ⌝ }
     ensures { λ r. ⌜ r ≡ kvsfInverse (now (points .entry)) s (faceIn sh (now (links .entry)) s) (onlyLoop sh (now (links .entry)) s) (onlyVertex sh (now (links .entry)) s) ⌝ }
 {
     let f = face_in(links, sh, s);
@@ -64,7 +64,7 @@ fn edge_again(e: usize, w: usize) -> Operator
 
 // The operator that undoes `op`.
 pub fn inverse_of(links: &[u16], points: &[i32], sh: Shape, op: Operator) -> Operator
-    requires { ⌜ Capped sh ⌝ }
+    requires { ⌜ Small sh ⌝ }
     ensures { λ r. ⌜ r ≡ inverse sh (now (links .entry)) (now (points .entry)) op ⌝ }
 {
     let a0 = item_of(op, 0);

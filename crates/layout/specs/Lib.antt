@@ -4,3 +4,4 @@ pub mod Mate
 pub mod MateLaws
 pub mod Points
 pub mod PointsLaws
+pub mod Small

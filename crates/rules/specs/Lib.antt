@@ -5,4 +5,3 @@ pub mod RuleFacts
 pub mod RuleLaws
 pub mod RulesSay
 pub mod Says
-pub mod Small

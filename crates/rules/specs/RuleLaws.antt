@@ -22,7 +22,7 @@ use Rattle.rules.specs.declared.labels.LabelTest.the-variants.{SolidName
 use Rattle.items.specs.Rules.{rule1, solidNames, rule2, halfLinks, firstNames, halfInLoop, rule4, vertexEither, halfAtVertex, rule5, halfSides, faceLinked, rule6, brokenRule, rule3}
 use Rattle.items.specs.Scan.{itemTest}
 use Rattle.rules.specs.Labels.{labelTest}
-use Rattle.rules.specs.Small.{Small}
+use Rattle.layout.specs.Small.{Small}
 use Rattle.rules.specs.Says.{says-all}
 use Rattle.rules.specs.RulesSay.{Rule1, Rule2, says-rule1, says-rule2, says-halfLinks, says-firstNames}
 use Rattle.rules.specs.RuleFacts.{loop-facts, vertex-facts, sided}

@@ -4,7 +4,7 @@ ghost use mathlib.Core.Path.{_≡_};
 ghost use Prim.Native.Nat.{ℕ, _<_};
 ghost use Rattle.items.specs.Rules.{rule1, rule2, rule3, rule4, rule5, rule6, brokenRule};
 ghost use Rattle.rules.specs.RuleLaws.{Lower};
-ghost use Rattle.rules.specs.Small.{Small};
+ghost use Rattle.layout.specs.Small.{Small};
 use crate::labels::LabelTest;
 use crate::labels::all_labels;
 use items::scan::Test;

@@ -18,7 +18,7 @@ use Rattle.script.specs.RoundTrip.{read-next}
 use Rattle.layout.specs.declared.shape.Shape.{Shape}
 use Rattle.layout.specs.Layout.{shapeOf}
 use Rattle.euler.specs.Exec.{limits, admitOf, linksAfter, pointsAfter, inverse}
-use Rattle.exec.specs.Capped.{Capped}
+use Rattle.layout.specs.Small.{Small}
 use Rattle.table.specs.declared.check.CheckAnswer.{CheckAnswer}
 use Rattle.table.specs.Check.{checkOf}
 use Rattle.table.specs.CheckLaws.{checked-fits}
@@ -173,10 +173,8 @@ module _ (x : List ℕ) (p : List ℤ) (log : List ℕ) (start : ℕ) where
     undo-refused n z = rw (← e, ne-eqb (a .refusal) 0 z)
 
     module _ (z : a .refusal ≡ 0) (sh : Shape) (h : sh ≡ shapeOf x) where
-      pub entered-capped : Capped sh
-      entered-capped =
-          let f = fits-small x p (checked-fits x p (entered-checked (ap (λ c. c .refusal) (sym e) ∙ z))) in
-          rw h (record { solids = f .solids; faces = f .faces; loops = f .loops; edges = f .edges; vertices = f .vertices })
+      pub entered-small : Small sh
+      entered-small = rw h (fits-small x p (checked-fits x p (entered-checked (ap (λ c. c .refusal) (sym e) ∙ z))))
 
       pub run-entered : (s : List ℕ) (r : Ran) → r ≡ runFrom (length s) sh s 0 0 (state x p log start) → r ≡ runOf (state x p log start) s
       unfolding runOf

@@ -2,7 +2,7 @@
 ghost use mathlib.Core.Path.{_≡_};
 ghost use Prim.Native.Nat.{ℕ};
 ghost use lib.ListN.{length};
-ghost use Rattle.exec.specs.Capped.{Capped};
+ghost use Rattle.layout.specs.Small.{Small};
 ghost use Rattle.runs.specs.Run.{state, leaves, runFrom, runOf, entry};
 use crate::steps::run_step;
 use layout::shape::Shape;
@@ -43,7 +43,7 @@ fn run_all(
     start: usize,
     script: &[u8],
 ) -> RunAnswer
-    requires { ⌜ Capped sh ⌝ }
+    requires { ⌜ Small sh ⌝ }
     ensures { λ r. ⌜ leaves r (now (links .exit)) (now (points .exit)) (now (log .exit)) ≡ runFrom (length (now (script .entry))) sh (now (script .entry)) 0 0 (state (now (links .entry)) (now (points .entry)) (now (log .entry)) start) ⌝ }
 {
     let mut at: usize = 0;

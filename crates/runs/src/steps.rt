@@ -3,7 +3,7 @@
 ghost use mathlib.Core.Path.{_≡_};
 ghost use Prim.Native.Nat.{ℕ, _≤_, _<_};
 ghost use Rattle.euler.specs.Exec.{limits};
-ghost use Rattle.exec.specs.Capped.{Capped};
+ghost use Rattle.layout.specs.Small.{Small};
 ghost use Rattle.runs.specs.Run.{state, admitRead, stepIs, stepOf};
 use exec::admit::admit;
 use exec::effects::perform;
@@ -24,7 +24,7 @@ pub struct Step {
 
 // A table's capacities as limits.
 pub fn limits_of(sh: Shape) -> Limits
-    requires { ⌜ Capped sh ⌝ }
+    requires { ⌜ Small sh ⌝ }
     ensures { λ r. ⌜ r ≡ limits sh ⌝ }
 {
     Limits {
@@ -38,7 +38,7 @@ pub fn limits_of(sh: Shape) -> Limits
 
 // The refusal of an operator that was read, 3 to 8; 0 where it is accepted.
 pub fn admit_read(links: &[u16], sh: Shape, read: ReadAnswer) -> u8
-    requires { ⌜ Capped sh ⌝ }
+    requires { ⌜ Small sh ⌝ }
     ensures { λ r. ⌜ r ≡ admitRead sh (now (links .entry)) read ⌝ }
 {
     if read.refusal != 0 {
@@ -58,7 +58,7 @@ pub fn run_step(
     script: &[u8],
     at: usize,
 ) -> Step
-    requires { ⌜ Capped sh ⌝ }
+    requires { ⌜ Small sh ⌝ }
     ensures { λ r. ⌜ stepIs (r .refusal) (r .next) (state (now (links .exit)) (now (points .exit)) (now (log .exit)) (r .start)) ≡ stepOf sh (state (now (links .entry)) (now (points .entry)) (now (log .entry)) start) (now (script .entry)) at ⌝ }
 {
     let read = read_within(script, at, limits_of(sh));

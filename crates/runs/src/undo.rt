@@ -1,7 +1,7 @@
 // Undo: the first operators of the log's live part, run unlogged. No byte of the log changes.
 ghost use mathlib.Core.Path.{_≡_};
 ghost use Prim.Native.Nat.{ℕ};
-ghost use Rattle.exec.specs.Capped.{Capped};
+ghost use Rattle.layout.specs.Small.{Small};
 ghost use Rattle.runs.specs.Run.{state, restores, undoFrom, undoOf};
 use crate::run::enter;
 use crate::steps::admit_read;
@@ -29,7 +29,7 @@ fn undo_all(
     start: usize,
     n: usize,
 ) -> UndoAnswer
-    requires { ⌜ Capped sh ⌝ }
+    requires { ⌜ Small sh ⌝ }
     ensures { λ r. ⌜ restores r (now (links .exit)) (now (points .exit)) ≡ undoFrom n sh (now (log .entry)) start 0 (now (links .entry)) (now (points .entry)) ⌝ }
 {
     let limits = limits_of(sh);

@@ -12,7 +12,7 @@ use Rattle.layout.specs.declared.shape.Shape.{Shape}
 use Rattle.layout.specs.Layout.{shapeOf}
 use Rattle.items.specs.Rules.{brokenRule}
 use Rattle.table.specs.Sizes.{tableFits}
-use Rattle.rules.specs.Small.{Small}
+use Rattle.layout.specs.Small.{Small}
 use Rattle.table.specs.SizesLaws.{fits-small}
 use Rattle.table.specs.Check.{answer, checkOf}
 

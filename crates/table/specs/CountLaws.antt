@@ -15,7 +15,7 @@ use Rattle.table.specs.declared.tally.Item.the-variants.{Solid, Face, Lo
 use Rattle.table.specs.declared.check.CheckAnswer.{CheckAnswer}
 use Rattle.table.specs.declared.count.CountAnswer.{CountAnswer}
 use Rattle.layout.specs.Layout.{shapeOf}
-use Rattle.rules.specs.Small.{Small}
+use Rattle.layout.specs.Small.{Small}
 use Rattle.table.specs.SizesLaws.{fits-small}
 use Rattle.table.specs.Check.{checkOf}
 use Rattle.table.specs.CheckLaws.{checked-fits}

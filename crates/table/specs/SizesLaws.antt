@@ -8,7 +8,7 @@ use lib.IntN.{ℤ}
 use Rattle.laws.specs.Bools.{true-T, and-T}
 use Rattle.laws.specs.Every.{every-T}
 use Rattle.layout.specs.Layout.{shapeOf}
-use Rattle.rules.specs.Small.{Small}
+use Rattle.layout.specs.Small.{Small}
 use Rattle.table.specs.Sizes.{capacity, linksLength, sizeTests, sizesFit, tableFits}
 
 pub record Capacity (n : ℕ) : Type 0 where

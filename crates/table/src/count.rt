@@ -2,7 +2,7 @@
 ghost use mathlib.Core.Path.{_≡_};
 ghost use Prim.Native.Nat.{ℕ, _≤_};
 ghost use Rattle.table.specs.Count.{holesOf, tallyOf, countOf};
-ghost use Rattle.rules.specs.Small.{Small};
+ghost use Rattle.layout.specs.Small.{Small};
 use crate::check::check;
 use crate::tally::Item;
 use crate::tally::used_to;

@@ -44,7 +44,7 @@ pub record Accepted (sh : Shape) (x : List ℕ) (o : Operator) : Type 0 where
   pub used : useRefusals sh x o (pattern (o .code) .kinds) 0 ≡ 0
   pub holds : condition sh x o ≡ true
 
-accepted : (sh : Shape) (x : List ℕ) (o : Operator) → refusalOf sh x o ≡ 0 → Accepted sh x o
+pub accepted : (sh : Shape) (x : List ℕ) (o : Operator) → refusalOf sh x o ≡ 0 → Accepted sh x o
 unfolding refusalOf admitOf rangeRefusal
 accepted sh x o h =
     let r = first-zero (rangeRefusal sh o) _ h in

@@ -4,7 +4,6 @@ pub mod EdgeOut
 pub mod EdgeBack
 pub mod Dummies
 pub mod Corners
-pub mod Divide
 pub mod Extra
 pub mod Faces
 pub mod Solids
@@ -28,11 +27,9 @@ pub mod RingMove
 pub mod MevOperator
 pub mod MevBack
 pub mod MevUndone
-pub mod Theorems
 pub mod WithDummies
 pub mod Walking
 pub mod Shown
 pub mod MevSound
 pub mod MevCorners
-pub mod Instances
 pub mod EdgeInstances

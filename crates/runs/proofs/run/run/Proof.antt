@@ -1,4 +1,4 @@
-use Rattle.runs.specs.RunLaws.{run-refused, entered-capped, run-entered}
+use Rattle.runs.specs.RunLaws.{run-refused, entered-small, run-entered}
 use borrow.Author.Needs.{needs}
 use Rattle.runs.proofs.run.run.Statement.{statement}
 use Rattle.runs.proofs.run.run.Tie as tie
@@ -34,7 +34,7 @@ shape-of-requires c κs = search needs
 
 -- src/run.rt:97:5
 run-all-requires : tie.Need-run-all-requires
-run-all-requires c κs = entered-capped _ _ _ _ _ (c .before .before .before .before .before .before .before .enter .ensures) (c .before .before .before .before .before .if1 .left) _ (c .before .before .before .shape-of .ensures)
+run-all-requires c κs = entered-small _ _ _ _ _ (c .before .before .before .before .before .before .before .enter .ensures) (c .before .before .before .before .before .if1 .left) _ (c .before .before .before .shape-of .ensures)
 
 -- src/run.rt:77:1
 same-length-4 : tie.Need-same-length-4

@@ -1,4 +1,4 @@
-use Rattle.runs.specs.RunLaws.{undo-refused, entered-capped, undo-entered}
+use Rattle.runs.specs.RunLaws.{undo-refused, entered-small, undo-entered}
 use borrow.Author.Needs.{needs}
 use Rattle.runs.proofs.undo.undo.Statement.{statement}
 use Rattle.runs.proofs.undo.undo.Tie as tie
@@ -30,7 +30,7 @@ shape-of-requires c κs = search needs
 
 -- src/undo.rt:85:5
 undo-all-requires : tie.Need-undo-all-requires
-undo-all-requires c κs = entered-capped _ _ _ _ _ (c .before .before .before .before .before .before .enter .ensures) (c .before .before .before .before .if1 .left) _ (c .before .before .shape-of .ensures)
+undo-all-requires c κs = entered-small _ _ _ _ _ (c .before .before .before .before .before .before .enter .ensures) (c .before .before .before .before .if1 .left) _ (c .before .before .shape-of .ensures)
 
 -- src/undo.rt:72:1
 same-length-3 : tie.Need-same-length-3

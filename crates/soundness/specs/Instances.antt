@@ -18,13 +18,13 @@ use Rattle.table.specs.Valid.{Valid}
 use Rattle.euler.specs.Surgery.{corner}
 use Rattle.euler.specs.Operators.{kvsfTest, rmovTest}
 use Rattle.euler.specs.Exec.{Table, exec, refusalOf, admitOf, rangeRefusal, useRefusals, useRefusal, useWord, condition}
 use Rattle.validity.specs.Good.{own}
 use Rattle.validity.specs.ValidGood.{valid-good}
 use Rattle.validity.specs.WithDummies.{Corners, sound-corners}
 use Rattle.validity.specs.SolidOperators.{mvsfOf, kvsfOf}
 use Rattle.validity.specs.RingMove.{rmovOf}
 use Rattle.validity.specs.MevOperator.{mevOf}
-use Rattle.validity.specs.Theorems.{inverse-exact}
+use Rattle.soundness.specs.Theorems.{inverse-exact}
 
 abbrev table : List ℕ → List ℤ → Table
 table x p = record { links = x; points = p }
@@ -57,25 +57,25 @@ corners-e = sound-corners (valid-good (tableE .links) (tableE .points) (valid-al
 mvsf-there : exec (shapeOf (cleared .links)) (exec (shapeOf (cleared .links)) (mvsfOf 1 1 1 1 (pos 5) (pos 0) (pos 7)) cleared .inverse) (exec (shapeOf (cleared .links)) (mvsfOf 1 1 1 1 (pos 5) (pos 0) (pos 7)) cleared .table)
     ≡ record { refusal = 0; inverse = mvsfOf 1 1 1 1 (pos 5) (pos 0) (pos 7); table = cleared }
 unfolding refusalOf admitOf rangeRefusal pattern rows inRanges inRange wire zig useRefusals useRefusal useWord condition
-mvsf-there = inverse-exact cleared (mvsfOf 1 1 1 1 (pos 5) (pos 0) (pos 7)) (valid-all .0) refl refl refl
+mvsf-there = inverse-exact cleared (mvsfOf 1 1 1 1 (pos 5) (pos 0) (pos 7)) (valid-all .0) refl refl
 
 kvsf-there : exec (shapeOf (tableB .links)) (exec (shapeOf (tableB .links)) (kvsfOf 1) tableB .inverse) (exec (shapeOf (tableB .links)) (kvsfOf 1) tableB .table)
     ≡ record { refusal = 0; inverse = kvsfOf 1; table = tableB }
 unfolding refusalOf admitOf rangeRefusal pattern rows inRanges inRange wire zig useRefusals useRefusal useWord condition kvsfTest sumTo leastFrom
-kvsf-there = inverse-exact tableB (kvsfOf 1) (valid-all .1) refl refl refl
+kvsf-there = inverse-exact tableB (kvsfOf 1) (valid-all .1) refl refl
 
 rmov-there : exec (shapeOf (tableE .links)) (exec (shapeOf (tableE .links)) (rmovOf 2 1) tableE .inverse) (exec (shapeOf (tableE .links)) (rmovOf 2 1) tableE .table)
     ≡ record { refusal = 0; inverse = rmovOf 2 1; table = tableE }
 unfolding refusalOf admitOf rangeRefusal pattern rows inRanges inRange wire zig useRefusals useRefusal useWord condition rmovTest leastFrom mate
-rmov-there = inverse-exact tableE (rmovOf 2 1) (valid-all .2) refl refl refl
+rmov-there = inverse-exact tableE (rmovOf 2 1) (valid-all .2) refl refl
 
 -- mev 1 0 1 2 0 100 0 0 on b, at its isolated loop, undone; and mev 1 1 2 2 1 on e, at its half-edge 1
 mev-isolated : exec (shapeOf (tableB .links)) (exec (shapeOf (tableB .links)) (mevOf 1 0 1 2 0 (pos 100) (pos 0) (pos 0)) tableB .inverse) (exec (shapeOf (tableB .links)) (mevOf 1 0 1 2 0 (pos 100) (pos 0) (pos 0)) tableB .table)
     ≡ record { refusal = 0; inverse = mevOf 1 0 1 2 0 (pos 100) (pos 0) (pos 0); table = tableB }
 unfolding refusalOf admitOf rangeRefusal pattern rows inRanges inRange wire zig useRefusals useRefusal useWord condition corner
-mev-isolated = inverse-exact tableB (mevOf 1 0 1 2 0 (pos 100) (pos 0) (pos 0)) (valid-all .1) refl refl refl
+mev-isolated = inverse-exact tableB (mevOf 1 0 1 2 0 (pos 100) (pos 0) (pos 0)) (valid-all .1) refl refl
 
 mev-half : exec (shapeOf (tableE .links)) (exec (shapeOf (tableE .links)) (mevOf 1 1 2 2 1 (pos 0) (pos 3) (pos 0)) tableE .inverse) (exec (shapeOf (tableE .links)) (mevOf 1 1 2 2 1 (pos 0) (pos 3) (pos 0)) tableE .table)
     ≡ record { refusal = 0; inverse = mevOf 1 1 2 2 1 (pos 0) (pos 3) (pos 0); table = tableE }
 unfolding refusalOf admitOf rangeRefusal pattern rows inRanges inRange wire zig useRefusals useRefusal useWord condition corner
-mev-half = inverse-exact tableE (mevOf 1 1 2 2 1 (pos 0) (pos 3) (pos 0)) (valid-all .2) refl refl refl
+mev-half = inverse-exact tableE (mevOf 1 1 2 2 1 (pos 0) (pos 3) (pos 0)) (valid-all .2) refl refl

@@ -1,6 +1,6 @@
--- What the rules ask of a table's shape.
+-- What scans ask of a table's shape.
 use Prim.Native.Nat.{_≤_}
 use Rattle.layout.specs.declared.shape.Shape.{Shape}
 
 -- the capacities of a shape are small, so that no number of a scan wraps
 pub record Small (sh : Shape) : Type 0 where

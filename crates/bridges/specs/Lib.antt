@@ -1,0 +1,17 @@
+pub mod Passed
+pub mod Bridge
+pub mod UpSound
+pub mod DownSound
+pub mod Seats
+pub mod Runs
+pub mod UpRules
+pub mod DownDummies
+pub mod DownRules
+pub mod Same
+pub mod UpColumns
+pub mod UpShown
+pub mod DownColumns
+pub mod DownShown
+pub mod MekrOperator
+pub mod KemrOperator
+pub mod Holds

@@ -1,0 +1,167 @@
+-- mef on a list that shows the columns without the edge: it is accepted, makes the list with it, and is undone by kef.
+use mathlib.Core.Path.{_≡_, refl, sym, _∙_}
+use mathlib.Core.Logic.{_≢_, _⊎_, inl, inr, ⊎-elim}
+use mathlib.Core.Bool.{true, false}
+use mathlib.Core.List.{List, [], _∷_}
+use Prim.Native.Nat.{ℕ, _+_, _*_, _%_, _≤_}
+use native.Mathlib.Omega.{arith}
+use lib.Dec.{eqb}
+use lib.IntN.{ℤ, pos}
+use lib.ListN.{getD}
+use borrow.Author.Tests.{le-leb}
+use Rattle.laws.specs.Bools.{split, eqb-same}
+use Rattle.script.specs.declared.Limits.{Limits}
+use Rattle.script.specs.declared.Operator.{Operator}
+use Rattle.script.specs.Operands.{coordinate, pattern, rows, leasts, largests, inRange, wire}
+use Rattle.script.specs.Ranges.{between-range}
+use Rattle.layout.specs.declared.shape.Shape.{Shape}
+use Rattle.layout.specs.Mate.{mate, edgeOf}
+use Rattle.layout.specs.MateLaws.{mate-odd}
+use Rattle.euler.specs.Operators.{mefTest, mefEdge, mefLinks}
+use Rattle.euler.specs.Exec.{limits, useWord, useRefusal, condition, refusalOf, linksAfter, pointsAfter, inverse}
+use Rattle.validity.specs.Fields.{Solid, Face, Start, Columns}
+use Rattle.validity.specs.Cells.{Shows}
+use Rattle.validity.specs.Sound.{In, Sound}
+use Rattle.validity.specs.Accepted.{accepted-back, ranges-cons, uses-cons, item-cons, old-use, new-use, use-none, limitOf, in-range, unused-range, unused-use}
+use Rattle.validity.specs.Good.{own, Capacities}
+use Rattle.cuts.specs.Cut.{Spot, Cut}
+use Rattle.cuts.specs.CutShown.{cutList}
+use Rattle.cuts.specs.MendShown.{restOf}
+use Rattle.cuts.specs.Canon.{mefOf, kefOf, endOf, wayBack, Asks, asks}
+
+-- a number in range, where 0 is allowed
+in-range-or-none : (lim : Limits) (kind n : ℕ) → eqb kind coordinate ≡ false → getD leasts kind 0 ≡ 0 → n ≤ limitOf lim kind → inRange (largests lim) kind (wire kind (pos n)) ≡ true
+unfolding wire
+in-range-or-none lim kind n c z i = rw c (between-range (largests lim) kind n (omega (arith, z)) i)
+
+-- the second half of b's edge is a or b
+second : (a b : ℕ) → mate b ≡ a → (2 * edgeOf b ≡ a) ⊎ (2 * edgeOf b ≡ b)
+second a b e = split (b % 2) 1
+    (λ o. let g : b + 1 ≡ a = sym (mate-odd b o) ∙ e in inl (omega (arith, o, g)))
+    (λ o. inr (omega (arith, o)))
+
+-- mef with the operands read off the corners
+abbrev pub mefAt : Spot → Operator
+mefAt q = mefOf (q .l) (restOf q) (endOf q) (edgeOf (q .b)) (q .f) (q .m) (wayBack q)
+
+module _ {sh : Shape} {p : List ℤ} {c d : Columns} {q : Spot} (k : Cut sh c d q) (t : Sound sh p d) {x : List ℕ} (s : Shows sh x c) (caps : Capacities sh) where
+  -- ---- for operands that ask for this edge
+
+  module _ (h1 h2 w : ℕ) (o : Asks sh x q h1 h2 w) where
+    -- the operator
+    abbrev op : Operator
+    op = mefOf (q .l) h1 h2 (edgeOf (q .b)) (q .f) (q .m) w
+
+    -- the numbers are read as they stand
+    ln : q .l ≤ 8192
+    ln = omega (arith, k .l-in .1, caps .loops)
+
+    -- the new loop
+    mn : q .m ≤ 8192
+    mn = omega (arith, k .m-in .1, caps .loops)
+
+    -- the new face
+    fn : q .f ≤ 8192
+    fn = omega (arith, k .f-in .1, caps .faces)
+
+    -- the edge is in range
+    e-in : In (sh .edges) (edgeOf (q .b))
+    e-in = (omega (arith, k .b-in .0), omega (arith, k .b-in .1))
+
+    -- the edge
+    en : edgeOf (q .b) ≤ 8192
+    en = omega (arith, e-in .1, caps .edges)
+
+    -- a corner is a half-edge in range
+    below : (h : ℕ) → (h ≡ 0) ⊎ ((h ≤ 2 * sh .edges) × (own sh x Start h ≢ 0)) → h ≤ 2 * sh .edges
+    below h = ⊎-elim (λ z. omega (arith, z)) (λ z. z .0)
+
+    -- the first corner
+    h1n : h1 ≤ 8192
+    h1n = omega (arith, below h1 (o .h1-in), caps .edges)
+
+    -- the second
+    h2n : h2 ≤ 8192
+    h2n = omega (arith, below h2 (o .h2-in), caps .edges)
+
+    -- the way
+    wn : w ≤ 8192
+    wn = omega (arith, o .w-in)
+
+    -- the stores are those of `cutList`
+    links-is : mefLinks sh x (q .l) h1 h2 (q .a) (q .f) (q .m) w ≡ cutList k t s
+    unfolding mefLinks mefEdge
+    links-is = rw (k .ab, o .N-is, o .P-is, o .M-is, o .Q-is, o .u-is, o .v-is)
+
+    -- so are those of the operator
+    links-by : linksAfter sh x op ≡ cutList k t s
+    unfolding linksAfter
+    links-by = rw (le-leb (q .l) 8192 ln, le-leb h1 8192 h1n, le-leb h2 8192 h2n, le-leb (edgeOf (q .b)) 8192 en, le-leb (q .f) 8192 fn, le-leb (q .m) 8192 mn, le-leb w 8192 wn, o .half) links-is
+
+    -- kef undoes it
+    inverse-by : (v : List ℤ) → inverse sh x v op ≡ kefOf (q .b)
+    unfolding inverse
+    inverse-by v = rw (le-leb (edgeOf (q .b)) 8192 en, le-leb w 8192 wn, o .half, k .ab)
+
+    -- a corner names none or one in use
+    corner-use : (h : ℕ) → (h ≡ 0) ⊎ ((h ≤ 2 * sh .edges) × (own sh x Start h ≢ 0)) → useRefusal sh x 10 h ≡ 0
+    unfolding useRefusal useWord
+    corner-use h r = split h 0 (λ z. rw (eqb-same z)) (λ z. old-use sh x 10 h z refl (⊎-elim (λ y. absurd (z y)) (λ y. y .1) r))
+
+    -- the edge is free
+    edge-free : own sh x Start (2 * edgeOf (q .b)) ≡ 0
+    edge-free = ⊎-elim (λ z. rw z (s .at Start (q .a) (k .a-in .1) ∙ k .zero-a .s)) (λ z. rw z (s .at Start (q .b) (k .b-in .1) ∙ k .zero-b .s)) (second (q .a) (q .b) (k .ba))
+
+    -- the test passes
+    test-by : mefTest sh x (q .l) h1 h2 w ≡ true
+    unfolding mefTest
+    test-by = rw (o .corner1, o .corner2, o .ways)
+
+    -- it is accepted
+    accepted-by : refusalOf sh x op ≡ 0
+    unfolding pattern rows useWord condition
+    accepted-by = accepted-back sh x op (record {
+      code = refl;
+      count = refl;
+      range =
+          ranges-cons (limits sh) 6 _ (pos (q .l)) (pos h1 ∷ pos h2 ∷ pos (edgeOf (q .b)) ∷ pos (q .f) ∷ pos (q .m) ∷ pos w ∷ pos 0 ∷ []) (in-range (limits sh) 6 (q .l) refl refl (k .l-in))
+          (ranges-cons (limits sh) 10 _ (pos h1) (pos h2 ∷ pos (edgeOf (q .b)) ∷ pos (q .f) ∷ pos (q .m) ∷ pos w ∷ pos 0 ∷ []) (in-range-or-none (limits sh) 10 h1 refl refl (below h1 (o .h1-in)))
+          (ranges-cons (limits sh) 10 _ (pos h2) (pos (edgeOf (q .b)) ∷ pos (q .f) ∷ pos (q .m) ∷ pos w ∷ pos 0 ∷ []) (in-range-or-none (limits sh) 10 h2 refl refl (below h2 (o .h2-in)))
+          (ranges-cons (limits sh) 8 _ (pos (edgeOf (q .b))) (pos (q .f) ∷ pos (q .m) ∷ pos w ∷ pos 0 ∷ []) (in-range (limits sh) 8 (edgeOf (q .b)) refl refl e-in)
+          (ranges-cons (limits sh) 5 _ (pos (q .f)) (pos (q .m) ∷ pos w ∷ pos 0 ∷ []) (in-range (limits sh) 5 (q .f) refl refl (k .f-in))
+          (ranges-cons (limits sh) 7 _ (pos (q .m)) (pos w ∷ pos 0 ∷ []) (in-range (limits sh) 7 (q .m) refl refl (k .m-in))
+          (ranges-cons (limits sh) 13 _ (pos w) (pos 0 ∷ []) (in-range-or-none (limits sh) 13 w refl refl (o .w-in)) (unused-range (limits sh) 1)))))));
+      used =
+          item-cons sh x op 6 _ 0 ln (old-use sh x 6 (q .l) (λ z. omega (arith, k .l-in .0, z)) refl (λ z. k .l-used (sym (s .at Face (q .l) (k .l-in .1)) ∙ z)))
+          (item-cons sh x op 10 _ 1 h1n (corner-use h1 (o .h1-in))
+          (item-cons sh x op 10 _ 2 h2n (corner-use h2 (o .h2-in))
+          (item-cons sh x op 8 _ 3 en (new-use sh x 8 (edgeOf (q .b)) (λ z. omega (arith, e-in .0, z)) refl edge-free)
+          (item-cons sh x op 5 _ 4 fn (new-use sh x 5 (q .f) (λ z. omega (arith, k .f-in .0, z)) refl (s .at Solid (q .f) (k .f-in .1) ∙ k .solid-free))
+          (item-cons sh x op 7 _ 5 mn (new-use sh x 7 (q .m) (λ z. omega (arith, k .m-in .0, z)) refl (s .at Face (q .m) (k .m-in .1) ∙ k .face-free))
+          (uses-cons sh x op 13 _ 6 (use-none sh x 13 _ refl refl) (unused-use sh x op 1 7)))))));
+      holds = rw (le-leb (q .l) 8192 ln, le-leb h1 8192 h1n, le-leb h2 8192 h2n, le-leb w 8192 wn) test-by;
+    })
+
+  -- ---- for those read off the corners
+
+  module _ (r : Sound sh p c) where
+    -- they ask for the edge
+    abbrev oo : Asks sh x q (restOf q) (endOf q) (wayBack q)
+    oo = asks k s r
+
+    -- what it does
+    pub mef-links : linksAfter sh x (mefAt q) ≡ cutList k t s
+    mef-links = links-by (restOf q) (endOf q) (wayBack q) oo
+
+    -- the operator that undoes it
+    pub mef-inverse : (v : List ℤ) → inverse sh x v (mefAt q) ≡ kefOf (q .b)
+    mef-inverse = inverse-by (restOf q) (endOf q) (wayBack q) oo
+
+    -- it is accepted
+    pub mef-accepted : refusalOf sh x (mefAt q) ≡ 0
+    mef-accepted = accepted-by (restOf q) (endOf q) (wayBack q) oo
+
+-- points stay
+pub mef-points : (sh : Shape) (x : List ℕ) (v : List ℤ) (l h1 h2 e f m w : ℕ) → pointsAfter sh x v (mefOf l h1 h2 e f m w) ≡ v
+unfolding pointsAfter
+mef-points sh x v l h1 h2 e f m w = refl

@@ -1,0 +1,10 @@
+pub mod Row
+pub mod RowsDocument
+pub mod RowsSolids
+pub mod RowsSpurs
+pub mod RowsCuts
+pub mod RowsBridges
+pub mod RowsRingfaces
+pub mod RowsSplits
+pub mod RowsRings
+pub mod Examples

@@ -1,0 +1,46 @@
+-- An instance by computation, so that the promise is seen to speak of runs that do something: from an empty table, a script with
+-- examples b and c of document 01, then one with example d and an operator that is refused; six bytes of log, two more behind the start.
+use mathlib.Core.Path.{_≡_, refl}
+use mathlib.Core.List.{List, [], _∷_}
+use Prim.Native.Nat.{ℕ}
+use lib.IntN.{pos}
+use lib.ListN.{replicate}
+use Rattle.laws.specs.Search.{allTo, leastFrom}
+use Rattle.laws.specs.Sums.{sumTo}
+use Rattle.laws.specs.Walks.{meets}
+use Rattle.laws.specs.Columns.{sweep}
+use Rattle.laws.specs.Closure.{across, pass, rounds, linkedb}
+use Rattle.script.specs.Number.{third, second, first, readNumber, groups}
+use Rattle.script.specs.Operands.{pattern, rows, inRanges, inRange, zig, zag, wire, unwire}
+use Rattle.script.specs.Operator.{readOperand, readOperands, readBehind, readOperator, operandBytes, operandsBytes, operatorBytes, putBytes}
+use Rattle.layout.specs.Mate.{mate}
+use Rattle.items.specs.Rules.{solidRange, faceRange, loopRange, halfRange, vertexRange, rule1, solidNames, faceNames, loopNames, halfNames, rule2, loopEither, rule3, halfLinks, firstNames, halfInLoop, rule4, vertexEither, halfAtVertex, rule5, halfSides, faceLinked, rule6, brokenRule}
+use Rattle.table.specs.Sizes.{sizesFit}
+use Rattle.table.specs.Check.{checkOf}
+use Rattle.euler.specs.Surgery.{corner, edgeIn, edgeOut, relabel, leastOn, renew}
+use Rattle.euler.specs.Operators.{mvsfLinks, kvsfTest, kvsfLinks, mevLinks, kevTest, kevLinks, mefTest, mefEdge, mefLinks, kefTest, kefEdge, kefLinks}
+use Rattle.euler.specs.Exec.{admitOf, useRefusals, useRefusal, useWord, condition, linksAfter, pointsAfter, killedVertex, inverse}
+use Rattle.runs.specs.Run.{State, state, admitRead, inverseBytes, runRefusal, stepped, runFrom, entry, runOf, undid, undoFrom, undoOf}
+use Rattle.promises.specs.RunAll.{runAll}
+use Rattle.promises.specs.Promises.{undoAll}
+
+-- an empty table of capacities 1, 2, 2, 2, 2, and a log
+abbrev begin : State
+begin = state (1 ∷ 2 ∷ 2 ∷ 2 ∷ 2 ∷ replicate 29 0) (replicate 6 (pos 0)) (11 ∷ 12 ∷ 13 ∷ 14 ∷ 15 ∷ 16 ∷ 17 ∷ 18 ∷ []) 6
+
+-- it passes the check
+pub begin-sound : checkOf (begin .links) (begin .points) .refusal ≡ 0
+unfolding checkOf sizesFit brokenRule rule1 rule2 rule3 rule4 rule5 rule6 solidRange faceRange loopRange halfRange vertexRange solidNames faceNames loopNames halfNames loopEither halfLinks firstNames halfInLoop vertexEither halfAtVertex halfSides faceLinked allTo leastFrom sumTo meets linkedb rounds pass across mate
+begin-sound = refl
+
+-- b and c; then d, and an operator that is refused
+abbrev scripts : List (List ℕ)
+scripts =
+    (1 ∷ 1 ∷ 1 ∷ 1 ∷ 1 ∷ 0 ∷ 0 ∷ 0 ∷ 3 ∷ 1 ∷ 0 ∷ 1 ∷ 2 ∷ 0 ∷ 200 ∷ 1 ∷ 0 ∷ 0 ∷ [])
+    ∷ (5 ∷ 1 ∷ 1 ∷ 2 ∷ 2 ∷ 2 ∷ 2 ∷ 0 ∷ 2 ∷ 1 ∷ []) ∷ []
+
+-- three operators are done, their inverses stand in the log, newest first; undo by three gives back what there was
+pub begin-undone : (runAll begin scripts .done ≡ 3) × (runAll begin scripts .last .log ≡ 6 ∷ 4 ∷ 4 ∷ 1 ∷ 2 ∷ 1 ∷ 17 ∷ 18 ∷ [])
+    × (undoAll begin scripts ≡ undid 0 3 6 (begin .links) (begin .points))
+unfolding checkOf sizesFit brokenRule rule1 rule2 rule3 rule4 rule5 rule6 solidRange faceRange loopRange halfRange vertexRange solidNames faceNames loopNames halfNames loopEither halfLinks firstNames halfInLoop vertexEither halfAtVertex halfSides faceLinked allTo leastFrom sumTo meets linkedb rounds pass across mate third second first readNumber groups pattern rows inRanges inRange zig zag wire unwire readOperand readOperands readBehind readOperator operandBytes operandsBytes operatorBytes putBytes corner edgeIn edgeOut relabel leastOn renew mvsfLinks kvsfTest kvsfLinks mevLinks kevTest kevLinks mefTest mefEdge mefLinks kefTest kefEdge kefLinks admitOf useRefusals useRefusal useWord condition linksAfter pointsAfter killedVertex inverse sweep admitRead inverseBytes runRefusal stepped runFrom entry runOf undoFrom undoOf runAll
+begin-undone = (refl, refl, refl)

@@ -1,0 +1,12 @@
+pub mod RunAll
+pub mod Clauses
+pub mod Inverses
+pub mod Reading
+pub mod Logging
+pub mod Leads
+pub mod Holds
+pub mod Back
+pub mod Again
+pub mod UndoParts
+pub mod Promises
+pub mod Instances

@@ -1,0 +1,14 @@
+pub mod CycleMoves
+pub mod Split
+pub mod Unique
+pub mod SplitRules
+pub mod Carried
+pub mod SplitSound
+pub mod SplitFirst
+pub mod SemvColumns
+pub mod JekvColumns
+pub mod SplitLists
+pub mod HalfNumbers
+pub mod PointsKept
+pub mod SplitOperators
+pub mod SplitPair
