@@ -60,8 +60,7 @@ stepped-alike sh t l o h a room =
     let b : List ℕ = inverseBytes sh t o in
     let h′ : t .start ≤ length l = omega (arith, h, a .0) in
     let s = put-length (t .log) (t .start) b room h in
-    let s′ = put-length l (t .start) b room h′ in
-    (
+    let s′ = put-length l (t .start) b room h′ in (
       omega (arith, h, s),
       (s ∙ a .0 ∙ sym s′, put-live (t .log) (t .start) b room h ∙ ap (λ (q : List ℕ). b ++ q) (a .1) ∙ sym (put-live l (t .start) b room h′)),
     )

@@ -22,7 +22,8 @@ use Rattle.promises.specs.Reading.{neither, taken}
 use Rattle.promises.specs.Inverses.{inverse-eight}
 use Rattle.promises.specs.Logging.{put-length, put-live, put-rest}
 use Rattle.promises.specs.Leads.{Leads, none, first, leads-undo}
-use Rattle.promises.specs.Holds.{Holds, good-within, good-entry}
+use Rattle.soundness.specs.Theorems.{all-hold}
+use Rattle.promises.specs.Checked.{good-within, good-entry}
 
 -- undoing n operators from state t leads to t₀
 pub record Back (sh : Shape) (n : ℕ) (t₀ t : State) : Type 0 where
@@ -61,56 +62,55 @@ steps sh t s at h =
 abbrev After : Shape → ℕ → State → Ran → Type 0
 After sh c t₀ r = Back sh (c + r .answer .done) t₀ (leftBy r)
 
-module _ (holds : Holds) where
-  -- an accepted operator adds one
-  pub back-stepped : {sh : Shape} {n : ℕ} (t₀ t : State) (o : Operator) → Back sh n t₀ t → length (o .args) ≡ 8 → refusalOf sh (t .links) o ≡ 0
-      → length (inverseBytes sh t o) ≤ t .start → Back sh (suc n) t₀ (stepped sh t o)
-  unfolding stepped inverseBytes
-  back-stepped {sh} {n} t₀ t o b len acc room =
-      let h = holds sh (t .links) (t .points) o (b .good) len acc in
-      let i : Operator = inverse sh (t .links) (t .points) o in
-      let f : t .start ≤ length (t .log) = omega (arith, b .below, b .fits, b .same-length) in
-      record {
-        good = h .0;
-        below = omega (arith, b .below);
-        fits = b .fits;
-        same-length = put-length (t .log) (t .start) (operatorBytes i) room f ∙ b .same-length;
-        rest = put-rest (t .log) (t .start) (operatorBytes i) room f (t₀ .start) (b .below) ∙ b .rest;
-        leads = first {n = n} {p = pointsAfter sh (t .links) (t .points) o} i (drop (t .start) (t .log)) (put-live (t .log) (t .start) (operatorBytes i) room f) (inverse-eight sh (t .links) (t .points) o) (h .1 .accepted)
-            (rw (h .1 .links, h .1 .points) (b .leads));
-      }
+-- an accepted operator adds one
+pub back-stepped : {sh : Shape} {n : ℕ} (t₀ t : State) (o : Operator) → Back sh n t₀ t → length (o .args) ≡ 8 → refusalOf sh (t .links) o ≡ 0
+    → length (inverseBytes sh t o) ≤ t .start → Back sh (suc n) t₀ (stepped sh t o)
+unfolding stepped inverseBytes
+back-stepped {sh} {n} t₀ t o b len acc room =
+    let h = all-hold sh (t .links) (t .points) o (b .good) len acc in
+    let i : Operator = inverse sh (t .links) (t .points) o in
+    let f : t .start ≤ length (t .log) = omega (arith, b .below, b .fits, b .same-length) in
+    record {
+      good = h .0;
+      below = omega (arith, b .below);
+      fits = b .fits;
+      same-length = put-length (t .log) (t .start) (operatorBytes i) room f ∙ b .same-length;
+      rest = put-rest (t .log) (t .start) (operatorBytes i) room f (t₀ .start) (b .below) ∙ b .rest;
+      leads = first {n = n} {p = pointsAfter sh (t .links) (t .points) o} i (drop (t .start) (t .log)) (put-live (t .log) (t .start) (operatorBytes i) room f) (inverse-eight sh (t .links) (t .points) o) (h .1 .accepted)
+          (rw (h .1 .links, h .1 .points) (b .leads));
+    }
 
-  -- a step of a run that is not refused adds one
-  pub back-step : {sh : Shape} {n : ℕ} (t₀ t : State) (s : List ℕ) (at : ℕ) → Back sh n t₀ t → runRefusal sh t s at ≡ 0 → Back sh (suc n) t₀ (stepped sh t (readAt sh s at .op))
-  back-step {sh} t₀ t s at b h =
-      let r = steps sh t s at h in
-      let a = taken sh (t .links) s at (r .0) in
-      back-stepped t₀ t (readAt sh s at .op) b (a .eight) (a .admitted) (r .1)
+-- a step of a run that is not refused adds one
+pub back-step : {sh : Shape} {n : ℕ} (t₀ t : State) (s : List ℕ) (at : ℕ) → Back sh n t₀ t → runRefusal sh t s at ≡ 0 → Back sh (suc n) t₀ (stepped sh t (readAt sh s at .op))
+back-step {sh} t₀ t s at b h =
+    let r = steps sh t s at h in
+    let a = taken sh (t .links) s at (r .0) in
+    back-stepped t₀ t (readAt sh s at .op) b (a .eight) (a .admitted) (r .1)
 
-  -- a run, from any place of its script on, adds as many as it does
-  back-from : {sh : Shape} (c : ℕ) (t₀ : State) (s : List ℕ) (n at done : ℕ) (t : State) → Back sh (c + done) t₀ t → After sh c t₀ (runFrom n sh s at done t)
-  back-from {sh} c t₀ s zero at done t b = subst (After sh c t₀) (sym (run-none sh s at done t)) b
-  back-from {sh} c t₀ s (suc n) at done t b =
-      let e : suc (c + done) ≡ c + (done + 1) = omega arith in
-      subst (After sh c t₀) (sym (run-some n sh s at done t))
-      (pick-by (After sh c t₀) (ltb at (length s)) _ _
-      (λ l. pick-by (After sh c t₀) (eqb (runRefusal sh t s at) 0) _ _
-      (λ z. back-from c t₀ s n (readAt sh s at .next) (done + 1) (stepped sh t (readAt sh s at .op))
-      (subst (λ m. Back sh m t₀ (stepped sh t (readAt sh s at .op))) e (back-step t₀ t s at b (eqb-true _ 0 z))))
-      (λ z. b))
-      (λ l. b))
+-- a run, from any place of its script on, adds as many as it does
+back-from : {sh : Shape} (c : ℕ) (t₀ : State) (s : List ℕ) (n at done : ℕ) (t : State) → Back sh (c + done) t₀ t → After sh c t₀ (runFrom n sh s at done t)
+back-from {sh} c t₀ s zero at done t b = subst (After sh c t₀) (sym (run-none sh s at done t)) b
+back-from {sh} c t₀ s (suc n) at done t b =
+    let e : suc (c + done) ≡ c + (done + 1) = omega arith in
+    subst (After sh c t₀) (sym (run-some n sh s at done t))
+    (pick-by (After sh c t₀) (ltb at (length s)) _ _
+    (λ l. pick-by (After sh c t₀) (eqb (runRefusal sh t s at) 0) _ _
+    (λ z. back-from c t₀ s n (readAt sh s at .next) (done + 1) (stepped sh t (readAt sh s at .op))
+    (subst (λ m. Back sh m t₀ (stepped sh t (readAt sh s at .op))) e (back-step t₀ t s at b (eqb-true _ 0 z))))
+    (λ z. b))
+    (λ l. b))
 
-  -- a whole run does
-  pub back-run : {sh : Shape} {n : ℕ} (t₀ t : State) (s : List ℕ) → Back sh n t₀ t → Back sh (n + runOf t s .answer .done) t₀ (leftBy (runOf t s))
-  unfolding runOf
-  back-run {sh} {n} t₀ t s b =
-      let f : t .start ≤ length (t .log) = omega (arith, b .below, b .fits, b .same-length) in
-      rw (good-entry t (b .good) f, ← b .good .shape) (back-from n t₀ s (length s) 0 0 t (rw (add-zero n) b))
+-- a whole run does
+pub back-run : {sh : Shape} {n : ℕ} (t₀ t : State) (s : List ℕ) → Back sh n t₀ t → Back sh (n + runOf t s .answer .done) t₀ (leftBy (runOf t s))
+unfolding runOf
+back-run {sh} {n} t₀ t s b =
+    let f : t .start ≤ length (t .log) = omega (arith, b .below, b .fits, b .same-length) in
+    rw (good-entry t (b .good) f, ← b .good .shape) (back-from n t₀ s (length s) 0 0 t (rw (add-zero n) b))
 
-  -- and so does a list of runs
-  pub back-all : {sh : Shape} {n : ℕ} (t₀ t : State) (ss : List (List ℕ)) → Back sh n t₀ t → Back sh (n + runAll t ss .done) t₀ (runAll t ss .last)
-  unfolding runAll
-  back-all {n} t₀ t [] b = rw (add-zero n) b
-  back-all {sh} {n} t₀ t (s ∷ ss) b =
-      let i = back-all t₀ (leftBy (runOf t s)) ss (back-run t₀ t s b) in
-      rw (← add-assoc n (runOf t s .answer .done) (runAll (leftBy (runOf t s)) ss .done)) i
+-- and so does a list of runs
+pub back-all : {sh : Shape} {n : ℕ} (t₀ t : State) (ss : List (List ℕ)) → Back sh n t₀ t → Back sh (n + runAll t ss .done) t₀ (runAll t ss .last)
+unfolding runAll
+back-all {n} t₀ t [] b = rw (add-zero n) b
+back-all {sh} {n} t₀ t (s ∷ ss) b =
+    let i = back-all t₀ (leftBy (runOf t s)) ss (back-run t₀ t s b) in
+    rw (← add-assoc n (runOf t s .answer .done) (runAll (leftBy (runOf t s)) ss .done)) i

@@ -4,7 +4,7 @@ pub mod Inverses
 pub mod Reading
 pub mod Logging
 pub mod Leads
-pub mod Holds
+pub mod Checked
 pub mod Back
 pub mod Again
 pub mod UndoParts

@@ -13,7 +13,7 @@ use Rattle.table.specs.Check.{checkOf}
 use Rattle.runs.specs.Run.{State, Undid, undid, undoFrom, notRun, notUndone, entry, runOf, undoOf}
 use Rattle.promises.specs.RunAll.{runAll, undoneBy}
 use Rattle.promises.specs.Clauses.{run-out, undo-in, undo-out, entry-beyond}
-use Rattle.promises.specs.Holds.{Holds, checked-good, good-checked, good-entry}
+use Rattle.promises.specs.Checked.{checked-good, good-checked, good-entry}
 use Rattle.promises.specs.Again.{withLog, Alike, Same, same-run}
 use Rattle.promises.specs.UndoParts.{counted, onward, undo-counted, undo-add, undo-fewer, undo-full, undo-entered, undo-kept}
 use Rattle.promises.specs.Back.{Back, back-none, back-undo, back-all}
@@ -50,11 +50,11 @@ all-beyond t (s ∷ ss) h = rw (run-beyond t s h, all-beyond t ss h)
 undo-beyond : (t : State) (n : ℕ) → length (t .log) < t .start → undoOf t n ≡ notUndone 1 0 t
 undo-beyond t n h = undo-out t n (not-0 t h) ∙ rw (entry-beyond t h)
 
-module _ (holds : Holds) (t : State) (ss : List (List ℕ)) (sound : checkOf (t .links) (t .points) .refusal ≡ 0) where
+module _ (t : State) (ss : List (List ℕ)) (sound : checkOf (t .links) (t .points) .refusal ≡ 0) where
   -- what the runs leave leads back to the first state, if its start is not beyond the log
   all-back : t .start ≤ length (t .log) → Back (shapeOf (t .links)) (runAll t ss .done) t (runAll t ss .last)
   all-back h =
-      rw (zero-add (runAll t ss .done)) at (back-all holds t t ss (back-none t (checked-good (t .links) (t .points) sound) h))
+      rw (zero-add (runAll t ss .done)) at (back-all t t ss (back-none t (checked-good (t .links) (t .points) sound) h))
 
   -- the whole of undo's answer then
   all-undone : t .start ≤ length (t .log) → undoAll t ss ≡ undid 0 (runAll t ss .done) (t .start) (t .links) (t .points)
@@ -111,35 +111,34 @@ undo-early t m n l h =
     let z = subst (λ (u : Undid). u .answer .refusal ≡ 0) (undo-in t n e ∙ ap (λ j. undoFrom j sh (t .log) (t .start) 0 (t .links) (t .points)) s) h in
     subst (λ (u : Undid). u .answer .refusal ≡ 0) (sym (undo-in t m e)) (undo-fewer sh (t .log) (n - m) m (t .start) 0 (t .links) (t .points) z)
 
-module _ (holds : Holds) where
-  -- a sound table stays sound when it is undone, whatever the log holds
-  pub undo-sound : (t : State) (n : ℕ) → checkOf (t .links) (t .points) .refusal ≡ 0 → checkOf (undoOf t n .links) (undoOf t n .points) .refusal ≡ 0
-  undo-sound t n s = split (entry t .refusal) 0 (λ h. rw (good-checked (undo-kept holds t n h .0))) (λ d. rw (undo-out t n d) s)
+-- a sound table stays sound when it is undone, whatever the log holds
+pub undo-sound : (t : State) (n : ℕ) → checkOf (t .links) (t .points) .refusal ≡ 0 → checkOf (undoOf t n .links) (undoOf t n .points) .refusal ≡ 0
+undo-sound t n s = split (entry t .refusal) 0 (λ h. rw (good-checked (undo-kept t n h .0))) (λ d. rw (undo-out t n d) s)
 
-  -- UNDO IN TWO PARTS: the first m of n, if that is not refused, and then the others, is undo of n
-  pub undo-parts : (t : State) (m n : ℕ) → m ≤ n → undoOf t m .answer .refusal ≡ 0 → undoOf t n ≡ counted m (undoOf (undoneBy t m) (n - m))
-  undo-parts t m n l h =
-      let sh = shapeOf (t .links) in
-      let e = undo-entered t m h in
-      let g = undo-kept holds t m e in
-      let i = undo-in t m e in
-      let w = good-entry (undoneBy t m) (g .0) (g .1) in
-      let z = subst (λ (u : Undid). u .answer .refusal ≡ 0) i h in
-      let s : n ≡ m + (n - m) = omega arith in
-      let c : undoOf t m .answer .undone ≡ m + 0 = ap (λ (u : Undid). u .answer .undone) i ∙ undo-full sh (t .log) m (t .start) 0 (t .links) (t .points) z ∙ omega arith in
-      let two : undoOf (undoneBy t m) (n - m) ≡ undoFrom (n - m) sh (t .log) (undoOf t m .answer .start) 0 (undoOf t m .links) (undoOf t m .points) =
-      undo-in (undoneBy t m) (n - m) (rw w) ∙ rw (← g .0 .shape) in
-      undo-in t n e ∙ ap (λ j. undoFrom j sh (t .log) (t .start) 0 (t .links) (t .points)) s
-      ∙ undo-add sh (t .log) (n - m) m (t .start) 0 (t .links) (t .points) z
-      ∙ ap (onward sh (t .log) (n - m)) (sym i)
-      ∙ ap (λ j. undoFrom (n - m) sh (t .log) (undoOf t m .answer .start) j (undoOf t m .links) (undoOf t m .points)) c
-      ∙ undo-counted sh (t .log) m (n - m) (undoOf t m .answer .start) 0 (undoOf t m .links) (undoOf t m .points)
-      ∙ sym (ap (counted m) two)
+-- UNDO IN TWO PARTS: the first m of n, if that is not refused, and then the others, is undo of n
+pub undo-parts : (t : State) (m n : ℕ) → m ≤ n → undoOf t m .answer .refusal ≡ 0 → undoOf t n ≡ counted m (undoOf (undoneBy t m) (n - m))
+undo-parts t m n l h =
+    let sh = shapeOf (t .links) in
+    let e = undo-entered t m h in
+    let g = undo-kept t m e in
+    let i = undo-in t m e in
+    let w = good-entry (undoneBy t m) (g .0) (g .1) in
+    let z = subst (λ (u : Undid). u .answer .refusal ≡ 0) i h in
+    let s : n ≡ m + (n - m) = omega arith in
+    let c : undoOf t m .answer .undone ≡ m + 0 = ap (λ (u : Undid). u .answer .undone) i ∙ undo-full sh (t .log) m (t .start) 0 (t .links) (t .points) z ∙ omega arith in
+    let two : undoOf (undoneBy t m) (n - m) ≡ undoFrom (n - m) sh (t .log) (undoOf t m .answer .start) 0 (undoOf t m .links) (undoOf t m .points) =
+    undo-in (undoneBy t m) (n - m) (rw w) ∙ rw (← g .0 .shape) in
+    undo-in t n e ∙ ap (λ j. undoFrom j sh (t .log) (t .start) 0 (t .links) (t .points)) s
+    ∙ undo-add sh (t .log) (n - m) m (t .start) 0 (t .links) (t .points) z
+    ∙ ap (onward sh (t .log) (n - m)) (sym i)
+    ∙ ap (λ j. undoFrom (n - m) sh (t .log) (undoOf t m .answer .start) j (undoOf t m .links) (undoOf t m .points)) c
+    ∙ undo-counted sh (t .log) m (n - m) (undoOf t m .answer .start) 0 (undoOf t m .links) (undoOf t m .points)
+    ∙ sym (ap (counted m) two)
 
-  -- so what was run can be undone in any two parts: the second ends where undo of all does
-  pub undone-apart : (t : State) (ss : List (List ℕ)) → checkOf (t .links) (t .points) .refusal ≡ 0 → t .start ≤ length (t .log) → (m : ℕ) → m ≤ runAll t ss .done
-      → counted m (undoOf (undoneBy (runAll t ss .last) m) (runAll t ss .done - m)) ≡ undid 0 (runAll t ss .done) (t .start) (t .links) (t .points)
-  undone-apart t ss sound h m l =
-      let e = all-undone holds t ss sound h in
-      let z = undo-early (runAll t ss .last) m (runAll t ss .done) l (ap (λ (u : Undid). u .answer .refusal) e) in
-      sym (undo-parts (runAll t ss .last) m (runAll t ss .done) l z) ∙ e
+-- so what was run can be undone in any two parts: the second ends where undo of all does
+pub undone-apart : (t : State) (ss : List (List ℕ)) → checkOf (t .links) (t .points) .refusal ≡ 0 → t .start ≤ length (t .log) → (m : ℕ) → m ≤ runAll t ss .done
+    → counted m (undoOf (undoneBy (runAll t ss .last) m) (runAll t ss .done - m)) ≡ undid 0 (runAll t ss .done) (t .start) (t .links) (t .points)
+undone-apart t ss sound h m l =
+    let e = all-undone t ss sound h in
+    let z = undo-early (runAll t ss .last) m (runAll t ss .done) l (ap (λ (u : Undid). u .answer .refusal) e) in
+    sym (undo-parts (runAll t ss .last) m (runAll t ss .done) l z) ∙ e

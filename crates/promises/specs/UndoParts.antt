@@ -19,7 +19,8 @@ use Rattle.validity.specs.Good.{Good}
 use Rattle.runs.specs.Run.{State, Undid, readAt, refusalAt, undid, undoFrom, entry, undoOf}
 use Rattle.promises.specs.Clauses.{pick-by, undo-none, undo-some, undo-in, undo-out, entry-passed}
 use Rattle.promises.specs.Reading.{taken}
-use Rattle.promises.specs.Holds.{Holds, checked-good}
+use Rattle.soundness.specs.Theorems.{all-hold}
+use Rattle.promises.specs.Checked.{checked-good}
 
 -- what undo leaves, k operators having been undone before
 abbrev pub counted : ℕ → Undid → Undid
@@ -109,21 +110,20 @@ undo-entered t n h = split (entry t .refusal) 0 (λ e. e) (λ d. absurd (d (rw (
 abbrev pub Sound : Shape → List ℕ → Undid → Type 0
 Sound sh log u = Good sh (u .links) (u .points) × (u .answer .start ≤ length log)
 
-module _ (holds : Holds) where
-  -- undo of a good table leaves a good one, whatever the log holds
-  undo-good : (sh : Shape) (log : List ℕ) (n at k : ℕ) (x : List ℕ) (p : List ℤ) → Good sh x p → at ≤ length log → Sound sh log (undoFrom n sh log at k x p)
-  undo-good sh log zero at k x p g l = rw (undo-none sh log at k x p) (g, l)
-  undo-good sh log (suc n) at k x p g l =
-      subst (Sound sh log) (sym (undo-some n sh log at k x p))
-      (pick-by (Sound sh log) (ltb at (length log)) _ _
-      (λ b. pick-by (Sound sh log) (eqb (refusalAt sh x log at) 0) _ _
-      (λ z. let a = taken sh x log at (eqb-true _ 0 z) in
-      undo-good sh log n (readAt sh log at .next) (k + 1) _ _ (holds sh x p (readAt sh log at .op) g (a .eight) (a .admitted) .0) (read-next (limits sh) log at (a .read) .1))
-      (λ z. (g, l)))
-      (λ b. (g, l)))
+-- undo of a good table leaves a good one, whatever the log holds
+undo-good : (sh : Shape) (log : List ℕ) (n at k : ℕ) (x : List ℕ) (p : List ℤ) → Good sh x p → at ≤ length log → Sound sh log (undoFrom n sh log at k x p)
+undo-good sh log zero at k x p g l = rw (undo-none sh log at k x p) (g, l)
+undo-good sh log (suc n) at k x p g l =
+    subst (Sound sh log) (sym (undo-some n sh log at k x p))
+    (pick-by (Sound sh log) (ltb at (length log)) _ _
+    (λ b. pick-by (Sound sh log) (eqb (refusalAt sh x log at) 0) _ _
+    (λ z. let a = taken sh x log at (eqb-true _ 0 z) in
+    undo-good sh log n (readAt sh log at .next) (k + 1) _ _ (all-hold sh x p (readAt sh log at .op) g (a .eight) (a .admitted) .0) (read-next (limits sh) log at (a .read) .1))
+    (λ z. (g, l)))
+    (λ b. (g, l)))
 
-  -- the same said of the whole undo
-  pub undo-kept : (t : State) (n : ℕ) → entry t .refusal ≡ 0 → Sound (shapeOf (t .links)) (t .log) (undoOf t n)
-  undo-kept t n h =
-      let e = entry-passed t h in
-      rw (undo-in t n h) (undo-good (shapeOf (t .links)) (t .log) n (t .start) 0 (t .links) (t .points) (checked-good (t .links) (t .points) (e .1)) (e .0))
+-- the same said of the whole undo
+pub undo-kept : (t : State) (n : ℕ) → entry t .refusal ≡ 0 → Sound (shapeOf (t .links)) (t .log) (undoOf t n)
+undo-kept t n h =
+    let e = entry-passed t h in
+    rw (undo-in t n h) (undo-good (shapeOf (t .links)) (t .log) n (t .start) 0 (t .links) (t .points) (checked-good (t .links) (t .points) (e .1)) (e .0))

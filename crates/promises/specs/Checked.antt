@@ -1,4 +1,4 @@
--- What the theorems of this crate rest on, the two theorems about one operator, and what they say of a table that passes the check.
+-- A table that passes the check is good, and a good one passes it.
 use mathlib.Core.Path.{_≡_, subst}
 use mathlib.Core.List.{List}
 use Prim.Native.Nat.{ℕ, _≤_}
@@ -20,10 +20,6 @@ use Rattle.validity.specs.Good.{Good}
 use Rattle.validity.specs.Undone.{Kept, Undone}
 use Rattle.validity.specs.ValidGood.{valid-good, good-valid}
 use Rattle.runs.specs.Run.{State, entry}
-
--- an accepted operator leaves a good table good, and its inverse undoes it
-abbrev pub Holds : Type 0
-Holds = (sh : Shape) (x : List ℕ) (p : List ℤ) (o : Operator) → Good sh x p → length (o .args) ≡ 8 → refusalOf sh x o ≡ 0 → Kept sh x p o × Undone sh x p o
 
 -- the capacities of a good table are those a table can have
 pub good-within : {sh : Shape} {x : List ℕ} {p : List ℤ} → Good sh x p → Within (limits sh)
