@@ -1,8 +1,6 @@
 use mathlib.Core.Path.{refl}
 use mathlib.Core.Logic.{⊎-elim, inl, inr}
-use Rattle.euler.specs.Operators.{kvsfTest, mevTest, kevTest, mefTest, kefTest, kemrTest, mekrTest, kfmrhTest, mfkrhTest, jekvTest, rmovTest}
 use Rattle.exec.specs.Chosen.{condition-at, condition-none}
-use Rattle.exec.specs.Args.{of-1, of-2, of-3, of-4}
 use borrow.Author.Needs.{needs}
 use Rattle.exec.proofs.conditions.condition_holds.Statement.{statement}
 use Rattle.exec.proofs.conditions.condition_holds.Tie as tie
@@ -91,47 +89,47 @@ returns c = ⊎-elim (λ e. condition-at _ _ _ 1 _ _ e refl refl) (λ e. conditi
 
 -- src/conditions.rt:18:1
 returns-2 : tie.Need-returns-2
-returns-2 c = condition-at _ _ _ 2 _ _ (c .before .match .keys2) refl (of-1 (kvsfTest _ _) (c .before .before .before .before .before .before .item-of .ensures .0) (c .kvsf-fits .ensures))
+returns-2 c = condition-at _ _ _ 2 _ _ (c .before .match .keys2) refl cc
 
 -- src/conditions.rt:18:1
 returns-3 : tie.Need-returns-3
-returns-3 c = condition-at _ _ _ 3 _ _ (c .before .match .keys3) refl (of-2 (mevTest _ _) (c .before .before .before .before .before .before .item-of .ensures .0) (c .before .before .before .before .before .item-of2 .ensures .0) (c .mev-fits .ensures))
+returns-3 c = condition-at _ _ _ 3 _ _ (c .before .match .keys3) refl cc
 
 -- src/conditions.rt:18:1
 returns-4 : tie.Need-returns-4
-returns-4 c = condition-at _ _ _ 4 _ _ (c .before .match .keys4) refl (of-1 (kevTest _ _) (c .before .before .before .before .before .before .item-of .ensures .0) (c .kev-fits .ensures))
+returns-4 c = condition-at _ _ _ 4 _ _ (c .before .match .keys4) refl cc
 
 -- src/conditions.rt:18:1
 returns-5 : tie.Need-returns-5
-returns-5 c = condition-at _ _ _ 5 _ _ (c .before .match .keys5) refl (of-4 (mefTest _ _) (c .before .before .before .before .before .before .item-of .ensures .0) (c .before .before .before .before .before .item-of2 .ensures .0) (c .before .before .before .before .item-of3 .ensures .0) (c .before .before .item-of5 .ensures .0) (c .mef-fits .ensures))
+returns-5 c = condition-at _ _ _ 5 _ _ (c .before .match .keys5) refl cc
 
 -- src/conditions.rt:18:1
 returns-6 : tie.Need-returns-6
-returns-6 c = condition-at _ _ _ 6 _ _ (c .before .match .keys6) refl (of-1 (kefTest _ _) (c .before .before .before .before .before .before .item-of .ensures .0) (c .kef-fits .ensures))
+returns-6 c = condition-at _ _ _ 6 _ _ (c .before .match .keys6) refl cc
 
 -- src/conditions.rt:18:1
 returns-7 : tie.Need-returns-7
-returns-7 c = condition-at _ _ _ 7 _ _ (c .before .match .keys7) refl (of-1 (kemrTest _ _) (c .before .before .before .before .before .before .item-of .ensures .0) (c .kemr-fits .ensures))
+returns-7 c = condition-at _ _ _ 7 _ _ (c .before .match .keys7) refl cc
 
 -- src/conditions.rt:18:1
 returns-8 : tie.Need-returns-8
-returns-8 c = condition-at _ _ _ 8 _ _ (c .before .match .keys8) refl (of-4 (mekrTest _ _) (c .before .before .before .before .before .before .item-of .ensures .0) (c .before .before .before .before .before .item-of2 .ensures .0) (c .before .before .before .before .item-of3 .ensures .0) (c .before .before .before .item-of4 .ensures .0) (c .mekr-fits .ensures))
+returns-8 c = condition-at _ _ _ 8 _ _ (c .before .match .keys8) refl cc
 
 -- src/conditions.rt:18:1
 returns-9 : tie.Need-returns-9
-returns-9 c = condition-at _ _ _ 9 _ _ (c .before .match .keys9) refl (of-2 (kfmrhTest _ _) (c .before .before .before .before .before .before .item-of .ensures .0) (c .before .before .before .before .before .item-of2 .ensures .0) (c .kfmrh-fits .ensures))
+returns-9 c = condition-at _ _ _ 9 _ _ (c .before .match .keys9) refl cc
 
 -- src/conditions.rt:18:1
 returns-10 : tie.Need-returns-10
-returns-10 c = condition-at _ _ _ 10 _ _ (c .before .match .keys10) refl (of-3 (mfkrhTest _ _) (c .before .before .before .before .before .before .item-of .ensures .0) (c .before .before .before .before .before .item-of2 .ensures .0) (c .before .before .before .before .item-of3 .ensures .0) (c .mfkrh-fits .ensures))
+returns-10 c = condition-at _ _ _ 10 _ _ (c .before .match .keys10) refl cc
 
 -- src/conditions.rt:18:1
 returns-11 : tie.Need-returns-11
-returns-11 c = condition-at _ _ _ 12 _ _ (c .before .match .keys11) refl (of-1 (jekvTest _ _) (c .before .before .before .before .before .before .item-of .ensures .0) (c .jekv-fits .ensures))
+returns-11 c = condition-at _ _ _ 12 _ _ (c .before .match .keys11) refl cc
 
 -- src/conditions.rt:18:1
 returns-12 : tie.Need-returns-12
-returns-12 c = condition-at _ _ _ 13 _ _ (c .before .match .keys12) refl (of-2 (rmovTest _ _) (c .before .before .before .before .before .before .item-of .ensures .0) (c .before .before .before .before .before .item-of2 .ensures .0) (c .rmov-fits .ensures))
+returns-12 c = condition-at _ _ _ 13 _ _ (c .before .match .keys12) refl cc
 
 -- src/conditions.rt:18:1
 returns-13 : tie.Need-returns-13
