@@ -1,0 +1,17 @@
+use borrow.Author.Needs.{needs}
+use native.Mathlib.Omega.{arith}
+use Rattle.report.specs.TextLaws.{put-field}
+use Rattle.report.proofs.put_field.Statement.{statement}
+use Rattle.report.proofs.put_field.Tie as tie
+
+put-bytes-requires : tie.Need-put-bytes-requires
+put-bytes-requires c κs = search needs
+
+put-number-requires : tie.Need-put-number-requires
+put-number-requires c κs = search needs
+
+returns : tie.Need-returns
+returns c = (put-field _ _ _ _ _ _ _ _ (c .before .before .put-bytes .ensures) (c .put-number .ensures .0), omega arith)
+
+pub put-field-spec : {M : Type 1} → statement M
+put-field-spec = tie.close (tie.spec put-bytes-requires put-number-requires returns)

@@ -1,0 +1,58 @@
+-- A number's decimal digits give the number back, and the first of them is no 0 but for 0 itself.
+use mathlib.Core.Path.{_≡_, refl, sym, ap, _∙_}
+use mathlib.Core.Logic.{⊎-elim}
+use mathlib.Core.List.{List, [], _∷_, _++_}
+use Prim.Native.Nat.{ℕ, zero, suc, _+_, _-_, _*_, _/_, _%_, _<_}
+use native.Mathlib.Omega.{arith}
+use lib.ListN.{getD}
+use borrow.Author.Tests.{lt-ltb, le-ltb}
+use Rattle.laws.specs.Bools.{le?}
+use Rattle.report.specs.Text.{digits, decimal}
+
+-- digits read from the highest down, n the value of those before them
+unfoldable pub valueOf : ℕ → List ℕ → ℕ
+valueOf n [] = n
+valueOf n (d ∷ r) = valueOf (n * 10 + (d - 48)) r
+
+value-append : (n : ℕ) (a b : List ℕ) → valueOf n (a ++ b) ≡ valueOf (valueOf n a) b
+unfolding valueOf
+value-append n [] b = refl
+value-append n (d ∷ a) b = value-append (n * 10 + (d - 48)) a b
+
+digits-value : (k n : ℕ) → n < k → valueOf 0 (digits k n) ≡ n
+unfolding digits valueOf
+digits-value zero n h = absurd (omega arith)
+digits-value (suc k) n h =
+    ⊎-elim
+    (λ l.
+    let m : n / 10 * 10 + (48 + n % 10 - 48) ≡ n = omega arith in
+    let v : valueOf 0 (digits k (n / 10)) ≡ n / 10 = digits-value k (n / 10) (omega arith) in
+    rw (le-ltb n 10 l, value-append 0 (digits k (n / 10)) ((48 + n % 10) ∷ []), v) m)
+    (λ l. let m : 0 * 10 + (48 + n - 48) ≡ n = omega arith in rw (lt-ltb n 10 l) m)
+    (le? 10 n)
+
+-- the number is read back
+pub decimal-value : (n : ℕ) → valueOf 0 (decimal n) ≡ n
+unfolding decimal
+decimal-value n = digits-value (suc n) n (omega arith)
+
+-- so two numbers have two texts
+pub decimal-one-to-one : (m n : ℕ) → decimal m ≡ decimal n → m ≡ n
+decimal-one-to-one m n e = sym (decimal-value m) ∙ ap (valueOf 0) e ∙ decimal-value n
+
+first-append : (a b : List ℕ) → 48 < getD a 0 0 → 48 < getD (a ++ b) 0 0
+first-append [] b h = absurd (omega arith)
+first-append (d ∷ a) b h = h
+
+digits-first : (k n : ℕ) → 0 < n → n < k → 48 < getD (digits k n) 0 0
+unfolding digits
+digits-first zero n z h = absurd (omega arith)
+digits-first (suc k) n z h =
+    ⊎-elim (λ l. rw (le-ltb n 10 l) (first-append (digits k (n / 10)) ((48 + n % 10) ∷ []) (digits-first k (n / 10) (omega arith) (omega arith))))
+    (λ l. rw (lt-ltb n 10 l) (omega arith))
+    (le? 10 n)
+
+-- no number but 0 begins with the digit 0, byte 48
+pub decimal-first : (n : ℕ) → 0 < n → 48 < getD (decimal n) 0 0
+unfolding decimal
+decimal-first n z = digits-first (suc n) n z (omega arith)
