@@ -40,6 +40,20 @@ typedef struct {
     size_t length;   /* bytes written */
 } ZoghvariWritten;
 
+typedef struct {
+    uint8_t refusal;    /* 0 to 9 */
+    uint8_t rule;       /* with 2: the lowest broken rule, 1 to 6 */
+    size_t done, used;  /* operators carried out, and the script bytes they took; 0 with 1 and 2 */
+    size_t start;       /* where the log's live part starts now; with 1 and 2 the start handed in */
+} ZoghvariRan;
+
+typedef struct {
+    uint8_t refusal; /* 0 to 8, or 11: the log ended before n operators */
+    uint8_t rule;    /* with 2: the lowest broken rule, 1 to 6 */
+    size_t undone;   /* operators undone; 0 with 1 and 2 */
+    size_t start;    /* where the log's live part starts now; with 1 and 2 the start handed in */
+} ZoghvariUndone;
+
 /* Makes an empty table of the capacities s, f, l, e, v (solids, faces, loops, edges, vertices), each 1 to 4,096.
  * links has 5 + s + 2f + 3l + 8e + v words, points 3v numbers; of the log only its length is told. */
 ZoghvariCleared zoghvari_clear(uint16_t *links, size_t links_n, int32_t *points, size_t points_n, size_t log_n,
@@ -56,5 +70,17 @@ ZoghvariRead zoghvari_read(const uint8_t *script, size_t script_n, size_t at);
 
 /* Writes an operator, in shortest form, at the front of out. */
 ZoghvariWritten zoghvari_write(uint8_t code, uint8_t count, const int32_t *args /* eight */, uint8_t *out, size_t out_n);
+
+/* Carries out a script, operator by operator, up to its end or the first refusal; what was done before a refusal stands.
+ * Each operator's inverse is put into the log just before `start`, which moves down; no other log byte changes.
+ * Refusals: 1 and 2 of the table and the start, 3 to 8 of the operator at script[used], 9 where the log has no room for
+ * its inverse. */
+ZoghvariRan zoghvari_run(uint16_t *links, size_t links_n, int32_t *points, size_t points_n, uint8_t *log, size_t log_n,
+                         size_t start, const uint8_t *script, size_t script_n);
+
+/* Takes back n operators: carries out the first n of the live log, unlogged, and moves the start up behind them. The log is
+ * only read. Handed what the last run left and the sum of the done counts, it gives back every byte of links and points. */
+ZoghvariUndone zoghvari_undo(uint16_t *links, size_t links_n, int32_t *points, size_t points_n, const uint8_t *log,
+                             size_t log_n, size_t start, size_t n);
 
 #endif

@@ -13,17 +13,25 @@ CLOSING = re.compile(r"^(\d+) passed, (\d+) failed$")
 
 
 def steps(root):
-    """Name and command of each step, in order: cheap ones first, so that a slip shows at once."""
-    python = sys.executable
+    """Name and command of each step, in order: cheap ones first, so that a slip shows at once.
+
+    `rt ci` starts by removing target/, so what needs the library or the program comes behind it.
+    """
     found = [
-        ("crates are listed", [python, "tests/gate/listed.py", "."]),
-        ("the gate itself", [python, "tests/gate/test_gate.py"]),
-        ("model", [python, "tests/model/test_model.py"]),
-        ("rt ci", ["rt", "ci"]),
-        ("library against model", [python, "tests/model/compare_library.py"]),
+        ("crates are listed", "tests/gate/listed.py", ["."]),
+        ("the gate itself", "tests/gate/test_gate.py", []),
+        ("model", "tests/model/test_model.py", []),
+        ("rt ci", None, []),
+        ("library against model", "tests/model/compare_library.py", []),
+        ("examples and guide", "tests/examples/run_examples.py", []),
+        ("Rust wrapper", "tests/rust/run_cargo.py", []),
     ]
+    # the program is compared once its crate is there
+    if os.path.isdir(os.path.join(root, "crates", "zoghvari")):
+        found.append(("program against model", "tests/model/compare_program.py", []))
     # a step whose file is not there yet is no step; `rt ci` is always one
-    return [(name, cmd) for name, cmd in found if cmd[0] == "rt" or os.path.exists(os.path.join(root, cmd[1]))]
+    return [(name, [sys.executable, script] + words if script else ["rt", "ci"])
+            for name, script, words in found if script is None or os.path.exists(os.path.join(root, script))]
 
 
 def judge(status, output):

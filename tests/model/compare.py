@@ -3,18 +3,16 @@
     python3 tests/model/compare.py make SEED COUNT > CASES
     DRIVER < CASES > ANSWERS
     python3 tests/model/compare.py check CASES ANSWERS
-    python3 tests/model/compare.py program SEED COUNT PROGRAM
 
-The last one runs the program of document 01 itself. 'check' and 'program' print
-'N passed, M failed' as their last line; the exit status is 0 only when M is 0.
+'check' prints 'N passed, M failed' as its last line; the exit status is 0 only when M is 0.
+compare_library.py does all of it in one go, for cases of each kind.
 """
 
-import subprocess
 import sys
 
 import wire
-from generate import program_input, random_case, seeded
-from kernel import program
+from cases import random_case
+from generate import seeded
 from tally import Tally
 
 
@@ -38,23 +36,12 @@ def check(cases_path, answers_path):
     return tally
 
 
-def compare_program(seed, count, path):
-    rng, tally = seeded(int(seed)), Tally()
-    for _ in range(int(count)):
-        data = program_input(rng)
-        printed = subprocess.run([path], input=data, stdout=subprocess.PIPE, check=False).stdout
-        tally.equal(f"program on {data.hex()}", printed, program(data).encode())
-    return tally
-
-
 def main(arguments):
     if len(arguments) == 3 and arguments[0] == "make":
         make(*arguments[1:])
         return 0
     if len(arguments) == 3 and arguments[0] == "check":
         tally = check(*arguments[1:])
-    elif len(arguments) == 4 and arguments[0] == "program":
-        tally = compare_program(*arguments[1:])
     else:
         print(__doc__)
         return 2

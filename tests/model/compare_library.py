@@ -1,70 +1,110 @@
 """Compares the compiled kernel with the model: builds the static library and the driver, asks both the same cases.
 
-    python3 tests/model/compare_library.py [COUNT [SEED]]
+    python3 tests/model/compare_library.py [MODE [COUNT [SEED]]] [--library ARCHIVE]
 
-COUNT cases of each kind; every answer and every byte of links, points, log and script afterwards must be equal. Prints the
-seed, and 'N passed, M failed' as its last line.
+MODE  entries    COUNT cases each of clearing, checking, counting, reading and writing
+      operators  COUNT scripts of one operator on sound tables
+      runs       COUNT runs and undos of whole scripts on any tables, logs and starts
+      promise    COUNT lists of scripts, run one after the other and undone together
+      all        every mode, with a count of its own (the default)
+
+Every answer and every byte of links, points, log and script afterwards must be equal; a crash or a hang is a failure. Prints
+count, seed and what was met, and 'N passed, M failed' as its last line.
 """
 
-import os
-import subprocess
 import sys
 import tempfile
 import time
 
 import wire
-from generate import CASES, seeded
+from cases import CASES, operator_case
+from generate import seeded
+from library import ask, build_driver
+from met import Met
+from promise import tell
 from tally import Tally
 
-ROOT = os.path.dirname(os.path.dirname(os.path.dirname(os.path.abspath(__file__))))
-KINDS = (wire.CLEAR, wire.CHECK, wire.COUNT, wire.READ, wire.WRITE)
+ENTRIES = (wire.CLEAR, wire.CHECK, wire.COUNT, wire.READ, wire.WRITE)
+# Cases are made and asked by so many at a time, so that a long comparison needs no more memory than a short one.
+PORTION = 1_000
+# From the first count on a comparison has to have met every code and refusal that it can meet, from the second on every rule.
+ENOUGH, PLENTY = 2_000, 10_000
 
 
-def build(folder):
-    """The driver, linked with the kernel's archive; checks on memory are asked of the C compiler, for what the driver lends."""
-    subprocess.run(["rt", "staticlib", "kernel"], cwd=ROOT, check=True, stdout=subprocess.DEVNULL)
-    driver = os.path.join(folder, "driver")
-    subprocess.run(["cc", "-O1", "-g", "-Wall", "-Werror", "-I", os.path.join(ROOT, "include"), "-o", driver,
-                    os.path.join(ROOT, "tests", "driver", "driver.c"),
-                    os.path.join(ROOT, "target", "staticlib", "libkernel.a")], check=True)
-    return driver
+def compare(driver, tally, met, cases):
+    for case, answer in zip(cases, ask(driver, cases)):
+        name = f"{wire.KIND_NAMES[case.kind]}: {case}"
+        wanted = wire.answer_case(case)
+        if tally.equal(name, answer and wire.mask_free(answer), wanted):
+            met.add(case, wanted)
 
 
-def make_cases(count, seed):
-    rng = seeded(seed)
-    cases = [CASES[kind](rng) for kind in KINDS for _ in range(count)]
-    # the library reads without a table: the limits are 4,096 and 8,192
-    return [case._replace(numbers=case.numbers[:1]) if case.kind == wire.READ else case for case in cases]
+def portions(count):
+    return [min(PORTION, count - place) for place in range(0, count, PORTION)]
 
 
-def ask(driver, cases):
-    data = b"".join(wire.encode_case(case) for case in cases)
-    done = subprocess.run([driver], input=data, stdout=subprocess.PIPE, check=False)
-    return done.returncode, wire.decode_stream(done.stdout)
+def entries(driver, tally, met, rng, count):
+    for kind in ENTRIES:
+        cases = [CASES[kind](rng) for _ in range(count)]
+        # the library reads without a table: the limits are 4,096 and 8,192
+        cut = 1 if kind == wire.READ else None
+        compare(driver, tally, met, [case._replace(numbers=case.numbers[:cut]) for case in cases])
 
 
-def compare(count, seed):
-    tally = Tally()
-    with tempfile.TemporaryDirectory() as folder:
-        driver = build(folder)
-        cases = make_cases(count, seed)
-        status, answers = ask(driver, cases)
-    tally.equal("the driver's exit status", status, 0)
-    tally.equal("one answer for each case", len(answers), len(cases))
-    for place, (case, answer) in enumerate(zip(cases, answers)):
-        name = f"case {place}, {wire.KIND_NAMES[case.kind]}: {case}"
-        tally.equal(name, wire.mask_free(answer), wire.answer_case(case))
+def operators(driver, tally, met, rng, count):
+    for size in portions(count):
+        compare(driver, tally, met, [operator_case(rng) for _ in range(size)])
+    if count >= ENOUGH:
+        met.want_codes(tally, {"run": range(3, 10)})
+        met.want_conditions(tally)
+
+
+def runs(driver, tally, met, rng, count):
+    for size in portions(count):
+        compare(driver, tally, met, [CASES[rng.choice((wire.RUN, wire.UNDO))](rng) for _ in range(size)])
+    if count >= ENOUGH:
+        met.want_codes(tally, {"run": range(10), "undo": list(range(9)) + [11]})
+    # Few damaged tables come as far as rule 6, so a short comparison need not meet it.
+    for kind in ("run", "undo") if count >= PLENTY else ():
+        tally.equal(f"rules named by {kind}", sorted(rule for of, rule in met.rules if of == kind), [1, 2, 3, 4, 5, 6])
+
+
+def promise(driver, tally, met, rng, count):
+    for size in portions(count):
+        tell(driver, tally, met, rng, size)
+    if count >= ENOUGH:
+        met.want_codes(tally, {"run": [0, 1] + list(range(3, 10)), "undo": [0, 1]})
+
+
+# Name, comparison, and the count with which the gate runs it.
+MODES = {"entries": (entries, 500), "operators": (operators, 3_000), "runs": (runs, 3_000), "promise": (promise, 2_000)}
+
+
+def run_mode(driver, name, count, seed):
+    work, usual = MODES[name]
+    count, tally, met, began = count or usual, Tally(), Met(), time.time()
+    work(driver, tally, met, seeded(seed), count)
+    print(f"{name}: {count} cases{' of each kind' if name == 'entries' else ''}, seed {seed}, {time.time() - began:.0f} s, "
+          f"{tally.passed} passed, {tally.failed} failed")
+    met.show()
     return tally
 
 
 def main(arguments):
-    count = int(arguments[0]) if arguments else 800
-    seed = int(arguments[1]) if len(arguments) > 1 else 1
-    began = time.time()
-    tally = compare(count, seed)
-    print(f"library against model: {count} cases of each of {len(KINDS)} kinds, seed {seed}, {time.time() - began:.0f} s")
-    print(f"{tally.passed} passed, {tally.failed} failed")
-    return 0 if tally.failed == 0 and tally.passed > 0 else 1
+    kernel = None
+    if "--library" in arguments:
+        place = arguments.index("--library")
+        kernel, arguments = arguments[place + 1], arguments[:place] + arguments[place + 2:]
+    mode, count, seed = (arguments + ["all", "0", "1"][len(arguments):])[:3]
+    if mode != "all" and mode not in MODES:
+        print(__doc__)
+        return 2
+    with tempfile.TemporaryDirectory() as folder:
+        driver = build_driver(folder, kernel)
+        tallies = [run_mode(driver, name, int(count), int(seed)) for name in (MODES if mode == "all" else [mode])]
+    passed, failed = sum(t.passed for t in tallies), sum(t.failed for t in tallies)
+    print(f"{passed} passed, {failed} failed")
+    return 0 if failed == 0 and passed > 0 else 1
 
 
 if __name__ == "__main__":

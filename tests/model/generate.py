@@ -1,4 +1,4 @@
-"""Random tables, operators, scripts, logs and wire cases; everything from a seed.
+"""Random tables, operators, scripts and logs; everything from a seed.
 
 Every function takes a random.Random, so one seed gives one sequence of cases.
 """
@@ -6,12 +6,10 @@ Every function takes a random.Random, so one seed gives one sequence of cases.
 import itertools
 import random
 
-import wire
 from boundary import Boundary, write_back
-from kernel import run
 from layout import Table, cleared_table, edge_of, mate
 from operators import carry_out, plan
-from script import PATTERNS, limits_of, operands_of, operator, operator_bytes, script_bytes
+from script import PATTERNS, limits_of, operands_of, operator, script_bytes
 
 # How often each code is proposed: makers more often, so that tables grow.
 GROWTH = {1: 2, 2: 1, 3: 9, 4: 1, 5: 12, 6: 1, 7: 3, 8: 2, 9: 3, 10: 3, 11: 4, 12: 1, 13: 2}
@@ -381,116 +379,5 @@ def random_log(rng):
     """A log of any bytes and a start, sometimes beyond it."""
     log = bytes(rng.randrange(256) for _ in range(rng.choice((0, 2, 5, 20, 60, 100, 300, 300))))
     if rng.random() < 0.05:
-        return log, len(log) + rng.choice((1, 2, 1_000))
+        return log, rng.choice((len(log) + 1, len(log) + 2, len(log) + 1_000, 1 << 32, 1 << 63, (1 << 64) - 1))
     return log, len(log) if rng.random() < 0.75 else rng.randint(0, len(log))
-
-
-# Wire cases
-
-def random_case(rng):
-    kind = rng.choice((wire.CLEAR, wire.CHECK, wire.COUNT, wire.READ, wire.WRITE,
-                       wire.EXEC, wire.EXEC, wire.RUN, wire.RUN, wire.UNDO, wire.UNDO))
-    return CASES[kind](rng)
-
-
-def clear_case(rng):
-    table, (log, _) = random_table(rng), random_log(rng)
-    links, points, numbers = list(table.links), list(table.points), list(table.capacities)
-    dice = rng.random()
-    if dice < 0.2:
-        numbers[rng.randrange(5)] = rng.choice((0, 1, 2, 4_096, 4_097, 65_535, 65_536))
-    elif dice < 0.4:
-        damage_lengths(rng, links, points)
-    return wire.case(wire.CLEAR, numbers, links, points, log)
-
-
-def table_case(kind):
-    def make(rng):
-        if rng.random() < 0.4:
-            table = random_table(rng)
-            return wire.case(kind, (), table.links, table.points)
-        links, points = damaged_table(rng)
-        return wire.case(kind, (), links, points)
-    return make
-
-
-def read_case(rng):
-    table = random_table(rng)
-    script = random_script(rng, table)
-    place = rng.choice((0, 0, rng.randint(0, len(script) + 2)))
-    numbers = (place,) if rng.random() < 0.5 else (place,) + table.capacities
-    return wire.case(wire.READ, numbers, script=script)
-
-
-def write_case(rng):
-    op = random_operator(rng, Boundary(random_table(rng)))
-    code, count, args = op.code, op.count, list(op.args)
-    dice = rng.randrange(8)
-    if dice == 0:
-        code = rng.choice((0, 14, 255, rng.randint(1, 13)))
-    elif dice == 1:
-        count = rng.choice((0, 8, 9, count + 1, count - 1))
-    elif dice == 2:
-        args[rng.randrange(8)] = rng.choice((0, -1, 1, 4_096, 4_097, 8_192, 8_193, 50_001, -50_001, -(1 << 31)))
-    length = rng.choice((40, len(operator_bytes(op)), rng.randint(0, 20)))
-    place = rng.choice((0, 0, rng.randint(0, length + 1)))
-    destination = bytes(rng.randrange(256) for _ in range(length))
-    return wire.case(wire.WRITE, [code, count] + args + [place], script=destination)
-
-
-def lent_table(rng):
-    """Links and points for run and undo: nearly always sound."""
-    if rng.random() < 0.06:
-        return damaged_table(rng)
-    table = random_table(rng)
-    return table.links, table.points
-
-
-def exec_case(rng):
-    table, (log, start) = random_table(rng), random_log(rng)
-    op = random_operator(rng, Boundary(table))
-    return wire.case(wire.EXEC, (start,), table.links, table.points, log, operator_bytes(op))
-
-
-def run_case(rng):
-    table, (log, start) = random_table(rng), random_log(rng)
-    script = random_script(rng, table)
-    if rng.random() < 0.1:
-        links, points = lent_table(rng)
-        return wire.case(wire.RUN, (start,), links, points, log, script)
-    return wire.case(wire.RUN, (start,), table.links, table.points, log, script)
-
-
-def undo_case(rng):
-    """A log that a run left, whole or damaged, or any bytes at all."""
-    table, (log, start) = random_table(rng), random_log(rng)
-    links, points, log = list(table.links), list(table.points), bytearray(log)
-    done = run(links, points, log, start, random_script(rng, table))
-    wanted = max(0, done.done + rng.choice((0, 0, 0, -1, 1, 2, 1_000)))
-    if rng.random() < 0.2 and log:
-        log = damaged_bytes(rng, bytes(log))
-    if rng.random() < 0.1:
-        links, points = lent_table(rng)
-    start = done.start if rng.random() < 0.9 else random_log(rng)[1]
-    return wire.case(wire.UNDO, (start, wanted), links, points, log)
-
-
-CASES = {wire.CLEAR: clear_case, wire.CHECK: table_case(wire.CHECK), wire.COUNT: table_case(wire.COUNT),
-         wire.READ: read_case, wire.WRITE: write_case, wire.EXEC: exec_case,
-         wire.RUN: run_case, wire.UNDO: undo_case}
-
-
-def program_input(rng):
-    """Standard input for the program: scripts for capacities 64, up to and past its limit."""
-    b = Boundary(cleared_table((64,) * 5))
-    script = script_bytes(random_operators(rng, b, rng.choice((0, 1, 5, 30, 120))))
-    dice = rng.random()
-    if dice < 0.3:
-        return script
-    if dice < 0.5:
-        return script + operator_bytes(random_operator(rng, b))
-    if dice < 0.9:
-        return damaged_bytes(rng, script or b"\0")
-    # A solid made and killed again and again fills any number of bytes with accepted operators.
-    pair = script_bytes([operator("mvsf", 64, 64, 64, 64, 0, 0, 0), operator("kvsf", 64)])
-    return (pair * 500)[:rng.choice((4_090, 4_095, 4_096, 4_097, 4_100))]

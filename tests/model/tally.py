@@ -1,6 +1,14 @@
 """Counting of checks: a failed one is told and counted, and the others still run."""
 
 
+# A table at its largest is half a million characters; the seed brings back what is cut off here.
+LINE = 4_000
+
+
+def cut(line):
+    return line if len(line) <= LINE else line[:LINE] + " ..."
+
+
 class Tally:
     def __init__(self, told=20):
         self.passed = self.failed = 0
@@ -13,7 +21,7 @@ class Tally:
             return True
         self.failed += 1
         if self.failed <= self.told:
-            print(f"FAILED {name}\n  got    {got}\n  wanted {wanted}")
+            print(cut(f"FAILED {name}") + "\n" + cut(f"  got    {got}") + "\n" + cut(f"  wanted {wanted}"))
         return False
 
     def holds(self, name, condition):

@@ -8,7 +8,9 @@ import sys
 import time
 
 from examples import EXAMPLES
+from exhaustive import EXHAUSTIVE
 from generate import seeded
+from operator_examples import OPERATOR_EXAMPLES
 from properties import PROPERTIES
 from tally import Tally
 
@@ -17,10 +19,10 @@ def main(arguments):
     scale = float(arguments[0]) if arguments else 1.0
     seed = int(arguments[1]) if len(arguments) > 1 else 1
     tally = Tally()
-    for example in EXAMPLES:
+    for example in EXAMPLES + OPERATOR_EXAMPLES:
         example(tally)
     print(f"examples: {tally.passed} checks")
-    for number, prop in enumerate(PROPERTIES):
+    for number, prop in enumerate(PROPERTIES + EXHAUSTIVE):
         before, began = tally.passed, time.process_time()
         # A seed of its own, so that one property's cases do not hang on another's.
         prop(tally, seeded(1000 * seed + number), scale)

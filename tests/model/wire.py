@@ -3,7 +3,7 @@
 One frame, the same for a case and for its answer; all numbers are little-endian:
 
     u8  kind
-    u32 n, then n numbers of u32 (a negative one as its two's complement)
+    u32 n, then n numbers of u64 (a negative one as its two's complement)
     u32 n, then n words of u16     links
     u32 n, then n words of i32     points
     u32 n, then n bytes            log
@@ -21,9 +21,8 @@ them (a call that is not handed one of them passes it on unchanged).
               or place S F L E V                (script: the bytes to read from; with
                                                 capacities: read for such a table)
     5 write   code count arg1 .. arg8 place   refusal length (script: the destination)
-    6 exec    start                           as 7; the script holds one operator
-    7 run     start                           refusal rule done used start
-    8 undo    start n                         refusal rule undone start
+    6 run     start                           refusal rule done used start
+    7 undo    start n                         refusal rule undone start
 
 rule is 0 unless the refusal is 2. What document 01 leaves free is 0 in the model's
 answers, and mask_free sets it to 0 in any answer before two are compared.
@@ -37,9 +36,10 @@ from layout import clear
 from rules import check, count
 from script import Operator, read_operator, write_operator
 
-CLEAR, CHECK, COUNT, READ, WRITE, EXEC, RUN, UNDO = range(1, 9)
+CLEAR, CHECK, COUNT, READ, WRITE, RUN, UNDO = range(1, 8)
+WORD = 1 << 64
 KIND_NAMES = {CLEAR: "clear", CHECK: "check", COUNT: "count", READ: "read",
-              WRITE: "write", EXEC: "exec", RUN: "run", UNDO: "undo"}
+              WRITE: "write", RUN: "run", UNDO: "undo"}
 
 Frame = namedtuple("Frame", "kind numbers links points log script")
 
@@ -51,7 +51,7 @@ def case(kind, numbers=(), links=(), points=(), log=b"", script=b""):
 def encode_case(frame):
     """The frame's bytes; answers are encoded the same way."""
     out = struct.pack("<B", frame.kind)
-    for letter, values in (("I", [n % (1 << 32) for n in frame.numbers]),
+    for letter, values in (("Q", [n % WORD for n in frame.numbers]),
                            ("H", frame.links), ("i", frame.points)):
         out += struct.pack("<I", len(values)) + struct.pack(f"<{len(values)}{letter}", *values)
     for data in (frame.log, frame.script):
@@ -63,7 +63,7 @@ def decode_answer(data, place=0):
     """Answers (frame, place after it); cases are decoded the same way."""
     kind, place = data[place], place + 1
     fields = []
-    for letter, size in (("I", 4), ("H", 2), ("i", 4), ("s", 1), ("s", 1)):
+    for letter, size in (("Q", 8), ("H", 2), ("i", 4), ("s", 1), ("s", 1)):
         (n,) = struct.unpack_from("<I", data, place)
         place += 4
         got = struct.unpack_from(f"<{n}{letter}", data, place)
@@ -80,13 +80,25 @@ def decode_stream(data):
     return frames
 
 
+def decode_whole(data):
+    """The frames that are there whole: what a driver that was cut off has answered."""
+    place, frames = 0, []
+    try:
+        while place < len(data):
+            frame, place = decode_answer(data, place)
+            frames.append(frame)
+    except struct.error:
+        pass
+    return frames
+
+
 def signed(number):
-    return number - (1 << 32) if number >= 1 << 31 else number
+    return number - WORD if number >= WORD // 2 else number
 
 
 def mask_free(frame):
     """Sets to 0 the numbers of an answer that document 01 leaves free after a refusal."""
-    numbers = [n % (1 << 32) for n in frame.numbers]
+    numbers = [n % WORD for n in frame.numbers]
     keep = {CLEAR: 1, COUNT: 2, READ: 1, WRITE: 1}.get(frame.kind)
     if keep is not None and numbers[0] != 0:
         numbers[keep:] = [0] * len(numbers[keep:])
@@ -117,7 +129,6 @@ ANSWERS = {
     COUNT: lambda numbers, links, points, log, script: count(links, points),
     READ: lambda numbers, links, points, log, script: answer_read(numbers, script),
     WRITE: lambda numbers, links, points, log, script: answer_write(numbers, script),
-    EXEC: lambda numbers, links, points, log, script: run(links, points, log, numbers[0], script),
     RUN: lambda numbers, links, points, log, script: run(links, points, log, numbers[0], script),
     UNDO: lambda numbers, links, points, log, script: undo(links, points, log, *numbers),
 }

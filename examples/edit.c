@@ -1,0 +1,88 @@
+/* Edits and undo: several scripts run on one table, refused ones among them, then undone together.
+ *
+ *     cc -I include -o edit examples/edit.c target/staticlib/libkernel.a && ./edit
+ *
+ * The digests before the first edit and after the undo are equal: every byte of links and points is back. */
+#include <stdio.h>
+
+#include "zoghvari.h"
+
+enum { N = 8, LINKS = 5 + N + 2 * N + 3 * N + 8 * N + N, POINTS = 3 * N, LOG = 256, SCRIPT = 128 };
+
+static uint16_t links[LINKS];
+static int32_t points[POINTS];
+static uint8_t log_bytes[LOG];
+
+typedef struct {
+    const char *what;
+    ZoghvariOperator ops[4];
+    int n;
+    int damaged; /* a byte behind the operators that no script may hold there */
+} Edit;
+
+/* A triangle: one face seen from above, one from below. The edits start from here. */
+static const Edit triangle = {"a triangle",
+                              {{1, 7, {1, 1, 1, 1, 0, 0, 0}},
+                               {3, 8, {1, 0, 1, 2, 0, 1000, 0, 0}},
+                               {3, 8, {1, 2, 2, 3, 0, 1000, 1000, 0}},
+                               {5, 7, {1, 1, 4, 3, 2, 2, 0}}},
+                              4,
+                              0};
+
+static const Edit edits[] = {
+    {"a corner on an edge", {{11, 7, {1, 4, 4, 0, 500, -200, 0}}}, 1, 0},
+    {"a face cut in two, then a damaged byte", {{5, 7, {2, 7, 6, 5, 3, 3, 0}}}, 1, 0xFF},
+    {"a solid's number that is in use", {{1, 7, {1, 4, 4, 5, 0, 0, 0}}}, 1, 0},
+    {"a solid killed that has edges", {{2, 1, {1}}}, 1, 0},
+    {"an edge to a new vertex, taken away again: a lone ring",
+     {{3, 8, {1, 5, 6, 5, 0, 300, 300, 0}}, {7, 2, {11, 4}}},
+     2,
+     0},
+    {"an edge that is free", {{6, 1, {15}}}, 1, 0},
+    {"a code that does not exist", {{0}}, 0, 0x0E},
+};
+
+/* The edit's script; answers its length. */
+static size_t script_of(const Edit *edit, uint8_t *script) {
+    size_t length = 0;
+    for (int i = 0; i < edit->n; i++) {
+        const ZoghvariOperator *op = &edit->ops[i];
+        ZoghvariWritten w = zoghvari_write(op->code, op->count, op->args, script + length, SCRIPT - length);
+        if (w.refusal) printf("operator %d cannot be written: refusal %u\n", i + 1, w.refusal);
+        length += w.length;
+    }
+    if (edit->damaged) script[length++] = (uint8_t)edit->damaged;
+    return length;
+}
+
+/* Runs an edit's script, moves the log's start, and answers how many operators were done. */
+static size_t run(const Edit *edit, size_t *start) {
+    uint8_t script[SCRIPT + 1];
+    size_t length = script_of(edit, script);
+    ZoghvariRan r = zoghvari_run(links, LINKS, points, POINTS, log_bytes, LOG, *start, script, length);
+    printf("%s: refusal %u done %zu used %zu of %zu\n", edit->what, r.refusal, r.done, r.used, length);
+    *start = r.start;
+    return r.done;
+}
+
+/* FNV-1a, 64 bits, over the bytes of links and points with the low byte first. */
+static uint64_t digest(void) {
+    uint64_t d = 0xCBF29CE484222325u;
+    for (size_t i = 0; i < 2 * LINKS; i++) d = (d ^ ((links[i / 2] >> (8 * (i % 2))) & 0xFF)) * 0x100000001B3u;
+    for (size_t i = 0; i < 4 * POINTS; i++) d = (d ^ (((uint32_t)points[i / 4] >> (8 * (i % 4))) & 0xFF)) * 0x100000001B3u;
+    return d;
+}
+
+int main(void) {
+    ZoghvariCleared c = zoghvari_clear(links, LINKS, points, POINTS, LOG, N, N, N, N, N);
+    size_t start = c.start, done = 0;
+    run(&triangle, &start);
+    uint64_t before = digest();
+    printf("before   %016llx\n", (unsigned long long)before);
+    for (size_t i = 0; i < sizeof edits / sizeof *edits; i++) done += run(&edits[i], &start);
+    printf("edited   %016llx\n", (unsigned long long)digest());
+    ZoghvariUndone u = zoghvari_undo(links, LINKS, points, POINTS, log_bytes, LOG, start, done);
+    printf("undo %zu: refusal %u undone %zu\n", done, u.refusal, u.undone);
+    printf("undone   %016llx\n", (unsigned long long)digest());
+    return digest() == before && u.refusal == 0 ? 0 : 1;
+}

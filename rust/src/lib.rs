@@ -1,0 +1,27 @@
+//! Half-edge tables and the thirteen Euler operators, with undo to the byte: the proved kernel's archive behind safe types.
+//!
+//! What is proved is the archive, not this wrapper, which does no more than hand slices over and give numbers names.
+//! docs/GUIDE.md says what each call promises.
+//!
+//! ```
+//! # fn main() -> Result<(), zoghvari::Refusal> {
+//! use zoghvari::{script_bytes, Capacities, Operator, Table};
+//!
+//! let mut table = Table::new(Capacities::all(64), 4_096)?;
+//! let ran = table.run(&script_bytes(&[Operator::new(1, &[1, 1, 1, 1, 0, 0, 0])])?);
+//! assert_eq!((ran.refusal, ran.done), (None, 1));
+//! assert_eq!(table.undo(ran.done).refusal, None);
+//! # Ok(())
+//! # }
+//! ```
+#![deny(unsafe_code)]
+
+mod refusal;
+mod script;
+#[allow(unsafe_code)]
+mod sys;
+mod table;
+
+pub use refusal::{Cause, Refusal};
+pub use script::{read, script_bytes, write, Operator};
+pub use table::{Capacities, Counts, Ran, Table, Undone};

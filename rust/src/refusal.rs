@@ -1,0 +1,99 @@
+//! The refusals by the specification's numbers, and who causes each.
+
+/// Who has to change something so that a call is accepted.
+#[derive(Clone, Copy, Debug, PartialEq, Eq)]
+pub enum Cause {
+    /// Who lends the memory: links, points and the log's start.
+    Lender,
+    /// Who wrote the script or the log.
+    Author,
+    /// Who chose how long the memory is.
+    Sizer,
+    /// Who asked for more than there is.
+    Asker,
+}
+
+/// Why a call was refused.
+#[derive(Clone, Copy, Debug, PartialEq, Eq)]
+pub enum Refusal {
+    /// 1: a capacity or length is wrong, or the log's start lies beyond the log.
+    Lengths,
+    /// 2: the table is not sound; the lowest broken rule, 1 to 6.
+    Unsound { rule: u8 },
+    /// 3: a number is cut off, too long or not in shortest form.
+    Number,
+    /// 4: a code is not 1 to 13.
+    Code,
+    /// 5: an operand is out of range.
+    Range,
+    /// 6: an old item is free.
+    Free,
+    /// 7: a new number is in use.
+    InUse,
+    /// 8: the operator's condition fails.
+    Condition,
+    /// 9: the log, or the destination of a write, is too short.
+    NoRoom,
+    /// 10: a take-down finds no free face, loop or edge number. None of the functions here gives it.
+    NoNumber,
+    /// 11: undo finds the log ended where its next operator should begin; what it undid stands.
+    LogEnded,
+}
+
+impl Refusal {
+    /// The refusal of a number, `None` for 0. The kernel answers no number above 11.
+    pub(crate) fn of(number: u8, rule: u8) -> Option<Refusal> {
+        Some(match number {
+            0 => return None,
+            1 => Refusal::Lengths,
+            2 => Refusal::Unsound { rule },
+            3 => Refusal::Number,
+            4 => Refusal::Code,
+            5 => Refusal::Range,
+            6 => Refusal::Free,
+            7 => Refusal::InUse,
+            8 => Refusal::Condition,
+            9 => Refusal::NoRoom,
+            10 => Refusal::NoNumber,
+            11 => Refusal::LogEnded,
+            other => unreachable!("the kernel has no refusal {other}"),
+        })
+    }
+
+    /// The specification's number, 1 to 11.
+    pub fn number(self) -> u8 {
+        match self {
+            Refusal::Lengths => 1,
+            Refusal::Unsound { .. } => 2,
+            Refusal::Number => 3,
+            Refusal::Code => 4,
+            Refusal::Range => 5,
+            Refusal::Free => 6,
+            Refusal::InUse => 7,
+            Refusal::Condition => 8,
+            Refusal::NoRoom => 9,
+            Refusal::NoNumber => 10,
+            Refusal::LogEnded => 11,
+        }
+    }
+
+    pub fn cause(self) -> Cause {
+        match self.number() {
+            1 | 2 => Cause::Lender,
+            3..=8 => Cause::Author,
+            9 | 10 => Cause::Sizer,
+            _ => Cause::Asker,
+        }
+    }
+}
+
+impl std::fmt::Display for Refusal {
+    fn fmt(&self, f: &mut std::fmt::Formatter<'_>) -> std::fmt::Result {
+        match self {
+            Refusal::Unsound { rule } => write!(f, "refusal 2, rule {rule}"),
+            other => write!(f, "refusal {}", other.number()),
+        }
+    }
+}
+
+impl std::error::Error for Refusal {}

@@ -1,0 +1,142 @@
+//! The archive's functions as include/zoghvari.h declares them, and a safe function for each. All `unsafe` is here.
+//!
+//! Why each call is safe: the kernel asks nothing of the bytes it is lent, reads and writes only inside the slices (a pointer
+//! and a count of elements), and keeps no pointer. A `&mut` slice is lent to no one else during the call.
+
+#[repr(C)]
+pub struct Operator {
+    pub code: u8,
+    pub count: u8,
+    pub args: [i32; 8],
+}
+
+#[repr(C)]
+pub struct Cleared {
+    pub refusal: u8,
+    pub start: usize,
+}
+
+#[repr(C)]
+pub struct Checked {
+    pub refusal: u8,
+    pub rule: u8,
+}
+
+#[repr(C)]
+pub struct Counted {
+    pub refusal: u8,
+    pub rule: u8,
+    /// Solids, faces, loops, edges, vertices, rings, holes.
+    pub items: [usize; 7],
+}
+
+#[repr(C)]
+pub struct Read {
+    pub refusal: u8,
+    pub next: usize,
+    pub op: Operator,
+}
+
+#[repr(C)]
+pub struct Written {
+    pub refusal: u8,
+    pub length: usize,
+}
+
+#[repr(C)]
+pub struct Ran {
+    pub refusal: u8,
+    pub rule: u8,
+    pub done: usize,
+    pub used: usize,
+    pub start: usize,
+}
+
+#[repr(C)]
+pub struct Undone {
+    pub refusal: u8,
+    pub rule: u8,
+    pub undone: usize,
+    pub start: usize,
+}
+
+mod c {
+    use super::{Checked, Cleared, Counted, Ran, Read, Undone, Written};
+
+    extern "C" {
+        #[rustfmt::skip]
+        pub fn zoghvari_clear(
+            links: *mut u16,
+            links_n: usize,
+            points: *mut i32,
+            points_n: usize,
+            log_n: usize,
+            s: u16,
+            f: u16,
+            l: u16,
+            e: u16,
+            v: u16,
+        ) -> Cleared;
+        pub fn zoghvari_check(links: *const u16, links_n: usize, points: *const i32, points_n: usize) -> Checked;
+        pub fn zoghvari_count(links: *const u16, links_n: usize, points: *const i32, points_n: usize) -> Counted;
+        pub fn zoghvari_read(script: *const u8, script_n: usize, at: usize) -> Read;
+        pub fn zoghvari_write(code: u8, count: u8, args: *const i32, out: *mut u8, out_n: usize) -> Written;
+        #[rustfmt::skip]
+        pub fn zoghvari_run(
+            links: *mut u16,
+            links_n: usize,
+            points: *mut i32,
+            points_n: usize,
+            log: *mut u8,
+            log_n: usize,
+            start: usize,
+            script: *const u8,
+            script_n: usize,
+        ) -> Ran;
+        #[rustfmt::skip]
+        pub fn zoghvari_undo(
+            links: *mut u16,
+            links_n: usize,
+            points: *mut i32,
+            points_n: usize,
+            log: *const u8,
+            log_n: usize,
+            start: usize,
+            n: usize,
+        ) -> Undone;
+    }
+}
+
+/// The capacities are those of solids, faces, loops, edges and vertices, in this order.
+pub fn clear(links: &mut [u16], points: &mut [i32], log_length: usize, caps: [u16; 5]) -> Cleared {
+    let [s, f, l, e, v] = caps;
+    let (lp, ln, pp, pn) = (links.as_mut_ptr(), links.len(), points.as_mut_ptr(), points.len());
+    unsafe { c::zoghvari_clear(lp, ln, pp, pn, log_length, s, f, l, e, v) }
+}
+
+pub fn check(links: &[u16], points: &[i32]) -> Checked {
+    unsafe { c::zoghvari_check(links.as_ptr(), links.len(), points.as_ptr(), points.len()) }
+}
+
+pub fn count(links: &[u16], points: &[i32]) -> Counted {
+    unsafe { c::zoghvari_count(links.as_ptr(), links.len(), points.as_ptr(), points.len()) }
+}
+
+pub fn read(script: &[u8], at: usize) -> Read {
+    unsafe { c::zoghvari_read(script.as_ptr(), script.len(), at) }
+}
+
+pub fn write(code: u8, count: u8, args: &[i32; 8], out: &mut [u8]) -> Written {
+    unsafe { c::zoghvari_write(code, count, args.as_ptr(), out.as_mut_ptr(), out.len()) }
+}
+
+pub fn run(links: &mut [u16], points: &mut [i32], log: &mut [u8], start: usize, script: &[u8]) -> Ran {
+    let (lp, ln, pp, pn) = (links.as_mut_ptr(), links.len(), points.as_mut_ptr(), points.len());
+    let (gp, gn) = (log.as_mut_ptr(), log.len());
+    unsafe { c::zoghvari_run(lp, ln, pp, pn, gp, gn, start, script.as_ptr(), script.len()) }
+}
+
+pub fn undo(links: &mut [u16], points: &mut [i32], log: &[u8], start: usize, n: usize) -> Undone {
+    let (lp, ln, pp, pn) = (links.as_mut_ptr(), links.len(), points.as_mut_ptr(), points.len());
+    unsafe { c::zoghvari_undo(lp, ln, pp, pn, log.as_ptr(), log.len(), start, n) }
+}

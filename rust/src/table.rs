@@ -1,0 +1,149 @@
+//! A table that owns its memory: links, points, and the log with its start.
+
+use crate::{sys, Refusal};
+
+/// How many items of each kind a table has numbers for, each 1 to 4,096.
+#[derive(Clone, Copy, Debug, PartialEq, Eq)]
+pub struct Capacities {
+    pub solids: u16,
+    pub faces: u16,
+    pub loops: u16,
+    pub edges: u16,
+    pub vertices: u16,
+}
+
+impl Capacities {
+    /// The same capacity for each kind.
+    pub const fn all(n: u16) -> Capacities {
+        Capacities { solids: n, faces: n, loops: n, edges: n, vertices: n }
+    }
+
+    pub const fn links_length(self) -> usize {
+        let (s, f, l) = (self.solids as usize, self.faces as usize, self.loops as usize);
+        5 + s + 2 * f + 3 * l + 8 * self.edges as usize + self.vertices as usize
+    }
+
+    pub const fn points_length(self) -> usize {
+        3 * self.vertices as usize
+    }
+
+    fn numbers(self) -> [u16; 5] {
+        [self.solids, self.faces, self.loops, self.edges, self.vertices]
+    }
+}
+
+/// How many items a table has in use, its rings and its holes.
+#[derive(Clone, Copy, Debug, PartialEq, Eq)]
+pub struct Counts {
+    pub solids: usize,
+    pub faces: usize,
+    pub loops: usize,
+    pub edges: usize,
+    pub vertices: usize,
+    pub rings: usize,
+    pub holes: usize,
+}
+
+/// What a run did; the operators done stand also where the next one was refused.
+#[derive(Clone, Copy, Debug, PartialEq, Eq)]
+pub struct Ran {
+    pub refusal: Option<Refusal>,
+    /// Operators carried out.
+    pub done: usize,
+    /// Script bytes they took: where a refused operator begins.
+    pub used: usize,
+}
+
+/// What an undo did; the operators undone stand also where the next one was refused.
+#[derive(Clone, Copy, Debug, PartialEq, Eq)]
+pub struct Undone {
+    pub refusal: Option<Refusal>,
+    pub undone: usize,
+}
+
+/// A table with its log. Nobody else can write into either, so undo by the sum of the `done` counts gives back every byte.
+#[derive(Clone, Debug, PartialEq, Eq)]
+pub struct Table {
+    links: Vec<u16>,
+    points: Vec<i32>,
+    log: Vec<u8>,
+    start: usize,
+}
+
+impl Table {
+    /// An empty table with a log of so many bytes. Refusal 1.
+    pub fn new(capacities: Capacities, log_length: usize) -> Result<Table, Refusal> {
+        let (links, points) = (vec![0; capacities.links_length()], vec![0; capacities.points_length()]);
+        let mut table = Table { links, points, log: vec![0; log_length], start: log_length };
+        table.clear(capacities)?;
+        Ok(table)
+    }
+
+    /// A table of words from elsewhere. Nothing is asked of them here: each call looks for itself and refuses what is wrong.
+    pub fn from_parts(links: Vec<u16>, points: Vec<i32>, log: Vec<u8>, start: usize) -> Table {
+        Table { links, points, log, start }
+    }
+
+    /// The links, points, log and its start, to be kept or handed on.
+    pub fn into_parts(self) -> (Vec<u16>, Vec<i32>, Vec<u8>, usize) {
+        (self.links, self.points, self.log, self.start)
+    }
+
+    /// Empties the table and the log; the log's bytes stay. Refusal 1 where the memory has other lengths than these capacities
+    /// need; the table is then as it was.
+    pub fn clear(&mut self, capacities: Capacities) -> Result<(), Refusal> {
+        let answer = sys::clear(&mut self.links, &mut self.points, self.log.len(), capacities.numbers());
+        if let Some(refusal) = Refusal::of(answer.refusal, 0) {
+            return Err(refusal);
+        }
+        self.start = answer.start;
+        Ok(())
+    }
+
+    /// Whether the table is sound. Refusals 1 and 2.
+    pub fn check(&self) -> Result<(), Refusal> {
+        let answer = sys::check(&self.links, &self.points);
+        Refusal::of(answer.refusal, answer.rule).map_or(Ok(()), Err)
+    }
+
+    /// Refusals 1 and 2.
+    pub fn count(&self) -> Result<Counts, Refusal> {
+        let answer = sys::count(&self.links, &self.points);
+        if let Some(refusal) = Refusal::of(answer.refusal, answer.rule) {
+            return Err(refusal);
+        }
+        let [solids, faces, loops, edges, vertices, rings, holes] = answer.items;
+        Ok(Counts { solids, faces, loops, edges, vertices, rings, holes })
+    }
+
+    /// Carries out a script up to its end or the first refusal, and logs the inverses. Refusals 1 to 9.
+    pub fn run(&mut self, script: &[u8]) -> Ran {
+        let answer = sys::run(&mut self.links, &mut self.points, &mut self.log, self.start, script);
+        self.start = answer.start;
+        Ran { refusal: Refusal::of(answer.refusal, answer.rule), done: answer.done, used: answer.used }
+    }
+
+    /// Takes back the last `n` operators; the log's bytes stay. Refusals 1 to 8 and 11.
+    pub fn undo(&mut self, n: usize) -> Undone {
+        let answer = sys::undo(&mut self.links, &mut self.points, &self.log, self.start, n);
+        self.start = answer.start;
+        Undone { refusal: Refusal::of(answer.refusal, answer.rule), undone: answer.undone }
+    }
+
+    pub fn links(&self) -> &[u16] {
+        &self.links
+    }
+
+    pub fn points(&self) -> &[i32] {
+        &self.points
+    }
+
+    pub fn log(&self) -> &[u8] {
+        &self.log
+    }
+
+    /// Where the log's live part starts; from there on it is the undo script.
+    pub fn start(&self) -> usize {
+        self.start
+    }
+}

@@ -1,0 +1,29 @@
+//! The examples of the specification: capacities 1, 2, 2, 2, 2 and three scripts, each run on what the one before left.
+#![allow(dead_code)] // each test file takes what it needs
+
+use zoghvari::{Capacities, Table};
+
+pub const SMALL: Capacities = Capacities { solids: 1, faces: 2, loops: 2, edges: 2, vertices: 2 };
+pub const B: [u8; 8] = [0x01, 0x01, 0x01, 0x01, 0x01, 0x00, 0x00, 0x00];
+pub const C: [u8; 10] = [0x03, 0x01, 0x00, 0x01, 0x02, 0x00, 0xC8, 0x01, 0x00, 0x00];
+pub const D: [u8; 8] = [0x05, 0x01, 0x01, 0x02, 0x02, 0x02, 0x02, 0x00];
+pub const LOG: usize = 64;
+
+pub fn empty() -> Table {
+    Table::new(SMALL, LOG).expect("the capacities are allowed")
+}
+
+/// The table behind these scripts, each of which has to be accepted whole.
+pub fn after(scripts: &[&[u8]]) -> Table {
+    let mut table = empty();
+    for script in scripts {
+        let ran = table.run(script);
+        assert_eq!((ran.refusal, ran.used), (None, script.len()));
+    }
+    table
+}
+
+/// The live part of the log.
+pub fn live(table: &Table) -> &[u8] {
+    &table.log()[table.start()..]
+}

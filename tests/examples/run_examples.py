@@ -1,0 +1,105 @@
+"""Runs what examples/ and docs/GUIDE.md show: python3 tests/examples/run_examples.py [ARCHIVE]
+
+The C example and the guide's C program are built with the kernel's archive and run; the pocket's script is held to its source,
+to the model, to the solid that it is meant to be, and to the program where that is built. The last line is 'N passed, M failed'.
+"""
+
+import os
+import re
+import subprocess
+import sys
+import tempfile
+
+ROOT = os.path.dirname(os.path.dirname(os.path.dirname(os.path.abspath(__file__))))
+sys.path[:0] = [os.path.join(ROOT, "tests", "model"), os.path.join(ROOT, "examples")]
+import library
+import pocket
+from kernel import program
+from rules import check
+from generate import table_of
+from script import script_bytes
+from tally import Tally
+
+PROGRAM = os.path.join(ROOT, "target", "bin", "zoghvari")
+# 80 x 60 x 30 less the pocket's 50 x 30 x 12 and the hole's 10 x 10 x 18, in cubic millimetres.
+VOLUME = 80 * 60 * 30 - 50 * 30 * 12 - 10 * 10 * 18
+
+
+def read(name, mode="r"):
+    with open(os.path.join(ROOT, name), mode, **({} if "b" in mode else {"encoding": "utf-8"})) as file:
+        return file.read()
+
+
+def output_of(command, data=b""):
+    """What a command prints, with its exit status."""
+    done = subprocess.run(command, input=data, stdout=subprocess.PIPE, timeout=60, check=False)
+    return done.returncode, done.stdout.decode()
+
+
+def c_example(tally, folder, kernel):
+    edit = library.compile_c(["examples/edit.c"], os.path.join(folder, "edit"), kernel)
+    tally.equal("examples/edit.c", output_of([edit]), (0, read("examples/edit.expected")))
+    lines = dict(line.split(None, 1) for line in read("examples/edit.expected").splitlines())
+    tally.equal("before the edits and after the undo", lines["before"], lines["undone"])
+    tally.holds("the edits change something", lines["before"] != lines["edited"])
+
+
+def guide(tally, folder, kernel):
+    """Each whole C program of the guide is built and has to end well, with the output that the guide says."""
+    text = read("docs/GUIDE.md")
+    programs = re.findall(r"```c\n(.*?)```\s+prints\s+```\n(.*?)```", text, re.DOTALL)
+    tally.holds("the guide has a C program", programs)
+    for number, (source, wanted) in enumerate(programs):
+        path = os.path.join(folder, f"guide{number}")
+        with open(path + ".c", "w", encoding="utf-8") as file:
+            file.write(source)
+        tally.equal(f"program {number + 1} of the guide", output_of([library.compile_c([path + ".c"], path, kernel)]), (0, wanted))
+
+
+def pocket_script(tally):
+    part, data, wanted = pocket.pocket(), read("examples/pocket.script", "rb"), read("examples/pocket.expected")
+    tally.equal("pocket.script is what pocket.py writes", data, script_bytes([op for op, _ in part.steps]))
+    tally.equal("pocket.expected is what the model prints", wanted, program(data))
+    table = table_of(part.table)
+    tally.equal("the pocket's table is sound", check(table.links, table.points), (0, 0))
+    tally.equal("the pocket's volume", six_volumes(part.table), 6 * VOLUME * 100 ** 3)
+    tally.equal("its faces are flat", [f for f in part.table.face_solid if not flat(part.table, f)], [])
+    if os.path.exists(PROGRAM):
+        tally.equal("the program on pocket.script", output_of([PROGRAM], data), (0, wanted))
+
+
+def corners(b, loop):
+    return [b.points[b.start[half]] for half in b.cycles[loop]]
+
+
+def six_volumes(b):
+    """Six times the volume: each loop is a fan of triangles, clockwise from outside, so the sum is taken negative."""
+    total = 0
+    for loop in b.loop_face:
+        first, *rest = corners(b, loop)
+        total -= sum(determinant(first, p, q) for p, q in zip(rest, rest[1:]))
+    return total
+
+
+def determinant(a, b, c):
+    return (a[0] * (b[1] * c[2] - b[2] * c[1]) - a[1] * (b[0] * c[2] - b[2] * c[0]) + a[2] * (b[0] * c[1] - b[1] * c[0]))
+
+
+def flat(b, face):
+    """The block's faces lie along the axes: all corners of a face and its rings share one coordinate."""
+    points = [point for loop in b.loops_of_face(face) for point in corners(b, loop)]
+    return any(len({point[axis] for point in points}) == 1 for axis in range(3))
+
+
+def main(arguments):
+    tally, kernel = Tally(), arguments[0] if arguments else None
+    with tempfile.TemporaryDirectory() as folder:
+        c_example(tally, folder, kernel)
+        guide(tally, folder, kernel)
+    pocket_script(tally)
+    print(f"{tally.passed} passed, {tally.failed} failed")
+    return 0 if tally.failed == 0 and tally.passed > 0 else 1
+
+
+if __name__ == "__main__":
+    sys.exit(main(sys.argv[1:]))
