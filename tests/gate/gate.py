@@ -3,7 +3,6 @@
 A step fails as a whole where it exits with another status than 0, prints no such line as its last one, or counts no test:
 a run that was cut short, or that tested nothing, must not pass for a good one.
 """
-import os
 import re
 import subprocess
 import sys
@@ -12,26 +11,23 @@ import time
 CLOSING = re.compile(r"^(\d+) passed, (\d+) failed$")
 
 
-def steps(root):
+def steps():
     """Name and command of each step, in order: cheap ones first, so that a slip shows at once.
 
-    `rt ci` starts by removing target/, so what needs the library or the program comes behind it.
+    `rt ci` starts by removing target/, so what needs the library or the program comes behind it. A step whose file is missing fails.
     """
     found = [
-        ("crates are listed", "tests/gate/listed.py", ["."]),
-        ("the gate itself", "tests/gate/test_gate.py", []),
-        ("model", "tests/model/test_model.py", []),
-        ("rt ci", None, []),
-        ("library against model", "tests/model/compare_library.py", []),
-        ("examples and guide", "tests/examples/run_examples.py", []),
-        ("Rust wrapper", "tests/rust/run_cargo.py", []),
+        ("crates are listed", ["tests/gate/listed.py", "."]),
+        ("the gate itself", ["tests/gate/test_gate.py"]),
+        ("model", ["tests/model/test_model.py"]),
+        ("rows of the examples", ["tests/model/rows.py", "--check"]),
+        ("rt ci", None),
+        ("library against model", ["tests/model/compare_library.py"]),
+        ("examples and guide", ["tests/examples/run_examples.py"]),
+        ("Rust wrapper", ["tests/rust/run_cargo.py"]),
+        ("program against model", ["tests/model/compare_program.py"]),
     ]
-    # the program is compared once its crate is there
-    if os.path.isdir(os.path.join(root, "crates", "zoghvari")):
-        found.append(("program against model", "tests/model/compare_program.py", []))
-    # a step whose file is not there yet is no step; `rt ci` is always one
-    return [(name, [sys.executable, script] + words if script else ["rt", "ci"])
-            for name, script, words in found if script is None or os.path.exists(os.path.join(root, script))]
+    return [(name, [sys.executable] + words if words else ["rt", "ci"]) for name, words in found]
 
 
 def judge(status, output):
@@ -59,7 +55,7 @@ def run_step(root, name, command):
 
 def main(root):
     passed = failed = 0
-    for name, command in steps(root):
+    for name, command in steps():
         p, f = run_step(root, name, command)
         passed, failed = passed + p, failed + f
     print(f"{passed} passed, {failed} failed")

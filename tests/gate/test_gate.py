@@ -22,26 +22,13 @@ def faults(names, lines):
         return listed.faults(tree(folder, names, lines))[1]
 
 
-def step_names(files):
-    """The names of the steps in a repository that has these files."""
-    with tempfile.TemporaryDirectory() as folder:
-        for name in files:
-            os.makedirs(os.path.join(folder, os.path.dirname(name)), exist_ok=True)
-            with open(os.path.join(folder, name), "w", encoding="utf-8"):
-                pass
-        return [name for name, _ in gate.steps(folder)]
-
-
 ROOT = os.path.dirname(os.path.dirname(os.path.dirname(os.path.abspath(__file__))))
-PROGRAM = ["tests/model/compare_program.py", "crates/zoghvari/src/main.rt"]
 
 CASES = [
-    ("`rt ci` is always a step", lambda: step_names([]) == ["rt ci"]),
-    ("a step whose file is there runs behind `rt ci`", lambda: step_names(["tests/rust/run_cargo.py"]) == ["rt ci", "Rust wrapper"]),
-    ("the program is compared once it is there", lambda: step_names(PROGRAM) == ["rt ci", "program against model"]),
-    ("the program is no step before", lambda: step_names(PROGRAM[:1]) == ["rt ci"]),
-    ("this repository's steps are files", lambda: all(os.path.exists(os.path.join(ROOT, command[1]))
-                                                      for name, command in gate.steps(ROOT) if name != "rt ci")),
+    ("`rt ci` is a step", lambda: ("rt ci", ["rt", "ci"]) in gate.steps()),
+    ("every other step's file is there", lambda: all(os.path.exists(os.path.join(ROOT, command[1]))
+                                                     for name, command in gate.steps() if name != "rt ci")),
+    ("a step without its file fails", lambda: gate.judge(2, "can't open file 'none.py'\n") == (0, 1)),
     ("listed crates pass", lambda: faults(["a", "b"], ["a:", "b: a"]) == []),
     ("an unlisted crate is named", lambda: faults(["a", "b"], ["a:"]) == ["crates/b: not listed in crates.txt"]),
     ("a commented crate is not listed", lambda: len(faults(["a"], ["# a:"])) == 1),

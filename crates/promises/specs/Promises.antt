@@ -1,5 +1,7 @@
--- The undo promise (document 01, "Demand 3 in detail"), about the very definitions that the contracts of run and undo cite, and what
--- comes with it.
+-- The undo promise (document 01, "Demand 3 in detail"), and what comes with it.
+-- It is about `runOf` and `undoOf`, the very definitions that the contracts of `zoghvari_run` and `zoghvari_undo` (crate `kernel`) cite: these say
+-- that answer, links, points and log after a call are the definition's, for every input. So what is said here of a chain of such values is said
+-- of the same calls made one after the other on memory that nobody else writes to.
 use mathlib.Core.Path.{_≡_, refl, sym, ap, _∙_, subst}
 use mathlib.Core.Logic.{⊎-elim}
 use mathlib.Core.List.{List, [], _∷_}
