@@ -1,0 +1,6 @@
+pub mod Case
+pub mod Tables
+pub mod RowsRuns
+pub mod RowsRefused
+pub mod RowsSizes
+pub mod Cases

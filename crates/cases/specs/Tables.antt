@@ -1,0 +1,91 @@
+-- The tables and logs that the rows speak of: capacities 1, 2, 2, 2, 2 and a log of eight bytes. What document 01 does not print of them
+-- comes from the model in tests/model.
+use Prim.Native.Nat.{ℕ}
+use mathlib.Core.List.{List, [], _∷_}
+use lib.IntN.{ℤ, pos}
+use lib.ListN.{replicate}
+use Rattle.runs.specs.Run.{State, state}
+
+-- memory as it is lent, with something in every place
+abbrev pub lent : State
+lent = state (replicate 34 7) (replicate 6 (pos 7)) (238 ∷ 238 ∷ 238 ∷ 238 ∷ 238 ∷ 238 ∷ 238 ∷ 238 ∷ []) 3
+
+-- ---- links: the capacities, the solid, two faces, two loops, four half-edges, two vertices
+
+abbrev pub linksEmpty : List ℕ
+linksEmpty =
+    1 ∷ 2 ∷ 2 ∷ 2 ∷ 2 ∷ 0 ∷ 0 ∷ 0 ∷ 0 ∷ 0 ∷ 0 ∷ 0 ∷ 0 ∷ 0 ∷ 0 ∷ 0 ∷ 0 ∷ 0 ∷ 0 ∷ 0 ∷ 0 ∷ 0 ∷ 0 ∷ 0 ∷ 0 ∷ 0 ∷ 0 ∷ 0 ∷ 0 ∷ 0 ∷ 0 ∷ 0 ∷ 0 ∷ 0 ∷ []
+
+-- b: one face with one lone loop
+abbrev pub linksB : List ℕ
+linksB =
+    1 ∷ 2 ∷ 2 ∷ 2 ∷ 2 ∷ 1 ∷ 1 ∷ 1 ∷ 0 ∷ 0 ∷ 1 ∷ 0 ∷ 1 ∷ 0 ∷ 0 ∷ 0 ∷ 0 ∷ 0 ∷ 0 ∷ 0 ∷ 0 ∷ 0 ∷ 0 ∷ 0 ∷ 0 ∷ 0 ∷ 0 ∷ 0 ∷ 0 ∷ 0 ∷ 0 ∷ 0 ∷ 1 ∷ 0 ∷ []
+
+-- c: an edge in that loop
+abbrev pub linksC : List ℕ
+linksC =
+    1 ∷ 2 ∷ 2 ∷ 2 ∷ 2 ∷ 1 ∷ 1 ∷ 1 ∷ 0 ∷ 0 ∷ 1 ∷ 1 ∷ 0 ∷ 0 ∷ 0 ∷ 0 ∷ 1 ∷ 1 ∷ 2 ∷ 2 ∷ 2 ∷ 1 ∷ 1 ∷ 1 ∷ 0 ∷ 0 ∷ 0 ∷ 0 ∷ 0 ∷ 0 ∷ 0 ∷ 0 ∷ 1 ∷ 1 ∷ []
+
+-- d: two faces, two edges
+abbrev pub linksD : List ℕ
+linksD =
+    1 ∷ 2 ∷ 2 ∷ 2 ∷ 2 ∷ 1 ∷ 1 ∷ 1 ∷ 1 ∷ 2 ∷ 1 ∷ 2 ∷ 0 ∷ 2 ∷ 1 ∷ 0 ∷ 1 ∷ 2 ∷ 4 ∷ 4 ∷ 2 ∷ 1 ∷ 3 ∷ 3 ∷ 1 ∷ 1 ∷ 2 ∷ 2 ∷ 2 ∷ 2 ∷ 1 ∷ 1 ∷ 1 ∷ 1 ∷ []
+
+-- e: a ring and a hole
+abbrev pub linksE : List ℕ
+linksE =
+    1 ∷ 2 ∷ 2 ∷ 2 ∷ 2 ∷ 1 ∷ 1 ∷ 1 ∷ 0 ∷ 0 ∷ 1 ∷ 1 ∷ 0 ∷ 1 ∷ 2 ∷ 0 ∷ 1 ∷ 1 ∷ 1 ∷ 1 ∷ 1 ∷ 2 ∷ 2 ∷ 2 ∷ 0 ∷ 0 ∷ 0 ∷ 0 ∷ 0 ∷ 0 ∷ 0 ∷ 0 ∷ 1 ∷ 0 ∷ []
+
+-- ---- points of two vertices, the first at 0 0 0 and the second at c 0 0
+
+abbrev pub pointsAt : ℤ → List ℤ
+pointsAt c = pos 0 ∷ pos 0 ∷ pos 0 ∷ c ∷ pos 0 ∷ pos 0 ∷ []
+
+abbrev pub pointsZero : List ℤ
+pointsZero = pointsAt (pos 0)
+
+-- ---- logs, filled from the end downward
+
+abbrev pub logEmpty : List ℕ
+logEmpty = 238 ∷ 238 ∷ 238 ∷ 238 ∷ 238 ∷ 238 ∷ 238 ∷ 238 ∷ []
+
+-- b: 02 01
+abbrev pub logB : List ℕ
+logB = 238 ∷ 238 ∷ 238 ∷ 238 ∷ 238 ∷ 238 ∷ 2 ∷ 1 ∷ []
+
+-- c adds 04 01
+abbrev pub logC : List ℕ
+logC = 238 ∷ 238 ∷ 238 ∷ 238 ∷ 4 ∷ 1 ∷ 2 ∷ 1 ∷ []
+
+-- d adds 06 04
+abbrev pub logD : List ℕ
+logD = 238 ∷ 238 ∷ 6 ∷ 4 ∷ 4 ∷ 1 ∷ 2 ∷ 1 ∷ []
+
+-- e adds 06 02 and 0A 02 02 00 to that of b
+abbrev pub logE : List ℕ
+logE = 10 ∷ 2 ∷ 2 ∷ 0 ∷ 6 ∷ 2 ∷ 2 ∷ 1 ∷ []
+
+-- ---- tables with their logs
+
+abbrev pub empty : State
+empty = state linksEmpty pointsZero logEmpty 8
+
+abbrev pub tableB : State
+tableB = state linksB pointsZero logB 6
+
+-- with the second vertex at c 0 0
+abbrev pub tableCAt : ℤ → State
+tableCAt c = state linksC (pointsAt c) logC 4
+
+abbrev pub tableC : State
+tableC = tableCAt (pos 100)
+
+abbrev pub tableD : State
+tableD = state linksD (pointsAt (pos 100)) logD 2
+
+abbrev pub tableE : State
+tableE = state linksE pointsZero logE 0
+
+-- all undone: the cleared table, a log of which no byte has changed, its live part empty
+abbrev pub undoneWith : List ℕ → State
+undoneWith log = state linksEmpty pointsZero log 8

@@ -1,0 +1,7 @@
+pub mod Fuel
+pub mod Walks
+pub mod Held
+pub mod Operands
+pub mod Inverse
+pub mod Scripts
+pub mod Instances
