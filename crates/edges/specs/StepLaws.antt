@@ -10,11 +10,11 @@ use Rattle.laws.specs.Bools.{pick}
 use Rattle.script.specs.declared.Operator.{Operator}
 use Rattle.script.specs.Operator.{blankOf, withNumber}
 use Rattle.layout.specs.declared.shape.Shape.{Shape}
-use Rattle.layout.specs.Layout.{loopFace, faceSolid, startOf, loopOf, nextOf, prevOf, setStart, setVertexUsed}
+use Rattle.layout.specs.Layout.{loopFace, faceSolid, startOf, loopOf, nextOf, prevOf, setStart, setVertexUsed, side}
 use Rattle.layout.specs.Mate.{mate, edgeOf}
 use Rattle.euler.specs.declared.records.Half.{Half}
 use Rattle.euler.specs.Surgery.{wayOf, cornerVertex, withPoint, putFace, putLoop, edgeIn, edgeOut, relabelRun, renew}
-use Rattle.euler.specs.Operators.{side, loopsIn, mevLinks, kevLinks, kevInverse, aAlone, bAlone, mefEdge, mefLinks, kefTest, kefEdge, kefLinks, kefInverse, kemrLinks, kemrInverse, mekrEdge, insertAfter, semvLinks, jekvLinks, jekvInverse}
+use Rattle.euler.specs.Operators.{loopsIn, mevLinks, kevLinks, kevInverse, aAlone, bAlone, mefEdge, mefLinks, kefTest, kefEdge, kefLinks, kefInverse, kemrLinks, kemrInverse, mekrEdge, insertAfter, semvLinks, jekvLinks, jekvInverse}
 use Rattle.edges.specs.Parts.{IsHalf, withThree, renewSides, clearEdge, restOf, kefOut, joinHalves}
 
 -- ---- 3 mev, 4 kev

@@ -7,7 +7,7 @@ use crate::parts::half_at;
 use crate::parts::renew_sides;
 use crate::parts::with_three;
 use euler::faces::loops_in;
-use euler::faces::side_of;
+use layout::columns::side_of;
 use euler::records::Half;
 use euler::records::choose;
 use euler::records::corner_vertex;

@@ -15,7 +15,7 @@ use Rattle.laws.specs.Columns.{sweep}
 use Rattle.script.specs.declared.Operator.{Operator}
 use Rattle.script.specs.Operator.{blankOf, withNumber}
 use Rattle.layout.specs.declared.shape.Shape.{Shape}
-use Rattle.layout.specs.Layout.{kind, solidUsed, faceSolid, faceOuter, loopFace, loopFirst, loopIsolated, startOf, loopOf, nextOf, prevOf, vertexUsed, setSolidUsed, setFaceSolid, setFaceOuter, setLoopFace, setStart, setVertexUsed}
+use Rattle.layout.specs.Layout.{kind, solidUsed, faceSolid, faceOuter, loopFace, loopFirst, loopIsolated, startOf, loopOf, nextOf, prevOf, vertexUsed, setSolidUsed, setFaceSolid, setFaceOuter, setLoopFace, setStart, setVertexUsed, side}
 use Rattle.layout.specs.Mate.{mate, edgeOf}
 use Rattle.shells.specs.Shells.{facesLinkedAs}
 use Rattle.euler.specs.Surgery.{some, halfBy, wayOf, corner, cornerVertex, withPoint, putFace, putLoop, putHalf, between, edgeIn, edgeOut, tie, relabelRun, renew}
@@ -48,10 +48,6 @@ facesIn sh x s = countTo (sh .faces) (λ f. eqb (faceSolid sh x f) s)
 -- how many loops face f has
 abbrev pub loopsIn : Shape → List ℕ → ℕ → ℕ
 loopsIn sh x f = countTo (sh .loops) (λ l. eqb (loopFace sh x l) f)
-
--- the face that half-edge k lies in
-abbrev pub side : Shape → List ℕ → ℕ → ℕ
-side sh x k = loopFace sh x (loopOf sh x k)
 
 -- a ring: a loop that is not its face's outer loop
 abbrev pub isRing : Shape → List ℕ → ℕ → Bool

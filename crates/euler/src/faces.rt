@@ -1,21 +1,11 @@
-// What lies in which face: the side of a half-edge, whether a loop is a ring, how many loops a face has.
+// What lies in which face: whether a loop is a ring, how many loops a face has.
 ghost use mathlib.Core.Path.{_≡_};
 ghost use Prim.Native.Nat.{ℕ, _<_, _≤_};
-ghost use Rattle.euler.specs.Operators.{side, isRing, loopsIn};
+ghost use Rattle.euler.specs.Operators.{isRing, loopsIn};
 use crate::scans::count_naming;
 use layout::columns::face_outer;
 use layout::columns::loop_face;
-use layout::columns::loop_of;
 use layout::shape::Shape;
-
-// The face that half-edge k lies in.
-pub fn side_of(links: &[u16], sh: Shape, k: usize) -> usize
-    requires { ⌜ k ≤ 65536 ⌝ }
-    ensures { λ r. ⌜ (r ≡ side sh (now (links .entry)) k) × (r < 65536) ⌝ }
-{
-    let l = loop_of(links, sh, k);
-    loop_face(links, sh, l)
-}
 
 // Loop l is not its face's outer loop.
 pub fn is_ring(links: &[u16], sh: Shape, l: usize) -> bool

@@ -1,3 +1,3 @@
 pub mod Rules
 pub mod Scan
-pub mod ScanLaws
+pub mod TestLaws

@@ -12,7 +12,7 @@ use Rattle.laws.specs.Sums.{countTo}
 use Rattle.laws.specs.Walks.{meets}
 use Rattle.laws.specs.Closure.{linkedb}
 use Rattle.layout.specs.declared.shape.Shape.{Shape}
-use Rattle.layout.specs.Layout.{solidUsed, faceSolid, faceOuter, loopFace, loopFirst, loopIsolated, startOf, loopOf, nextOf, prevOf, vertexUsed}
+use Rattle.layout.specs.Layout.{solidUsed, faceSolid, faceOuter, loopFace, loopFirst, loopIsolated, startOf, loopOf, nextOf, prevOf, vertexUsed, side}
 use Rattle.layout.specs.Mate.{mate}
 use Rattle.layout.specs.Points.{inRange, isZero}
 
@@ -176,10 +176,6 @@ rule5 sh x = every (allTo (sh .vertices) (vertexEither sh x) ∷ allTo (2 * sh .
 
 -- ---- rule 6: the faces on an edge's two sides lie in one solid, and any two faces of a solid are linked by a chain of faces,
 -- neighbours sharing an edge
-
--- the face that half-edge k lies in
-abbrev pub side : Shape → List ℕ → ℕ → ℕ
-side sh x k = loopFace sh x (loopOf sh x k)
 
 unfoldable pub halfSides : Shape → List ℕ → ℕ → Bool
 halfSides sh x k = whereSome (startOf sh x k) (eqb (faceSolid sh x (side sh x k)) (faceSolid sh x (side sh x (mate k))))

@@ -2,13 +2,14 @@
 // mate starts and names k's loop, no half-edge of a loop comes before its first, an edge's two sides lie in one solid.
 ghost use mathlib.Core.Path.{_≡_};
 ghost use Prim.Native.Nat.{ℕ, _<_, _≤_};
-ghost use Rattle.items.specs.Rules.{halfLinks, firstNames, side, halfSides};
+ghost use Rattle.items.specs.Rules.{halfLinks, firstNames, halfSides};
 use layout::columns::face_solid;
 use layout::columns::loop_face;
 use layout::columns::loop_first;
 use layout::columns::loop_of;
 use layout::columns::next_of;
 use layout::columns::prev_of;
+use layout::columns::side_of;
 use layout::columns::start_of;
 use layout::mates::mate_of;
 use layout::shape::Shape;
@@ -45,14 +46,6 @@ pub fn first_names(links: &[u16], sh: Shape, n: usize) -> bool
     let k = loop_first(links, sh, n);
     let l = loop_of(links, sh, k);
     (k == 0) | (l == n)
-}
-
-// The face that half-edge n lies in.
-pub fn side_of(links: &[u16], sh: Shape, n: usize) -> usize
-    requires { ⌜ n ≤ 65536 ⌝ }
-    ensures { λ r. ⌜ (r ≡ side sh (now (links .entry)) n) × (r < 65536) ⌝ }
-{
-    loop_face(links, sh, loop_of(links, sh, n))
 }
 
 // Half-edge n is free, or its face and its mate's face lie in one solid.

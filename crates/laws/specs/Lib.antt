@@ -15,3 +15,4 @@ pub mod Closure
 pub mod Union
 pub mod Instances
 pub mod LinearInstances
+pub mod ScanLaws

@@ -105,3 +105,7 @@ vertexUsed sh = col (kind (sh .vertex0) 1) 0
 
 abbrev pub setVertexUsed : Shape → List ℕ → ℕ → ℕ → List ℕ
 setVertexUsed sh = store (kind (sh .vertex0) 1) 0
+
+-- the face that half-edge k lies in
+abbrev pub side : Shape → List ℕ → ℕ → ℕ
+side sh x k = loopFace sh x (loopOf sh x k)

@@ -1,7 +1,7 @@
 // The columns of a table: one word of each kind of record by name. The field's place is said here and nowhere else.
 ghost use mathlib.Core.Path.{_≡_};
 ghost use Prim.Native.Nat.{ℕ, _<_, _≤_};
-ghost use Rattle.layout.specs.Layout.{solidUsed, setSolidUsed, faceSolid, setFaceSolid, faceOuter, setFaceOuter, loopFace, setLoopFace, loopFirst, setLoopFirst, loopIsolated, setLoopIsolated, startOf, setStart, loopOf, setLoop, nextOf, setNext, prevOf, setPrev, vertexUsed, setVertexUsed};
+ghost use Rattle.layout.specs.Layout.{solidUsed, setSolidUsed, faceSolid, setFaceSolid, faceOuter, setFaceOuter, loopFace, setLoopFace, loopFirst, setLoopFirst, loopIsolated, setLoopIsolated, startOf, setStart, loopOf, setLoop, nextOf, setNext, prevOf, setPrev, vertexUsed, setVertexUsed, side};
 use crate::cells::cell;
 use crate::cells::put_cell;
 use crate::shape::Shape;
@@ -169,4 +169,12 @@ pub fn set_vertex_used(links: &mut [u16], sh: Shape, n: usize, v: usize)
     ensures { λ _. ⌜ now (links .exit) ≡ setVertexUsed sh (now (links .entry)) n v ⌝ }
 {
     put_cell(links, sh.vertex0, 1, 0, n, v);
+}
+
+// The face that half-edge n lies in.
+pub fn side_of(links: &[u16], sh: Shape, n: usize) -> usize
+    requires { ⌜ n ≤ 65536 ⌝ }
+    ensures { λ r. ⌜ (r ≡ side sh (now (links .entry)) n) × (r < 65536) ⌝ }
+{
+    loop_face(links, sh, loop_of(links, sh, n))
 }

@@ -16,11 +16,11 @@ use Rattle.laws.specs.Walks.{Used, allMet}
 use Rattle.laws.specs.Marks.{Labelled, met-all-cycles, cycles-all-met}
 use Rattle.laws.specs.Closure.{Edge, linked-sound, linked-complete}
 use Rattle.layout.specs.declared.shape.Shape.{Shape}
-use Rattle.layout.specs.Layout.{faceSolid, loopFirst, startOf, loopOf, nextOf, vertexUsed}
+use Rattle.layout.specs.Layout.{faceSolid, loopFirst, startOf, loopOf, nextOf, vertexUsed, side}
 use Rattle.layout.specs.Mate.{mate}
 use Rattle.orbits.specs.OrbitsLaws.{Half, loops-labelled, vertices-labelled}
 use Rattle.shells.specs.Shells.{edgeUsed, sideA, sideB}
-use Rattle.items.specs.Rules.{halfUsed, faceIn, halfLinks, firstNames, halfInLoop, rule4, starter, around, vertexEither, halfAtVertex, rule5, side, halfSides, linked, faceLinked, rule6}
+use Rattle.items.specs.Rules.{halfUsed, faceIn, halfLinks, firstNames, halfInLoop, rule4, starter, around, vertexEither, halfAtVertex, rule5, halfSides, linked, faceLinked, rule6}
 use Rattle.rules.specs.Says.{Says, says-all, says-where, says-true}
 use Rattle.rules.specs.RulesSay.{Rule1, Rule2, HalfLinks, VertexEither, says-halfLinks, says-firstNames, says-vertexEither, says-halfSides}
 use Rattle.rules.specs.RuleFacts.{loop-facts, vertex-facts, sided}

@@ -6,12 +6,11 @@ use Prim.Native.Nat.{ℕ, _-_, _*_, _≤_}
 use native.Mathlib.Omega.{arith}
 use lib.IntN.{ℤ}
 use Rattle.layout.specs.declared.shape.Shape.{Shape}
-use Rattle.layout.specs.Layout.{loopFirst, startOf, loopOf, nextOf}
+use Rattle.layout.specs.Layout.{loopFirst, startOf, loopOf, nextOf, side}
 use Rattle.layout.specs.Mate.{mate}
 use Rattle.layout.specs.MateLaws.{mate-even}
 use Rattle.orbits.specs.OrbitsLaws.{Half, NextFacts, LoopFacts, VertexFacts}
 use Rattle.shells.specs.Shells.{Sided}
-use Rattle.items.specs.Rules.{side}
 use Rattle.rules.specs.Says.{says-some}
 use Rattle.rules.specs.RulesSay.{Together, OnlyWith, Rule1, Rule2, HalfLinks}
 

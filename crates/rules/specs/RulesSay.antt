@@ -7,11 +7,11 @@ use Prim.Native.Nat.{ℕ, _*_, _≤_}
 use lib.IntN.{ℤ, pos, negsuc}
 use lib.Signed.{_≤ℤ_}
 use Rattle.layout.specs.declared.shape.Shape.{Shape}
-use Rattle.layout.specs.Layout.{solidUsed, faceSolid, faceOuter, loopFace, loopFirst, loopIsolated, startOf, loopOf, nextOf, prevOf, vertexUsed}
+use Rattle.layout.specs.Layout.{solidUsed, faceSolid, faceOuter, loopFace, loopFirst, loopIsolated, startOf, loopOf, nextOf, prevOf, vertexUsed, side}
 use Rattle.layout.specs.Mate.{mate}
 use Rattle.layout.specs.Points.{coordinate, rangeTest, zeroTest}
 use Rattle.rules.specs.Says.{Says, reword, says-le, says-eq, says-some, says-leZ, says-and, says-or, says-where, says-all, last, more, says-every}
-use Rattle.items.specs.Rules.{together, onlyWith, faceIn, solidRange, faceRange, loopRange, halfRange, vertexRange, rule1, solidNames, faceNames, loopNames, halfNames, rule2, loopEither, rule3, halfLinks, firstNames, isolatedIn, starter, vertexEither, side, halfSides}
+use Rattle.items.specs.Rules.{together, onlyWith, faceIn, solidRange, faceRange, loopRange, halfRange, vertexRange, rule1, solidNames, faceNames, loopNames, halfNames, rule2, loopEither, rule3, halfLinks, firstNames, isolatedIn, starter, vertexEither, halfSides}
 
 -- ---- small statements
 

@@ -2,6 +2,5 @@ pub mod Forest
 pub mod ForestLaws
 pub mod Shells
 pub mod ShellsLaws
-pub mod ScanLaws
 pub mod RuleLaws
 pub mod Instances

@@ -15,8 +15,8 @@ use Rattle.laws.specs.Linked.{Linked, link, map-linked, carry}
 use Rattle.laws.specs.Walks.{Used}
 use Rattle.laws.specs.Closure.{Edge, linkedb, linked-sound, linked-complete}
 use Rattle.layout.specs.declared.shape.Shape.{Shape}
-use Rattle.layout.specs.Layout.{faceSolid, loopOf}
-use Rattle.shells.specs.Shells.{side, sideAs, sideA, sideB, edgeUsed, within, joins, Joins, Ends, Sided, linkedBy, facesLinked, faceWhole, shellsWhole}
+use Rattle.layout.specs.Layout.{faceSolid, loopOf, side}
+use Rattle.shells.specs.Shells.{sideAs, sideA, sideB, edgeUsed, within, joins, Joins, Ends, Sided, linkedBy, facesLinked, faceWhole, shellsWhole}
 use Rattle.shells.specs.ShellsLaws.{within-T, T-within, joins-T, T-joins, ends}
 
 -- what follows `||` matters only where the first fails

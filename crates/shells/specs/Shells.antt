@@ -12,12 +12,8 @@ use Rattle.laws.specs.Walks.{Used}
 use Rattle.laws.specs.Closure.{Edge, linkedb}
 use Rattle.laws.specs.Union.{root, Classes}
 use Rattle.layout.specs.declared.shape.Shape.{Shape}
-use Rattle.layout.specs.Layout.{faceSolid, loopFace, startOf, loopOf}
+use Rattle.layout.specs.Layout.{faceSolid, loopFace, startOf, loopOf, side}
 use Rattle.shells.specs.Forest.{Forest}
-
--- the face that half-edge k lies in
-abbrev pub side : Shape → List ℕ → ℕ → ℕ
-side sh x k = loopFace sh x (loopOf sh x k)
 
 -- and once loop l lies in face t. Loop 0 is none and lies in face 0, so with l = t = 0 it is the table as it is
 abbrev pub sideAs : Shape → List ℕ → ℕ → ℕ → ℕ → ℕ

@@ -14,10 +14,10 @@ use Rattle.laws.specs.Walks.{Used}
 use Rattle.laws.specs.Closure.{linkedb}
 use Rattle.laws.specs.Union.{root, SameRoots, United, classes-start, classes-none, classes-skip, classes-edge, classes-test}
 use Rattle.layout.specs.declared.shape.Shape.{Shape}
-use Rattle.layout.specs.Layout.{faceSolid, loopFace, loopOf}
+use Rattle.layout.specs.Layout.{faceSolid, loopFace, loopOf, side}
 use Rattle.shells.specs.Forest.{Apart}
 use Rattle.shells.specs.ForestLaws.{apart-forest, forest-short, forest-united}
-use Rattle.shells.specs.Shells.{side, sideAs, sideA, sideB, edgeUsed, within, joins, Ends, linkedBy, faceWhole, oneRoot, Shells, Joined}
+use Rattle.shells.specs.Shells.{sideAs, sideA, sideB, edgeUsed, within, joins, Ends, linkedBy, faceWhole, oneRoot, Shells, Joined}
 
 -- ---- tests
 

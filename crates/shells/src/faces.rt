@@ -2,9 +2,10 @@
 ghost use mathlib.Core.Path.{_≡_};
 ghost use Prim.Native.Nat.{ℕ, _+_, _≤_, _<_};
 ghost use lib.ListN.{length, getD};
+ghost use Rattle.layout.specs.Layout.{side};
 ghost use Rattle.laws.specs.Union.{SameRoots};
 ghost use Rattle.shells.specs.Forest.{Forest};
-ghost use Rattle.shells.specs.Shells.{side, sideAs, within, joins, facesLinkedAs, faceWhole, shellsWhole, oneRoot, Shells, Joined};
+ghost use Rattle.shells.specs.Shells.{sideAs, within, joins, facesLinkedAs, faceWhole, shellsWhole, oneRoot, Shells, Joined};
 use crate::forest::find_root;
 use crate::forest::separate;
 use crate::forest::unite;

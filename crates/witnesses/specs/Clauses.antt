@@ -11,10 +11,10 @@ use Rattle.laws.specs.Every.{every, every-T, T-every}
 use Rattle.laws.specs.Search.{least, Least, none-is, one-is, leastFrom-is}
 use Rattle.script.specs.declared.Operator.{Operator}
 use Rattle.layout.specs.declared.shape.Shape.{Shape}
-use Rattle.layout.specs.Layout.{faceOuter, loopFace, loopIsolated, startOf, loopOf, nextOf}
+use Rattle.layout.specs.Layout.{faceOuter, loopFace, loopIsolated, startOf, loopOf, nextOf, side}
 use Rattle.layout.specs.Mate.{mate, edgeOf}
 use Rattle.euler.specs.Surgery.{some, itemOf, corner}
-use Rattle.euler.specs.Operators.{faceIn, facesIn, loopsIn, side, isRing, linkedAfter, sharesOutside, kvsfTest, kevTest, mefTest, kefTest, kemrTest, mekrTest, kfmrhTest, mfkrhTest, jekvTest, rmovTest}
+use Rattle.euler.specs.Operators.{faceIn, facesIn, loopsIn, isRing, linkedAfter, sharesOutside, kvsfTest, kevTest, mefTest, kefTest, kemrTest, mekrTest, kfmrhTest, mfkrhTest, jekvTest, rmovTest}
 use Rattle.euler.specs.Exec.{conditions, condition}
 
 -- ---- the clauses of each operator, in document 01's order; 1 mvsf and 11 semv have none

@@ -8,9 +8,9 @@ use native.Mathlib.Omega.{arith}
 use lib.IntN.{ℤ}
 use Rattle.laws.specs.Linked.{carry}
 use Rattle.layout.specs.declared.shape.Shape.{Shape}
-use Rattle.layout.specs.Layout.{solidUsed, faceSolid, faceOuter, loopFace, loopIsolated, loopOf}
+use Rattle.layout.specs.Layout.{solidUsed, faceSolid, faceOuter, loopFace, loopIsolated, loopOf, side}
 use Rattle.layout.specs.Mate.{mate}
-use Rattle.euler.specs.Operators.{faceIn, facesIn, loopsIn, side}
+use Rattle.euler.specs.Operators.{faceIn, facesIn, loopsIn}
 use Rattle.validity.specs.Sound.{In, HalfUsed}
 use Rattle.validity.specs.Labels.{LeastIs, label-found, label-some, none-label, many-one, one-many}
 use Rattle.validity.specs.Good.{Good, own}

@@ -5,7 +5,7 @@ use Rattle.edges.proofs.mef_kef.kef_fits.Tie as tie
 use Rattle.edges.proofs.mef_kef.kef_fits.Reads as reads
 use Rattle.edges.proofs.mef_kef.kef_fits.Lts as lts
 use Rattle.euler.proofs.faces.loops_in.Reads as loops-in-reads
-use Rattle.euler.proofs.faces.side_of.Reads as side-of-reads
+use Rattle.layout.proofs.columns.side_of.Reads as side-of-reads
 use Rattle.layout.proofs.mates.mate_of.Reads as mate-of-reads
 
 -- src/mef_kef.rt:118:9

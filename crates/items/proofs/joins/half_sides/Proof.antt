@@ -7,7 +7,7 @@ use Rattle.items.proofs.joins.half_sides.Lts as lts
 use Rattle.layout.proofs.columns.face_solid.Reads as face-solid-reads
 use Rattle.layout.proofs.columns.start_of.Reads as start-of-reads
 use Rattle.layout.proofs.mates.mate_of.Reads as mate-of-reads
-use Rattle.items.proofs.joins.side_of.Reads as side-of-reads
+use Rattle.layout.proofs.columns.side_of.Reads as side-of-reads
 
 -- src/joins.rt:56:9
 start-of-requires : tie.Need-start-of-requires

@@ -5,7 +5,7 @@ use native.Mathlib.Omega.{arith}
 use borrow.Author.Needs.{needs}
 use Rattle.laws.specs.Search.{allTo}
 use Rattle.items.specs.Scan.{itemTest}
-use Rattle.items.specs.ScanLaws.{all-start, all-turn, all-fail, all-end}
+use Rattle.laws.specs.ScanLaws.{all-start, all-turn, all-fail, all-end}
 use Rattle.items.proofs.scan.all_items.Statement.{statement}
 use Rattle.items.proofs.scan.all_items.Tie as tie
 use Rattle.items.proofs.scan.all_items.Reads as reads

@@ -1,5 +1,5 @@
 use Rattle.items.specs.Scan.{itemTest}
-use Rattle.items.specs.ScanLaws.{by-test}
+use Rattle.items.specs.TestLaws.{by-test}
 use borrow.Author.Needs.{needs}
 use Rattle.items.proofs.scan.item_test.Statement.{statement}
 use Rattle.items.proofs.scan.item_test.Tie as tie

@@ -5,7 +5,7 @@ use native.Mathlib.Omega.{arith}
 use borrow.Author.Needs.{needs}
 use Rattle.laws.specs.Search.{allTo}
 use Rattle.rules.specs.Labels.{labelTest}
-use Rattle.items.specs.ScanLaws.{all-start, all-turn, all-fail, all-end}
+use Rattle.laws.specs.ScanLaws.{all-start, all-turn, all-fail, all-end}
 use Rattle.rules.proofs.labels.all_labels.Statement.{statement}
 use Rattle.rules.proofs.labels.all_labels.Tie as tie
 use Rattle.rules.proofs.labels.all_labels.Reads as reads

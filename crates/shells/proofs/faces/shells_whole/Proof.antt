@@ -4,10 +4,11 @@ use Prim.Native.Nat.{ℕ, _-_, _≤_}
 use native.Mathlib.Omega.{arith}
 use lib.ListN.{length-replicate}
 use borrow.Author.Needs.{needs}
+use Rattle.layout.specs.Layout.{side}
 use Rattle.laws.specs.Search.{allTo}
-use Rattle.shells.specs.Shells.{side, faceWhole, Shells}
+use Rattle.shells.specs.Shells.{faceWhole, Shells}
 use Rattle.shells.specs.ShellsLaws.{shells-here}
-use Rattle.shells.specs.ScanLaws.{all-start, all-turn, all-fail, all-end}
+use Rattle.laws.specs.ScanLaws.{all-start, all-turn, all-fail, all-end}
 use Rattle.shells.proofs.faces.shells_whole.Statement.{statement}
 use Rattle.shells.proofs.faces.shells_whole.Tie as tie
 use Rattle.shells.proofs.faces.shells_whole.Reads as reads

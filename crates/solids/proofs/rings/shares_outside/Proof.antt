@@ -3,7 +3,7 @@ use Rattle.solids.proofs.rings.shares_outside.Statement.{statement}
 use Rattle.solids.proofs.rings.shares_outside.Tie as tie
 use Rattle.solids.proofs.rings.shares_outside.Reads as reads
 use Rattle.solids.proofs.rings.shares_outside.Lts as lts
-use Rattle.euler.proofs.faces.side_of.Reads as side-of-reads
+use Rattle.layout.proofs.columns.side_of.Reads as side-of-reads
 use Rattle.layout.proofs.columns.loop_face.Reads as loop-face-reads
 use Rattle.layout.proofs.columns.loop_of.Reads as loop-of-reads
 use Rattle.layout.proofs.columns.start_of.Reads as start-of-reads

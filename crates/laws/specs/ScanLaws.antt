@@ -1,21 +1,12 @@
 -- A scan of 1..n for any test: k items have passed, and the next one passes, fails, or is past the end.
 use mathlib.Core.Path.{_≡_, refl, sym, _∙_}
 use mathlib.Core.Bool.{Bool, true, false, not}
-use mathlib.Core.List.{List}
-use Prim.Native.Nat.{ℕ, suc, _+_, _≤_, _<_}
+use Prim.Native.Nat.{ℕ, _+_, _≤_, _<_}
 use native.Mathlib.Numerals.{add-one}
 use native.Mathlib.Omega.{arith}
-use lib.IntN.{ℤ}
 use borrow.Author.Tests.{not-true, not-false}
-use Rattle.laws.specs.Bools.{T-false, true-T, false-T}
+use Rattle.laws.specs.Bools.{T-false, false-T}
 use Rattle.laws.specs.Search.{allTo, all-at}
-use Rattle.layout.specs.declared.shape.Shape.{Shape}
-use Rattle.items.specs.declared.scan.Test.{Test}
-use Rattle.items.specs.Scan.{itemTest}
-
--- the arm that was taken is the test's own
-pub by-test : (test t : Test) → test ≡ t → (sh : Shape) (x : List ℕ) (p : List ℤ) (n : ℕ) (r : Bool) → r ≡ itemTest t sh x p n → r ≡ itemTest test sh x p n
-by-test test t e sh x p n r h = rw e h
 
 -- none is passed at first
 pub all-start : (p : ℕ → Bool) → allTo 0 p ≡ true

@@ -1,0 +1,13 @@
+-- A scan's test, chosen by its name.
+use mathlib.Core.Path.{_≡_}
+use mathlib.Core.Bool.{Bool}
+use mathlib.Core.List.{List}
+use Prim.Native.Nat.{ℕ}
+use lib.IntN.{ℤ}
+use Rattle.layout.specs.declared.shape.Shape.{Shape}
+use Rattle.items.specs.declared.scan.Test.{Test}
+use Rattle.items.specs.Scan.{itemTest}
+
+-- the arm that was taken is the test's own
+pub by-test : (test t : Test) → test ≡ t → (sh : Shape) (x : List ℕ) (p : List ℤ) (n : ℕ) (r : Bool) → r ≡ itemTest t sh x p n → r ≡ itemTest test sh x p n
+by-test test t e sh x p n r h = rw e h
