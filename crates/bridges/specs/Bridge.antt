@@ -2,26 +2,17 @@
 -- from c to d and kemr from d to c; what is said of the two together stands here once.
 use mathlib.Core.Path.{_≡_, sym, ap, _∙_, subst}
 use mathlib.Core.Logic.{_≢_, _⊎_, inl, inr, ⊎-elim}
-use mathlib.Core.List.{List}
 use Prim.Native.Nat.{ℕ, _+_, _-_, _*_}
 use native.Mathlib.Omega.{arith}
 use lib.Dec.{eqb}
-use lib.IntN.{ℤ}
 use Rattle.laws.specs.Bools.{split, eqb-other}
 use Rattle.layout.specs.declared.shape.Shape.{Shape}
 use Rattle.layout.specs.Mate.{mate}
 use Rattle.validity.specs.Fields.{Capacity, SolidUsed, Solid, Outer, Face, First, Isolated, Start, Loop, Next, Prev, VertexUsed, Columns}
 use Rattle.validity.specs.Mates.{mate-other}
-use Rattle.validity.specs.EdgeBack.{Zero}
-use Rattle.validity.specs.Sound.{In, halves, HalfUsed, side, Sound}
-use Rattle.validity.specs.Labels.{none-label}
+use Rattle.validity.specs.EdgeIn.{Zero}
+use Rattle.validity.specs.Sound.{In, halves, HalfUsed, side}
 use Rattle.validity.specs.WithDummies.{extended, Dummy, Member, upTo-low, dummy-of, dummy-loop, dummy-start}
-
--- no half-edge names an isolated loop
-pub unnamed : {sh : Shape} {p : List ℤ} {c : Columns} → Sound sh p c → (m : ℕ) → In (sh .loops) m → c Isolated m ≢ 0 → (i : ℕ) → In (2 * sh .edges) i → c Loop i ≢ m
-unnamed {sh} {c = c} s m y h i j z =
-    let r = s .loop m y (λ e. h (s .loop-free m y e .1)) in
-    ⊎-elim (λ q. h (q .1)) (λ q. none-label (2 * sh .edges) (c Loop) m (sym (r .first) ∙ q .0) i j z) (r .either)
 
 -- ---- corners
 
@@ -61,8 +52,8 @@ corner-member {sh} {c} {l} {N = N} i z = ⊎-elim
 
 -- ---- the two tables
 
--- c has the loops l and l2, d the bridge k between the corner of l, vertex u1, between P1 and N1, and the corner of l2, vertex u2, between P2 and N2
-pub record Bridged (sh : Shape) (c d : Columns) (k l l2 u1 P1 N1 u2 P2 N2 : ℕ) : Type 0 where
+-- c has two corners of two loops of a face, one of them a ring, and a free edge
+pub record Ends (sh : Shape) (c : Columns) (k l l2 u1 P1 N1 u2 P2 N2 : ℕ) : Type 0 where
   pub half-in : In (2 * sh .edges) k
   pub mate-in : In (2 * sh .edges) (mate k)
   pub loop-in : In (sh .loops) l
@@ -80,6 +71,10 @@ pub record Bridged (sh : Shape) (c d : Columns) (k l l2 u1 P1 N1 u2 P2 N2 : ℕ)
   pub zero-k : Zero (halves c) k
   pub zero-a : Zero (halves c) (mate k)
   pub keeps : (i : ℕ) → HalfUsed sh c i → c Loop (c Next i) ≡ c Loop i
+
+-- c has the loops l and l2, d the bridge k between the corner of l, vertex u1, between P1 and N1, and the corner of l2, vertex u2, between P2 and N2
+pub record Bridged (sh : Shape) (c d : Columns) (k l l2 u1 P1 N1 u2 P2 N2 : ℕ) : Type 0 where
+  pub ends : Ends sh c k l l2 u1 P1 N1 u2 P2 N2
   pub start-k : d Start k ≡ u1
   pub start-a : d Start (mate k) ≡ u2
   pub start-o : (i : ℕ) → i ≢ k → i ≢ mate k → d Start i ≡ c Start i
@@ -114,27 +109,27 @@ pub record Bridged (sh : Shape) (c d : Columns) (k l l2 u1 P1 N1 u2 P2 N2 : ℕ)
 module _ {sh : Shape} {c d : Columns} {k l l2 u1 P1 N1 u2 P2 N2 : ℕ} (b : Bridged sh c d k l l2 u1 P1 N1 u2 P2 N2) where
   -- the two halves differ
   pub ka : k ≢ mate k
-  ka = mate-other k (b .half-in .0)
+  ka = mate-other k (b .ends .half-in .0)
 
   -- half-edges of c are neither
   pub off-k : (i : ℕ) → HalfUsed sh c i → i ≢ k
-  off-k i w e = w .2 (ap (c Start) e ∙ b .zero-k .s)
+  off-k i w e = w .2 (ap (c Start) e ∙ b .ends .zero-k .s)
 
   -- nor its mate
   pub off-a : (i : ℕ) → HalfUsed sh c i → i ≢ mate k
-  off-a i w e = w .2 (ap (c Start) e ∙ b .zero-a .s)
+  off-a i w e = w .2 (ap (c Start) e ∙ b .ends .zero-a .s)
 
   -- nor are members of c, dummies included
   pub mem-k : (i : ℕ) → Member sh c i → i ≢ k
-  mem-k i = ⊎-elim (λ w. off-k i w) (λ w e. omega (arith, w .0, b .half-in .1, e))
+  mem-k i = ⊎-elim (λ w. off-k i w) (λ w e. omega (arith, w .0, b .ends .half-in .1, e))
 
   -- the same for the mate
   pub mem-a : (i : ℕ) → Member sh c i → i ≢ mate k
-  mem-a i = ⊎-elim (λ w. off-a i w) (λ w e. omega (arith, w .0, b .mate-in .1, e))
+  mem-a i = ⊎-elim (λ w. off-a i w) (λ w e. omega (arith, w .0, b .ends .mate-in .1, e))
 
   -- the dummies of the two loops differ
   pub D21 : 2 * sh .edges + l2 ≢ 2 * sh .edges + l
-  D21 e = b .two (omega (arith, e))
+  D21 e = b .ends .two (omega (arith, e))
 
   -- the same the other way round
   pub D12 : 2 * sh .edges + l ≢ 2 * sh .edges + l2
@@ -142,11 +137,11 @@ module _ {sh : Shape} {c d : Columns} {k l l2 u1 P1 N1 u2 P2 N2 : ℕ} (b : Brid
 
   -- in d all these and the two are in use
   pub new-k : HalfUsed sh d k
-  new-k = (b .half-in .0, b .half-in .1, λ z. omega (arith, b .in-1 .0, sym (b .start-k) ∙ z))
+  new-k = (b .ends .half-in .0, b .ends .half-in .1, λ z. omega (arith, b .ends .in-1 .0, sym (b .start-k) ∙ z))
 
   -- and the mate
   pub new-a : HalfUsed sh d (mate k)
-  new-a = (b .mate-in .0, b .mate-in .1, λ z. omega (arith, b .in-2 .0, sym (b .start-a) ∙ z))
+  new-a = (b .ends .mate-in .0, b .ends .mate-in .1, λ z. omega (arith, b .ends .in-2 .0, sym (b .start-a) ∙ z))
 
   -- each of c is in use in d
   pub half-stays : (i : ℕ) → HalfUsed sh c i → HalfUsed sh d i
@@ -162,7 +157,7 @@ module _ {sh : Shape} {c d : Columns} {k l l2 u1 P1 N1 u2 P2 N2 : ℕ} (b : Brid
 
   -- one that names no loop in c
   pub free-loop : (i : ℕ) → c Loop i ≡ 0 → c Loop i ≢ l2
-  free-loop i z e = omega (arith, b .ring-in .0, sym e ∙ z)
+  free-loop i z e = omega (arith, b .ends .ring-in .0, sym e ∙ z)
 
   -- dummies of other loops are the same
   pub dummy-stays : (i : ℕ) → i - 2 * sh .edges ≢ l → i - 2 * sh .edges ≢ l2 → Dummy sh c i → Dummy sh d i
@@ -179,22 +174,22 @@ module _ {sh : Shape} {c d : Columns} {k l l2 u1 P1 N1 u2 P2 N2 : ℕ} (b : Brid
   -- the loop of a half-edge of c lies in the same face
   pub side-same : (i : ℕ) → HalfUsed sh c i → side d i ≡ side c i
   side-same i w = split (c Loop i) l2
-      (λ e. ap (d Face) (b .loop-2 i (w .0, w .1) e) ∙ b .face-o l (b .two) ∙ sym (b .one-face) ∙ ap (c Face) (sym e))
+      (λ e. ap (d Face) (b .loop-2 i (w .0, w .1) e) ∙ b .face-o l (b .ends .two) ∙ sym (b .ends .one-face) ∙ ap (c Face) (sym e))
       (λ e. ap (d Face) (b .loop-o i (off-k i w) (off-a i w) e) ∙ b .face-o _ e)
 
   -- the bridge lies in the face of both loops
   pub side-k : side d k ≡ c Face l
-  side-k = ap (d Face) (b .loop-k) ∙ b .face-o l (b .two)
+  side-k = ap (d Face) (b .loop-k) ∙ b .face-o l (b .ends .two)
 
   -- so does its mate
   pub side-a : side d (mate k) ≡ c Face l
-  side-a = ap (d Face) (b .loop-a) ∙ b .face-o l (b .two)
+  side-a = ap (d Face) (b .loop-a) ∙ b .face-o l (b .ends .two)
 
   -- another loop is named by the same half-edges
   pub same-name : (m : ℕ) → In (sh .loops) m → m ≢ l → m ≢ l2 → (i : ℕ) → In (2 * sh .edges) i → eqb (c Loop i) m ≡ eqb (d Loop i) m
   same-name m y e f i j = split i k
-      (λ z. neither (λ q. omega (arith, y .0, sym q ∙ ap (c Loop) z ∙ b .zero-k .l)) (ap (d Loop) z ∙ b .loop-k))
-      (λ z. split i (mate k) (λ z′. neither (λ q. omega (arith, y .0, sym q ∙ ap (c Loop) z′ ∙ b .zero-a .l)) (ap (d Loop) z′ ∙ b .loop-a))
+      (λ z. neither (λ q. omega (arith, y .0, sym q ∙ ap (c Loop) z ∙ b .ends .zero-k .l)) (ap (d Loop) z ∙ b .loop-k))
+      (λ z. split i (mate k) (λ z′. neither (λ q. omega (arith, y .0, sym q ∙ ap (c Loop) z′ ∙ b .ends .zero-a .l)) (ap (d Loop) z′ ∙ b .loop-a))
       (λ z′. split (c Loop i) l2 (λ q. neither (λ q′. f (sym q′ ∙ q)) (b .loop-2 i j q)) (λ q. ap (λ w. eqb w m) (sym (b .loop-o i z z′ q)))))
     where
       -- where neither names m the tests agree

@@ -8,17 +8,19 @@ use lib.Dec.{eqb}
 use lib.IntN.{ℤ}
 use Rattle.laws.specs.Bools.{pick, split, eqb-same, eqb-other}
 use Rattle.laws.specs.Update.{upd-same, upd-off}
-use Rattle.laws.specs.Permutations.{Perm, inj, redo, undo-in}
+use Rattle.laws.specs.Permutations.{Perm, inj}
 use Rattle.laws.specs.Cycles.{alone}
 use Rattle.layout.specs.declared.shape.Shape.{Shape}
 use Rattle.layout.specs.Mate.{mate}
 use Rattle.layout.specs.MateLaws.{mate-mate}
 use Rattle.validity.specs.Fields.{Capacity, SolidUsed, Solid, Outer, Face, First, Isolated, Start, Loop, Next, Prev, VertexUsed, Columns, change}
 use Rattle.validity.specs.Mates.{mate-other}
+use Rattle.validity.specs.EdgeIn.{prev-in, next-prev}
 use Rattle.validity.specs.Sound.{In, HalfUsed, firstOf, Sound}
+use Rattle.validity.specs.Names.{not-isolated}
 use Rattle.validity.specs.Walking.{Steps, runColumns, run-met, run-off, run-other}
 use Rattle.validity.specs.Shown.{withoutEdge, withFirst}
-use Rattle.bridges.specs.Bridge.{unnamed, Corner, Bridged}
+use Rattle.bridges.specs.Bridge.{Corner, Bridged}
 use Rattle.bridges.specs.Runs.{Met, met?, run-to, met-in, not-k, not-a, met-next, met-prev, met-last, met-first}
 
 -- all but the firsts: the t half-edges of the run name l2, the edge is out, and l2 lies in the face of k
@@ -91,14 +93,6 @@ module _ {sh : Shape} {p : List ℤ} {d : Columns} (A : Sound sh p d) {k l2 : �
   next-in : (i : ℕ) → HalfUsed sh d i → HalfUsed sh d (d Next i)
   next-in = perm .f-in
 
-  -- so is previous
-  prev-in : (i : ℕ) → HalfUsed sh d i → HalfUsed sh d (d Prev i)
-  prev-in = undo-in perm (d Prev) (A .rules .undone)
-
-  -- next undoes previous
-  next-prev : (i : ℕ) → HalfUsed sh d i → d Next (d Prev i) ≡ i
-  next-prev = redo perm (d Prev) (A .rules .undone)
-
   -- neither half is alone in its loop
   N2k : N2 ≢ k
   N2k e = ak (alone (A .rules .loops) (o .half) e a ua (o .one))
@@ -109,15 +103,15 @@ module _ {sh : Shape} {p : List ℤ} {d : Columns} (A : Sound sh p d) {k l2 : �
 
   -- nor does k come before itself
   P1k : P1 ≢ k
-  P1k e = N2k (ap (d Next) (sym e) ∙ next-prev k (o .half))
+  P1k e = N2k (ap (d Next) (sym e) ∙ next-prev (A .rules) k (o .half))
 
   -- nor the mate
   P2a : P2 ≢ a
-  P2a e = N1a (ap (d Next) (sym e) ∙ next-prev a ua)
+  P2a e = N1a (ap (d Next) (sym e) ∙ next-prev (A .rules) a ua)
 
   -- different half-edges come before the two
   P12 : P1 ≢ P2
-  P12 e = ka (sym (next-prev k (o .half)) ∙ ap (d Next) e ∙ next-prev a ua)
+  P12 e = ka (sym (next-prev (A .rules) k (o .half)) ∙ ap (d Next) e ∙ next-prev (A .rules) a ua)
 
   -- and different ones follow them
   N12 : N1 ≢ N2
@@ -186,7 +180,7 @@ module _ {sh : Shape} {p : List ℤ} {d : Columns} (A : Sound sh p d) {k l2 : �
 
   -- P1 goes to k, so it is not met
   P1-off : OnRun P1 → ⊥
-  P1-off m = ⊎-elim (λ e. ka (sym (next-prev k (o .half)) ∙ e)) (λ h. not-k perm (o .half) (walk .2) (subst OnRun (next-prev k (o .half)) h)) (met-next perm (o .half) (walk .2) m)
+  P1-off m = ⊎-elim (λ e. ka (sym (next-prev (A .rules) k (o .half)) ∙ e)) (λ h. not-k perm (o .half) (walk .2) (subst OnRun (next-prev (A .rules) k (o .half)) h)) (met-next perm (o .half) (walk .2) m)
 
   -- it names the loop
   l-N1 : d Loop N1 ≡ l
@@ -194,7 +188,7 @@ module _ {sh : Shape} {p : List ℤ} {d : Columns} (A : Sound sh p d) {k l2 : �
 
   -- and so does what comes before k
   l-P1 : d Loop P1 ≡ l
-  l-P1 = sym (A .rules .loops .keeps P1 (prev-in k (o .half))) ∙ ap (d Loop) (next-prev k (o .half))
+  l-P1 = sym (A .rules .loops .keeps P1 (prev-in (A .rules) k (o .half))) ∙ ap (d Loop) (next-prev (A .rules) k (o .half))
 
   -- away from the edge and its neighbours next is what it was
   c-next : (i : ℕ) → i ≢ k → i ≢ a → i ≢ P1 → i ≢ P2 → c Next i ≡ d Next i
@@ -222,7 +216,7 @@ module _ {sh : Shape} {p : List ℤ} {d : Columns} (A : Sound sh p d) {k l2 : �
       let Pk : P2 ≢ k = λ z. v .0 (f ∙ z) in
       let Na : N2 ≢ a = λ z. Pk (ap (d Prev) (sym z) ∙ A .rules .undone k (o .half)) in
       ap (c Loop) (ap (c Next) f ∙ next-P2 Pk) ∙ c-loop N2 N2k Na ∙ loop-met (met-first perm (o .half) (walk .2) Na)
-      ∙ sym (ap (c Loop) f ∙ c-loop P2 Pk P2a ∙ loop-met (met-last perm (o .half) (walk .2) (prev-in a ua) (next-prev a ua) Na)))
+      ∙ sym (ap (c Loop) f ∙ c-loop P2 Pk P2a ∙ loop-met (met-last perm (o .half) (walk .2) (prev-in (A .rules) a ua) (next-prev (A .rules) a ua) Na)))
       (λ f.
       let nk : d Next i ≢ k = λ z. e (sym (A .rules .undone i (v .2)) ∙ ap (d Prev) z) in
       let na : d Next i ≢ a = λ z. f (sym (A .rules .undone i (v .2)) ∙ ap (d Prev) z) in
@@ -245,9 +239,9 @@ module _ {sh : Shape} {p : List ℤ} {d : Columns} (A : Sound sh p d) {k l2 : �
   corner-1 = split N1 k
       (λ e. inl (record { before = ap (d Prev) (sym e) ∙ A .rules .undone a ua; after = e; isolated = isolated-l ∙ rw (eqb-same e) }))
       (λ e.
-      let Pa : P1 ≢ a = λ z. e (ap (d Next) (sym z) ∙ next-prev k (o .half)) in
+      let Pa : P1 ≢ a = λ z. e (ap (d Next) (sym z) ∙ next-prev (A .rules) k (o .half)) in
       inr (record {
-        before = half-c P1 (prev-in k (o .half)) P1k Pa;
+        before = half-c P1 (prev-in (A .rules) k (o .half)) P1k Pa;
         after = half-c N1 (next-in a ua) e N1a;
         next = next-P1 Pa;
         prev = upd-off _ 0 N1a ∙ upd-off _ 0 e ∙ upd-off _ P2 N12 ∙ upd-same _ N1 P1;
@@ -261,9 +255,9 @@ module _ {sh : Shape} {p : List ℤ} {d : Columns} (A : Sound sh p d) {k l2 : �
   corner-2 = split N2 a
       (λ e. inl (record { before = ap (d Prev) (sym e) ∙ A .rules .undone k (o .half); after = e; isolated = isolated-l2 ∙ rw (eqb-same e) }))
       (λ e.
-      let Pk : P2 ≢ k = λ z. e (ap (d Next) (sym z) ∙ next-prev a ua) in
+      let Pk : P2 ≢ k = λ z. e (ap (d Next) (sym z) ∙ next-prev (A .rules) a ua) in
       inr (record {
-        before = half-c P2 (prev-in a ua) Pk P2a;
+        before = half-c P2 (prev-in (A .rules) a ua) Pk P2a;
         after = half-c N2 (next-in k (o .half)) N2k e;
         next = next-P2 Pk;
         prev = upd-off _ 0 e ∙ upd-off _ 0 N2k ∙ upd-same _ N2 P2;
@@ -282,7 +276,7 @@ module _ {sh : Shape} {p : List ℤ} {d : Columns} (A : Sound sh p d) {k l2 : �
 
   -- so it is not isolated
   l-isolated : d Isolated l ≡ 0
-  l-isolated = split (d Isolated l) 0 (λ e. e) (λ e. absurd (unnamed A l l-in e k (o .half .0, o .half .1) refl))
+  l-isolated = not-isolated A k (o .half) refl
 
   -- its face stays
   face-l : c Face l ≡ d Face l
@@ -303,23 +297,25 @@ module _ {sh : Shape} {p : List ℤ} {d : Columns} (A : Sound sh p d) {k l2 : �
       let ha = A .half a (ua .0, ua .1) (ua .2) in
       let L = A .loop l l-in l-used in
       record {
-        half-in = (o .half .0, o .half .1);
-        mate-in = (ua .0, ua .1);
-        loop-in = l-in;
-        ring-in = o .ring-in;
-        two = two;
-        used = λ z. l-used (sym face-l ∙ z);
-        one-face = upd-same _ l2 _ ∙ sym face-l;
-        ring = λ e. omega (arith, L .face-in .0, sym (A .face (d Face l) (L .face-in) (L .face-used) .outer-face) ∙ ap (d Face) (outer (d Face l) ∙ ap (c Outer) (sym (upd-same _ l2 _)) ∙ e) ∙ o .free);
-        at-1 = corner-1;
-        at-2 = corner-2;
-        in-1 = hk .start-in;
-        in-2 = ha .start-in;
-        used-1 = λ z. hk .start-used (vertex _ ∙ z);
-        used-2 = λ z. ha .start-used (vertex _ ∙ z);
-        zero-k = record { s = upd-off _ 0 ka ∙ upd-same _ k 0; l = upd-off _ 0 ka ∙ upd-same _ k 0; n = upd-off _ 0 ka ∙ upd-same _ k 0; p = upd-off _ 0 ka ∙ upd-same _ k 0 };
-        zero-a = record { s = upd-same _ a 0; l = upd-same _ a 0; n = upd-same _ a 0; p = upd-same _ a 0 };
-        keeps = c-keeps;
+        ends = record {
+          half-in = (o .half .0, o .half .1);
+          mate-in = (ua .0, ua .1);
+          loop-in = l-in;
+          ring-in = o .ring-in;
+          two = two;
+          used = λ z. l-used (sym face-l ∙ z);
+          one-face = upd-same _ l2 _ ∙ sym face-l;
+          ring = λ e. omega (arith, L .face-in .0, sym (A .face (d Face l) (L .face-in) (L .face-used) .outer-face) ∙ ap (d Face) (outer (d Face l) ∙ ap (c Outer) (sym (upd-same _ l2 _)) ∙ e) ∙ o .free);
+          at-1 = corner-1;
+          at-2 = corner-2;
+          in-1 = hk .start-in;
+          in-2 = ha .start-in;
+          used-1 = λ z. hk .start-used (vertex _ ∙ z);
+          used-2 = λ z. ha .start-used (vertex _ ∙ z);
+          zero-k = record { s = upd-off _ 0 ka ∙ upd-same _ k 0; l = upd-off _ 0 ka ∙ upd-same _ k 0; n = upd-off _ 0 ka ∙ upd-same _ k 0; p = upd-off _ 0 ka ∙ upd-same _ k 0 };
+          zero-a = record { s = upd-same _ a 0; l = upd-same _ a 0; n = upd-same _ a 0; p = upd-same _ a 0 };
+          keeps = c-keeps;
+        };
         start-k = refl;
         start-a = refl;
         start-o = λ i e f. sym (c-start i e f);
@@ -330,8 +326,8 @@ module _ {sh : Shape} {p : List ℤ} {d : Columns} (A : Sound sh p d) {k l2 : �
         loop-o = λ i e f z. by-run i (λ m. absurd (z (c-loop i e f ∙ loop-met m))) (λ m. sym (c-loop i e f ∙ loop-off m));
         next-k = refl;
         next-a = refl;
-        next-1 = next-prev k (o .half);
-        next-2 = next-prev a ua;
+        next-1 = next-prev (A .rules) k (o .half);
+        next-2 = next-prev (A .rules) a ua;
         next-o = λ i e f g h. sym (c-next i e f g h);
         prev-k = refl;
         prev-a = refl;

@@ -1,6 +1,6 @@
 -- kemr, first step: in the form with dummies a dummy goes in after each half of the edge, so that neither run between them is empty.
 use mathlib.Core.Path.{_≡_, refl, sym, _∙_, subst}
-use mathlib.Core.Logic.{_≢_, _⊎_, inl, inr, ⊎-elim}
+use mathlib.Core.Logic.{_≢_, inl, inr, ⊎-elim}
 use mathlib.Core.List.{List}
 use Prim.Native.Nat.{ℕ, _+_, _-_, _*_, _≤_}
 use native.Mathlib.Omega.{arith}
@@ -71,11 +71,11 @@ module _ {sh : Shape} {pt : List ℤ} {c d : Columns} {k l l2 u1 P1 N1 u2 P2 N2 
 
   -- a half-edge is not the first dummy
   pub low-1 : {i : ℕ} → i ≤ n → i ≢ D1
-  low-1 h = low sh (b .loop-in) h
+  low-1 h = low sh (b .ends .loop-in) h
 
   -- nor the second
   pub low-2 : {i : ℕ} → i ≤ n → i ≢ D2
-  low-2 h = low sh (b .ring-in) h
+  low-2 h = low sh (b .ends .ring-in) h
 
   -- the same the other way round
   pub high-1 : {i : ℕ} → i ≤ n → D1 ≢ i
@@ -87,11 +87,11 @@ module _ {sh : Shape} {pt : List ℤ} {c d : Columns} {k l l2 u1 P1 N1 u2 P2 N2 
 
   -- k is a half-edge
   pub kn : k ≤ n
-  kn = b .half-in .1
+  kn = b .ends .half-in .1
 
   -- and its mate
   pub an : a ≤ n
-  an = b .mate-in .1
+  an = b .ends .mate-in .1
 
   -- what follows the mate is in use
   pub N1-in : HalfUsed sh d N1
@@ -121,16 +121,16 @@ module _ {sh : Shape} {pt : List ℤ} {c d : Columns} {k l l2 u1 P1 N1 u2 P2 N2 
 
   -- a dummy is its own mate
   pub own-1 : mate⁺ (sh .edges) D1 ≡ D1
-  own-1 = mate⁺-high (sh .edges) D1 (omega (arith, b .loop-in .0))
+  own-1 = mate⁺-high (sh .edges) D1 (omega (arith, b .ends .loop-in .0))
 
   -- so is the second
   pub own-2 : mate⁺ (sh .edges) D2 ≡ D2
-  own-2 = mate⁺-high (sh .edges) D2 (omega (arith, b .ring-in .0))
+  own-2 = mate⁺-high (sh .edges) D2 (omega (arith, b .ends .ring-in .0))
 
   -- the rules with both
   pub R : Rules (2 * sh .edges + sh .loops) (mate⁺ (sh .edges)) W G
-  R = add-rules (add-rules (sound-corners A .rules) (mate⁺-mate⁺ (sh .edges)) D1 a own-1 (inl (new-a b)) gone-1 (omega (arith, b .loop-in .0)) (omega (arith, b .loop-in .1)))
-      (mate⁺-mate⁺ (sh .edges)) D2 k own-2 (inr (inl (new-k b))) gone-2 (omega (arith, b .ring-in .0)) (omega (arith, b .ring-in .1))
+  R = add-rules (add-rules (sound-corners A .rules) (mate⁺-mate⁺ (sh .edges)) D1 a own-1 (inl (new-a b)) gone-1 (omega (arith, b .ends .loop-in .0)) (omega (arith, b .ends .loop-in .1)))
+      (mate⁺-mate⁺ (sh .edges)) D2 k own-2 (inr (inl (new-k b))) gone-2 (omega (arith, b .ends .ring-in .0)) (omega (arith, b .ends .ring-in .1))
 
   -- with the first dummy next of k is what it was
   pub G1-k : G1 .next k ≡ N2

@@ -1,20 +1,20 @@
 -- kemr: the rules with dummies once the bridge is out. A dummy goes in after each half of the edge, so that neither run is empty; the edge comes out;
 -- then each dummy that is not alone is passed over.
 use mathlib.Core.Path.{_≡_, refl, sym, ap, _∙_, subst}
-use mathlib.Core.Logic.{_≢_, _⊎_, inl, inr, ⊎-elim}
+use mathlib.Core.Logic.{_≢_, inl, inr, ⊎-elim}
 use mathlib.Core.List.{List}
 use Prim.Native.Nat.{ℕ, _+_, _-_, _*_}
 use native.Mathlib.Omega.{arith}
 use lib.IntN.{ℤ}
 use Rattle.laws.specs.Bools.{split}
 use Rattle.laws.specs.Update.{upd, upd-same, upd-off}
-use Rattle.laws.specs.Permutations.{inj, undo-in}
+use Rattle.laws.specs.Permutations.{inj}
 use Rattle.laws.specs.Moves.{But}
 use Rattle.layout.specs.declared.shape.Shape.{Shape}
 use Rattle.layout.specs.Mate.{mate}
 use Rattle.validity.specs.Fields.{Face, Isolated, Start, Loop, Next, Prev, Columns}
 use Rattle.validity.specs.Mates.{mate⁺, mate⁺-low, mate⁺-mate⁺}
-use Rattle.validity.specs.EdgeIn.{Halves, Rules}
+use Rattle.validity.specs.EdgeIn.{Halves, Rules, prev-in}
 use Rattle.validity.specs.EdgeOut.{parted, kemr-loops, parted-rules}
 use Rattle.validity.specs.Dummies.{agree-rules}
 use Rattle.validity.specs.Sound.{HalfUsed, Sound}
@@ -42,15 +42,7 @@ module _ {sh : Shape} {pt : List ℤ} {c d : Columns} {k l l2 u1 P1 N1 u2 P2 N2 
   abbrev D2 : ℕ
   D2 = 2 * sh .edges + l2
 
-  -- the columns with dummies before
-  abbrev H : Halves
-  H = extended sh d
-
-  -- with the first dummy in
-  abbrev G1 : Halves
-  G1 = oneIn sh d k l
-
-  -- with both in
+  -- the columns with both dummies in
   abbrev G : Halves
   G = bothIn sh d k l l2
 
@@ -85,11 +77,11 @@ module _ {sh : Shape} {pt : List ℤ} {c d : Columns} {k l l2 u1 P1 N1 u2 P2 N2 
 
     -- of the first dummy
     lab-D1 : lab D1 ≡ l
-    lab-D1 = lab-o D1 (high-1 A b (kn A b)) (high-1 A b (an A b)) ∙ dummy-loop sh c l (b .loop-in)
+    lab-D1 = lab-o D1 (high-1 A b (kn A b)) (high-1 A b (an A b)) ∙ dummy-loop sh c l (b .ends .loop-in)
 
     -- of the second
     lab-D2 : lab D2 ≡ l2
-    lab-D2 = lab-o D2 (high-2 A b (kn A b)) (high-2 A b (an A b)) ∙ dummy-loop sh c l2 (b .ring-in)
+    lab-D2 = lab-o D2 (high-2 A b (kn A b)) (high-2 A b (an A b)) ∙ dummy-loop sh c l2 (b .ends .ring-in)
 
     -- of a half-edge that stays
     lab-half : (i : ℕ) → HalfUsed sh c i → lab i ≡ c Loop i
@@ -136,7 +128,7 @@ module _ {sh : Shape} {pt : List ℤ} {c d : Columns} {k l l2 u1 P1 N1 u2 P2 N2 
         (λ e f. ap lab (next-D2 A b) ∙ ⊎-elim (λ r. absurd (f (sym (r .0)))) (λ r. ap lab (sym (r .1)) ∙ lab-z2 r) (t2 .which) ∙ sym lab-D2)
         (λ i w e f. split i p
         (λ z. ap lab (ap (G .next) z ∙ next-p) ∙ lab-k ∙ sym (ap lab z ∙ lab-o p (mem-k b p (t1 .member)) (mem-a b p (t1 .member)) ∙ t1 .loop))
-        (λ z. let s = step i w z f in ap lab (s .0) ∙ lab-half _ (s .2) ∙ ap (c Loop) (s .1) ∙ b .keeps i w ∙ sym (lab-half i w)))
+        (λ z. let s = step i w z f in ap lab (s .0) ∙ lab-half _ (s .2) ∙ ap (c Loop) (s .1) ∙ b .ends .keeps i w ∙ sym (lab-half i w)))
         (λ i w x y e f. ap lab (next-o A b i e (λ z. omega (arith, w .0, an A b, z)) (not-dummy sh x) (not-dummy sh y) ∙ upTo-high n (d Next) (λ j. j) i (w .0)))
       where
         -- the label after the corner of the loop
@@ -149,7 +141,7 @@ module _ {sh : Shape} {pt : List ℤ} {c d : Columns} {k l l2 u1 P1 N1 u2 P2 N2 
 
     -- the new loop has a new label
     fresh : (i : ℕ) → W i → G .loop i ≢ l2
-    fresh = each A b (λ i. G .loop i ≢ l2) (λ e. b .two (sym (loop-k A b) ∙ e)) (λ e. b .two (sym (loop-a A b) ∙ e)) (λ e. b .two (sym (loop-D1 A b) ∙ e)) (λ e. b .two (sym (loop-D2 A b) ∙ e))
+    fresh = each A b (λ i. G .loop i ≢ l2) (λ e. b .ends .two (sym (loop-k A b) ∙ e)) (λ e. b .ends .two (sym (loop-a A b) ∙ e)) (λ e. b .ends .two (sym (loop-D1 A b) ∙ e)) (λ e. b .ends .two (sym (loop-D2 A b) ∙ e))
         (λ i w e. let v = half-stays b i w in A .half i (v .0, v .1) (v .2) .loop-used (ap (d Face) (sym (loop-o A b i (low-1 A b (w .1)) (low-2 A b (w .1)) ∙ upTo-low n (d Loop) _ i (w .1)) ∙ e) ∙ b .face-2))
         (λ i w x y e. y (sym (loop-o A b i (not-dummy sh x) (not-dummy sh y) ∙ upTo-high n (d Loop) (λ j. j - n) i (w .0)) ∙ e))
 
@@ -229,7 +221,7 @@ module _ {sh : Shape} {pt : List ℤ} {c d : Columns} {k l l2 u1 P1 N1 u2 P2 N2 
     G-N1 = upd-off _ _ (λ e. N12 (e ∙ G1-k A b)) ∙ upd-off _ _ (low-2 A b (N1-in A b .1)) ∙ rw (H-a A b) (upd-same _ N1 D1)
 
     -- before all others comes what came before
-    G-prev : (i : ℕ) → i ≢ N1 → i ≢ N2 → i ≢ D1 → i ≢ D2 → G .prev i ≡ H .prev i
+    G-prev : (i : ℕ) → i ≢ N1 → i ≢ N2 → i ≢ D1 → i ≢ D2 → G .prev i ≡ extended sh d .prev i
     G-prev i e f g h = upd-off _ _ (λ z. f (z ∙ G1-k A b)) ∙ upd-off _ _ h ∙ upd-off _ _ (λ z. e (z ∙ H-a A b)) ∙ upd-off _ _ g
 
     -- ---- the dummies are passed over
@@ -275,8 +267,8 @@ module _ {sh : Shape} {pt : List ℤ} {c d : Columns} {k l l2 u1 P1 N1 u2 P2 N2 
     at-start : (i : ℕ) → Member sh c i → extended sh c .start i ≡ passed Q D1 D2 .start i
     at-start = all (λ i. extended sh c .start i ≡ passed Q D1 D2 .start i)
         (λ i w. upTo-low n (c Start) _ i (w .1) ∙ sym (upd-off _ _ (off-a b i w) ∙ upd-off _ _ (off-k b i w) ∙ upd-off _ _ (low-2 A b (w .1)) ∙ upd-off _ _ (low-1 A b (w .1)) ∙ upTo-low n (d Start) _ i (w .1) ∙ b .start-o i (off-k b i w) (off-a b i w)))
-        (λ e f g. ap (extended sh c .start) (sym f) ∙ t1 .start ∙ sym (upd-off _ _ (high-1 A b (an A b)) ∙ upd-off _ _ (high-1 A b (kn A b)) ∙ upd-off _ _ (D12 b) ∙ upd-same _ D1 _ ∙ ap (H .start) (H-a A b ∙ g) ∙ upTo-low n (d Start) _ k (kn A b) ∙ b .start-k))
-        (λ e f g. ap (extended sh c .start) (sym f) ∙ t2 .start ∙ sym (upd-off _ _ (high-2 A b (an A b)) ∙ upd-off _ _ (high-2 A b (kn A b)) ∙ upd-same _ D2 _ ∙ ap (G1 .start) (G1-k A b ∙ g) ∙ upd-off _ _ (low-1 A b (an A b)) ∙ upTo-low n (d Start) _ a (an A b) ∙ b .start-a))
+        (λ e f g. ap (extended sh c .start) (sym f) ∙ t1 .start ∙ sym (upd-off _ _ (high-1 A b (an A b)) ∙ upd-off _ _ (high-1 A b (kn A b)) ∙ upd-off _ _ (D12 b) ∙ upd-same _ D1 _ ∙ ap (extended sh d .start) (H-a A b ∙ g) ∙ upTo-low n (d Start) _ k (kn A b) ∙ b .start-k))
+        (λ e f g. ap (extended sh c .start) (sym f) ∙ t2 .start ∙ sym (upd-off _ _ (high-2 A b (an A b)) ∙ upd-off _ _ (high-2 A b (kn A b)) ∙ upd-same _ D2 _ ∙ ap (oneIn sh d k l .start) (G1-k A b ∙ g) ∙ upd-off _ _ (low-1 A b (an A b)) ∙ upTo-low n (d Start) _ a (an A b) ∙ b .start-a))
         (λ i w e f. upTo-high n (c Start) (λ j. c Isolated (j - n)) i (w .0) ∙ sym (upd-off _ _ (λ z. omega (arith, w .0, an A b, z)) ∙ upd-off _ _ (λ z. omega (arith, w .0, kn A b, z))
         ∙ upd-off _ _ (not-dummy sh f) ∙ upd-off _ _ (not-dummy sh e) ∙ upTo-high n (d Start) (λ j. d Isolated (j - n)) i (w .0) ∙ b .isolated-o _ e f))
 
@@ -316,14 +308,14 @@ module _ {sh : Shape} {pt : List ℤ} {c d : Columns} {k l l2 u1 P1 N1 u2 P2 N2 
         (λ i w.
         let back : Q .prev i ≡ G .prev i = Q-prev i (off-k b i w) (off-a b i w) (low-1 A b (w .1)) (low-2 A b (w .1)) in
         split i (t1 .z)
-        (λ e. ap (extended sh c .prev) e ∙ t1 .prev ∙ sym (pass-one D1 D2 (Q .prev) (back ∙ ap (G .prev) (seat-N t1 (b .loop-in) w e) ∙ G-N1) (λ y. ⊎-elim (λ r. low-1 A b (w .1) (e ∙ r .1)) (λ r. low-2 A b (r .2 .1) (sym (r .0) ∙ sym prev-D1 ∙ y)) (t1 .which)) ∙ prev-D1))
+        (λ e. ap (extended sh c .prev) e ∙ t1 .prev ∙ sym (pass-one D1 D2 (Q .prev) (back ∙ ap (G .prev) (seat-N t1 (b .ends .loop-in) w e) ∙ G-N1) (λ y. ⊎-elim (λ r. low-1 A b (w .1) (e ∙ r .1)) (λ r. low-2 A b (r .2 .1) (sym (r .0) ∙ sym prev-D1 ∙ y)) (t1 .which)) ∙ prev-D1))
         (λ e. split i (t2 .z)
-        (λ f. ap (extended sh c .prev) f ∙ t2 .prev ∙ sym (pass-two D1 D2 (Q .prev) (D21 b) (back ∙ ap (G .prev) (seat-N t2 (b .ring-in) w f) ∙ G-N2) (λ y. ⊎-elim (λ r. low-2 A b (w .1) (f ∙ r .1)) (λ r. low-1 A b (r .2 .1) (sym (r .0) ∙ sym prev-D2 ∙ y)) (t2 .which)) ∙ prev-D2))
+        (λ f. ap (extended sh c .prev) f ∙ t2 .prev ∙ sym (pass-two D1 D2 (Q .prev) (D21 b) (back ∙ ap (G .prev) (seat-N t2 (b .ends .ring-in) w f) ∙ G-N2) (λ y. ⊎-elim (λ r. low-2 A b (w .1) (f ∙ r .1)) (λ r. low-1 A b (r .2 .1) (sym (r .0) ∙ sym prev-D2 ∙ y)) (t2 .which)) ∙ prev-D2))
         (λ f.
         let x : i ≢ N1 = off-N t1 (off-k b i w) e in
         let y : i ≢ N2 = off-N t2 (off-a b i w) f in
         let g : Q .prev i ≡ d Prev i = back ∙ G-prev i x y (low-1 A b (w .1)) (low-2 A b (w .1)) ∙ upTo-low n (d Prev) _ i (w .1) in
-        let v = undo-in (A .rules .loops .perm) (d Prev) (A .rules .undone) i (half-stays b i w) in
+        let v = prev-in (A .rules) i (half-stays b i w) in
         upTo-low n (c Prev) _ i (w .1) ∙ sym (b .prev-o i (off-k b i w) (off-a b i w) x y) ∙ sym (pass-off D1 D2 (Q .prev) (λ z. low-1 A b (v .1) (sym g ∙ z)) (λ z. low-2 A b (v .1) (sym g ∙ z)) ∙ g))))
         (λ e f g. let h : Q .prev D1 ≡ D1 = prev-D1 ∙ e in ap (extended sh c .prev) (sym f) ∙ t1 .prev ∙ e ∙ sym (pass-one D1 D2 (Q .prev) h (λ y. D12 b (sym h ∙ y)) ∙ h))
         (λ e f g. let h : Q .prev D2 ≡ D2 = prev-D2 ∙ e in ap (extended sh c .prev) (sym f) ∙ t2 .prev ∙ e ∙ sym (pass-two D1 D2 (Q .prev) (D21 b) h (λ y. D21 b (sym h ∙ y)) ∙ h))
@@ -340,4 +332,4 @@ module _ {sh : Shape} {pt : List ℤ} {c d : Columns} {k l l2 u1 P1 N1 u2 P2 N2 
 
   -- the rules with dummies afterwards
   pub down-rules : Rules (2 * sh .edges + sh .loops) (mate⁺ (sh .edges)) (Member sh c) (extended sh c)
-  down-rules = by-seats (seat (b .loop-in) (λ e. omega (arith, b .in-1 .0, e)) (b .keeps) (b .at-1)) (seat (b .ring-in) (λ e. omega (arith, b .in-2 .0, e)) (b .keeps) (b .at-2))
+  down-rules = by-seats (seat (b .ends .loop-in) (λ e. omega (arith, b .ends .in-1 .0, e)) (b .ends .keeps) (b .ends .at-1)) (seat (b .ends .ring-in) (λ e. omega (arith, b .ends .in-2 .0, e)) (b .ends .keeps) (b .ends .at-2))

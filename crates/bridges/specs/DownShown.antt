@@ -8,14 +8,17 @@ use lib.Dec.{eqb}
 use lib.IntN.{ℤ}
 use Rattle.laws.specs.Bools.{pick, eqb-same, eqb-other}
 use Rattle.laws.specs.Search.{least-ext}
-use Rattle.laws.specs.Permutations.{iter-in, undo-in}
+use Rattle.laws.specs.Permutations.{iter-in}
 use Rattle.laws.specs.Cycles.{Cycles}
 use Rattle.layout.specs.declared.shape.Shape.{Shape}
 use Rattle.layout.specs.Mate.{mate}
-use Rattle.euler.specs.Surgery.{edgeOut, putLoop, relabelRun, renew}
+use Rattle.euler.specs.Surgery.{relabelRun, renew}
+use Rattle.validity.specs.EdgeIn.{prev-in}
 use Rattle.validity.specs.Fields.{Face, First, Isolated, Start, Loop, Next, Prev, Columns}
 use Rattle.validity.specs.Cells.{Shows, shows-put}
 use Rattle.validity.specs.Sound.{In, HalfUsed, firstOf, Sound}
+use Rattle.validity.specs.Labels.{label-none}
+use Rattle.validity.specs.Names.{lone-unnamed}
 use Rattle.validity.specs.Walking.{runColumns, shows-relabel}
 use Rattle.validity.specs.Shown.{withFirst, shows-no-edge, shows-first, shows-isolated}
 use Rattle.validity.specs.Good.{own, Good, good-shows, good-after}
@@ -23,6 +26,7 @@ use Rattle.bridges.specs.Bridge.{Corner, Bridged, off-k, off-a, new-a}
 use Rattle.bridges.specs.DownSound.{down-sound}
 use Rattle.bridges.specs.DownRules.{down-rules}
 use Rattle.bridges.specs.DownColumns.{cutColumns, kemrColumns, Span, walk, down-bridged, down-first, down-first-2}
+use Rattle.bridges.specs.BridgeLists.{partedList, kemrList}
 
 module _ {sh : Shape} {x : List ℕ} {p : List ℤ} (g : Good sh x p) {k l2 : ℕ} (o : Span sh (own sh x) k l2) where
   -- the columns before
@@ -53,13 +57,6 @@ module _ {sh : Shape} {x : List ℕ} {p : List ℤ} (g : Good sh x p) {k l2 : �
   abbrev c : Columns
   c = kemrColumns sh (own sh x) k l2 (walk (g .sound) o .0)
 
-  -- the table before the two loops have their firsts
-  abbrev z : List ℕ
-  z =
-      putLoop sh
-      (edgeOut sh (relabelRun sh x (own sh x Next k) (mate k) l2) k (own sh x Prev k) (own sh x Next (mate k)) (own sh x Prev (mate k)) (own sh x Next k))
-      l2 (own sh x Face (own sh x Loop k)) 0 0
-
   -- before and after
   b : Bridged sh (kemrColumns sh (own sh x) k l2 (walk (g .sound) o .0)) (own sh x) k (d Loop k) l2 (d Start k) (d Prev k) (d Next a) (d Start a) (d Prev a) (d Next k)
   b = down-bridged (g .sound) o
@@ -69,7 +66,7 @@ module _ {sh : Shape} {x : List ℕ} {p : List ℤ} (g : Good sh x p) {k l2 : �
   kemr-sound = down-sound (g .sound) b (down-rules (g .sound) b) (down-first (g .sound) o) (down-first-2 (g .sound) o)
 
   -- the list shows the columns up to there
-  cut-shows : Shows sh z cut
+  cut-shows : Shows sh (partedList sh x k l2) cut
   cut-shows =
       let perm = g .sound .rules .loops .perm in
       let w = walk (g .sound) o in
@@ -77,8 +74,8 @@ module _ {sh : Shape} {x : List ℕ} {p : List ℤ} (g : Good sh x p) {k l2 : �
       let ua = new-a b in
       let N2 = perm .f-in k uk in
       let N1 = perm .f-in a ua in
-      let P1 = undo-in perm (d Prev) (g .sound .rules .undone) k uk in
-      let P2 = undo-in perm (d Prev) (g .sound .rules .undone) a ua in
+      let P1 = prev-in (g .sound .rules) k uk in
+      let P2 = prev-in (g .sound .rules) a ua in
       let r = o .ring-in in
       let s1 : Shows sh (relabelRun sh x (d Next k) a l2) (runColumns d (d Next k) t l2) = shows-relabel sh n t x d (d Next k) a l2 (good-shows g) (omega (arith, w .1)) (w .2)
       (λ i h. let v = iter-in perm i (d Next k) N2 in (v .0, v .1)) in
@@ -87,9 +84,7 @@ module _ {sh : Shape} {x : List ℕ} {p : List ℤ} (g : Good sh x p) {k l2 : �
 
   -- an isolated loop has no first
   no-first : (m : ℕ) → In (sh .loops) m → c Isolated m ≢ 0 → firstOf sh c m ≡ 0
-  no-first m i h =
-      let r = kemr-sound .loop m i (λ e. h (kemr-sound .loop-free m i e .1)) in
-      sym (r .first) ∙ ⊎-elim (λ q. absurd (h (q .1))) (λ q. q .0) (r .either)
+  no-first m i h = label-none (2 * sh .edges) (c Loop) m (lone-unnamed kemr-sound m i h)
 
   -- a loop with the corner at N gets its first, or is isolated at u
   renewed : {y : List ℕ} {e : Columns} (m k′ b′ u P N : ℕ) → Shows sh y e → Cycles (2 * sh .edges) (HalfUsed sh c) (e Next) (e Loop) → ((i : ℕ) → e Loop i ≡ c Loop i)
@@ -102,14 +97,13 @@ module _ {sh : Shape} {x : List ℕ} {p : List ℤ} (g : Good sh x p) {k l2 : �
       (λ j v w. (v .0, v .1, λ y. omega (arith, i .0, sym w ∙ el j ∙ kemr-sound .half-free j v y .loop))))) q
 
   -- the list shows these columns
-  pub kemr-shows : Shows sh (renew sh (renew sh z l2 (pick (eqb (own sh x Next k) (mate k)) 0 (own sh x Next k)) (own sh x Start (mate k))) (own sh x Loop k) (pick (eqb (own sh x Next (mate k)) k) 0 (own sh x Next (mate k))) (own sh x Start k))
-      (kemrColumns sh (own sh x) k l2 (walk (g .sound) o .0))
+  pub kemr-shows : Shows sh (kemrList sh x k l2) (kemrColumns sh (own sh x) k l2 (walk (g .sound) o .0))
   kemr-shows =
       let cy = kemr-sound .rules .loops in
       renewed l k a (d Start k) (d Prev k) (d Next a)
-      (renewed l2 a k (d Start a) (d Prev a) (d Next k) cut-shows cy (λ i. refl) (b .at-2) (o .ring-in) (λ e. omega (arith, b .in-2 .0, e)) (off-a b))
-      cy (λ i. refl) (b .at-1) (b .loop-in) (λ e. omega (arith, b .in-1 .0, e)) (off-k b)
+      (renewed l2 a k (d Start a) (d Prev a) (d Next k) cut-shows cy (λ i. refl) (b .ends .at-2) (o .ring-in) (λ e. omega (arith, b .ends .in-2 .0, e)) (off-a b))
+      cy (λ i. refl) (b .ends .at-1) (b .ends .loop-in) (λ e. omega (arith, b .ends .in-1 .0, e)) (off-k b)
 
   -- the table is good afterwards
-  pub kemr-good : Good sh (renew sh (renew sh z l2 (pick (eqb (own sh x Next k) (mate k)) 0 (own sh x Next k)) (own sh x Start (mate k))) (own sh x Loop k) (pick (eqb (own sh x Next (mate k)) k) 0 (own sh x Next (mate k))) (own sh x Start k)) p
+  pub kemr-good : Good sh (kemrList sh x k l2) p
   kemr-good = good-after g kemr-shows (λ i. sym (b .capacity i)) refl kemr-sound

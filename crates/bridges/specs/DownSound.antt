@@ -15,7 +15,8 @@ use Rattle.validity.specs.Fields.{Solid, Outer, Face, First, Isolated, Start, L
 use Rattle.validity.specs.Mates.{mate⁺}
 use Rattle.validity.specs.EdgeIn.{Rules}
 use Rattle.validity.specs.Solids.{Solids}
-use Rattle.validity.specs.Sound.{In, HalfUsed, FaceUsed, side, firstOf, LoopSound, HalfSound, HalfFree, Sound}
+use Rattle.validity.specs.Sound.{In, HalfUsed, FaceUsed, side, firstOf, LoopSound, HalfSound, HalfFree, Sound, half-by}
+use Rattle.validity.specs.Names.{lone-kept}
 use Rattle.validity.specs.WithDummies.{upTo-low, upTo-high, extended, Member, Corners, sound-corners, corners-rules, corners-loop, corners-vertex}
 use Rattle.bridges.specs.Bridge.{Corner, Bridged, corner-before, corner-after, corner-member, off-k, off-a, half-stays, half-back, dummy-was, side-same, side-k, side-a, same-name}
 
@@ -29,11 +30,11 @@ module _ {sh : Shape} {p : List ℤ} {c d : Columns} {k l l2 u1 P1 N1 u2 P2 N2 :
 
   -- the members at the two corners
   member-1 : (j : ℕ) × Member sh c j × (extended sh c .loop j ≡ l) × (extended sh c .start j ≡ u1)
-  member-1 = corner-member (b .loop-in) (λ z. omega (arith, b .in-1 .0, z)) (b .at-1)
+  member-1 = corner-member (b .ends .loop-in) (λ z. omega (arith, b .ends .in-1 .0, z)) (b .ends .at-1)
 
   -- and at the other
   member-2 : (j : ℕ) × Member sh c j × (extended sh c .loop j ≡ l2) × (extended sh c .start j ≡ u2)
-  member-2 = corner-member (b .ring-in) (λ z. omega (arith, b .in-2 .0, z)) (b .at-2)
+  member-2 = corner-member (b .ends .ring-in) (λ z. omega (arith, b .ends .in-2 .0, z)) (b .ends .at-2)
 
   -- one of another loop of c
   loop-member : (m : ℕ) → m ≢ l → m ≢ l2 → (i : ℕ) → Member sh d i → extended sh d .loop i ≡ m → (j : ℕ) × Member sh c j × (extended sh c .loop j ≡ m)
@@ -85,33 +86,29 @@ module _ {sh : Shape} {p : List ℤ} {c d : Columns} {k l l2 u1 P1 N1 u2 P2 N2 :
   -- an isolated vertex is in use
   isolated-used : (m : ℕ) → In (sh .loops) m → c Isolated m ≢ 0 → In (sh .vertices) (c Isolated m) × (c VertexUsed (c Isolated m) ≢ 0)
   isolated-used m y h = split m l
-      (λ e. subst (λ m. c Isolated m ≢ 0 → In (sh .vertices) (c Isolated m) × (c VertexUsed (c Isolated m) ≢ 0)) (sym e) (corner-used (b .at-1) (b .in-1) (b .used-1)) h)
+      (λ e. subst (λ m. c Isolated m ≢ 0 → In (sh .vertices) (c Isolated m) × (c VertexUsed (c Isolated m) ≢ 0)) (sym e) (corner-used (b .ends .at-1) (b .ends .in-1) (b .ends .used-1)) h)
       (λ e. split m l2
-      (λ f. subst (λ m. c Isolated m ≢ 0 → In (sh .vertices) (c Isolated m) × (c VertexUsed (c Isolated m) ≢ 0)) (sym f) (corner-used (b .at-2) (b .in-2) (b .used-2)) h)
-      (λ f.
-      let q : d Isolated m ≡ c Isolated m = b .isolated-o m e f in
-      let g : d Isolated m ≢ 0 = λ z. h (sym q ∙ z) in
-      let r = ⊎-elim (λ w. absurd (g (w .1))) (λ w. w) (a .loop m y (λ z. g (a .loop-free m y z .1)) .either) in
-      (subst (In (sh .vertices)) q (r .1), λ z. used (d Isolated m) (r .2) (ap (c VertexUsed) q ∙ z))))
+      (λ f. subst (λ m. c Isolated m ≢ 0 → In (sh .vertices) (c Isolated m) × (c VertexUsed (c Isolated m) ≢ 0)) (sym f) (corner-used (b .ends .at-2) (b .ends .in-2) (b .ends .used-2)) h)
+      (λ f. lone-kept a c m y (sym (b .isolated-o m e f)) used h))
 
   -- a free half-edge is all zero
   c-half-free : (i : ℕ) → In n i → c Start i ≡ 0 → HalfFree sh c i
   c-half-free i j z = split i k
-      (λ e. record { loop = ap (c Loop) e ∙ b .zero-k .l; next = ap (c Next) e ∙ b .zero-k .n; prev = ap (c Prev) e ∙ b .zero-k .p })
+      (λ e. record { loop = ap (c Loop) e ∙ b .ends .zero-k .l; next = ap (c Next) e ∙ b .ends .zero-k .n; prev = ap (c Prev) e ∙ b .ends .zero-k .p })
       (λ e. split i (mate k)
-      (λ f. record { loop = ap (c Loop) f ∙ b .zero-a .l; next = ap (c Next) f ∙ b .zero-a .n; prev = ap (c Prev) f ∙ b .zero-a .p })
+      (λ f. record { loop = ap (c Loop) f ∙ b .ends .zero-a .l; next = ap (c Next) f ∙ b .ends .zero-a .n; prev = ap (c Prev) f ∙ b .ends .zero-a .p })
       (λ f.
       let r = a .half-free i j (b .start-o i e f ∙ z) in
-      let g : c Loop i ≢ l2 = λ q. omega (arith, b .loop-in .0, sym (b .loop-2 i j q) ∙ r .loop) in
+      let g : c Loop i ≢ l2 = λ q. omega (arith, b .ends .loop-in .0, sym (b .loop-2 i j q) ∙ r .loop) in
       record {
         loop = sym (b .loop-o i e f g) ∙ r .loop;
-        next = sym (b .next-o i e f (corner-before (b .at-1) f z) (corner-before (b .at-2) e z)) ∙ r .next;
-        prev = sym (b .prev-o i e f (corner-after (b .at-1) e z) (corner-after (b .at-2) f z)) ∙ r .prev;
+        next = sym (b .next-o i e f (corner-before (b .ends .at-1) f z) (corner-before (b .ends .at-2) e z)) ∙ r .next;
+        prev = sym (b .prev-o i e f (corner-after (b .ends .at-1) e z) (corner-after (b .ends .at-2) f z)) ∙ r .prev;
       }))
 
   -- the face of both loops
   l-loop : LoopSound sh d l
-  l-loop = a .loop l (b .loop-in) (face-was l (b .two) (b .used))
+  l-loop = a .loop l (b .ends .loop-in) (face-was l (b .ends .two) (b .ends .used))
 
   -- from a loop of d in the same face
   loop-by : (m m′ : ℕ) → In (sh .loops) m → c Face m ≢ 0 → c Face m ≡ d Face m′ → LoopSound sh d m′ → c First m ≡ firstOf sh c m → LoopSound sh c m
@@ -125,9 +122,9 @@ module _ {sh : Shape} {p : List ℤ} {c d : Columns} {k l l2 u1 P1 N1 u2 P2 N2 :
   -- a loop in use is sound
   c-loop : (m : ℕ) → In (sh .loops) m → c Face m ≢ 0 → LoopSound sh c m
   c-loop m y h = split m l
-      (λ e. loop-by m l y h (ap (c Face) e ∙ sym (b .face-o l (b .two))) l-loop (ap (c First) e ∙ first-1 ∙ ap (firstOf sh c) (sym e)))
+      (λ e. loop-by m l y h (ap (c Face) e ∙ sym (b .face-o l (b .ends .two))) l-loop (ap (c First) e ∙ first-1 ∙ ap (firstOf sh c) (sym e)))
       (λ e. split m l2
-      (λ f. loop-by m l y h (ap (c Face) f ∙ b .one-face ∙ sym (b .face-o l (b .two))) l-loop (ap (c First) f ∙ first-2 ∙ ap (firstOf sh c) (sym f)))
+      (λ f. loop-by m l y h (ap (c Face) f ∙ b .ends .one-face ∙ sym (b .face-o l (b .ends .two))) l-loop (ap (c First) f ∙ first-2 ∙ ap (firstOf sh c) (sym f)))
       (λ f.
       let r = a .loop m y (face-was m f h) in
       loop-by m m y h (sym (b .face-o m f)) r (sym (b .first-o m e f) ∙ r .first ∙ sym (least-ext n _ _ (λ i w z. same-name b m y e f i (w, z))))))
@@ -140,14 +137,10 @@ module _ {sh : Shape} {p : List ℤ} {c d : Columns} {k l l2 u1 P1 N1 u2 P2 N2 :
       let v = half-stays b i w in
       let r = a .half i (v .0, v .1) (v .2) in
       let es : d Start i ≡ c Start i = b .start-o i (off-k b i w) (off-a b i w) in
-      let by : (m : ℕ) → c Loop i ≡ m → In (sh .loops) m → c Face m ≢ 0 → HalfSound sh c i = λ m em x y. record {
-        start-in = subst (In (sh .vertices)) es (r .start-in);
-        start-used = λ z. used _ (r .start-used) (ap (c VertexUsed) es ∙ z);
-        loop-in = subst (In (sh .loops)) (sym em) x;
-        loop-used = λ z. y (ap (c Face) (sym em) ∙ z);
-      } in
+      let by : (m : ℕ) → c Loop i ≡ m → In (sh .loops) m → c Face m ≢ 0 → HalfSound sh c i = λ m em x y.
+          half-by (d Start i) m (sym es) em (r .start-in) (used _ (r .start-used)) x y in
       split (c Loop i) l2
-      (λ e. by l2 e (b .ring-in) (λ z. b .used (sym (b .one-face) ∙ z)))
+      (λ e. by l2 e (b .ends .ring-in) (λ z. b .ends .used (sym (b .ends .one-face) ∙ z)))
       (λ e.
       let f : d Loop i ≡ c Loop i = b .loop-o i (off-k b i w) (off-a b i w) e in
       by (d Loop i) (sym f) (r .loop-in) (λ z. r .loop-used (b .face-o _ (λ q. e (sym f ∙ q)) ∙ z)))
@@ -198,8 +191,8 @@ module _ {sh : Shape} {p : List ℤ} {c d : Columns} {k l l2 u1 P1 N1 u2 P2 N2 :
           outer-face = sym (b .face-o _ o) ∙ ap (d Face) (sym (b .outer f)) ∙ r .outer-face;
         };
     loop-free = λ m i h.
-        let f : m ≢ l = λ q. b .used (ap (c Face) (sym q) ∙ h) in
-        let e : m ≢ l2 = λ q. b .used (sym (b .one-face) ∙ ap (c Face) (sym q) ∙ h) in
+        let f : m ≢ l = λ q. b .ends .used (ap (c Face) (sym q) ∙ h) in
+        let e : m ≢ l2 = λ q. b .ends .used (sym (b .ends .one-face) ∙ ap (c Face) (sym q) ∙ h) in
         let r = a .loop-free m i (b .face-o m e ∙ h) in
         (sym (b .first-o m f e) ∙ r .0, sym (b .isolated-o m f e) ∙ r .1);
     loop = c-loop;

@@ -9,9 +9,10 @@ pub mod DownDummies
 pub mod DownRules
 pub mod Same
 pub mod UpColumns
+pub mod BridgeLists
 pub mod UpShown
 pub mod DownColumns
 pub mod DownShown
 pub mod MekrOperator
 pub mod KemrOperator
-pub mod Holds
+pub mod BridgePair

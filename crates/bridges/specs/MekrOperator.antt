@@ -1,38 +1,34 @@
 -- mekr as an operator: what it says that it is accepted, what it does, and what undoes it.
 use mathlib.Core.Path.{_≡_, refl, _∙_, subst}
-use mathlib.Core.Logic.{_≢_, _⊎_, inl, inr, ⊎-elim}
-use mathlib.Core.Bool.{Bool, true, false, not, _&&_}
+use mathlib.Core.Logic.{_≢_}
+use mathlib.Core.Bool.{Bool, true, not}
 use mathlib.Core.List.{List, [], _∷_}
-use Prim.Native.Nat.{ℕ, _*_, _≤_, _<_}
+use Prim.Native.Nat.{ℕ, _*_, _≤_}
 use native.Mathlib.Omega.{arith}
 use lib.Dec.{T, eqb, eqb→eq, lit≤, T-not, not-T}
 use lib.IntN.{ℤ, pos}
 use lib.ListN.{length, getD, replicate}
 use borrow.Author.Tests.{le-leb}
-use Rattle.laws.specs.Bools.{pick, T-true, true-T, and-T, or-T, eqb-same, eqb-other}
+use Rattle.laws.specs.Bools.{pick, T-true, true-T, eqb-same}
 use Rattle.laws.specs.Every.{every-T, T-every}
-use Rattle.script.specs.declared.Limits.{Limits}
 use Rattle.script.specs.declared.Operator.{Operator}
-use Rattle.script.specs.Operands.{pattern, rows, coordinate, leasts, largests, inRange, wire}
-use Rattle.script.specs.Ranges.{between-range}
+use Rattle.script.specs.Operands.{pattern, rows}
 use Rattle.script.specs.Operator.{operandOf}
 use Rattle.layout.specs.declared.shape.Shape.{Shape}
 use Rattle.layout.specs.Mate.{mate}
-use Rattle.euler.specs.Surgery.{halfBy, corner, edgeIn, putLoop, relabelRun, renew}
+use Rattle.euler.specs.Surgery.{halfBy, corner}
 use Rattle.euler.specs.Operators.{mekrTest, mekrEdge, mekrLinks}
-use Rattle.euler.specs.Exec.{limits, useWord, useRefusal, condition, refusalOf, linksAfter, pointsAfter}
-use Rattle.validity.specs.Fields.{Outer, Face, Isolated, Start, Loop, Prev, Columns}
-use Rattle.validity.specs.Sound.{In, HalfUsed}
-use Rattle.validity.specs.Accepted.{by-place, eight, accepted-back, ranges-cons, item-cons, use-old, old-use, use-new, new-use, use-none, limitOf, in-range, Number, number, number-or-none, no-operand, unused-range, unused-use}
+use Rattle.euler.specs.Exec.{limits, useWord, condition, refusalOf, linksAfter, pointsAfter}
+use Rattle.validity.specs.Fields.{Outer, Face, Isolated, Start, Prev, Columns}
+use Rattle.validity.specs.Sound.{In}
+use Rattle.validity.specs.Accepted.{by-place, eight, accepted-back, ranges-cons, item-cons, use-old, old-use, use-new, new-use, use-none, in-range, Number, number, number-or-none, unused-range, unused-use, in-range-or-none}
 use Rattle.validity.specs.Good.{own, Capacities}
+use Rattle.validity.specs.CornerTest.{CornerAt, corner-most, test-corner, corner-test, corner-use}
+use Rattle.bridges.specs.BridgeLists.{mekrList}
 
 -- mekr l h1 l2 h2 e w
 abbrev pub mekrOf : ℕ → ℕ → ℕ → ℕ → ℕ → ℕ → Operator
 mekrOf l h1 l2 h2 e w = record { code = 8; count = 6; args = pos l ∷ pos h1 ∷ pos l2 ∷ pos h2 ∷ pos e ∷ pos w ∷ pos 0 ∷ pos 0 ∷ [] }
-
--- (l, h) is a corner: h is 0 and l isolated, or h is a half-edge of l
-abbrev pub CornerAt : Shape → Columns → ℕ → ℕ → Type 0
-CornerAt sh c l h = ((h ≡ 0) × (c Isolated l ≢ 0)) ⊎ (HalfUsed sh c h × (c Loop h ≡ l))
 
 -- what is asked of an accepted mekr
 pub record MekrFacts (sh : Shape) (c : Columns) (l h1 l2 h2 e w : ℕ) : Type 0 where
@@ -52,19 +48,6 @@ pub record MekrFacts (sh : Shape) (c : Columns) (l h1 l2 h2 e w : ℕ) : Type 0 
 -- ---- the condition
 
 module _ (sh : Shape) (x : List ℕ) where
-  -- the test of a corner
-  corner-is : (l h : ℕ) → T (corner sh x l h) → ((h ≡ 0) × (own sh x Isolated l ≢ 0)) ⊎ ((h ≢ 0) × (own sh x Loop h ≡ l))
-  unfolding corner
-  corner-is l h t = ⊎-elim
-      (λ s. let r = and-T (eqb h 0) (not (eqb (own sh x Isolated l) 0)) s in inl (eqb→eq h 0 (r .0), λ z. T-not (eqb (own sh x Isolated l) 0) (r .1) (true-T (eqb-same z))))
-      (λ s. let r = and-T (not (eqb h 0)) (eqb (own sh x Loop h) l) s in inr ((λ z. T-not (eqb h 0) (r .0) (true-T (eqb-same z))), eqb→eq (own sh x Loop h) l (r .1)))
-      (or-T (eqb h 0 && not (eqb (own sh x Isolated l) 0)) (not (eqb h 0) && eqb (own sh x Loop h) l) t)
-
-  -- and back
-  is-corner : (l h : ℕ) → CornerAt sh (own sh x) l h → corner sh x l h ≡ true
-  unfolding corner
-  is-corner l h = ⊎-elim (λ r. rw (eqb-same (r .0), eqb-other (r .1))) (λ r. let z : h ≢ 0 = λ e. omega (arith, r .0 .0, e) in rw (eqb-other z, eqb-same (r .1)))
-
   -- the tests of mekr
   abbrev tests : ℕ → ℕ → ℕ → ℕ → List Bool
   tests l h1 l2 h2 = not (eqb l l2) ∷ eqb (own sh x Face l) (own sh x Face l2) ∷ not (eqb (own sh x Outer (own sh x Face l2)) l2) ∷ corner sh x l h1 ∷ corner sh x l2 h2 ∷ []
@@ -74,8 +57,8 @@ module _ (sh : Shape) (x : List ℕ) where
     pub two : l ≢ l2
     pub one-face : own sh x Face l ≡ own sh x Face l2
     pub ring : own sh x Outer (own sh x Face l2) ≢ l2
-    pub at-1 : ((h1 ≡ 0) × (own sh x Isolated l ≢ 0)) ⊎ ((h1 ≢ 0) × (own sh x Loop h1 ≡ l))
-    pub at-2 : ((h2 ≡ 0) × (own sh x Isolated l2 ≢ 0)) ⊎ ((h2 ≢ 0) × (own sh x Loop h2 ≡ l2))
+    pub at-1 : T (corner sh x l h1)
+    pub at-2 : T (corner sh x l2 h2)
 
   -- from the test
   mekr-test : (l h1 l2 h2 : ℕ) → mekrTest sh x l h1 l2 h2 ≡ true → Tested l h1 l2 h2
@@ -86,31 +69,17 @@ module _ (sh : Shape) (x : List ℕ) where
         two = λ z. T-not (eqb l l2) (s .0) (true-T (eqb-same z));
         one-face = eqb→eq _ _ (s .1 .0);
         ring = λ z. T-not (eqb (own sh x Outer (own sh x Face l2)) l2) (s .1 .1 .0) (true-T (eqb-same z));
-        at-1 = corner-is l h1 (s .1 .1 .1 .0);
-        at-2 = corner-is l2 h2 (s .1 .1 .1 .1 .0);
+        at-1 = s .1 .1 .1 .0;
+        at-2 = s .1 .1 .1 .1 .0;
       }
 
   -- and back
   test-mekr : {l h1 l2 h2 e w : ℕ} → MekrFacts sh (own sh x) l h1 l2 h2 e w → mekrTest sh x l h1 l2 h2 ≡ true
   unfolding mekrTest
   test-mekr {l} {h1} {l2} {h2} r = T-true (T-every (tests l h1 l2 h2)
-      (not-T (eqb l l2) (λ t. r .two (eqb→eq l l2 t)), (true-T (eqb-same (r .one-face)), (not-T (eqb (own sh x Outer (own sh x Face l2)) l2) (λ t. r .ring (eqb→eq _ _ t)), (true-T {b = corner sh x l h1} (is-corner l h1 (r .at-1)), (true-T {b = corner sh x l2 h2} (is-corner l2 h2 (r .at-2)), tt))))))
+      (not-T (eqb l l2) (λ t. r .two (eqb→eq l l2 t)), (true-T (eqb-same (r .one-face)), (not-T (eqb (own sh x Outer (own sh x Face l2)) l2) (λ t. r .ring (eqb→eq _ _ t)), (true-T {b = corner sh x l h1} (corner-test sh x l h1 (r .at-1)), (true-T {b = corner sh x l2 h2} (corner-test sh x l2 h2 (r .at-2)), tt))))))
 
 -- ---- operands
-
--- a number in range, where 0 is allowed
-or-none-range : (lim : Limits) (kind n : ℕ) → eqb kind coordinate ≡ false → getD leasts kind 0 ≡ 0 → n ≤ limitOf lim kind → inRange (largests lim) kind (wire kind (pos n)) ≡ true
-unfolding wire
-or-none-range lim kind n c z h = rw c (between-range (largests lim) kind n (omega (arith, z)) h)
-
--- an operand that may be 0, of an old half-edge
-half-use : (sh : Shape) (x : List ℕ) (l h : ℕ) → CornerAt sh (own sh x) l h → useRefusal sh x 10 h ≡ 0
-unfolding useRefusal useWord
-half-use sh x l h = ⊎-elim (λ r. rw (eqb-same (r .0))) (λ r. let z : h ≢ 0 = λ e. omega (arith, r .0 .0, e) in rw (eqb-other z, eqb-other (r .0 .2)))
-
--- it is at most 2E
-corner-most : (sh : Shape) (c : Columns) (l h : ℕ) → CornerAt sh c l h → h ≤ 2 * sh .edges
-corner-most sh c l h = ⊎-elim (λ r. omega (arith, r .0)) (λ r. r .0 .1)
 
 -- an accepted mekr, with its numbers
 pub record MekrSaid (sh : Shape) (x : List ℕ) (o : Operator) : Type 0 where
@@ -136,13 +105,12 @@ mekr-said sh x o caps len e h =
     let n3 : (getD (o .args) 3 (pos 0) ≡ pos (operandOf o 3)) × (operandOf o 3 ≤ 2 * sh .edges) = number-or-none (limits sh) 10 _ refl (omega (arith, caps .edges)) (r 3 (lit≤ tt)) in
     let n4 : Number (sh .edges) (getD (o .args) 4 (pos 0)) = number (limits sh) 8 _ refl refl (omega (arith, caps .edges)) (r 4 (lit≤ tt)) in
     let n5 : (getD (o .args) 5 (pos 0) ≡ pos (operandOf o 5)) × (operandOf o 5 ≤ 1) = number-or-none (limits sh) 12 _ refl (lit≤ tt) (r 5 (lit≤ tt)) in
-    let z : (i : ℕ) → i < 8 → getD (pattern 8 .kinds) i 0 ≡ 0 → getD (o .args) i (pos 0) ≡ pos 0 = λ i l q. no-operand (limits sh) _ (subst (λ k. inRange (largests (limits sh)) k (wire k (getD (o .args) i (pos 0))) ≡ true) q (r i l)) in
     let s1 : operandOf o 1 ≤ 8192 = omega (arith, n1 .1, caps .edges) in
     let s3 : operandOf o 3 ≤ 8192 = omega (arith, n3 .1, caps .edges) in
     let is : o ≡ mekrOf (operandOf o 0) (operandOf o 1) (operandOf o 2) (operandOf o 3) (operandOf o 4) (operandOf o 5) = λ t. record {
       code = e t;
       count = a .count t;
-      args = (eight (o .args) len ∙ (λ i. n0 .is i ∷ n1 .0 i ∷ n2 .is i ∷ n3 .0 i ∷ n4 .is i ∷ n5 .0 i ∷ z 6 (lit≤ tt) refl i ∷ z 7 (lit≤ tt) refl i ∷ [])) t;
+      args = (eight (o .args) len ∙ (λ i. n0 .is i ∷ n1 .0 i ∷ n2 .is i ∷ n3 .0 i ∷ n4 .is i ∷ n5 .0 i ∷ a .rest 6 (lit≤ tt) refl i ∷ a .rest 7 (lit≤ tt) refl i ∷ [])) t;
     } in
     let t = mekr-test sh x (operandOf o 0) (operandOf o 1) (operandOf o 2) (operandOf o 3)
     (rw (le-leb (operandOf o 0) 8192 (n0 .small), le-leb (operandOf o 1) 8192 s1, le-leb (operandOf o 2) 8192 (n2 .small), le-leb (operandOf o 3) 8192 s3) at (subst (λ q. condition sh x q ≡ true) is (a .holds))) in
@@ -157,10 +125,10 @@ mekr-said sh x o caps len e h =
       facts = record {
         loop-in = n0 .range;
         loop-used = use-old sh x 6 (operandOf o 0) (omega (arith, n0 .range)) refl (u 0 (lit≤ tt) (n0 .small));
-        at-1 = ⊎-elim (λ q. inl q) (λ q. inr ((omega (arith, q .0), n1 .1, use-old sh x 10 (operandOf o 1) (q .0) refl (u 1 (lit≤ tt) s1)), q .1)) (t .at-1);
+        at-1 = test-corner sh x (operandOf o 0) (operandOf o 1) (n1 .1) (u 1 (lit≤ tt) s1) (t .at-1);
         ring-in = n2 .range;
         ring-used = use-old sh x 6 (operandOf o 2) (omega (arith, n2 .range)) refl (u 2 (lit≤ tt) (n2 .small));
-        at-2 = ⊎-elim (λ q. inl q) (λ q. inr ((omega (arith, q .0), n3 .1, use-old sh x 10 (operandOf o 3) (q .0) refl (u 3 (lit≤ tt) s3)), q .1)) (t .at-2);
+        at-2 = test-corner sh x (operandOf o 2) (operandOf o 3) (n3 .1) (u 3 (lit≤ tt) s3) (t .at-2);
         edge-in = n4 .range;
         edge-free = use-new sh x 8 (operandOf o 4) (omega (arith, n4 .range)) refl (u 4 (lit≤ tt) (n4 .small));
         way = n5 .1;
@@ -204,26 +172,20 @@ module _ (sh : Shape) (x : List ℕ) {l h1 l2 h2 e w : ℕ} (caps : Capacities s
       accepted-back sh x o (record {
         code = refl;
         count = refl;
-        range = ranges-cons lim 6 _ (pos l) (pos h1 ∷ pos l2 ∷ pos h2 ∷ pos e ∷ pos w ∷ replicate 2 (pos 0)) (in-range lim 6 l refl refl (r .loop-in)) (ranges-cons lim 10 _ (pos h1) (pos l2 ∷ pos h2 ∷ pos e ∷ pos w ∷ replicate 2 (pos 0)) (or-none-range lim 10 h1 refl refl (corner-most sh (own sh x) l h1 (r .at-1)))
-            (ranges-cons lim 6 _ (pos l2) (pos h2 ∷ pos e ∷ pos w ∷ replicate 2 (pos 0)) (in-range lim 6 l2 refl refl (r .ring-in)) (ranges-cons lim 10 _ (pos h2) (pos e ∷ pos w ∷ replicate 2 (pos 0)) (or-none-range lim 10 h2 refl refl (corner-most sh (own sh x) l2 h2 (r .at-2)))
-            (ranges-cons lim 8 _ (pos e) (pos w ∷ replicate 2 (pos 0)) (in-range lim 8 e refl refl (r .edge-in)) (ranges-cons lim 12 _ (pos w) (replicate 2 (pos 0)) (or-none-range lim 12 w refl refl (r .way)) (unused-range lim 2))))));
-        used = item-cons sh x o 6 _ 0 l-small (old-use sh x 6 l (omega (arith, r .loop-in .0)) refl (r .loop-used)) (item-cons sh x o 10 _ 1 h1-small (half-use sh x l h1 (r .at-1))
-            (item-cons sh x o 6 _ 2 l2-small (old-use sh x 6 l2 (omega (arith, r .ring-in .0)) refl (r .ring-used)) (item-cons sh x o 10 _ 3 h2-small (half-use sh x l2 h2 (r .at-2))
+        range = ranges-cons lim 6 _ (pos l) (pos h1 ∷ pos l2 ∷ pos h2 ∷ pos e ∷ pos w ∷ replicate 2 (pos 0)) (in-range lim 6 l refl refl (r .loop-in)) (ranges-cons lim 10 _ (pos h1) (pos l2 ∷ pos h2 ∷ pos e ∷ pos w ∷ replicate 2 (pos 0)) (in-range-or-none lim 10 h1 refl refl (corner-most sh (own sh x) l h1 (r .at-1)))
+            (ranges-cons lim 6 _ (pos l2) (pos h2 ∷ pos e ∷ pos w ∷ replicate 2 (pos 0)) (in-range lim 6 l2 refl refl (r .ring-in)) (ranges-cons lim 10 _ (pos h2) (pos e ∷ pos w ∷ replicate 2 (pos 0)) (in-range-or-none lim 10 h2 refl refl (corner-most sh (own sh x) l2 h2 (r .at-2)))
+            (ranges-cons lim 8 _ (pos e) (pos w ∷ replicate 2 (pos 0)) (in-range lim 8 e refl refl (r .edge-in)) (ranges-cons lim 12 _ (pos w) (replicate 2 (pos 0)) (in-range-or-none lim 12 w refl refl (r .way)) (unused-range lim 2))))));
+        used = item-cons sh x o 6 _ 0 l-small (old-use sh x 6 l (omega (arith, r .loop-in .0)) refl (r .loop-used)) (item-cons sh x o 10 _ 1 h1-small (corner-use sh x l h1 (r .at-1))
+            (item-cons sh x o 6 _ 2 l2-small (old-use sh x 6 l2 (omega (arith, r .ring-in .0)) refl (r .ring-used)) (item-cons sh x o 10 _ 3 h2-small (corner-use sh x l2 h2 (r .at-2))
             (item-cons sh x o 8 _ 4 e-small (new-use sh x 8 e (omega (arith, r .edge-in .0)) refl (r .edge-free)) (item-cons sh x o 12 _ 5 w-small (use-none sh x 12 w refl refl) (unused-use sh x o 2 6))))));
         holds = rw (le-leb l 8192 l-small, le-leb h1 8192 h1-small, le-leb l2 8192 l2-small, le-leb h2 8192 h2-small) (test-mekr sh x r);
       })
 
   -- what it does to the list; k is the half that the way names
   pub mekr-links : (k : ℕ) → halfBy e w ≡ k → linksAfter sh x (mekrOf l h1 l2 h2 e w)
-      ≡ renew sh
-      (putLoop sh
-      (relabelRun sh
-      (edgeIn sh x k
-      (pick (eqb h1 0) (own sh x Isolated l) (own sh x Start h1)) l (pick (eqb h2 0) (mate k) h2) (pick (eqb h1 0) (mate k) (own sh x Prev h1))
-      (pick (eqb h2 0) (own sh x Isolated l2) (own sh x Start h2)) l (pick (eqb h1 0) k h1) (pick (eqb h2 0) k (own sh x Prev h2)))
-      (pick (eqb h2 0) (mate k) h2) (mate k) l)
-      l2 0 0 0)
-      l k 0
+      ≡ mekrList sh x k l l2
+      (pick (eqb h1 0) (own sh x Isolated l) (own sh x Start h1)) (pick (eqb h1 0) (mate k) (own sh x Prev h1)) (pick (eqb h1 0) k h1)
+      (pick (eqb h2 0) (own sh x Isolated l2) (own sh x Start h2)) (pick (eqb h2 0) k (own sh x Prev h2)) (pick (eqb h2 0) (mate k) h2)
   unfolding linksAfter mekrLinks mekrEdge
   mekr-links k q = rw (le-leb l 8192 l-small, le-leb h1 8192 h1-small, le-leb l2 8192 l2-small, le-leb h2 8192 h2-small, le-leb e 8192 e-small, le-leb w 8192 w-small, q)
 

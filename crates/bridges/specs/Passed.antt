@@ -6,8 +6,8 @@ use Prim.Native.Nat.{ℕ}
 use lib.Dec.{eqb}
 use Rattle.laws.specs.Bools.{pick, split, eqb-same, eqb-other}
 use Rattle.laws.specs.Update.{upd-same, upd-off}
-use Rattle.laws.specs.Permutations.{inj, redo, undo-in}
-use Rattle.validity.specs.EdgeIn.{Halves, Rules}
+use Rattle.laws.specs.Permutations.{inj}
+use Rattle.validity.specs.EdgeIn.{Halves, Rules, prev-in, next-prev}
 use Rattle.validity.specs.Dummies.{drop-rules, agree-rules}
 
 -- what went to D goes on to where D goes
@@ -33,18 +33,10 @@ abbrev pub Tidy : (ℕ → ℕ) → ℕ → (ℕ → Type 0) → ℕ → Type 0
 Tidy f D U i = U i × (i ≡ D → f D ≡ D)
 
 module _ {n : ℕ} {mate : ℕ → ℕ} {U : ℕ → Type 0} {h : Halves} (r : Rules n mate U h) (mm : (i : ℕ) → mate (mate i) ≡ i) (D : ℕ) (own : mate D ≡ D) where
-  -- what comes before one of U is one of U
-  prev-in : (i : ℕ) → U i → U (h .prev i)
-  prev-in = undo-in (r .loops .perm) (h .prev) (r .undone)
-
-  -- and goes to it
-  next-prev : (i : ℕ) → U i → h .next (h .prev i) ≡ i
-  next-prev = redo (r .loops .perm) (h .prev) (r .undone)
-
   -- it is not there
   tidy-none : ¬ U D → Rules n mate (Tidy (h .next) D U) (skipped h D)
   tidy-none g = agree-rules r (λ i u. (u, λ e. absurd (g (subst U e u)))) (λ i u. u .0) (λ i u. refl) (λ i u. refl)
-      (λ i u. skip-off D (h .next) (λ e. g (subst U e (r .loops .perm .f-in i u)))) (λ i u. skip-off D (h .prev) (λ e. g (subst U e (prev-in i u))))
+      (λ i u. skip-off D (h .next) (λ e. g (subst U e (r .loops .perm .f-in i u)))) (λ i u. skip-off D (h .prev) (λ e. g (subst U e (prev-in r i u))))
 
   -- it is alone
   tidy-alone : U D → h .next D ≡ D → Rules n mate (Tidy (h .next) D U) (skipped h D)
@@ -58,15 +50,15 @@ module _ {n : ℕ} {mate : ℕ → ℕ} {U : ℕ → Type 0} {h : Halves} (r : R
   tidy-out : U D → h .next D ≢ D → Rules n mate (Tidy (h .next) D U) (skipped h D)
   tidy-out u n =
       let y = h .prev D in
-      let yd : h .next (h .prev D) ≡ D = next-prev D u in
+      let yd : h .next (h .prev D) ≡ D = next-prev r D u in
       let dy : D ≢ h .prev D = λ e. n (ap (h .next) e ∙ yd) in
-      agree-rules (drop-rules r mm D (h .prev D) own (prev-in D u) yd dy) (λ i v. (v .0, λ e. absurd (v .1 e))) (λ i v. (v .0, λ e. n (v .1 e))) (λ i v. refl) (λ i v. refl)
+      agree-rules (drop-rules r mm D (h .prev D) own (prev-in r D u) yd dy) (λ i v. (v .0, λ e. absurd (v .1 e))) (λ i v. (v .0, λ e. n (v .1 e))) (λ i v. refl) (λ i v. refl)
       (λ i v. split i (h .prev D)
       (λ e. skip-at D (h .next) (ap (h .next) e ∙ yd) ∙ sym (rw e (upd-same _ (h .prev D) _)))
-      (λ e. skip-off D (h .next) (λ q. e (inj (r .loops .perm) (v .0) (prev-in D u) (q ∙ sym yd))) ∙ sym (upd-off _ _ e)))
+      (λ e. skip-off D (h .next) (λ q. e (inj (r .loops .perm) (v .0) (prev-in r D u) (q ∙ sym yd))) ∙ sym (upd-off _ _ e)))
       (λ i v. split i (h .next D)
       (λ e. skip-at D (h .prev) (ap (h .prev) e ∙ r .undone D u) ∙ sym (rw e (upd-same _ (h .next D) _)))
-      (λ e. skip-off D (h .prev) (λ q. e (sym (next-prev i (v .0)) ∙ ap (h .next) q)) ∙ sym (upd-off _ _ e)))
+      (λ e. skip-off D (h .prev) (λ q. e (sym (next-prev r i (v .0)) ∙ ap (h .next) q)) ∙ sym (upd-off _ _ e)))
 
   -- the rules once it is passed over
   pub tidy-rules : U D ⊎ (¬ U D) → Rules n mate (Tidy (h .next) D U) (skipped h D)

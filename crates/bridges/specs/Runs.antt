@@ -7,7 +7,7 @@ use Rattle.laws.specs.Bools.{split, le?}
 use Rattle.laws.specs.Permutations.{iter, iter-add, iter-last, iter-in, Perm, inj, soon}
 use Rattle.laws.specs.Cycles.{Cycles, forwards}
 use Rattle.laws.specs.Exchange.{Till, stop, go}
-use Rattle.validity.specs.Walking.{Steps, first-hit}
+use Rattle.validity.specs.Walking.{Steps, first-hit, iter-keeps}
 
 -- i is one of the d numbers from x on
 abbrev pub Met : (ℕ → ℕ) → ℕ → ℕ → ℕ → Type 0
@@ -33,15 +33,9 @@ module _ {n : ℕ} {U : ℕ → Type 0} {f lab : ℕ → ℕ} (c : Cycles n U f 
       let r = first-hit f (s .0) x y (s .3 ∙ m .0 .1) in
       (r .0, omega (arith, r .1, s .1), r .2)
 
-  -- labels are kept along the way
-  pub iter-lab : (t x : ℕ) → U x → lab (iter f t x) ≡ lab x
-  unfolding iter
-  iter-lab zero x u = refl
-  iter-lab (suc t) x u = iter-lab t (f x) (c .perm .f-in x u) ∙ c .keeps x u
-
   -- what is met is of the cycle
   pub met-in : {x d i : ℕ} → U x → Met f x d i → U i × (lab i ≡ lab x)
-  met-in {x} u m = (subst U (m .2) (iter-in (c .perm) (m .0) x u), ap lab (sym (m .2)) ∙ iter-lab (m .0) x u)
+  met-in {x} u m = (subst U (m .2) (iter-in (c .perm) (m .0) x u), ap lab (sym (m .2)) ∙ iter-keeps c (m .0) x u)
 
 module _ {n : ℕ} {U : ℕ → Type 0} {f : ℕ → ℕ} (p : Perm n U f) {k a d : ℕ} (u : U k) (s : Steps f (f k) a d) where
   -- k is not met

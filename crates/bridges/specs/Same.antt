@@ -13,7 +13,8 @@ use Rattle.layout.specs.declared.shape.Shape.{Shape}
 use Rattle.layout.specs.Mate.{mate}
 use Rattle.validity.specs.Fields.{Field, Capacity, SolidUsed, Solid, Outer, Face, First, Isolated, Start, Loop, Next, Prev, VertexUsed, Columns, capOf}
 use Rattle.validity.specs.Sound.{In, HalfUsed, Sound}
-use Rattle.bridges.specs.Bridge.{unnamed, Corner, Bridged, off-k, off-a}
+use Rattle.validity.specs.Names.{lone-unnamed}
+use Rattle.bridges.specs.Bridge.{Corner, Bridged, off-k, off-a}
 
 -- two tables agree up to the capacities
 abbrev pub Alike : Shape → Columns → Columns → Type 0
@@ -36,7 +37,7 @@ module _ {sh : Shape} {p p′ : List ℤ} {c c′ d d′ : Columns} {k l l2 u1 P
 
   -- the starts
   start-same : (i : ℕ) → In (2 * sh .edges) i → c Start i ≡ c′ Start i
-  start-same = each (λ i. In (2 * sh .edges) i → c Start i ≡ c′ Start i) (λ j. b .zero-k .s ∙ sym (b′ .zero-k .s)) (λ j. b .zero-a .s ∙ sym (b′ .zero-a .s))
+  start-same = each (λ i. In (2 * sh .edges) i → c Start i ≡ c′ Start i) (λ j. b .ends .zero-k .s ∙ sym (b′ .ends .zero-k .s)) (λ j. b .ends .zero-a .s ∙ sym (b′ .ends .zero-a .s))
       (λ i x y j. sym (b .start-o i x y) ∙ e Start i (j .0) (j .1) ∙ b′ .start-o i x y)
 
   -- so the same half-edges are in use
@@ -45,33 +46,33 @@ module _ {sh : Shape} {p p′ : List ℤ} {c c′ d d′ : Columns} {k l l2 u1 P
 
   -- next
   next-same : (i : ℕ) → In (2 * sh .edges) i → c Next i ≡ c′ Next i
-  next-same = each (λ i. In (2 * sh .edges) i → c Next i ≡ c′ Next i) (λ j. b .zero-k .n ∙ sym (b′ .zero-k .n)) (λ j. b .zero-a .n ∙ sym (b′ .zero-a .n))
+  next-same = each (λ i. In (2 * sh .edges) i → c Next i ≡ c′ Next i) (λ j. b .ends .zero-k .n ∙ sym (b′ .ends .zero-k .n)) (λ j. b .ends .zero-a .n ∙ sym (b′ .ends .zero-a .n))
       (λ i x y j. split i P1
-      (λ z. ap (c Next) z ∙ ⊎-elim (λ r. absurd (y (z ∙ r .before))) (λ r. r .next) (b .at-1) ∙ sym (ap (c′ Next) z ∙ ⊎-elim (λ r. absurd (y (z ∙ r .before))) (λ r. r .next) (b′ .at-1)))
+      (λ z. ap (c Next) z ∙ ⊎-elim (λ r. absurd (y (z ∙ r .before))) (λ r. r .next) (b .ends .at-1) ∙ sym (ap (c′ Next) z ∙ ⊎-elim (λ r. absurd (y (z ∙ r .before))) (λ r. r .next) (b′ .ends .at-1)))
       (λ z. split i P2
-      (λ t. ap (c Next) t ∙ ⊎-elim (λ r. absurd (x (t ∙ r .before))) (λ r. r .next) (b .at-2) ∙ sym (ap (c′ Next) t ∙ ⊎-elim (λ r. absurd (x (t ∙ r .before))) (λ r. r .next) (b′ .at-2)))
+      (λ t. ap (c Next) t ∙ ⊎-elim (λ r. absurd (x (t ∙ r .before))) (λ r. r .next) (b .ends .at-2) ∙ sym (ap (c′ Next) t ∙ ⊎-elim (λ r. absurd (x (t ∙ r .before))) (λ r. r .next) (b′ .ends .at-2)))
       (λ t. sym (b .next-o i x y z t) ∙ e Next i (j .0) (j .1) ∙ b′ .next-o i x y z t)))
 
   -- previous
   prev-same : (i : ℕ) → In (2 * sh .edges) i → c Prev i ≡ c′ Prev i
-  prev-same = each (λ i. In (2 * sh .edges) i → c Prev i ≡ c′ Prev i) (λ j. b .zero-k .p ∙ sym (b′ .zero-k .p)) (λ j. b .zero-a .p ∙ sym (b′ .zero-a .p))
+  prev-same = each (λ i. In (2 * sh .edges) i → c Prev i ≡ c′ Prev i) (λ j. b .ends .zero-k .p ∙ sym (b′ .ends .zero-k .p)) (λ j. b .ends .zero-a .p ∙ sym (b′ .ends .zero-a .p))
       (λ i x y j. split i N1
-      (λ z. ap (c Prev) z ∙ ⊎-elim (λ r. absurd (x (z ∙ r .after))) (λ r. r .prev) (b .at-1) ∙ sym (ap (c′ Prev) z ∙ ⊎-elim (λ r. absurd (x (z ∙ r .after))) (λ r. r .prev) (b′ .at-1)))
+      (λ z. ap (c Prev) z ∙ ⊎-elim (λ r. absurd (x (z ∙ r .after))) (λ r. r .prev) (b .ends .at-1) ∙ sym (ap (c′ Prev) z ∙ ⊎-elim (λ r. absurd (x (z ∙ r .after))) (λ r. r .prev) (b′ .ends .at-1)))
       (λ z. split i N2
-      (λ t. ap (c Prev) t ∙ ⊎-elim (λ r. absurd (y (t ∙ r .after))) (λ r. r .prev) (b .at-2) ∙ sym (ap (c′ Prev) t ∙ ⊎-elim (λ r. absurd (y (t ∙ r .after))) (λ r. r .prev) (b′ .at-2)))
+      (λ t. ap (c Prev) t ∙ ⊎-elim (λ r. absurd (y (t ∙ r .after))) (λ r. r .prev) (b .ends .at-2) ∙ sym (ap (c′ Prev) t ∙ ⊎-elim (λ r. absurd (y (t ∙ r .after))) (λ r. r .prev) (b′ .ends .at-2)))
       (λ t. sym (b .prev-o i x y z t) ∙ e Prev i (j .0) (j .1) ∙ b′ .prev-o i x y z t)))
 
   -- the ring has the same half-edges
   ring-same : (i : ℕ) → In (2 * sh .edges) i → c Loop i ≡ l2 → c′ Loop i ≡ l2
   ring-same i j z = ⊎-elim
-      (λ r. absurd (unnamed s l2 (b .ring-in) (λ y. omega (arith, b .in-2 .0, sym (r .isolated) ∙ y)) i j z))
-      (λ r. linked-same (c′ Loop) (λ x y t. sym (b′ .keeps x (half-same x (t .0))) ∙ ap (c′ Loop) (sym (next-same x (t .0 .0, t .0 .1)) ∙ t .1)) (s .rules .loops .one i N2 w (r .after) (z ∙ sym (r .loop)))
-      ∙ ⊎-elim (λ r′. absurd (off-a b N2 (r .after) (r′ .after))) (λ r′. r′ .loop) (b′ .at-2))
-      (b .at-2)
+      (λ r. absurd (lone-unnamed s l2 (b .ends .ring-in) (λ y. omega (arith, b .ends .in-2 .0, sym (r .isolated) ∙ y)) i j z))
+      (λ r. linked-same (c′ Loop) (λ x y t. sym (b′ .ends .keeps x (half-same x (t .0))) ∙ ap (c′ Loop) (sym (next-same x (t .0 .0, t .0 .1)) ∙ t .1)) (s .rules .loops .one i N2 w (r .after) (z ∙ sym (r .loop)))
+      ∙ ⊎-elim (λ r′. absurd (off-a b N2 (r .after) (r′ .after))) (λ r′. r′ .loop) (b′ .ends .at-2))
+      (b .ends .at-2)
     where
       -- i is in use
       w : HalfUsed sh c i
-      w = (j .0, j .1, λ y. omega (arith, b .ring-in .0, sym z ∙ s .half-free i j y .loop))
+      w = (j .0, j .1, λ y. omega (arith, b .ends .ring-in .0, sym z ∙ s .half-free i j y .loop))
 
   -- the same corner is isolated in both, or in neither
   isolated-same : {m k′ a′ u P N : ℕ} → ((i : ℕ) → HalfUsed sh c i → i ≢ k′) → ((i : ℕ) → HalfUsed sh c′ i → i ≢ k′) → Corner sh c m k′ a′ u P N → Corner sh c′ m k′ a′ u P N → c Isolated m ≡ c′ Isolated m
@@ -82,13 +83,13 @@ module _ {sh : Shape} {p p′ : List ℤ} {c c′ d d′ : Columns} {k l l2 u1 P
   -- the faces of the loops
   face-same : (m : ℕ) → In (sh .loops) m → c Face m ≡ c′ Face m
   face-same m i =
-      let f : c Face l ≡ c′ Face l = sym (b .face-o l (b .two)) ∙ e Face l (b .loop-in .0) (b .loop-in .1) ∙ b′ .face-o l (b .two) in
-      split m l2 (λ z. rw z (b .one-face ∙ f ∙ sym (b′ .one-face))) (λ z. sym (b .face-o m z) ∙ e Face m (i .0) (i .1) ∙ b′ .face-o m z)
+      let f : c Face l ≡ c′ Face l = sym (b .face-o l (b .ends .two)) ∙ e Face l (b .ends .loop-in .0) (b .ends .loop-in .1) ∙ b′ .face-o l (b .ends .two) in
+      split m l2 (λ z. rw z (b .ends .one-face ∙ f ∙ sym (b′ .ends .one-face))) (λ z. sym (b .face-o m z) ∙ e Face m (i .0) (i .1) ∙ b′ .face-o m z)
 
 -- the loops of the half-edges
 loop-same : {sh : Shape} {p p′ : List ℤ} {c c′ d d′ : Columns} {k l l2 u1 P1 N1 u2 P2 N2 : ℕ} → Sound sh p c → Sound sh p′ c′ → Bridged sh c d k l l2 u1 P1 N1 u2 P2 N2 → Bridged sh c′ d′ k l l2 u1 P1 N1 u2 P2 N2
     → Alike sh d d′ → (i : ℕ) → In (2 * sh .edges) i → c Loop i ≡ c′ Loop i
-loop-same {sh} {c = c} {c′} {k = k} {l2 = l2} s s′ b b′ e = each s s′ b b′ e (λ i. In (2 * sh .edges) i → c Loop i ≡ c′ Loop i) (λ j. b .zero-k .l ∙ sym (b′ .zero-k .l)) (λ j. b .zero-a .l ∙ sym (b′ .zero-a .l))
+loop-same {sh} {c = c} {c′} {k = k} {l2 = l2} s s′ b b′ e = each s s′ b b′ e (λ i. In (2 * sh .edges) i → c Loop i ≡ c′ Loop i) (λ j. b .ends .zero-k .l ∙ sym (b′ .ends .zero-k .l)) (λ j. b .ends .zero-a .l ∙ sym (b′ .ends .zero-a .l))
     (λ i x y j. split (c Loop i) l2 (λ z. z ∙ sym (ring-same s s′ b b′ e i j z))
     (λ z. sym (b .loop-o i x y z) ∙ e Loop i (j .0) (j .1) ∙ b′ .loop-o i x y (λ t. z (ring-same s′ s b′ b (λ F m g h. sym (e F m g h)) i j t))))
 
@@ -102,8 +103,8 @@ down-same s s′ b b′ e Outer i x y = sym (b .outer i) ∙ e Outer i x y ∙ b
 down-same s s′ b b′ e Face i x y = face-same s s′ b b′ e i (x, y)
 down-same s s′ b b′ e First i x y = first-same s s′ (face-same s s′ b b′ e) (loop-same s s′ b b′ e) i (x, y)
 down-same {c = c} {c′} {l = l} {l2} s s′ b b′ e Isolated i x y = split i l
-    (λ z. rw z (isolated-same s s′ b b′ e (off-k b) (off-k b′) (b .at-1) (b′ .at-1)))
-    (λ z. split i l2 (λ t. rw t (isolated-same s s′ b b′ e (off-a b) (off-a b′) (b .at-2) (b′ .at-2))) (λ t. sym (b .isolated-o i z t) ∙ e Isolated i x y ∙ b′ .isolated-o i z t))
+    (λ z. rw z (isolated-same s s′ b b′ e (off-k b) (off-k b′) (b .ends .at-1) (b′ .ends .at-1)))
+    (λ z. split i l2 (λ t. rw t (isolated-same s s′ b b′ e (off-a b) (off-a b′) (b .ends .at-2) (b′ .ends .at-2))) (λ t. sym (b .isolated-o i z t) ∙ e Isolated i x y ∙ b′ .isolated-o i z t))
 down-same s s′ b b′ e Start i x y = start-same s s′ b b′ e i (x, y)
 down-same s s′ b b′ e Loop i x y = loop-same s s′ b b′ e i (x, y)
 down-same s s′ b b′ e Next i x y = next-same s s′ b b′ e i (x, y)

@@ -1,18 +1,17 @@
 -- The columns after mekr: they differ from those before by the bridge.
 use mathlib.Core.Path.{_≡_, refl, sym, ap, _∙_}
 use mathlib.Core.Logic.{_≢_, ⊎-elim}
-use Prim.Native.Nat.{ℕ, _*_}
+use Prim.Native.Nat.{ℕ}
 use native.Mathlib.Omega.{arith}
 use Rattle.laws.specs.Bools.{pick}
 use Rattle.laws.specs.Update.{upd, upd-same, upd-at, upd-off, relabel, relabel-at, relabel-off}
 use Rattle.layout.specs.declared.shape.Shape.{Shape}
 use Rattle.layout.specs.Mate.{mate}
-use Rattle.validity.specs.Fields.{Face, First, Isolated, Start, Loop, Next, Outer, VertexUsed, Columns, change, sameField}
+use Rattle.validity.specs.Fields.{Face, First, Isolated, Start, Loop, Columns, change, sameField}
 use Rattle.validity.specs.Mates.{mate-other}
-use Rattle.validity.specs.EdgeBack.{Zero}
-use Rattle.validity.specs.Sound.{In, halves, HalfUsed, firstOf}
+use Rattle.validity.specs.Sound.{HalfUsed, firstOf}
 use Rattle.validity.specs.Shown.{withEdge, withFirst}
-use Rattle.bridges.specs.Bridge.{Corner, Bridged}
+use Rattle.bridges.specs.Bridge.{Bridged, Ends}
 
 -- the loop column is f
 abbrev pub withLoops : Columns → (ℕ → ℕ) → Columns
@@ -33,26 +32,6 @@ bridgeColumns c k l l2 u1 P1 N1 u2 P2 N2 = withoutLoop (withLoops (withEdge c k 
 -- the columns afterwards
 abbrev pub mekrColumns : Shape → Columns → (k l l2 u1 P1 N1 u2 P2 N2 : ℕ) → Columns
 mekrColumns sh c k l l2 u1 P1 N1 u2 P2 N2 = withFirst (bridgeColumns c k l l2 u1 P1 N1 u2 P2 N2) l (firstOf sh (bridgeColumns c k l l2 u1 P1 N1 u2 P2 N2) l) 0
-
--- what is asked of the table before: two corners of two loops of a face, one of them a ring, and a free edge
-pub record Ends (sh : Shape) (c : Columns) (k l l2 u1 P1 N1 u2 P2 N2 : ℕ) : Type 0 where
-  pub half-in : In (2 * sh .edges) k
-  pub mate-in : In (2 * sh .edges) (mate k)
-  pub loop-in : In (sh .loops) l
-  pub ring-in : In (sh .loops) l2
-  pub two : l ≢ l2
-  pub used : c Face l ≢ 0
-  pub one-face : c Face l2 ≡ c Face l
-  pub ring : c Outer (c Face l2) ≢ l2
-  pub at-1 : Corner sh c l k (mate k) u1 P1 N1
-  pub at-2 : Corner sh c l2 (mate k) k u2 P2 N2
-  pub in-1 : In (sh .vertices) u1
-  pub in-2 : In (sh .vertices) u2
-  pub used-1 : c VertexUsed u1 ≢ 0
-  pub used-2 : c VertexUsed u2 ≢ 0
-  pub zero-k : Zero (halves c) k
-  pub zero-a : Zero (halves c) (mate k)
-  pub keeps : (i : ℕ) → HalfUsed sh c i → c Loop (c Next i) ≡ c Loop i
 
 module _ {sh : Shape} {c : Columns} {k l l2 u1 P1 N1 u2 P2 N2 : ℕ} (o : Ends sh c k l l2 u1 P1 N1 u2 P2 N2) where
   -- the columns afterwards
@@ -119,23 +98,7 @@ module _ {sh : Shape} {c : Columns} {k l l2 u1 P1 N1 u2 P2 N2 : ℕ} (o : Ends s
   -- before and after mekr
   pub up-bridged : Bridged sh c (mekrColumns sh c k l l2 u1 P1 N1 u2 P2 N2) k l l2 u1 P1 N1 u2 P2 N2
   up-bridged = record {
-    half-in = o .half-in;
-    mate-in = o .mate-in;
-    loop-in = o .loop-in;
-    ring-in = o .ring-in;
-    two = o .two;
-    used = o .used;
-    one-face = o .one-face;
-    ring = o .ring;
-    at-1 = o .at-1;
-    at-2 = o .at-2;
-    in-1 = o .in-1;
-    in-2 = o .in-2;
-    used-1 = o .used-1;
-    used-2 = o .used-2;
-    zero-k = o .zero-k;
-    zero-a = o .zero-a;
-    keeps = o .keeps;
+    ends = o;
     start-k = upd-off _ u2 ka ∙ upd-same (c Start) k u1;
     start-a = upd-same _ a u2;
     start-o = λ i e f. upd-off _ u2 f ∙ upd-off (c Start) u1 e;

@@ -1,6 +1,6 @@
 -- mekr on the list: what it leaves shows the columns with the bridge. The walk that gives the ring its new loop meets the ring's half-edges and no others.
 use mathlib.Core.Path.{_≡_, refl, sym, ap, _∙_, subst}
-use mathlib.Core.Logic.{_≢_, _⊎_, inl, inr, ⊎-elim}
+use mathlib.Core.Logic.{_≢_, inl, inr, ⊎-elim}
 use mathlib.Core.List.{List}
 use Prim.Native.Nat.{ℕ, zero, suc, _*_, _≤_, _<_}
 use native.Mathlib.Omega.{arith}
@@ -11,18 +11,20 @@ use Rattle.laws.specs.Permutations.{iter, iter-in, inj}
 use Rattle.laws.specs.Cycles.{forwards}
 use Rattle.layout.specs.declared.shape.Shape.{Shape}
 use Rattle.layout.specs.Mate.{mate}
-use Rattle.euler.specs.Surgery.{edgeIn, putLoop, relabelRun, renew}
+use Rattle.euler.specs.Surgery.{edgeIn, relabelRun}
 use Rattle.validity.specs.Fields.{Field, Capacity, SolidUsed, Solid, Outer, Face, First, Isolated, Start, Loop, Next, Prev, VertexUsed, Columns, capOf}
 use Rattle.validity.specs.Cells.{Shows, shows-put, shows-agree}
 use Rattle.validity.specs.Sound.{In, HalfUsed, Sound}
+use Rattle.validity.specs.Names.{lone-unnamed}
 use Rattle.validity.specs.Walking.{Steps, runColumns, shows-relabel, run-met, run-off, run-other}
 use Rattle.validity.specs.Shown.{withEdge, shows-edge, shows-first}
 use Rattle.validity.specs.Good.{own, Good, good-shows, good-after}
-use Rattle.bridges.specs.Bridge.{unnamed, Corner, Bridged, new-k, new-a}
+use Rattle.bridges.specs.Bridge.{Corner, Bridged, new-k, new-a, Ends}
 use Rattle.bridges.specs.UpSound.{up-sound}
 use Rattle.bridges.specs.UpRules.{up-rules}
-use Rattle.bridges.specs.UpColumns.{withLoops, joinedLoops, mekrColumns, Ends, up-bridged, up-first, up-first-2}
+use Rattle.bridges.specs.UpColumns.{withLoops, joinedLoops, mekrColumns, up-bridged, up-first, up-first-2}
 use Rattle.bridges.specs.Runs.{Met, met?, run-to, met-in, met-next, met-first}
+use Rattle.bridges.specs.BridgeLists.{mekrList}
 
 module _ {sh : Shape} {x : List ℕ} {p : List ℤ} (g : Good sh x p) {k l l2 u1 P1 N1 u2 P2 N2 : ℕ} (o : Ends sh (own sh x) k l l2 u1 P1 N1 u2 P2 N2) where
   -- the columns before
@@ -45,10 +47,6 @@ module _ {sh : Shape} {x : List ℕ} {p : List ℤ} (g : Good sh x p) {k l l2 u1
   abbrev d : Columns
   d = mekrColumns sh (own sh x) k l l2 u1 P1 N1 u2 P2 N2
 
-  -- the list afterwards
-  abbrev y : List ℕ
-  y = renew sh (putLoop sh (relabelRun sh (edgeIn sh x k u1 l N2 P1 u2 l N1 P2) N2 (mate k) l) l2 0 0 0) l k 0
-
   -- before and after
   b : Bridged sh (own sh x) (mekrColumns sh (own sh x) k l l2 u1 P1 N1 u2 P2 N2) k l l2 u1 P1 N1 u2 P2 N2
   b = up-bridged o
@@ -69,7 +67,7 @@ module _ {sh : Shape} {x : List ℕ} {p : List ℤ} (g : Good sh x p) {k l l2 u1
   all-met : (i : ℕ) → HalfUsed sh c i → c Loop i ≡ l2 → Met (d Next) (d Next k) (run .0) i
   unfolding iter
   all-met i w z = ⊎-elim
-      (λ r. absurd (unnamed (g .sound) l2 (o .ring-in) (λ q. omega (arith, o .in-2 .0, sym (r .isolated) ∙ q)) i (w .0, w .1) z))
+      (λ r. absurd (lone-unnamed (g .sound) l2 (o .ring-in) (λ q. omega (arith, o .in-2 .0, sym (r .isolated) ∙ q)) i (w .0, w .1) z))
       (λ r.
       let m = forwards (g .sound .rules .loops .perm) (g .sound .rules .loops .one N2 i (r .after) w (r .loop ∙ sym z)) in
       let N2a : N2 ≢ a = λ e. r .after .2 (ap (c Start) e ∙ o .zero-a .s) in
@@ -131,7 +129,7 @@ module _ {sh : Shape} {x : List ℕ} {p : List ℤ} (g : Good sh x p) {k l l2 u1
   run-agree VertexUsed i h = run-other e₀ (run .0) (d Next k) l VertexUsed refl i
 
   -- the list shows these columns
-  pub mekr-shows : Shows sh (renew sh (putLoop sh (relabelRun sh (edgeIn sh x k u1 l N2 P1 u2 l N1 P2) N2 (mate k) l) l2 0 0 0) l k 0) (mekrColumns sh (own sh x) k l l2 u1 P1 N1 u2 P2 N2)
+  pub mekr-shows : Shows sh (mekrList sh x k l l2 u1 P1 N1 u2 P2 N2) (mekrColumns sh (own sh x) k l l2 u1 P1 N1 u2 P2 N2)
   mekr-shows =
       let P1-in : In n P1 = ⊎-elim (λ r. subst (In n) (sym (r .before)) (o .mate-in)) (λ r. (r .before .0, r .before .1)) (o .at-1) in
       let N1-in : In n N1 = ⊎-elim (λ r. subst (In n) (sym (r .after)) (o .half-in)) (λ r. (r .after .0, r .after .1)) (o .at-1) in
@@ -147,5 +145,5 @@ module _ {sh : Shape} {x : List ℕ} {p : List ℤ} (g : Good sh x p) {k l l2 u1
       (λ i j e. (j .0, j .1, λ q. omega (arith, o .loop-in .0, sym e ∙ mekr-sound .half-free i j q .loop)))
 
   -- the table is good afterwards
-  pub mekr-good : Good sh (renew sh (putLoop sh (relabelRun sh (edgeIn sh x k u1 l N2 P1 u2 l N1 P2) N2 (mate k) l) l2 0 0 0) l k 0) p
+  pub mekr-good : Good sh (mekrList sh x k l l2 u1 P1 N1 u2 P2 N2) p
   mekr-good = good-after g mekr-shows (λ i. refl) refl mekr-sound

@@ -15,7 +15,8 @@ use Rattle.validity.specs.Fields.{Solid, Outer, Face, First, Isolated, Start, L
 use Rattle.validity.specs.Mates.{mate⁺}
 use Rattle.validity.specs.EdgeIn.{Rules}
 use Rattle.validity.specs.Solids.{Solids}
-use Rattle.validity.specs.Sound.{In, HalfUsed, FaceUsed, side, firstOf, LoopSound, HalfSound, HalfFree, Sound}
+use Rattle.validity.specs.Sound.{In, HalfUsed, FaceUsed, side, firstOf, LoopSound, HalfSound, HalfFree, Sound, half-by}
+use Rattle.validity.specs.Names.{lone-kept}
 use Rattle.validity.specs.WithDummies.{upTo-low, upTo-high, extended, Member, Corners, sound-corners, corners-rules, corners-loop, corners-vertex}
 use Rattle.bridges.specs.Bridge.{Corner, Bridged, corner-before, corner-after, off-k, off-a, new-k, new-a, half-stays, half-was, free-loop, dummy-stays, side-same, side-k, side-a, same-name}
 
@@ -35,7 +36,7 @@ module _ {sh : Shape} {p : List ℤ} {c d : Columns} {k l l2 u1 P1 N1 u2 P2 N2 :
   loop-member m x i (inr w) e =
       let f : i - n ≡ m = sym (upTo-high n (c Loop) (λ j. j - n) i (w .0)) ∙ e in
       split (i - n) l
-      (λ z. (k, inl (new-k b), upTo-low n (d Loop) _ k (b .half-in .1) ∙ b .loop-k ∙ sym z ∙ f))
+      (λ z. (k, inl (new-k b), upTo-low n (d Loop) _ k (b .ends .half-in .1) ∙ b .loop-k ∙ sym z ∙ f))
       (λ z. (i, inr (dummy-stays b i z (λ q. x (sym f ∙ q)) w), upTo-high n (d Loop) (λ j. j - n) i (w .0) ∙ f))
 
   -- an isolated corner is at its vertex
@@ -48,9 +49,9 @@ module _ {sh : Shape} {p : List ℤ} {c d : Columns} {k l l2 u1 P1 N1 u2 P2 N2 :
   vertex-member w y i (inr x) e =
       let f : c Isolated (i - n) ≡ w = sym (upTo-high n (c Start) (λ j. c Isolated (j - n)) i (x .0)) ∙ e in
       split (i - n) l
-      (λ z. (k, inl (new-k b), upTo-low n (d Start) _ k (b .half-in .1) ∙ b .start-k ∙ sym (lone-vertex (b .at-1) (λ q. x .2 (ap (c Isolated) z ∙ q))) ∙ ap (c Isolated) (sym z) ∙ f))
+      (λ z. (k, inl (new-k b), upTo-low n (d Start) _ k (b .ends .half-in .1) ∙ b .start-k ∙ sym (lone-vertex (b .ends .at-1) (λ q. x .2 (ap (c Isolated) z ∙ q))) ∙ ap (c Isolated) (sym z) ∙ f))
       (λ z. split (i - n) l2
-      (λ z′. (mate k, inl (new-a b), upTo-low n (d Start) _ (mate k) (b .mate-in .1) ∙ b .start-a ∙ sym (lone-vertex (b .at-2) (λ q. x .2 (ap (c Isolated) z′ ∙ q))) ∙ ap (c Isolated) (sym z′) ∙ f))
+      (λ z′. (mate k, inl (new-a b), upTo-low n (d Start) _ (mate k) (b .ends .mate-in .1) ∙ b .start-a ∙ sym (lone-vertex (b .ends .at-2) (λ q. x .2 (ap (c Isolated) z′ ∙ q))) ∙ ap (c Isolated) (sym z′) ∙ f))
       (λ z′. (i, inr (dummy-stays b i z z′ x), upTo-high n (d Start) (λ j. d Isolated (j - n)) i (x .0) ∙ b .isolated-o _ z z′ ∙ f)))
 
   -- a loop in use in d was in use in c
@@ -80,16 +81,13 @@ module _ {sh : Shape} {p : List ℤ} {c d : Columns} {k l l2 u1 P1 N1 u2 P2 N2 :
   isolated-used m y h =
       let e : m ≢ l = λ z. h (ap (d Isolated) z ∙ b .isolated-1) in
       let f : m ≢ l2 = λ z. h (ap (d Isolated) z ∙ b .isolated-2) in
-      let q : d Isolated m ≡ c Isolated m = b .isolated-o m e f in
-      let g : c Isolated m ≢ 0 = λ z. h (q ∙ z) in
-      let r = ⊎-elim (λ w. absurd (g (w .1))) (λ w. w) (a .loop m y (λ z. g (a .loop-free m y z .1)) .either) in
-      (subst (In (sh .vertices)) (sym q) (r .1), λ z. used (c Isolated m) (r .2) (ap (d VertexUsed) (sym q) ∙ z))
+      lone-kept a d m y (b .isolated-o m e f) used h
 
   -- a half-edge free in d is free in c
   free-half : (i : ℕ) → d Start i ≡ 0 → (i ≢ k) × (i ≢ mate k) × (c Start i ≡ 0)
   free-half i z =
-      let e : i ≢ k = λ w. omega (arith, b .in-1 .0, sym (b .start-k) ∙ ap (d Start) (sym w) ∙ z) in
-      let f : i ≢ mate k = λ w. omega (arith, b .in-2 .0, sym (b .start-a) ∙ ap (d Start) (sym w) ∙ z) in
+      let e : i ≢ k = λ w. omega (arith, b .ends .in-1 .0, sym (b .start-k) ∙ ap (d Start) (sym w) ∙ z) in
+      let f : i ≢ mate k = λ w. omega (arith, b .ends .in-2 .0, sym (b .start-a) ∙ ap (d Start) (sym w) ∙ z) in
       (e, f, sym (b .start-o i e f) ∙ z)
 
   -- a free half-edge is all zero
@@ -99,8 +97,8 @@ module _ {sh : Shape} {p : List ℤ} {c d : Columns} {k l l2 u1 P1 N1 u2 P2 N2 :
       let r = a .half-free i j (w .2) in
       record {
         loop = b .loop-o i (w .0) (w .1) (free-loop b i (r .loop)) ∙ r .loop;
-        next = b .next-o i (w .0) (w .1) (corner-before (b .at-1) (w .1) (w .2)) (corner-before (b .at-2) (w .0) (w .2)) ∙ r .next;
-        prev = b .prev-o i (w .0) (w .1) (corner-after (b .at-1) (w .0) (w .2)) (corner-after (b .at-2) (w .1) (w .2)) ∙ r .prev;
+        next = b .next-o i (w .0) (w .1) (corner-before (b .ends .at-1) (w .1) (w .2)) (corner-before (b .ends .at-2) (w .0) (w .2)) ∙ r .next;
+        prev = b .prev-o i (w .0) (w .1) (corner-after (b .ends .at-1) (w .0) (w .2)) (corner-after (b .ends .at-2) (w .1) (w .2)) ∙ r .prev;
       }
 
   -- a loop in use is sound
@@ -121,22 +119,17 @@ module _ {sh : Shape} {p : List ℤ} {c d : Columns} {k l l2 u1 P1 N1 u2 P2 N2 :
   -- ---- half-edges
 
   -- from the values of start and loop
-  half-by : (i s m : ℕ) → d Start i ≡ s → d Loop i ≡ m → In (sh .vertices) s → c VertexUsed s ≢ 0 → In (sh .loops) m → c Face m ≢ 0 → m ≢ l2 → HalfSound sh d i
-  half-by i s m es em x y z w v = record {
-    start-in = subst (In (sh .vertices)) (sym es) x;
-    start-used = λ g. used s y (ap (d VertexUsed) (sym es) ∙ g);
-    loop-in = subst (In (sh .loops)) (sym em) z;
-    loop-used = λ g. w (sym (b .face-o m v) ∙ ap (d Face) (sym em) ∙ g);
-  }
+  half-at : (i s m : ℕ) → d Start i ≡ s → d Loop i ≡ m → In (sh .vertices) s → c VertexUsed s ≢ 0 → In (sh .loops) m → c Face m ≢ 0 → m ≢ l2 → HalfSound sh d i
+  half-at i s m es em x y z w v = half-by s m es em x (used s y) z (λ g. w (sym (b .face-o m v) ∙ g))
 
   -- a half-edge in use is sound
   d-half : (i : ℕ) → HalfUsed sh d i → HalfSound sh d i
   d-half = half-was b
-      (half-by k u1 l (b .start-k) (b .loop-k) (b .in-1) (b .used-1) (b .loop-in) (b .used) (b .two))
-      (half-by (mate k) u2 l (b .start-a) (b .loop-a) (b .in-2) (b .used-2) (b .loop-in) (b .used) (b .two))
+      (half-at k u1 l (b .start-k) (b .loop-k) (b .ends .in-1) (b .ends .used-1) (b .ends .loop-in) (b .ends .used) (b .ends .two))
+      (half-at (mate k) u2 l (b .start-a) (b .loop-a) (b .ends .in-2) (b .ends .used-2) (b .ends .loop-in) (b .ends .used) (b .ends .two))
       (λ i w. let r = a .half i (w .0, w .1) (w .2) in let es = b .start-o i (off-k b i w) (off-a b i w) in split (c Loop i) l2
-      (λ e. half-by i (c Start i) l es (b .loop-2 i (w .0, w .1) e) (r .start-in) (r .start-used) (b .loop-in) (b .used) (b .two))
-      (λ e. half-by i (c Start i) (c Loop i) es (b .loop-o i (off-k b i w) (off-a b i w) e) (r .start-in) (r .start-used) (r .loop-in) (r .loop-used) e))
+      (λ e. half-at i (c Start i) l es (b .loop-2 i (w .0, w .1) e) (r .start-in) (r .start-used) (b .ends .loop-in) (b .ends .used) (b .ends .two))
+      (λ e. half-at i (c Start i) (c Loop i) es (b .loop-o i (off-k b i w) (off-a b i w) e) (r .start-in) (r .start-used) (r .loop-in) (r .loop-used) e))
 
   -- ---- faces
 
@@ -146,7 +139,7 @@ module _ {sh : Shape} {p : List ℤ} {c d : Columns} {k l l2 u1 P1 N1 u2 P2 N2 :
 
   -- the face of l is in use
   l-face : FaceUsed sh d (c Face l)
-  l-face = let r = a .loop l (b .loop-in) (b .used) in face-stays _ (r .face-in .0, r .face-in .1, r .face-used)
+  l-face = let r = a .loop l (b .ends .loop-in) (b .ends .used) in face-stays _ (r .face-in .0, r .face-in .1, r .face-used)
 
   -- equal faces have one solid, in either table
   solid-of : {f g : ℕ} → f ≡ g → d Solid f ≡ c Solid g
@@ -173,7 +166,7 @@ module _ {sh : Shape} {p : List ℤ} {c d : Columns} {k l l2 u1 P1 N1 u2 P2 N2 :
     face-free = λ f i h. b .outer f ∙ a .face-free f i (sym (b .solid f) ∙ h);
     face = λ f i h.
         let r = a .face f i (λ z. h (b .solid f ∙ z)) in
-        let o : c Outer f ≢ l2 = λ e. b .ring (ap (c Outer) (ap (c Face) (sym e) ∙ r .outer-face) ∙ e) in
+        let o : c Outer f ≢ l2 = λ e. b .ends .ring (ap (c Outer) (ap (c Face) (sym e) ∙ r .outer-face) ∙ e) in
         record {
           solid-in = subst (In (sh .solids)) (sym (b .solid f)) (r .solid-in);
           solid-used = λ z. r .solid-used (sym (b .solid-used _) ∙ ap (d SolidUsed) (sym (b .solid f)) ∙ z);
@@ -184,7 +177,7 @@ module _ {sh : Shape} {p : List ℤ} {c d : Columns} {k l l2 u1 P1 N1 u2 P2 N2 :
         (λ e. (ap (d First) e ∙ first-2, ap (d Isolated) e ∙ b .isolated-2))
         (λ e.
         let z : c Face m ≡ 0 = sym (b .face-o m e) ∙ h in
-        let f : m ≢ l = λ q. b .used (ap (c Face) (sym q) ∙ z) in
+        let f : m ≢ l = λ q. b .ends .used (ap (c Face) (sym q) ∙ z) in
         let r = a .loop-free m i z in
         (b .first-o m f e ∙ r .0, b .isolated-o m f e ∙ r .1));
     loop = d-loop;

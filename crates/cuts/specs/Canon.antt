@@ -1,9 +1,9 @@
 -- The operands that mef needs to make an edge, read off the corners; they are those of kef's inverse.
 use mathlib.Core.Path.{_≡_, refl, sym, ap, _∙_, subst}
-use mathlib.Core.Logic.{_≢_, _⊎_, inl, inr}
+use mathlib.Core.Logic.{_≢_, inl, inr}
 use mathlib.Core.Bool.{true, false, not, _&&_, _||_}
 use mathlib.Core.List.{List, [], _∷_}
-use Prim.Native.Nat.{ℕ, _+_, _-_, _*_, _%_, _≤_}
+use Prim.Native.Nat.{ℕ, _+_, _%_, _≤_}
 use native.Mathlib.Omega.{arith}
 use lib.Dec.{eqb, leb}
 use lib.IntN.{ℤ, pos}
@@ -11,13 +11,14 @@ use Rattle.laws.specs.Bools.{pick, split, eqb-same, eqb-other}
 use Rattle.script.specs.declared.Operator.{Operator}
 use Rattle.layout.specs.declared.shape.Shape.{Shape}
 use Rattle.layout.specs.Mate.{mate, edgeOf}
-use Rattle.layout.specs.MateLaws.{mate-odd, mate-even}
-use Rattle.euler.specs.Surgery.{halfBy, wayOf, corner}
+use Rattle.euler.specs.Surgery.{halfBy, wayOf}
 use Rattle.euler.specs.Operators.{aAlone, bAlone}
 use Rattle.validity.specs.Fields.{Isolated, Start, Loop, Next, Prev, Columns}
 use Rattle.validity.specs.Cells.{Shows}
 use Rattle.validity.specs.Sound.{HalfUsed, Sound}
+use Rattle.validity.specs.HalfNumbers.{way-small, half-is, mate-edge}
 use Rattle.validity.specs.Good.{own}
+use Rattle.validity.specs.CornerTest.{CornerAt}
 use Rattle.cuts.specs.Cut.{Spot, Both, Pair, Right, Left, Near, both, right, left, pair, Cut, off-a, off-b}
 use Rattle.cuts.specs.MendShown.{restOf}
 
@@ -41,21 +42,10 @@ wayBack q = wayOf (q .a) + pick (eqb (q .N) (q .a) && not (eqb (q .M) (q .b))) 2
 
 -- edge and way of a, whose mate is b
 pub half-back : (a b : ℕ) → 1 ≤ a → mate a ≡ b → (w : ℕ) → w % 2 ≡ wayOf a → halfBy (edgeOf b) w ≡ a
-half-back a b i e w h = split (a % 2) 1
-    (λ o.
-    let y : wayOf a ≡ 0 = rw (eqb-same o) in
-    let g : w % 2 ≡ 0 = h ∙ y in
-    let m : b ≡ a + 1 = sym e ∙ mate-odd a o in
-    rw (eqb-same g, m) (omega (arith, o)))
-    (λ o.
-    let y : wayOf a ≡ 1 = rw (eqb-other o) in
-    let g : w % 2 ≢ 0 = λ z. omega (arith, z, h, y) in
-    let m : b ≡ a - 1 = sym e ∙ mate-even a o in
-    rw (eqb-other g, m) (omega (arith, o, i)))
-
--- a way is at most 1
-pub way-small : (a : ℕ) → wayOf a ≤ 1
-way-small a = split (a % 2) 1 (λ o. rw (eqb-same o) (omega arith)) (λ o. rw (eqb-other o) (omega arith))
+half-back a b i e w h =
+    let y : edgeOf b ≡ edgeOf a = ap edgeOf (sym e) ∙ mate-edge a i in
+    let r : w % 2 ≡ wayOf a % 2 = omega (arith, h, way-small a) in
+    rw (y, r) (half-is a i)
 
 -- ---- the operands by case
 
@@ -104,23 +94,11 @@ pub record Asks (sh : Shape) (x : List ℕ) (q : Spot) (h1 h2 w : ℕ) : Type 0 
   pub Q-is : pick (bAlone h1 h2 w) (q .b) (own sh x Prev h2) ≡ q .Q
   pub u-is : pick (eqb h1 0) (own sh x Isolated (q .l)) (own sh x Start h1) ≡ q .u
   pub v-is : pick (eqb h2 0) (own sh x Isolated (q .l)) (own sh x Start h2) ≡ q .v
-  pub corner1 : corner sh x (q .l) h1 ≡ true
-  pub corner2 : corner sh x (q .l) h2 ≡ true
+  pub corner1 : CornerAt sh (own sh x) (q .l) h1
+  pub corner2 : CornerAt sh (own sh x) (q .l) h2
   pub ways : (not (leb 2 w) || (eqb h1 h2 && not (eqb h1 0))) ≡ true
-  pub h1-in : (h1 ≡ 0) ⊎ ((h1 ≤ 2 * sh .edges) × (own sh x Start h1 ≢ 0))
-  pub h2-in : (h2 ≡ 0) ⊎ ((h2 ≤ 2 * sh .edges) × (own sh x Start h2 ≢ 0))
   pub w-in : w ≤ 3
   pub half : halfBy (edgeOf (q .b)) w ≡ q .a
-
--- a corner at a half-edge, and at an isolated loop
-corner-at : (sh : Shape) (x : List ℕ) (l h : ℕ) → h ≢ 0 → own sh x Loop h ≡ l → corner sh x l h ≡ true
-unfolding corner
-corner-at sh x l h o e = rw (eqb-other o, eqb-same e)
-
--- at an isolated loop
-corner-lone : (sh : Shape) (x : List ℕ) (l : ℕ) → own sh x Isolated l ≢ 0 → corner sh x l 0 ≡ true
-unfolding corner
-corner-lone sh x l o = rw (eqb-other o)
 
 module _ {sh : Shape} {c d : Columns} {q : Spot} (k : Cut sh c d q) {x : List ℕ} (s : Shows sh x c) where
   -- the way of a is below 2
@@ -139,11 +117,7 @@ module _ {sh : Shape} {c d : Columns} {q : Spot} (k : Cut sh c d q) {x : List �
   way-odd : (wayOf (q .a) + 2) % 2 ≡ wayOf (q .a)
   way-odd = split (q .a % 2) 1 (λ o. rw (eqb-same o)) (λ o. rw (eqb-other o))
 
-  -- what is read at a half-edge of c
-  some-half : (h : ℕ) → HalfUsed sh c h → (h ≡ 0) ⊎ ((h ≤ 2 * sh .edges) × (own sh x Start h ≢ 0))
-  some-half h w = inr (w .1, λ z. w .2 (sym (s .at Start h (w .1)) ∙ z))
-
-  -- its vertex
+  -- the vertex that is read at a half-edge of c
   read-start : (h v : ℕ) → HalfUsed sh c h → c Start h ≡ v → pick (eqb h 0) (own sh x Isolated (q .l)) (own sh x Start h) ≡ v
   read-start h v w e =
       let o : h ≢ 0 = λ z. omega (arith, w .0, z) in
@@ -154,8 +128,8 @@ module _ {sh : Shape} {c d : Columns} {q : Spot} (k : Cut sh c d q) {x : List �
   read-prev h v w e = s .at Prev h (w .1) ∙ e
 
   -- it is a corner
-  read-corner : (h : ℕ) → HalfUsed sh c h → c Loop h ≡ q .l → corner sh x (q .l) h ≡ true
-  read-corner h w e = corner-at sh x (q .l) h (λ z. omega (arith, w .0, z)) (s .at Loop h (w .1) ∙ e)
+  read-corner : (h : ℕ) → HalfUsed sh c h → c Loop h ≡ q .l → CornerAt sh (own sh x) (q .l) h
+  read-corner h w e = inr ((w .0, w .1, λ z. w .2 (sym (s .at Start h (w .1)) ∙ z)), s .at Loop h (w .1) ∙ e)
 
   module _ {p : List ℤ} (r : Sound sh p c) where
     -- next is of the same loop
@@ -176,8 +150,6 @@ module _ {sh : Shape} {c d : Columns} {q : Spot} (k : Cut sh c d q) {x : List �
           corner1 = read-corner (q .M) (o .M-in) (next-loop (q .P) (q .M) (o .P-in) (o .next-P) (o .loop-P));
           corner2 = read-corner (q .N) (o .N-in) (next-loop (q .Q) (q .N) (o .Q-in) (o .next-Q) (o .loop-Q));
           ways = rw low;
-          h1-in = some-half (q .M) (o .M-in);
-          h2-in = some-half (q .N) (o .N-in);
           w-in = omega (arith, way-small (q .a));
           half = half-back (q .a) (q .b) (k .a-in .0) (k .ab) (wayOf (q .a)) way-even;
         }
@@ -198,8 +170,6 @@ module _ {sh : Shape} {c d : Columns} {q : Spot} (k : Cut sh c d q) {x : List �
           corner1 = cn;
           corner2 = cn;
           ways = rw low;
-          h1-in = some-half (q .N) (o .N-in);
-          h2-in = some-half (q .N) (o .N-in);
           w-in = omega (arith, way-small (q .a));
           half = half-back (q .a) (q .b) (k .a-in .0) (k .ab) (wayOf (q .a)) way-even;
         }
@@ -220,8 +190,6 @@ module _ {sh : Shape} {c d : Columns} {q : Spot} (k : Cut sh c d q) {x : List �
           corner1 = cn;
           corner2 = cn;
           ways = rw (high, nn, n0);
-          h1-in = some-half (q .M) (o .N-in);
-          h2-in = some-half (q .M) (o .N-in);
           w-in = omega (arith, way-small (q .a));
           half = half-back (q .a) (q .b) (k .a-in .0) (k .ab) (wayOf (q .a) + 2) way-odd;
         }
@@ -230,7 +198,7 @@ module _ {sh : Shape} {c d : Columns} {q : Spot} (k : Cut sh c d q) {x : List �
     asks-pair : Pair c q → Asks sh x q 0 0 (wayOf (q .a))
     asks-pair o =
         let e : own sh x Isolated (q .l) ≡ q .u = s .at Isolated (q .l) (k .l-in .1) ∙ o .isolated in
-        let cn = corner-lone sh x (q .l) (λ z. k .u-some (sym e ∙ z)) in
+        let cn : CornerAt sh (own sh x) (q .l) 0 = inl (refl, λ z. k .u-some (sym e ∙ z)) in
         record {
           N-is = sym (o .N-a);
           P-is = sym (o .P-a);
@@ -241,8 +209,6 @@ module _ {sh : Shape} {c d : Columns} {q : Spot} (k : Cut sh c d q) {x : List �
           corner1 = cn;
           corner2 = cn;
           ways = rw low;
-          h1-in = inl refl;
-          h2-in = inl refl;
           w-in = omega (arith, way-small (q .a));
           half = half-back (q .a) (q .b) (k .a-in .0) (k .ab) (wayOf (q .a)) way-even;
         }

@@ -12,7 +12,7 @@ use Rattle.layout.specs.declared.shape.Shape.{Shape}
 use Rattle.layout.specs.Mate.{mate}
 use Rattle.validity.specs.Fields.{Capacity, SolidUsed, Solid, Outer, Face, First, Isolated, Start, Loop, Next, Prev, VertexUsed, Columns}
 use Rattle.validity.specs.Mates.{mate-other}
-use Rattle.validity.specs.EdgeBack.{Zero}
+use Rattle.validity.specs.EdgeIn.{Zero}
 use Rattle.validity.specs.Sound.{In, halves, HalfUsed, firstOf}
 
 -- the numbers
@@ -159,10 +159,6 @@ module _ {sh : Shape} {c d : Columns} {q : Spot} (k : Cut sh c d q) where
   -- the same the other way round
   pub b-a : q .b ≢ q .a
   b-a e = a-b (sym e)
-
-  -- and so do the two loops
-  pub m-l : q .m ≢ q .l
-  m-l e = k .l-m (sym e)
 
   -- in c they are free
   pub off-a : (i : ℕ) → HalfUsed sh c i → i ≢ q .a

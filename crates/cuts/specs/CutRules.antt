@@ -10,23 +10,20 @@ use Rattle.laws.specs.Moves.{Or}
 use Rattle.layout.specs.declared.shape.Shape.{Shape}
 use Rattle.layout.specs.Mate.{mate}
 use Rattle.layout.specs.MateLaws.{mate-mate}
-use Rattle.validity.specs.Fields.{Face, Isolated, Start, Loop, Next, Prev, Columns}
+use Rattle.validity.specs.Fields.{Isolated, Start, Loop, Next, Prev, Columns}
 use Rattle.validity.specs.EdgeIn.{Rules, joined, halved-loops, joined-rules}
 use Rattle.validity.specs.Dummies.{agree-rules}
-use Rattle.validity.specs.Sound.{halves, HalfUsed, VertexSound, alone, joined as startsIt, Sound}
-use Rattle.validity.specs.Labels.{none-label}
+use Rattle.validity.specs.Sound.{halves, HalfUsed, Sound}
+use Rattle.validity.specs.Names.{lone-unnamed, lone-alone}
 use Rattle.cuts.specs.Spikes.{spike-in}
 use Rattle.cuts.specs.Pairs.{pair-in}
 use Rattle.cuts.specs.Cut.{Spot, Both, Pair, Right, Left, Near, both, right, left, pair, Cut, Marked, a-b, b-a, off-a, off-b, or-used, used-or}
+use Rattle.cuts.specs.CutSolids.{unnamed}
 
 module _ {sh : Shape} {p : List ℤ} {c d : Columns} {q : Spot} (k : Cut sh c d q) (w : Marked sh c d q) (s : Sound sh p c) where
   -- as many half-edges
   abbrev n : ℕ
   n = 2 * sh .edges
-
-  -- the new loop is named by none
-  fresh : (i : ℕ) → HalfUsed sh c i → c Loop i ≢ q .m
-  fresh i x e = s .half i (x .0, x .1) (x .2) .loop-used (ap (c Face) e ∙ k .face-free)
 
   -- the loop of another is as it was
   far : (i : ℕ) → HalfUsed sh c i → c Loop i ≢ q .l → d Loop i ≡ c Loop i
@@ -48,7 +45,7 @@ module _ {sh : Shape} {p : List ℤ} {c d : Columns} {q : Spot} (k : Cut sh c d 
     joined-d = joined-rules (s .rules) mate-mate (q .a) (q .b) (q .P) (q .Q) (k .ab) (a-b k) (λ x. off-a k (q .a) x refl) (λ x. off-b k (q .b) x refl)
         (k .a-in .0) (k .a-in .1) (k .b-in .0) (k .b-in .1) (o .P-in) (o .Q-in) (o .apart) (d Loop)
         (halved-loops (s .rules) mate-mate (q .a) (q .b) (q .P) (q .Q) (k .ab) (a-b k) (λ x. off-a k (q .a) x refl) (λ x. off-b k (q .b) x refl)
-        (k .a-in .0) (k .a-in .1) (k .b-in .0) (k .b-in .1) (o .P-in) (o .Q-in) (o .apart) (o .loop-P ∙ sym (o .loop-Q)) (q .m) fresh (d Loop)
+        (k .a-in .0) (k .a-in .1) (k .b-in .0) (k .b-in .1) (o .P-in) (o .Q-in) (o .apart) (o .loop-P ∙ sym (o .loop-Q)) (q .m) (unnamed k s) (d Loop)
         (k .loop-a ∙ sym (o .loop-P)) (k .loop-b) (w .run o) (w .rest o) (λ i x e. far i x (λ z. e (z ∙ sym (o .loop-P)))))
 
     -- that is d
@@ -116,7 +113,7 @@ module _ {sh : Shape} {p : List ℤ} {c d : Columns} {q : Spot} (k : Cut sh c d 
     start-b = k .start-b ∙ sym (ap (c Start) (o .next-P) ∙ o .start-v);
     start-o = λ i x. k .start-else i (off-a k i x) (off-b k i x);
     loop-a = k .loop-a ∙ sym (w .stay o (q .P) (o .P-in) ∙ o .loop-P);
-    loop-b = λ i x z. fresh i x (sym (w .stay o i x) ∙ z ∙ k .loop-b);
+    loop-b = λ i x z. unnamed k s i x (sym (w .stay o i x) ∙ z ∙ k .loop-b);
     loop-to = λ i j x y e. w .stay o i x ∙ e ∙ sym (w .stay o j y);
     loop-from = λ i j x y e. sym (w .stay o i x) ∙ e ∙ w .stay o j y;
   })
@@ -126,7 +123,7 @@ module _ {sh : Shape} {p : List ℤ} {c d : Columns} {q : Spot} (k : Cut sh c d 
   module _ (o : Left sh c q) where
     -- of two in one loop of d, both were in l or none
     turned : (i j : ℕ) → HalfUsed sh c i → HalfUsed sh c j → d Loop i ≡ d Loop j → c Loop i ≡ q .l → c Loop j ≡ q .l
-    turned i j x y e z = split (c Loop j) (q .l) (λ g. g) (λ g. absurd (fresh j y (sym (far j y g) ∙ sym e ∙ w .turn o i x z)))
+    turned i j x y e z = split (c Loop j) (q .l) (λ g. g) (λ g. absurd (unnamed k s j y (sym (far j y g) ∙ sym e ∙ w .turn o i x z)))
 
     -- b goes in after Q, a is a loop of its own
     rules-left : Rules n mate (Or (q .a) (Or (q .b) (HalfUsed sh c))) (halves d)
@@ -163,19 +160,12 @@ module _ {sh : Shape} {p : List ℤ} {c d : Columns} {q : Spot} (k : Cut sh c d 
     isolated z = k .u-some (sym (o .isolated) ∙ z)
 
     -- no half-edge names it
-    unnamed : (i : ℕ) → HalfUsed sh c i → c Loop i ≢ q .l
-    unnamed i x = let r = s .loop (q .l) (k .l-in) (k .l-used) in
-        none-label n (c Loop) (q .l) (⊎-elim (λ y. absurd (isolated (y .1))) (λ y. sym (r .first) ∙ y .0) (r .either)) i (x .0, x .1)
+    lonely : (i : ℕ) → HalfUsed sh c i → c Loop i ≢ q .l
+    lonely i x = lone-unnamed s (q .l) (k .l-in) isolated i (x .0, x .1)
 
     -- none starts at its vertex
     unstarted : (i : ℕ) → HalfUsed sh c i → c Start i ≢ q .u
-    unstarted i x = let r = s .loop (q .l) (k .l-in) (k .l-used) in
-        ⊎-elim (λ y. absurd (isolated (y .1))) (λ y. by (s .vertex (c Isolated (q .l)) (y .1) (y .2))) (r .either)
-      where
-        -- by what is known of that vertex
-        by : VertexSound sh c (c Isolated (q .l)) → c Start i ≢ q .u
-        by (alone l′ j e u t) z = t i (x .0, x .1) (z ∙ sym (o .isolated))
-        by (startsIt t i′ j e) z = t (q .l) (k .l-in) refl
+    unstarted i x z = lone-alone s (q .l) (k .l-in) isolated .1 i (x .0, x .1) (z ∙ sym (o .isolated))
 
     -- each is a loop of its own
     rules-pair : Rules n mate U″ (halves d)
@@ -196,9 +186,9 @@ module _ {sh : Shape} {p : List ℤ} {c d : Columns} {q : Spot} (k : Cut sh c d 
       start-a = λ i x z. unstarted i x (z ∙ k .start-a);
       start-o = λ i x. k .start-else i (off-a k i x) (off-b k i x);
       loops = λ z. k .l-m (sym (k .loop-a) ∙ z ∙ k .loop-b);
-      loop-a = λ i x z. unnamed i x (z ∙ k .loop-a);
-      loop-b = λ i x z. fresh i x (z ∙ k .loop-b);
-      loop-o = λ i x. far i x (unnamed i x);
+      loop-a = λ i x z. lonely i x (z ∙ k .loop-a);
+      loop-b = λ i x z. unnamed k s i x (z ∙ k .loop-b);
+      loop-o = λ i x. far i x (lonely i x);
     })
 
   -- ---- whichever it is

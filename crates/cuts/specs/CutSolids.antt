@@ -12,6 +12,7 @@ use Rattle.validity.specs.Fields.{Solid, Face, Loop, Columns}
 use Rattle.validity.specs.Faces.{Share}
 use Rattle.validity.specs.Solids.{Solids}
 use Rattle.validity.specs.Sound.{HalfUsed, FaceUsed, side, Sound}
+use Rattle.validity.specs.Names.{loop-unnamed}
 use Rattle.cuts.specs.Cut.{Spot, Cut, off-a, off-b, used-a, used-to, each}
 
 module _ {sh : Shape} {p : List ℤ} {c d : Columns} {q : Spot} (k : Cut sh c d q) (s : Sound sh p c) where
@@ -45,7 +46,7 @@ module _ {sh : Shape} {p : List ℤ} {c d : Columns} {q : Spot} (k : Cut sh c d 
 
   -- the new loop is named by none in c
   pub unnamed : (i : ℕ) → HalfUsed sh c i → c Loop i ≢ q .m
-  unnamed i x e = s .half i (x .0, x .1) (x .2) .loop-used (ap (c Face) e ∙ k .face-free)
+  unnamed i x = loop-unnamed s (q .m) (k .m-in) (k .face-free) i (x .0, x .1)
 
   -- another side is as it was, or goes from the old face to the new one
   sides : (i : ℕ) → HalfUsed sh c i → (side d i ≡ side c i) ⊎ ((side c i ≡ f0) × (side d i ≡ q .f))

@@ -1,6 +1,6 @@
 -- The columns with the edge are sound where those without it are.
 use mathlib.Core.Path.{_≡_, sym, ap, _∙_, subst}
-use mathlib.Core.Logic.{_≢_, _⊎_, inl, inr, ⊎-elim}
+use mathlib.Core.Logic.{_≢_, inl, inr, ⊎-elim}
 use mathlib.Core.List.{List}
 use Prim.Native.Nat.{ℕ, _*_}
 use native.Mathlib.Omega.{arith}
@@ -9,7 +9,7 @@ use Rattle.laws.specs.Bools.{split}
 use Rattle.laws.specs.Search.{least-ext}
 use Rattle.layout.specs.declared.shape.Shape.{Shape}
 use Rattle.validity.specs.Fields.{Solid, Outer, Face, Isolated, Start, Loop, VertexUsed, Columns}
-use Rattle.validity.specs.Sound.{In, HalfUsed, FaceSound, LoopSound, HalfSound, HalfFree, VertexSound, alone, joined, Sound}
+use Rattle.validity.specs.Sound.{In, HalfUsed, FaceSound, LoopSound, HalfSound, HalfFree, VertexSound, alone, joined, Sound, half-by}
 use Rattle.validity.specs.Labels.{label-some}
 use Rattle.cuts.specs.Cut.{Spot, Cut, Marked, off-a, off-b, same-name, each, around, Met, met-u, met-v, isolated-or}
 use Rattle.cuts.specs.CutRules.{cut-rules}
@@ -97,22 +97,17 @@ module _ {sh : Shape} {p : List ℤ} {c d : Columns} {q : Spot} (k : Cut sh c d 
   end-used x o (inr t) = ⊎-elim (λ h. absurd (o (sym t ∙ h .1))) (λ h. rw (← t) (h .1, h .2)) (s .loop (q .l) (k .l-in) (k .l-used) .either)
 
   -- from the values of start and loop
-  half-by : (i v m : ℕ) → d Start i ≡ v → d Loop i ≡ m → In (sh .vertices) v × (c VertexUsed v ≢ 0) → In (sh .loops) m → d Face m ≢ 0 → HalfSound sh d i
-  half-by i v m es em x y z = record {
-    start-in = rw es (x .0);
-    start-used = rw (es, k .vertex-used v) (x .1);
-    loop-in = rw em y;
-    loop-used = rw em z;
-  }
+  half-at : (i v m : ℕ) → d Start i ≡ v → d Loop i ≡ m → In (sh .vertices) v × (c VertexUsed v ≢ 0) → In (sh .loops) m → d Face m ≢ 0 → HalfSound sh d i
+  half-at i v m es em x y z = half-by v m es em (x .0) (rw (k .vertex-used v) (x .1)) y z
 
   -- a half-edge in use is sound
   half : (i : ℕ) → HalfUsed sh d i → HalfSound sh d i
   half = each k (HalfSound sh d)
-      (half-by (q .a) (q .u) (q .l) (k .start-a) (k .loop-a) (end-used (q .u) (k .u-some) (met-u (k .near))) (k .l-in) (λ z. k .l-used (sym (k .face-else (q .l) (k .l-m)) ∙ z)))
-      (half-by (q .b) (q .v) (q .m) (k .start-b) (k .loop-b) (end-used (q .v) (k .v-some) (met-v (k .near))) (k .m-in) new-loop-used)
+      (half-at (q .a) (q .u) (q .l) (k .start-a) (k .loop-a) (end-used (q .u) (k .u-some) (met-u (k .near))) (k .l-in) (λ z. k .l-used (sym (k .face-else (q .l) (k .l-m)) ∙ z)))
+      (half-at (q .b) (q .v) (q .m) (k .start-b) (k .loop-b) (end-used (q .v) (k .v-some) (met-v (k .near))) (k .m-in) new-loop-used)
       (λ i x. let r = s .half i (x .0, x .1) (x .2) in split (d Loop i) (q .m)
-      (λ e. half-by i (c Start i) (q .m) (k .start-else i (off-a k i x) (off-b k i x)) e (r .start-in, r .start-used) (k .m-in) new-loop-used)
-      (λ e. half-by i (c Start i) (c Loop i) (k .start-else i (off-a k i x) (off-b k i x)) (k .loop-else i (x .1) (off-a k i x) e) (r .start-in, r .start-used) (r .loop-in)
+      (λ e. half-at i (c Start i) (q .m) (k .start-else i (off-a k i x) (off-b k i x)) e (r .start-in, r .start-used) (k .m-in) new-loop-used)
+      (λ e. half-at i (c Start i) (c Loop i) (k .start-else i (off-a k i x) (off-b k i x)) (k .loop-else i (x .1) (off-a k i x) e) (r .start-in, r .start-used) (r .loop-in)
       (λ z. r .loop-used (sym (k .face-else (c Loop i) (unnamed k s i x)) ∙ z))))
     where
       -- the new loop is in use

@@ -6,8 +6,7 @@ use mathlib.Core.List.{List, [], _∷_}
 use Prim.Native.Nat.{ℕ}
 use native.Mathlib.Omega.{arith}
 use lib.Dec.{eqb, eqb→eq, leb, not-T}
-use lib.IntN.{ℤ, pos}
-use lib.ListN.{replicate}
+use lib.IntN.{ℤ}
 use borrow.Author.Tests.{le-leb}
 use Rattle.laws.specs.Bools.{T-true, true-T, split, eqb-same}
 use Rattle.laws.specs.Every.{T-every}
@@ -15,12 +14,12 @@ use Rattle.laws.specs.Sums.{countTo}
 use Rattle.script.specs.Operands.{pattern, rows}
 use Rattle.layout.specs.declared.shape.Shape.{Shape}
 use Rattle.euler.specs.Operators.{kefTest, kefEdge, kefLinks}
-use Rattle.euler.specs.Exec.{limits, useWord, condition, refusalOf, linksAfter, killedVertex, pointsAfter, inverse}
+use Rattle.euler.specs.Exec.{useWord, condition, refusalOf, linksAfter, killedVertex, pointsAfter, inverse}
 use Rattle.validity.specs.Fields.{Face, Start, Loop, Next, Prev, Solid, Columns}
 use Rattle.validity.specs.Cells.{Shows}
 use Rattle.validity.specs.Sound.{In, Sound}
 use Rattle.validity.specs.Labels.{many-one}
-use Rattle.validity.specs.Accepted.{accepted-back, ranges-cons, item-cons, old-use, in-range, unused-range, unused-use}
+use Rattle.validity.specs.OneOperand.{one-accepted}
 use Rattle.validity.specs.Good.{own, Capacities}
 use Rattle.cuts.specs.Cut.{Spot, Cut}
 use Rattle.cuts.specs.CutSolids.{old-used}
@@ -100,13 +99,7 @@ module _ {sh : Shape} {p : List ℤ} {c d : Columns} {q : Spot} (k : Cut sh c d 
   -- it is accepted
   pub kef-accepted : refusalOf sh y (kefOf (q .b)) ≡ 0
   unfolding pattern rows useWord condition
-  kef-accepted = accepted-back sh y (kefOf (q .b)) (record {
-    code = refl;
-    count = refl;
-    range = ranges-cons (limits sh) 9 _ (pos (q .b)) (replicate 7 (pos 0)) (in-range (limits sh) 9 (q .b) refl refl (k .b-in)) (unused-range (limits sh) 7);
-    used = item-cons sh y (kefOf (q .b)) 9 _ 0 (omega (arith, k .b-in .1, caps .edges)) (old-use sh y 9 (q .b) (λ z. omega (arith, k .b-in .0, z)) refl (λ z. k .v-some (sym start-b ∙ z))) (unused-use sh y (kefOf (q .b)) 7 1);
-    holds = rw bn test;
-  })
+  kef-accepted = one-accepted sh y 6 9 refl refl refl refl (omega (arith, caps .edges)) refl (q .b) (k .b-in) (λ z. k .v-some (sym start-b ∙ z)) (rw bn test)
 
 -- points stay
 pub kef-points : (sh : Shape) (x : List ℕ) (v : List ℤ) (k : ℕ) → pointsAfter sh x v (kefOf k) ≡ v

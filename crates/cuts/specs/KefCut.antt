@@ -9,16 +9,16 @@ use lib.Dec.{eqb}
 use lib.IntN.{ℤ}
 use Rattle.laws.specs.Bools.{pick, pick-ind, split, eqb-same, eqb-other}
 use Rattle.laws.specs.Update.{upd, upd-same, upd-off, relabel-at, relabel-off}
-use Rattle.laws.specs.Permutations.{redo, undo-in}
 use Rattle.layout.specs.declared.shape.Shape.{Shape}
 use Rattle.layout.specs.Mate.{mate}
 use Rattle.layout.specs.MateLaws.{mate-mate}
 use Rattle.validity.specs.Fields.{Solid, Outer, Face, First, Isolated, Start, Loop, Next, Prev, Columns}
 use Rattle.validity.specs.Mates.{mate-other}
+use Rattle.validity.specs.EdgeIn.{prev-in, next-prev}
 use Rattle.validity.specs.Sound.{HalfUsed, firstOf, Sound}
+use Rattle.validity.specs.Names.{not-isolated}
 use Rattle.cuts.specs.Cut.{Spot, Near, both, right, left, pair, Cut}
 use Rattle.cuts.specs.MendSolids.{Only}
-use Rattle.cuts.specs.Loops.{not-isolated}
 use Rattle.cuts.specs.KefPlace.{spotAt, mendColumns, KefPlace}
 
 module _ {sh : Shape} {p : List ℤ} {d : Columns} (t : Sound sh p d) (zero : d Loop 0 ≡ 0) {b : ℕ} (o : KefPlace sh d b) where
@@ -66,19 +66,19 @@ module _ {sh : Shape} {p : List ℤ} {d : Columns} (t : Sound sh p d) (zero : d 
 
   -- previous of a is in use
   uP : HalfUsed sh d (q .P)
-  uP = undo-in (t .rules .loops .perm) (d Prev) (t .rules .undone) (mate b) ua
+  uP = prev-in (t .rules) (mate b) ua
 
   -- and a follows it
   nP : d Next (q .P) ≡ mate b
-  nP = redo (t .rules .loops .perm) (d Prev) (t .rules .undone) (mate b) ua
+  nP = next-prev (t .rules) (mate b) ua
 
   -- previous of b is in use
   uQ : HalfUsed sh d (q .Q)
-  uQ = undo-in (t .rules .loops .perm) (d Prev) (t .rules .undone) b (o .used)
+  uQ = prev-in (t .rules) b (o .used)
 
   -- and b follows it
   nQ : d Next (q .Q) ≡ b
-  nQ = redo (t .rules .loops .perm) (d Prev) (t .rules .undone) b (o .used)
+  nQ = next-prev (t .rules) b (o .used)
 
   -- next of a is in use
   uN : HalfUsed sh d (q .N)
@@ -265,8 +265,8 @@ module _ {sh : Shape} {p : List ℤ} {d : Columns} (t : Sound sh p d) (zero : d 
         first-free = upd-off _ _ m-l ∙ upd-same (d First) (q .m) 0;
         first-else = λ i e g. sym (upd-off _ _ e ∙ upd-off (d First) 0 g);
         isolated-free = upd-off _ _ m-l ∙ upd-same (d Isolated) (q .m) 0;
-        isolated-l = not-isolated t (mate b) ua;
-        isolated-m = not-isolated t b (o .used);
+        isolated-l = not-isolated t (mate b) ua refl;
+        isolated-m = not-isolated t b (o .used) refl;
         isolated-else = λ i e g. sym (upd-off _ _ e ∙ upd-off (d Isolated) 0 g);
         zero-a = record { s = upd-off _ _ a-b ∙ upd-same _ (mate b) 0; l = upd-off _ _ a-b ∙ upd-same _ (mate b) 0; n = upd-off _ _ a-b ∙ upd-same _ (mate b) 0; p = upd-off _ _ a-b ∙ upd-same _ (mate b) 0 };
         zero-b = record { s = upd-same _ b 0; l = upd-same _ b 0; n = upd-same _ b 0; p = upd-same _ b 0 };

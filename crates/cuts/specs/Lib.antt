@@ -1,10 +1,8 @@
-pub mod Lone
-pub mod Loops
 pub mod Spikes
 pub mod Pairs
 pub mod Cut
-pub mod CutRules
 pub mod CutSolids
+pub mod CutRules
 pub mod CutSound
 pub mod MendRules
 pub mod MendSolids

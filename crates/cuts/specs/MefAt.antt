@@ -1,44 +1,29 @@
 -- mef on a list that shows the columns without the edge: it is accepted, makes the list with it, and is undone by kef.
-use mathlib.Core.Path.{_≡_, refl, sym, _∙_}
-use mathlib.Core.Logic.{_≢_, _⊎_, inl, inr, ⊎-elim}
-use mathlib.Core.Bool.{true, false}
+use mathlib.Core.Path.{_≡_, refl, sym, ap, _∙_}
+use mathlib.Core.Logic.{⊎-elim}
+use mathlib.Core.Bool.{true}
 use mathlib.Core.List.{List, [], _∷_}
-use Prim.Native.Nat.{ℕ, _+_, _*_, _%_, _≤_}
+use Prim.Native.Nat.{ℕ, _*_, _≤_}
 use native.Mathlib.Omega.{arith}
-use lib.Dec.{eqb}
 use lib.IntN.{ℤ, pos}
-use lib.ListN.{getD}
 use borrow.Author.Tests.{le-leb}
-use Rattle.laws.specs.Bools.{split, eqb-same}
-use Rattle.script.specs.declared.Limits.{Limits}
 use Rattle.script.specs.declared.Operator.{Operator}
-use Rattle.script.specs.Operands.{coordinate, pattern, rows, leasts, largests, inRange, wire}
-use Rattle.script.specs.Ranges.{between-range}
+use Rattle.script.specs.Operands.{pattern, rows}
 use Rattle.layout.specs.declared.shape.Shape.{Shape}
-use Rattle.layout.specs.Mate.{mate, edgeOf}
-use Rattle.layout.specs.MateLaws.{mate-odd}
+use Rattle.layout.specs.Mate.{edgeOf}
 use Rattle.euler.specs.Operators.{mefTest, mefEdge, mefLinks}
-use Rattle.euler.specs.Exec.{limits, useWord, useRefusal, condition, refusalOf, linksAfter, pointsAfter, inverse}
+use Rattle.euler.specs.Exec.{limits, useWord, condition, refusalOf, linksAfter, pointsAfter, inverse}
 use Rattle.validity.specs.Fields.{Solid, Face, Start, Columns}
 use Rattle.validity.specs.Cells.{Shows}
 use Rattle.validity.specs.Sound.{In, Sound}
-use Rattle.validity.specs.Accepted.{accepted-back, ranges-cons, uses-cons, item-cons, old-use, new-use, use-none, limitOf, in-range, unused-range, unused-use}
+use Rattle.validity.specs.Accepted.{accepted-back, ranges-cons, uses-cons, item-cons, old-use, new-use, use-none, in-range, unused-range, unused-use, in-range-or-none}
+use Rattle.validity.specs.HalfNumbers.{second-half, edge-in}
 use Rattle.validity.specs.Good.{own, Capacities}
+use Rattle.validity.specs.CornerTest.{corner-most, corner-test, corner-use}
 use Rattle.cuts.specs.Cut.{Spot, Cut}
 use Rattle.cuts.specs.CutShown.{cutList}
 use Rattle.cuts.specs.MendShown.{restOf}
 use Rattle.cuts.specs.Canon.{mefOf, kefOf, endOf, wayBack, Asks, asks}
-
--- a number in range, where 0 is allowed
-in-range-or-none : (lim : Limits) (kind n : ℕ) → eqb kind coordinate ≡ false → getD leasts kind 0 ≡ 0 → n ≤ limitOf lim kind → inRange (largests lim) kind (wire kind (pos n)) ≡ true
-unfolding wire
-in-range-or-none lim kind n c z i = rw c (between-range (largests lim) kind n (omega (arith, z)) i)
-
--- the second half of b's edge is a or b
-second : (a b : ℕ) → mate b ≡ a → (2 * edgeOf b ≡ a) ⊎ (2 * edgeOf b ≡ b)
-second a b e = split (b % 2) 1
-    (λ o. let g : b + 1 ≡ a = sym (mate-odd b o) ∙ e in inl (omega (arith, o, g)))
-    (λ o. inr (omega (arith, o)))
 
 -- mef with the operands read off the corners
 abbrev pub mefAt : Spot → Operator
@@ -66,23 +51,19 @@ module _ {sh : Shape} {p : List ℤ} {c d : Columns} {q : Spot} (k : Cut sh c d 
 
     -- the edge is in range
     e-in : In (sh .edges) (edgeOf (q .b))
-    e-in = (omega (arith, k .b-in .0), omega (arith, k .b-in .1))
+    e-in = edge-in (q .b) (sh .edges) (k .b-in)
 
     -- the edge
     en : edgeOf (q .b) ≤ 8192
     en = omega (arith, e-in .1, caps .edges)
 
-    -- a corner is a half-edge in range
-    below : (h : ℕ) → (h ≡ 0) ⊎ ((h ≤ 2 * sh .edges) × (own sh x Start h ≢ 0)) → h ≤ 2 * sh .edges
-    below h = ⊎-elim (λ z. omega (arith, z)) (λ z. z .0)
-
     -- the first corner
     h1n : h1 ≤ 8192
-    h1n = omega (arith, below h1 (o .h1-in), caps .edges)
+    h1n = let m : h1 ≤ 2 * sh .edges = corner-most sh (own sh x) (q .l) h1 (o .corner1) in omega (arith, m, caps .edges)
 
     -- the second
     h2n : h2 ≤ 8192
-    h2n = omega (arith, below h2 (o .h2-in), caps .edges)
+    h2n = let m : h2 ≤ 2 * sh .edges = corner-most sh (own sh x) (q .l) h2 (o .corner2) in omega (arith, m, caps .edges)
 
     -- the way
     wn : w ≤ 8192
@@ -103,19 +84,14 @@ module _ {sh : Shape} {p : List ℤ} {c d : Columns} {q : Spot} (k : Cut sh c d 
     unfolding inverse
     inverse-by v = rw (le-leb (edgeOf (q .b)) 8192 en, le-leb w 8192 wn, o .half, k .ab)
 
-    -- a corner names none or one in use
-    corner-use : (h : ℕ) → (h ≡ 0) ⊎ ((h ≤ 2 * sh .edges) × (own sh x Start h ≢ 0)) → useRefusal sh x 10 h ≡ 0
-    unfolding useRefusal useWord
-    corner-use h r = split h 0 (λ z. rw (eqb-same z)) (λ z. old-use sh x 10 h z refl (⊎-elim (λ y. absurd (z y)) (λ y. y .1) r))
-
     -- the edge is free
     edge-free : own sh x Start (2 * edgeOf (q .b)) ≡ 0
-    edge-free = ⊎-elim (λ z. rw z (s .at Start (q .a) (k .a-in .1) ∙ k .zero-a .s)) (λ z. rw z (s .at Start (q .b) (k .b-in .1) ∙ k .zero-b .s)) (second (q .a) (q .b) (k .ba))
+    edge-free = ⊎-elim (λ z. ap (own sh x Start) z ∙ s .at Start (q .b) (k .b-in .1) ∙ k .zero-b .s) (λ z. ap (own sh x Start) (z ∙ k .ba) ∙ s .at Start (q .a) (k .a-in .1) ∙ k .zero-a .s) (second-half (q .b))
 
     -- the test passes
     test-by : mefTest sh x (q .l) h1 h2 w ≡ true
     unfolding mefTest
-    test-by = rw (o .corner1, o .corner2, o .ways)
+    test-by = rw (corner-test sh x (q .l) h1 (o .corner1), corner-test sh x (q .l) h2 (o .corner2), o .ways)
 
     -- it is accepted
     accepted-by : refusalOf sh x op ≡ 0
@@ -125,16 +101,16 @@ module _ {sh : Shape} {p : List ℤ} {c d : Columns} {q : Spot} (k : Cut sh c d 
       count = refl;
       range =
           ranges-cons (limits sh) 6 _ (pos (q .l)) (pos h1 ∷ pos h2 ∷ pos (edgeOf (q .b)) ∷ pos (q .f) ∷ pos (q .m) ∷ pos w ∷ pos 0 ∷ []) (in-range (limits sh) 6 (q .l) refl refl (k .l-in))
-          (ranges-cons (limits sh) 10 _ (pos h1) (pos h2 ∷ pos (edgeOf (q .b)) ∷ pos (q .f) ∷ pos (q .m) ∷ pos w ∷ pos 0 ∷ []) (in-range-or-none (limits sh) 10 h1 refl refl (below h1 (o .h1-in)))
-          (ranges-cons (limits sh) 10 _ (pos h2) (pos (edgeOf (q .b)) ∷ pos (q .f) ∷ pos (q .m) ∷ pos w ∷ pos 0 ∷ []) (in-range-or-none (limits sh) 10 h2 refl refl (below h2 (o .h2-in)))
+          (ranges-cons (limits sh) 10 _ (pos h1) (pos h2 ∷ pos (edgeOf (q .b)) ∷ pos (q .f) ∷ pos (q .m) ∷ pos w ∷ pos 0 ∷ []) (in-range-or-none (limits sh) 10 h1 refl refl (corner-most sh (own sh x) (q .l) h1 (o .corner1)))
+          (ranges-cons (limits sh) 10 _ (pos h2) (pos (edgeOf (q .b)) ∷ pos (q .f) ∷ pos (q .m) ∷ pos w ∷ pos 0 ∷ []) (in-range-or-none (limits sh) 10 h2 refl refl (corner-most sh (own sh x) (q .l) h2 (o .corner2)))
           (ranges-cons (limits sh) 8 _ (pos (edgeOf (q .b))) (pos (q .f) ∷ pos (q .m) ∷ pos w ∷ pos 0 ∷ []) (in-range (limits sh) 8 (edgeOf (q .b)) refl refl e-in)
           (ranges-cons (limits sh) 5 _ (pos (q .f)) (pos (q .m) ∷ pos w ∷ pos 0 ∷ []) (in-range (limits sh) 5 (q .f) refl refl (k .f-in))
           (ranges-cons (limits sh) 7 _ (pos (q .m)) (pos w ∷ pos 0 ∷ []) (in-range (limits sh) 7 (q .m) refl refl (k .m-in))
           (ranges-cons (limits sh) 13 _ (pos w) (pos 0 ∷ []) (in-range-or-none (limits sh) 13 w refl refl (o .w-in)) (unused-range (limits sh) 1)))))));
       used =
           item-cons sh x op 6 _ 0 ln (old-use sh x 6 (q .l) (λ z. omega (arith, k .l-in .0, z)) refl (λ z. k .l-used (sym (s .at Face (q .l) (k .l-in .1)) ∙ z)))
-          (item-cons sh x op 10 _ 1 h1n (corner-use h1 (o .h1-in))
-          (item-cons sh x op 10 _ 2 h2n (corner-use h2 (o .h2-in))
+          (item-cons sh x op 10 _ 1 h1n (corner-use sh x (q .l) h1 (o .corner1))
+          (item-cons sh x op 10 _ 2 h2n (corner-use sh x (q .l) h2 (o .corner2))
           (item-cons sh x op 8 _ 3 en (new-use sh x 8 (edgeOf (q .b)) (λ z. omega (arith, e-in .0, z)) refl edge-free)
           (item-cons sh x op 5 _ 4 fn (new-use sh x 5 (q .f) (λ z. omega (arith, k .f-in .0, z)) refl (s .at Solid (q .f) (k .f-in .1) ∙ k .solid-free))
           (item-cons sh x op 7 _ 5 mn (new-use sh x 7 (q .m) (λ z. omega (arith, k .m-in .0, z)) refl (s .at Face (q .m) (k .m-in .1) ∙ k .face-free))

@@ -1,6 +1,6 @@
 -- What an accepted mef says of its operands.
 use mathlib.Core.Path.{_≡_, refl, _∙_, subst}
-use mathlib.Core.Logic.{_≢_, _⊎_, inl, inr, ⊎-elim}
+use mathlib.Core.Logic.{_≢_}
 use mathlib.Core.Bool.{true, not, _&&_, _||_}
 use mathlib.Core.List.{List, [], _∷_}
 use Prim.Native.Nat.{ℕ, _*_, _≤_}
@@ -9,7 +9,7 @@ use lib.Dec.{T, eqb, eqb→eq, leb, le→leb, lit≤, T-not}
 use lib.IntN.{pos}
 use lib.ListN.{length, getD}
 use borrow.Author.Tests.{le-leb}
-use Rattle.laws.specs.Bools.{true-T, and-T, or-T, imp-T, eqb-same}
+use Rattle.laws.specs.Bools.{true-T, and-T, imp-T, eqb-same}
 use Rattle.laws.specs.Every.{every-T}
 use Rattle.script.specs.declared.Operator.{Operator}
 use Rattle.script.specs.Operands.{pattern, rows}
@@ -18,15 +18,12 @@ use Rattle.layout.specs.declared.shape.Shape.{Shape}
 use Rattle.euler.specs.Surgery.{corner}
 use Rattle.euler.specs.Operators.{mefTest}
 use Rattle.euler.specs.Exec.{limits, useWord, condition, refusalOf}
-use Rattle.validity.specs.Fields.{Solid, Face, Isolated, Start, Loop, Columns}
-use Rattle.validity.specs.Sound.{In, HalfUsed}
-use Rattle.validity.specs.Accepted.{by-place, eight, use-old, use-new, Number, number, number-or-none, no-operand}
+use Rattle.validity.specs.Fields.{Solid, Face, Start, Columns}
+use Rattle.validity.specs.Sound.{In}
+use Rattle.validity.specs.Accepted.{by-place, eight, use-old, use-new, Number, number, number-or-none}
 use Rattle.validity.specs.Good.{own, Capacities}
+use Rattle.validity.specs.CornerTest.{CornerAt, test-corner}
 use Rattle.cuts.specs.Canon.{mefOf}
-
--- (l, h) is a corner: l is isolated, or h is a half-edge of it
-abbrev pub CornerOf : Shape → Columns → ℕ → ℕ → Type 0
-CornerOf sh c l h = ((h ≡ 0) × (c Isolated l ≢ 0)) ⊎ (HalfUsed sh c h × (c Loop h ≡ l))
 
 -- the operands
 pub record MefFacts (sh : Shape) (c : Columns) (o : Operator) : Type 0 where
@@ -46,20 +43,12 @@ pub record MefFacts (sh : Shape) (c : Columns) (o : Operator) : Type 0 where
   pub f-free : c Solid f ≡ 0
   pub m-in : In (sh .loops) m
   pub m-free : c Face m ≡ 0
-  pub corner1 : CornerOf sh c l h1
-  pub corner2 : CornerOf sh c l h2
+  pub corner1 : CornerAt sh c l h1
+  pub corner2 : CornerAt sh c l h2
   pub high : 2 ≤ w → (h1 ≡ h2) × (h1 ≢ 0)
   pub way : w ≤ 3
 
--- the test of a corner
-corner-says : (sh : Shape) (x : List ℕ) (l h : ℕ) → T (corner sh x l h) → ((h ≡ 0) × (own sh x Isolated l ≢ 0)) ⊎ ((h ≢ 0) × (own sh x Loop h ≡ l))
-unfolding corner
-corner-says sh x l h t = ⊎-elim
-    (λ s. let r = and-T (eqb h 0) (not (eqb (own sh x Isolated l) 0)) s in inl (eqb→eq h 0 (r .0), λ z. T-not (eqb (own sh x Isolated l) 0) (r .1) (true-T (eqb-same z))))
-    (λ s. let r = and-T (not (eqb h 0)) (eqb (own sh x Loop h) l) s in inr ((λ z. T-not (eqb h 0) (r .0) (true-T (eqb-same z))), eqb→eq (own sh x Loop h) l (r .1)))
-    (or-T (eqb h 0 && not (eqb (own sh x Isolated l) 0)) (not (eqb h 0) && eqb (own sh x Loop h) l) t)
-
--- and of all three
+-- the test, taken apart
 test-says : (sh : Shape) (x : List ℕ) (l h1 h2 w : ℕ) → mefTest sh x l h1 h2 w ≡ true → T (corner sh x l h1) × T (corner sh x l h2) × (2 ≤ w → (h1 ≡ h2) × (h1 ≢ 0))
 unfolding mefTest
 test-says sh x l h1 h2 w t =
@@ -84,14 +73,13 @@ mef-facts sh x o caps len e h =
     let n4 : Number (sh .faces) (getD (o .args) 4 (pos 0)) = number (limits sh) 5 _ refl refl (omega (arith, caps .faces)) (r 4 (lit≤ tt)) in
     let n5 : Number (sh .loops) (getD (o .args) 5 (pos 0)) = number (limits sh) 7 _ refl refl (omega (arith, caps .loops)) (r 5 (lit≤ tt)) in
     let n6 : (getD (o .args) 6 (pos 0) ≡ pos (operandOf o 6)) × (operandOf o 6 ≤ 3) = number-or-none (limits sh) 13 _ refl (lit≤ tt) (r 6 (lit≤ tt)) in
-    let z7 : getD (o .args) 7 (pos 0) ≡ pos 0 = no-operand (limits sh) _ (r 7 (lit≤ tt)) in
     let s1 : operandOf o 1 ≤ 8192 = omega (arith, n1 .1, caps .edges) in
     let s2 : operandOf o 2 ≤ 8192 = omega (arith, n2 .1, caps .edges) in
     let s6 : operandOf o 6 ≤ 8192 = omega (arith, n6 .1) in
     let is : o ≡ mefOf (operandOf o 0) (operandOf o 1) (operandOf o 2) (operandOf o 3) (operandOf o 4) (operandOf o 5) (operandOf o 6) = λ t. record {
       code = e t;
       count = a .count t;
-      args = (eight (o .args) len ∙ (λ i. n0 .is i ∷ n1 .0 i ∷ n2 .0 i ∷ n3 .is i ∷ n4 .is i ∷ n5 .is i ∷ n6 .0 i ∷ z7 i ∷ [])) t;
+      args = (eight (o .args) len ∙ (λ i. n0 .is i ∷ n1 .0 i ∷ n2 .0 i ∷ n3 .is i ∷ n4 .is i ∷ n5 .is i ∷ n6 .0 i ∷ a .rest 7 (lit≤ tt) refl i ∷ [])) t;
     } in
     let t = test-says sh x (operandOf o 0) (operandOf o 1) (operandOf o 2) (operandOf o 6)
     (rw (le-leb (operandOf o 0) 8192 (n0 .small), le-leb (operandOf o 1) 8192 s1, le-leb (operandOf o 2) 8192 s2, le-leb (operandOf o 6) 8192 s6) at (subst (λ q. condition sh x q ≡ true) is (a .holds))) in
@@ -112,8 +100,8 @@ mef-facts sh x o caps len e h =
       f-free = use-new sh x 5 (operandOf o 4) (omega (arith, n4 .range)) refl (u 4 (lit≤ tt) (n4 .small));
       m-in = n5 .range;
       m-free = use-new sh x 7 (operandOf o 5) (omega (arith, n5 .range)) refl (u 5 (lit≤ tt) (n5 .small));
-      corner1 = ⊎-elim (λ q. inl q) (λ q. inr ((omega (arith, q .0), n1 .1, use-old sh x 10 (operandOf o 1) (q .0) refl (u 1 (lit≤ tt) s1)), q .1)) (corner-says sh x (operandOf o 0) (operandOf o 1) (t .0));
-      corner2 = ⊎-elim (λ q. inl q) (λ q. inr ((omega (arith, q .0), n2 .1, use-old sh x 10 (operandOf o 2) (q .0) refl (u 2 (lit≤ tt) s2)), q .1)) (corner-says sh x (operandOf o 0) (operandOf o 2) (t .1));
+      corner1 = test-corner sh x (operandOf o 0) (operandOf o 1) (n1 .1) (u 1 (lit≤ tt) s1) (t .0);
+      corner2 = test-corner sh x (operandOf o 0) (operandOf o 2) (n2 .1) (u 2 (lit≤ tt) s2) (t .1);
       high = t .2;
       way = n6 .1;
     }

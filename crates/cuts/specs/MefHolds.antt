@@ -1,24 +1,26 @@
 -- mef as an operator: a good table stays good, and its inverse gives everything back.
 use mathlib.Core.Path.{_≡_, refl, sym, ap, _∙_, subst}
-use mathlib.Core.Logic.{_≢_, _⊎_, inl, inr, ⊎-elim}
+use mathlib.Core.Logic.{_≢_, inl, inr, ⊎-elim}
 use mathlib.Core.List.{List}
-use Prim.Native.Nat.{ℕ, _+_, _-_, _*_, _%_, _≤_, _<_}
+use Prim.Native.Nat.{ℕ, _+_, _≤_, _<_}
 use native.Mathlib.Omega.{arith}
 use lib.IntN.{ℤ}
 use lib.ListN.{length}
-use Rattle.laws.specs.Bools.{split, le?, eqb-same, eqb-other}
-use Rattle.laws.specs.Permutations.{redo, undo-in}
+use Rattle.laws.specs.Bools.{split, le?}
 use Rattle.script.specs.declared.Operator.{Operator}
 use Rattle.layout.specs.declared.shape.Shape.{Shape}
-use Rattle.layout.specs.Mate.{mate, edgeOf}
-use Rattle.layout.specs.MateLaws.{mate-odd, mate-even, mate-range}
+use Rattle.layout.specs.Mate.{mate}
+use Rattle.layout.specs.MateLaws.{mate-range}
 use Rattle.euler.specs.Surgery.{halfBy, wayOf}
 use Rattle.euler.specs.Exec.{refusalOf}
+use Rattle.validity.specs.EdgeIn.{prev-in, next-prev, prev-loop}
 use Rattle.validity.specs.Fields.{Isolated, Start, Loop, Next, Prev, Columns}
 use Rattle.validity.specs.Sound.{HalfUsed}
+use Rattle.validity.specs.HalfNumbers.{edge-by, way-rest, mate-edge}
+use Rattle.validity.specs.Names.{not-isolated, free-halves}
 use Rattle.validity.specs.Good.{own, Good}
+use Rattle.validity.specs.CornerTest.{CornerAt}
 use Rattle.validity.specs.Undone.{Kept, Undone}
-use Rattle.validity.specs.MevOperator.{free-halves}
 use Rattle.cuts.specs.Cut.{Spot, Both, Spike, Pair, Near, both, right, left, pair, Cut}
 use Rattle.cuts.specs.CutSound.{cut-sound}
 use Rattle.cuts.specs.Canon.{mefOf, Canon, canon-both, canon-right, canon-left, canon-pair}
@@ -26,20 +28,7 @@ use Rattle.cuts.specs.MefAt.{mefAt}
 use Rattle.cuts.specs.CutPair.{mef-kept, mef-undone}
 use Rattle.cuts.specs.MefPlace.{cutColumns, MefPlace, mef-cut}
 use Rattle.cuts.specs.MefLoops.{labelled}
-use Rattle.cuts.specs.Loops.{not-isolated}
-use Rattle.cuts.specs.MefFacts.{CornerOf, MefFacts, mef-facts}
-
--- the edge of the half that a way names, by its mate
-edge-by : (e w : ℕ) → 1 ≤ e → edgeOf (mate (halfBy e w)) ≡ e
-edge-by e w h = split (w % 2) 0
-    (λ q. rw (eqb-same q) (rw (mate-odd (2 * e - 1) (omega (arith, h))) (omega (arith, h))))
-    (λ q. rw (eqb-other q) (rw (mate-even (2 * e) (omega (arith, h))) (omega (arith, h))))
-
--- its way
-way-by : (e w : ℕ) → 1 ≤ e → wayOf (halfBy e w) ≡ w % 2
-way-by e w h = split (w % 2) 0
-    (λ q. let m : (2 * e - 1) % 2 ≡ 1 = omega (arith, h) in rw (eqb-same q, eqb-same m) (sym q))
-    (λ q. let m : 2 * e % 2 ≢ 1 = omega arith in rw (eqb-other q, eqb-other m) (omega (arith, q)))
+use Rattle.cuts.specs.MefFacts.{MefFacts, mef-facts}
 
 module _ {sh : Shape} {x : List ℕ} {p : List ℤ} (g : Good sh x p) {o : Operator} (r : MefFacts sh (own sh x) o) where
   -- the columns of the table
@@ -87,34 +76,18 @@ module _ {sh : Shape} {x : List ℕ} {p : List ℤ} (g : Good sh x p) {o : Opera
       let k = mef-cut (g .sound) refl w (L .lab) (L .parts) in
       let t = cut-sound k (L .marked) (g .sound) in
       let y = cn (cutColumns sh c (L .lab) q) k in
-      let e : mefAt q ≡ op = λ i. mefOf (r .l) (y .h1-is i) (y .h2-is i) (edge-by (r .e) (r .w) (r .e-in .0) i) (r .f) (r .m) (y .w-is i) in
+      let e : mefAt q ≡ op = λ i. mefOf (r .l) (y .h1-is i) (y .h2-is i) ((mate-edge a (w .a-in .0) ∙ edge-by (r .e) (r .w) (r .e-in .0)) i) (r .f) (r .m) (y .w-is i) in
       subst (λ z. Kept sh x p z × Undone sh x p z) e (mef-kept g k t, mef-undone g k t)
 
   -- ---- by the corners
 
   -- the way of a low w, and of a high one
   way-low : r .w < 2 → wayOf a ≡ r .w
-  way-low h = way-by (r .e) (r .w) (r .e-in .0) ∙ omega (arith, h)
+  way-low h = way-rest (r .e) (r .w) (r .e-in .0) ∙ omega (arith, h)
 
   -- the same of a high one
   way-high : 2 ≤ r .w → wayOf a + 2 ≡ r .w
-  way-high h = omega (arith, h, r .way, way-by (r .e) (r .w) (r .e-in .0))
-
-  -- the loop of a half-edge is not isolated
-  no-isolated : (h : ℕ) → HalfUsed sh c h → c Loop h ≡ r .l → c Isolated (r .l) ≡ 0
-  no-isolated h w e = ap (c Isolated) (sym e) ∙ not-isolated (g .sound) h w
-
-  -- previous of a half-edge
-  prev-in : (h : ℕ) → HalfUsed sh c h → HalfUsed sh c (c Prev h)
-  prev-in h w = undo-in (g .sound .rules .loops .perm) (c Prev) (g .sound .rules .undone) h w
-
-  -- is followed by it
-  prev-next : (h : ℕ) → HalfUsed sh c h → c Next (c Prev h) ≡ h
-  prev-next h w = redo (g .sound .rules .loops .perm) (c Prev) (g .sound .rules .undone) h w
-
-  -- in the same loop
-  prev-loop : (h : ℕ) → HalfUsed sh c h → c Loop h ≡ r .l → c Loop (c Prev h) ≡ r .l
-  prev-loop h w e = sym (g .sound .rules .loops .keeps (c Prev h) (prev-in h w)) ∙ ap (c Loop) (prev-next h w) ∙ e
+  way-high h = omega (arith, h, r .way, way-rest (r .e) (r .w) (r .e-in .0))
 
   -- canonical operands, said of these
   canon-as : {q : Spot} {h1 h2 w : ℕ} → Canon q h1 h2 w → h1 ≡ r .h1 → h2 ≡ r .h2 → w ≡ r .w → Canon q (r .h1) (r .h2) (r .w)
@@ -131,14 +104,14 @@ module _ {sh : Shape} {x : List ℕ} {p : List ℤ} (g : Good sh x p) {o : Opera
     spike k = record {
       Q-b = refl;
       M-b = refl;
-      P-in = prev-in h w;
+      P-in = prev-in (g .sound .rules) h w;
       N-in = w;
-      next-P = prev-next h w;
+      next-P = next-prev (g .sound .rules) h w;
       prev-N = refl;
-      loop-P = prev-loop h w lo;
+      loop-P = prev-loop (g .sound .rules) h w ∙ lo;
       start-u = refl;
       start-v = refl;
-      isolated = no-isolated h w lo;
+      isolated = not-isolated (g .sound) h w lo;
     }
 
     -- with a low way b is
@@ -159,20 +132,20 @@ module _ {sh : Shape} {x : List ℕ} {p : List ℤ} (g : Good sh x p) {o : Opera
       let h1 = r .h1 in
       let h2 = r .h2 in
       let y : Both sh c (spot (c Start h1) (c Start h2) (c Prev h1) h2 (c Prev h2) h1) = record {
-        P-in = prev-in h1 w1;
+        P-in = prev-in (g .sound .rules) h1 w1;
         N-in = w2;
-        Q-in = prev-in h2 w2;
+        Q-in = prev-in (g .sound .rules) h2 w2;
         M-in = w1;
-        next-P = prev-next h1 w1;
-        next-Q = prev-next h2 w2;
+        next-P = next-prev (g .sound .rules) h1 w1;
+        next-Q = next-prev (g .sound .rules) h2 w2;
         prev-M = refl;
         prev-N = refl;
-        apart = λ e. ne (sym (prev-next h1 w1) ∙ ap (c Next) e ∙ prev-next h2 w2);
-        loop-P = prev-loop h1 w1 l1;
-        loop-Q = prev-loop h2 w2 l2;
+        apart = λ e. ne (sym (next-prev (g .sound .rules) h1 w1) ∙ ap (c Next) e ∙ next-prev (g .sound .rules) h2 w2);
+        loop-P = prev-loop (g .sound .rules) h1 w1 ∙ l1;
+        loop-Q = prev-loop (g .sound .rules) h2 w2 ∙ l2;
         start-M = refl;
         start-N = refl;
-        isolated = no-isolated h1 w1 l1;
+        isolated = not-isolated (g .sound) h1 w1 l1;
       } in
       holds-at (c Start h1) (c Start h2) (c Prev h1) h2 (c Prev h2) h1 (place (c Start h1) (c Start h2) (c Prev h1) h2 (c Prev h2) h1 (w1 .2) (w2 .2) (both y))
       (λ d k. canon-as (canon-both k y) refl refl (way-low lw))
@@ -185,10 +158,10 @@ module _ {sh : Shape} {x : List ℕ} {p : List ℤ} (g : Good sh x p) {o : Opera
       holds-at u u a a (mate a) (mate a) (place u u a a (mate a) (mate a) i i (pair y)) (λ d k. canon-as (canon-pair k y) (sym e1) (sym e2) (way-low lw))
 
   -- whichever they are
-  holds : CornerOf sh c (r .l) (r .h1) → CornerOf sh c (r .l) (r .h2) → Kept sh x p op × Undone sh x p op
+  holds : CornerAt sh c (r .l) (r .h1) → CornerAt sh c (r .l) (r .h2) → Kept sh x p op × Undone sh x p op
   holds (inl y) (inl z) = ⊎-elim (λ h. absurd (r .high h .1 (y .0))) (λ h. holds-pair (y .0) (z .0) (y .1) h) (le? 2 (r .w))
-  holds (inl y) (inr z) = absurd (y .1 (no-isolated (r .h2) (z .0) (z .1)))
-  holds (inr y) (inl z) = absurd (z .1 (no-isolated (r .h1) (y .0) (y .1)))
+  holds (inl y) (inr z) = absurd (y .1 (not-isolated (g .sound) (r .h2) (z .0) (z .1)))
+  holds (inr y) (inl z) = absurd (z .1 (not-isolated (g .sound) (r .h1) (y .0) (y .1)))
   holds (inr y) (inr z) = split (r .h1) (r .h2)
       (λ e. ⊎-elim (λ h. holds-left (y .0) (y .1) e h) (λ h. holds-right (y .0) (y .1) e h) (le? 2 (r .w)))
       (λ e. ⊎-elim (λ h. absurd (e (r .high h .0))) (λ h. holds-both (y .0) (y .1) (z .0) (z .1) e h) (le? 2 (r .w)))

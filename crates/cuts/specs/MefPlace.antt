@@ -13,8 +13,8 @@ use Rattle.layout.specs.Mate.{mate}
 use Rattle.layout.specs.MateLaws.{mate-mate}
 use Rattle.validity.specs.Fields.{Capacity, SolidUsed, Solid, Outer, Face, First, Isolated, Start, Loop, Next, Prev, VertexUsed, Columns}
 use Rattle.validity.specs.Mates.{mate-other}
-use Rattle.validity.specs.EdgeBack.{Zero}
-use Rattle.validity.specs.Sound.{In, halves, HalfUsed, Sound}
+use Rattle.validity.specs.Sound.{In, HalfUsed, Sound}
+use Rattle.validity.specs.Names.{free-zero}
 use Rattle.cuts.specs.Cut.{Spot, Near, both, right, left, pair, Cut}
 
 -- the loop column once the edge is in, the others having the loops `lab`
@@ -74,10 +74,6 @@ module _ {sh : Shape} {p : List ℤ} {c : Columns} {q : Spot} (s : Sound sh p c)
   a-b : q .a ≢ q .b
   a-b e = mate-other (q .a) (o .a-in .0) (e ∙ sym (o .ab))
 
-  -- the same the other way round
-  b-a : q .b ≢ q .a
-  b-a e = a-b (sym e)
-
   -- the new loop is another
   pub l-m : q .l ≢ q .m
   l-m e = o .l-used (ap (c Face) e ∙ o .m-free)
@@ -133,10 +129,6 @@ module _ {sh : Shape} {p : List ℤ} {c : Columns} {q : Spot} (s : Sound sh p c)
     N-M = λ e. a-b (sym (r .N-a) ∙ e ∙ r .M-b);
   }
 
-  -- a free half-edge is all zero
-  zeros : (i : ℕ) → In (2 * sh .edges) i → c Start i ≡ 0 → Zero (halves c) i
-  zeros i j z = let r = s .half-free i j z in record { s = z; l = r .loop; n = r .next; p = r .prev }
-
   -- those columns are the table's with the edge
   pub mef-cut : (lab : ℕ → ℕ) → Parts sh c lab q → Cut sh c (cutColumns sh c lab q) q
   mef-cut lab w =
@@ -173,8 +165,8 @@ module _ {sh : Shape} {p : List ℤ} {c : Columns} {q : Spot} (s : Sound sh p c)
         isolated-l = upd-off _ _ l-m ∙ upd-same (c Isolated) (q .l) 0;
         isolated-m = upd-same _ (q .m) 0;
         isolated-else = λ i e g. upd-off _ _ g ∙ upd-off (c Isolated) 0 e;
-        zero-a = zeros (q .a) (o .a-in) (o .a-free);
-        zero-b = zeros (q .b) (o .b-in) (o .b-free);
+        zero-a = free-zero s (q .a) (o .a-in) (o .a-free);
+        zero-b = free-zero s (q .b) (o .b-in) (o .b-free);
         start-a = upd-off _ _ f1 ∙ upd-same (c Start) (q .a) (q .u);
         start-b = upd-same _ (q .b) (q .v);
         start-else = λ i e g. upd-off _ _ g ∙ upd-off (c Start) _ e;

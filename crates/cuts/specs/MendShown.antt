@@ -1,6 +1,6 @@
 -- What kef does to a list that shows the columns with the edge: it then shows those without it.
 use mathlib.Core.Path.{_≡_, refl, sym, ap, _∙_, subst}
-use mathlib.Core.Logic.{_≢_, inr, ⊎-elim}
+use mathlib.Core.Logic.{_≢_, inr}
 use mathlib.Core.List.{List}
 use Prim.Native.Nat.{ℕ, _*_, _≤_}
 use native.Mathlib.Omega.{arith}
@@ -11,8 +11,9 @@ use Rattle.laws.specs.Update.{upd, upd-at, upd-off}
 use Rattle.layout.specs.declared.shape.Shape.{Shape}
 use Rattle.euler.specs.Surgery.{edgeOut, relabelRun, putLoop, putFace, renew}
 use Rattle.validity.specs.Fields.{Field, Capacity, SolidUsed, Solid, Outer, Face, First, Isolated, Start, Loop, Next, Prev, VertexUsed, Columns, capOf, change}
-use Rattle.validity.specs.Cells.{Shows, shows-put, shows-agree}
+use Rattle.validity.specs.Cells.{Shows, shows-put, shows-agree, upd-near}
 use Rattle.validity.specs.Sound.{In, halves, HalfUsed, firstOf, Sound}
+use Rattle.validity.specs.Names.{lone-used}
 use Rattle.validity.specs.Shown.{withoutEdge, withFirst, shows-no-edge, shows-first, shows-isolated}
 use Rattle.cuts.specs.Cut.{Spot, Near, both, right, left, pair, Cut, off-a, off-b, used-b, around}
 use Rattle.cuts.specs.Round.{withHalves, names-new, roundColumns, shows-round, round-other, round-in, round-off}
@@ -38,10 +39,6 @@ tieN′ q = pick (eqb (q .N) (q .a)) (q .M) (q .N)
 -- one half-edge of the loop that is left, or none
 abbrev pub restOf : Spot → ℕ
 restOf q = pick (eqb (q .M) (q .b)) (pick (eqb (q .N) (q .a)) 0 (q .N)) (q .M)
-
--- changes of functions that agree at i agree there
-upd-like : (f g : ℕ → ℕ) (j v i : ℕ) → f i ≡ g i → upd f j v i ≡ upd g j v i
-upd-like f g j v i e = split i j (λ z. upd-at f v z ∙ sym (upd-at g v z)) (λ z. upd-off f v z ∙ e ∙ sym (upd-off g v z))
 
 -- these ties turn next and previous of d into those of c
 pub record Tied (sh : Shape) (c d : Columns) (q : Spot) (p n p′ n′ : ℕ) : Type 0 where
@@ -145,9 +142,9 @@ module _ {sh : Shape} {p : List ℤ} {c d : Columns} {q : Spot} (k : Cut sh c d 
   out-same Start i h = rw (k .ba) (cleared Start (R Start) (k .zero-a .s) (k .zero-b .s) i (λ e g. round-other y (t .rules .loops) (q .b) (used-b k) (q .l) Start refl i ∙ k .start-else i e g))
   out-same Loop i h = rw (k .ba) (cleared Loop (R Loop) (k .zero-a .l) (k .zero-b .l) i (run-loop i h))
   out-same Next i h = rw (k .ba) (cleared Next _ (k .zero-a .n) (k .zero-b .n) i (λ e g.
-      upd-like (upd (R Next) (tieP q) (tieN q)) (upd (d Next) (tieP q) (tieN q)) (tieP′ q) (tieN′ q) i (upd-like (R Next) (d Next) (tieP q) (tieN q) i (round-other y (t .rules .loops) (q .b) (used-b k) (q .l) Next refl i)) ∙ tied k (k .near) .next i e g))
+      upd-near (upd (R Next) (tieP q) (tieN q)) (upd (d Next) (tieP q) (tieN q)) (tieP′ q) (tieN′ q) i (upd-near (R Next) (d Next) (tieP q) (tieN q) i (round-other y (t .rules .loops) (q .b) (used-b k) (q .l) Next refl i)) ∙ tied k (k .near) .next i e g))
   out-same Prev i h = rw (k .ba) (cleared Prev _ (k .zero-a .p) (k .zero-b .p) i (λ e g.
-      upd-like (upd (R Prev) (tieN q) (tieP q)) (upd (d Prev) (tieN q) (tieP q)) (tieN′ q) (tieP′ q) i (upd-like (R Prev) (d Prev) (tieN q) (tieP q) i (round-other y (t .rules .loops) (q .b) (used-b k) (q .l) Prev refl i)) ∙ tied k (k .near) .prev i e g))
+      upd-near (upd (R Prev) (tieN q) (tieP q)) (upd (d Prev) (tieN q) (tieP q)) (tieN′ q) (tieP′ q) i (upd-near (R Prev) (d Prev) (tieN q) (tieP q) i (round-other y (t .rules .loops) (q .b) (used-b k) (q .l) Prev refl i)) ∙ tied k (k .near) .prev i e g))
 
   -- the list with the edge out
   abbrev z2 : List ℕ
@@ -204,7 +201,7 @@ module _ {sh : Shape} {p : List ℤ} {c d : Columns} {q : Spot} (k : Cut sh c d 
       at e (renewed (q .M) (o .N-in) (ap (c Loop) (sym (o .next-P)) ∙ s .rules .loops .keeps (q .Q) (o .P-in) ∙ o .loop-P) (o .isolated))
   renew-l (pair o) =
       let e : restOf q ≡ 0 = rw (eqb-same (o .M-b), eqb-same (o .N-a)) in
-      let r : c First (q .l) ≡ 0 = ⊎-elim (λ g. absurd (k .u-some (sym (o .isolated) ∙ g .1))) (λ g. g .0) (s .loop (q .l) (k .l-in) (k .l-used) .either) in
+      let r : c First (q .l) ≡ 0 = lone-used s (q .l) (k .l-in) (λ g. k .u-some (sym (o .isolated) ∙ g)) .0 in
       at e (rw (r, o .isolated ∙ o .start) (shows-isolated shows-records (q .l) (q .v) (k .l-in)))
 
   -- the list after kef

@@ -6,8 +6,8 @@ use Rattle.laws.specs.Update.{upd, upd-same, upd-off}
 use Rattle.laws.specs.Permutations.{inj}
 use Rattle.laws.specs.Cycles.{Cycles, agree}
 use Rattle.laws.specs.Moves.{Or, But, ins-cycles, out-cycles}
+use Rattle.validity.specs.Lone.{birth-cycles, death-cycles}
 use Rattle.validity.specs.EdgeIn.{Halves, Rules}
-use Rattle.cuts.specs.Lone.{birth-cycles, death-cycles}
 
 -- h has no edge a, b; in h′ each of the two is alone, in a loop that none names, and both start where none does
 pub record PairIn (n : ℕ) (mate : ℕ → ℕ) (U : ℕ → Type 0) (h h′ : Halves) (a b : ℕ) : Type 0 where

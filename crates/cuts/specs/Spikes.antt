@@ -7,8 +7,8 @@ use Rattle.laws.specs.Update.{upd, upd-same, upd-off}
 use Rattle.laws.specs.Permutations.{inj}
 use Rattle.laws.specs.Cycles.{Cycles, agree}
 use Rattle.laws.specs.Moves.{Or, But, ins, ins-cycles, out-cycles}
+use Rattle.validity.specs.Lone.{same-cycles, birth-cycles, death-cycles}
 use Rattle.validity.specs.EdgeIn.{Halves, Rules}
-use Rattle.cuts.specs.Lone.{same-cycles, birth-cycles, death-cycles}
 
 -- ---- it goes in
 
@@ -145,10 +145,6 @@ module _ {n : ℕ} {mate : ℕ → ℕ} {U : ℕ → Type 0} {h′ h : Halves} {
   -- p is not b
   p-b : p ≢ b
   p-b e = s .two (sym (s .next′-p) ∙ ap (h′ .next) e ∙ s .next′-b)
-
-  -- next of a is neither
-  n-a : h′ .next a ≢ a
-  n-a e = s .p-a (inj (r .loops .perm) (s .p-in) (s .a-in) (s .next′-p ∙ sym e))
 
   -- the loops: b goes, a comes out
   out-loops : Cycles n (But a (But b U)) (h .next) (h .loop)

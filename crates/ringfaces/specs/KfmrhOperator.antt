@@ -1,27 +1,27 @@
 -- kfmrh as an operator: what it says that one is accepted, what it does to the list, and its inverse.
-use mathlib.Core.Path.{_≡_, refl, sym, _∙_, subst}
+use mathlib.Core.Path.{_≡_, refl, sym, _∙_}
 use mathlib.Core.Logic.{_≢_}
 use mathlib.Core.Bool.{true, not}
 use mathlib.Core.List.{List, [], _∷_}
-use Prim.Native.Nat.{ℕ, _≤_, _<_}
+use Prim.Native.Nat.{ℕ, _≤_}
 use native.Mathlib.Omega.{arith}
-use lib.Dec.{eqb, eqb→eq, lit≤, T-not, not-T}
+use lib.Dec.{eqb, eqb→eq, T-not, not-T}
 use lib.IntN.{ℤ, pos}
-use lib.ListN.{length, getD, replicate}
+use lib.ListN.{length}
 use borrow.Author.Tests.{le-leb}
 use Rattle.laws.specs.Bools.{pick, true-T, T-true, eqb-same}
 use Rattle.laws.specs.Every.{every-T, T-every}
 use Rattle.laws.specs.Sums.{countTo}
 use Rattle.script.specs.declared.Operator.{Operator}
-use Rattle.script.specs.Operands.{pattern, rows, largests, inRange, wire}
-use Rattle.script.specs.Operator.{operandOf}
+use Rattle.script.specs.Operands.{pattern, rows}
 use Rattle.layout.specs.declared.shape.Shape.{Shape}
 use Rattle.euler.specs.Operators.{kfmrhTest, kfmrhLinks}
-use Rattle.euler.specs.Exec.{limits, useWord, condition, refusalOf, linksAfter, pointsAfter, inverse}
+use Rattle.euler.specs.Exec.{useWord, condition, refusalOf, linksAfter, pointsAfter, inverse}
 use Rattle.validity.specs.Fields.{Solid, Outer, Face}
 use Rattle.validity.specs.Sound.{In, Sound}
 use Rattle.validity.specs.Labels.{many-one, one-many}
-use Rattle.validity.specs.Accepted.{by-place, eight, accepted-back, ranges-cons, item-cons, use-old, old-use, in-range, Number, number, no-operand, unused-range, unused-use}
+use Rattle.validity.specs.Accepted.{use-old, old-use}
+use Rattle.validity.specs.TwoOperands.{two-operands, two-accepted}
 use Rattle.validity.specs.Good.{own, Capacities}
 use Rattle.ringfaces.specs.KfmrhSound.{TwoFaces, ring-in, ring-face}
 use Rattle.ringfaces.specs.RingFaceLinks.{joinedLinks}
@@ -53,26 +53,16 @@ pub record KfmrhFacts (sh : Shape) (x : List ℕ) (o : Operator) : Type 0 where
 pub kfmrh-facts : (sh : Shape) (x : List ℕ) (o : Operator) → Capacities sh → length (o .args) ≡ 8 → o .code ≡ 9 → refusalOf sh x o ≡ 0 → KfmrhFacts sh x o
 unfolding pattern rows useWord condition
 kfmrh-facts sh x o caps len e h =
-    let a = by-place sh x o 9 len refl e h in
-    let r = a .range in
-    let u = a .used in
-    let n0 : Number (sh .faces) (getD (o .args) 0 (pos 0)) = number (limits sh) 4 _ refl refl (omega (arith, caps .faces)) (r 0 (lit≤ tt)) in
-    let n1 : Number (sh .faces) (getD (o .args) 1 (pos 0)) = number (limits sh) 4 _ refl refl (omega (arith, caps .faces)) (r 1 (lit≤ tt)) in
-    let z : (i : ℕ) → i < 8 → getD (pattern 9 .kinds) i 0 ≡ 0 → getD (o .args) i (pos 0) ≡ pos 0 = λ i l q. no-operand (limits sh) _ (subst (λ k. inRange (largests (limits sh)) k (wire k (getD (o .args) i (pos 0))) ≡ true) q (r i l)) in
-    let is : o ≡ kfmrhOf (operandOf o 0) (operandOf o 1) = λ t. record {
-      code = e t;
-      count = a .count t;
-      args = (eight (o .args) len ∙ (λ i. n0 .is i ∷ n1 .is i ∷ z 2 (lit≤ tt) refl i ∷ z 3 (lit≤ tt) refl i ∷ z 4 (lit≤ tt) refl i ∷ z 5 (lit≤ tt) refl i ∷ z 6 (lit≤ tt) refl i ∷ z 7 (lit≤ tt) refl i ∷ [])) t;
-    } in
+    let a = two-operands sh x 9 4 4 refl refl refl refl (omega (arith, caps .faces)) refl refl (omega (arith, caps .faces)) refl o len e h in
     record {
-      f1 = operandOf o 0;
-      f2 = operandOf o 1;
-      is = is;
-      first-in = n0 .range;
-      first-used = use-old sh x 4 (operandOf o 0) (omega (arith, n0 .range)) refl (u 0 (lit≤ tt) (n0 .small));
-      second-in = n1 .range;
-      second-used = use-old sh x 4 (operandOf o 1) (omega (arith, n1 .range)) refl (u 1 (lit≤ tt) (n1 .small));
-      test = rw (le-leb (operandOf o 0) 8192 (n0 .small), le-leb (operandOf o 1) 8192 (n1 .small)) at (subst (λ q. condition sh x q ≡ true) is (a .holds));
+      f1 = a .m;
+      f2 = a .n;
+      is = a .is;
+      first-in = a .m-in;
+      first-used = a .m-used;
+      second-in = a .n-in;
+      second-used = use-old sh x 4 (a .n) (omega (arith, a .n-in .0)) refl (a .n-use);
+      test = rw (a .m-small, a .n-small) at (a .holds);
     }
 
 -- the two faces that it names
@@ -115,15 +105,8 @@ module _ {sh : Shape} {x : List ℕ} {p : List ℤ} (a : Sound sh p (own sh x)) 
   -- it is accepted
   pub kfmrh-accepted : refusalOf sh x (kfmrhOf f1 f2) ≡ 0
   unfolding pattern rows useWord condition
-  kfmrh-accepted = accepted-back sh x (kfmrhOf f1 f2) (record {
-    code = refl;
-    count = refl;
-    range = ranges-cons (limits sh) 4 _ (pos f1) (pos f2 ∷ replicate 6 (pos 0)) (in-range (limits sh) 4 f1 refl refl (r .first-in))
-        (ranges-cons (limits sh) 4 _ (pos f2) (replicate 6 (pos 0)) (in-range (limits sh) 4 f2 refl refl (r .second-in)) (unused-range (limits sh) 6));
-    used = item-cons sh x (kfmrhOf f1 f2) 4 _ 0 n1 (old-use sh x 4 f1 (omega (arith, r .first-in .0)) refl (λ z. r .first-used (sym (r .first-solid) ∙ z)))
-        (item-cons sh x (kfmrhOf f1 f2) 4 _ 1 n2 (old-use sh x 4 f2 (omega (arith, r .second-in .0)) refl (λ z. r .second-used (sym (r .second-solid) ∙ z))) (unused-use sh x (kfmrhOf f1 f2) 6 2));
-    holds = rw (le-leb f1 8192 n1, le-leb f2 8192 n2) two-tested;
-  })
+  kfmrh-accepted = two-accepted sh x 9 4 4 refl refl refl refl (omega (arith, caps .faces)) refl refl (omega (arith, caps .faces)) refl f1 f2 (r .first-in) (r .second-in)
+      (λ z. r .first-used (sym (r .first-solid) ∙ z)) (old-use sh x 4 f2 (omega (arith, r .second-in .0)) refl (λ z. r .second-used (sym (r .second-solid) ∙ z))) (rw (le-leb f1 8192 n1, le-leb f2 8192 n2) two-tested)
 
   -- what it does
   pub kfmrh-links : linksAfter sh x (kfmrhOf f1 f2) ≡ joinedLinks sh x f1 f2 l s1 s2

@@ -3,17 +3,15 @@ use mathlib.Core.Path.{_≡_, refl, sym, ap, _∙_, subst}
 use mathlib.Core.Logic.{_≢_, _⊎_, inl, inr, ⊎-elim}
 use mathlib.Core.Bool.{Bool, true, false, not, _&&_, _||_}
 use mathlib.Core.List.{List, [], _∷_}
-use Prim.Native.Nat.{ℕ, _≤_, _<_}
+use Prim.Native.Nat.{ℕ, _≤_}
 use native.Mathlib.Omega.{arith}
 use lib.Dec.{eqb, eqb→eq, lit≤, T-not}
 use lib.IntN.{ℤ, pos}
 use lib.ListN.{length, getD, replicate}
 use borrow.Author.Tests.{le-leb}
 use Rattle.laws.specs.Bools.{pick, true-T, T-true, T-false, and-T, or-T, eqb-same, eqb-other}
-use Rattle.script.specs.declared.Limits.{Limits}
 use Rattle.script.specs.declared.Operator.{Operator}
-use Rattle.script.specs.Operands.{coordinate, pattern, rows, leasts, largests, inRange, wire}
-use Rattle.script.specs.Ranges.{between-range}
+use Rattle.script.specs.Operands.{pattern, rows}
 use Rattle.script.specs.Operator.{operandOf}
 use Rattle.layout.specs.declared.shape.Shape.{Shape}
 use Rattle.euler.specs.Operators.{linkedAfter, mfkrhTest, mfkrhLinks}
@@ -21,7 +19,7 @@ use Rattle.euler.specs.Exec.{limits, useWord, useRefusal, condition, refusalOf,
 use Rattle.validity.specs.Fields.{SolidUsed, Solid, Outer, Face, Columns}
 use Rattle.validity.specs.Cells.{Shows}
 use Rattle.validity.specs.Sound.{In, Sound}
-use Rattle.validity.specs.Accepted.{by-place, eight, accepted-back, ranges-cons, item-cons, use-old, old-use, use-new, new-use, limitOf, in-range, Number, number, number-or-none, no-operand, unused-range, unused-use}
+use Rattle.validity.specs.Accepted.{by-place, eight, accepted-back, ranges-cons, item-cons, use-old, old-use, use-new, new-use, in-range, Number, number, number-or-none, unused-range, unused-use, in-range-or-none, zero-use}
 use Rattle.validity.specs.Good.{own, Capacities}
 use Rattle.ringfaces.specs.Chains.{after-chain, chain-after, after-none}
 use Rattle.ringfaces.specs.MfkrhSound.{cut, RingFace, Moved, old-solid, moved-none, moved-linked}
@@ -76,11 +74,10 @@ mfkrh-facts sh x p o snd caps len e h =
     let n1 : Number (sh .faces) (getD (o .args) 1 (pos 0)) = number (limits sh) 5 _ refl refl (omega (arith, caps .faces)) (r 1 (lit≤ tt)) in
     let n2 : (getD (o .args) 2 (pos 0) ≡ pos (operandOf o 2)) × (operandOf o 2 ≤ sh .solids) = number-or-none (limits sh) 3 _ refl (omega (arith, caps .solids)) (r 2 (lit≤ tt)) in
     let small : operandOf o 2 ≤ 8192 = omega (arith, n2 .1, caps .solids) in
-    let z : (i : ℕ) → i < 8 → getD (pattern 10 .kinds) i 0 ≡ 0 → getD (o .args) i (pos 0) ≡ pos 0 = λ i l q. no-operand (limits sh) _ (subst (λ k. inRange (largests (limits sh)) k (wire k (getD (o .args) i (pos 0))) ≡ true) q (r i l)) in
     let is : o ≡ mfkrhOf (operandOf o 0) (operandOf o 1) (operandOf o 2) = λ t. record {
       code = e t;
       count = a .count t;
-      args = (eight (o .args) len ∙ (λ i. n0 .is i ∷ n1 .is i ∷ n2 .0 i ∷ z 3 (lit≤ tt) refl i ∷ z 4 (lit≤ tt) refl i ∷ z 5 (lit≤ tt) refl i ∷ z 6 (lit≤ tt) refl i ∷ z 7 (lit≤ tt) refl i ∷ [])) t;
+      args = (eight (o .args) len ∙ (λ i. n0 .is i ∷ n1 .is i ∷ n2 .0 i ∷ a .rest 3 (lit≤ tt) refl i ∷ a .rest 4 (lit≤ tt) refl i ∷ a .rest 5 (lit≤ tt) refl i ∷ a .rest 6 (lit≤ tt) refl i ∷ a .rest 7 (lit≤ tt) refl i ∷ [])) t;
     } in
     let test : mfkrhTest sh x (operandOf o 0) (operandOf o 1) (operandOf o 2) ≡ true = rw (le-leb (operandOf o 0) 8192 (n0 .small), le-leb (operandOf o 1) 8192 (n1 .small), le-leb (operandOf o 2) 8192 small) at (subst (λ q. condition sh x q ≡ true) is (a .holds)) in
     let t = tested sh x (operandOf o 0) (operandOf o 1) (operandOf o 2) test in
@@ -126,18 +123,6 @@ outcome-moved {sh} {x} {p} {l} {f} {f₀} {s₀} {s} a r (inl q) = subst (λ s. 
 outcome-moved {sh} {x} {p} {l} {f} {f₀} {s₀} {s} a r (inr q) =
     rw (eqb-other (q .0)) (moved-linked a r (linkedAfter sh x l f f) (after-chain a l f (r .face-in) f) (λ g. chain-after a l f (r .face-in) f g (r .face-in)) (q .3) s (q .1) (q .2))
 
--- ---- operands that may be 0
-
--- a number up to the largest of its kind is in range where 0 is
-or-none-range : (lim : Limits) (kind n : ℕ) → eqb kind coordinate ≡ false → getD leasts kind 0 ≡ 0 → n ≤ limitOf lim kind → inRange (largests lim) kind (wire kind (pos n)) ≡ true
-unfolding wire
-or-none-range lim kind n c z h = rw c (between-range (largests lim) kind n (omega (arith, z)) h)
-
--- the operand 0 names nothing
-zero-use : (sh : Shape) (x : List ℕ) (kind : ℕ) → useRefusal sh x kind 0 ≡ 0
-unfolding useRefusal
-zero-use sh x kind = refl
-
 -- ---- mfkrh on a ring and a free face
 
 module _ {sh : Shape} {x : List ℕ} {p : List ℤ} (a : Sound sh p (own sh x)) (caps : Capacities sh) {l f f₀ s₀ s : ℕ} (r : RingFace sh (own sh x) l f f₀ s₀) (u : Outcome sh x l f f₀ s₀ s) where
@@ -178,7 +163,7 @@ module _ {sh : Shape} {x : List ℕ} {p : List ℤ} (a : Sound sh p (own sh x)) 
         count = refl;
         range = ranges-cons (limits sh) 6 _ (pos l) (pos f ∷ pos (solidOperand s₀ s) ∷ replicate 5 (pos 0)) (in-range (limits sh) 6 l refl refl (r .loop-in))
             (ranges-cons (limits sh) 5 _ (pos f) (pos (solidOperand s₀ s) ∷ replicate 5 (pos 0)) (in-range (limits sh) 5 f refl refl (r .face-in))
-            (ranges-cons (limits sh) 3 _ (pos (solidOperand s₀ s)) (replicate 5 (pos 0)) (or-none-range (limits sh) 3 (solidOperand s₀ s) refl refl (t .0)) (unused-range (limits sh) 5)));
+            (ranges-cons (limits sh) 3 _ (pos (solidOperand s₀ s)) (replicate 5 (pos 0)) (in-range-or-none (limits sh) 3 (solidOperand s₀ s) refl refl (t .0)) (unused-range (limits sh) 5)));
         used = item-cons sh x o 6 _ 0 ln (old-use sh x 6 l (λ z. omega (arith, r .loop-in .0, z)) refl (r .loop-used))
             (item-cons sh x o 5 _ 1 fn (new-use sh x 5 f (λ z. omega (arith, r .face-in .0, z)) refl (r .face-free))
             (item-cons sh x o 3 _ 2 sn (t .1) (unused-use sh x o 5 3)));

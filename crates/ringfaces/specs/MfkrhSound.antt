@@ -15,6 +15,7 @@ use Rattle.layout.specs.Mate.{mate}
 use Rattle.validity.specs.Fields.{SolidUsed, Solid, Outer, Face, Loop, Columns}
 use Rattle.validity.specs.Solids.{Solids, stays, parts}
 use Rattle.validity.specs.Sound.{In, HalfUsed, FaceUsed, side, Sound}
+use Rattle.validity.specs.Names.{outer-other}
 use Rattle.ringfaces.specs.Regroup.{regrouped, Regroup, regroup-sound}
 use Rattle.ringfaces.specs.Chains.{sideIn, Chain}
 
@@ -80,10 +81,6 @@ module _ {sh : Shape} {p : List ℤ} {c : Columns} (a : Sound sh p c) {l f f₀ 
   -- no loop names the new face
   pub face-unnamed : (m : ℕ) → In (sh .loops) m → c Face m ≢ f
   face-unnamed m i e = a .loop m i (λ z. omega (arith, r .face-in .0, sym e ∙ z)) .face-used (ap (c Solid) e ∙ r .face-free)
-
-  -- an outer loop is not the ring
-  outer-other : (g : ℕ) → In (sh .faces) g → c Solid g ≢ 0 → c Outer g ≢ l
-  outer-other g i h e = r .ring (ap (c Outer) (sym (r .loop-face) ∙ ap (c Face) (sym e) ∙ a .face g i h .outer-face) ∙ e)
 
   -- a side stays, or passes from the old face to the new one
   changed : (i : ℕ) → (sideIn c l f i ≡ side c i) ⊎ ((side c i ≡ f₀) × (sideIn c l f i ≡ f))
@@ -179,7 +176,7 @@ module _ {sh : Shape} {p : List ℤ} {c : Columns} (a : Sound sh p c) {l f f₀ 
     outer-there g (inl e) = rw (upd-at (c Outer) l e) (r .loop-in, upd-same (c Face) l f ∙ sym e)
     outer-there g (inr u) =
         let b = a .face g (u .0, u .1) (u .2) in
-        rw (upd-off (c Outer) l (used-other g (u .2))) (b .outer-in, upd-off (c Face) f (outer-other g (u .0, u .1) (u .2)) ∙ b .outer-face)
+        rw (upd-off (c Outer) l (used-other g (u .2))) (b .outer-in, upd-off (c Face) f (outer-other a l (λ z. r .ring (ap (c Outer) (sym (r .loop-face)) ∙ z)) g (u .0, u .1) (u .2)) ∙ b .outer-face)
 
     -- all that is asked of the four columns
     cut-regroup : Regroup sh c (upd (c SolidUsed) s 1) (cutSolid c f s₀ s moved) (upd (c Outer) f l) (upd (c Face) l f)

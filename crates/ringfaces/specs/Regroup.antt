@@ -1,6 +1,6 @@
 -- Faces and solids put together anew: the marks of the solids, the solid and outer loop of each face and the face of each loop change,
 -- nothing else does. What has to be shown of such a change, and that it is enough.
-use mathlib.Core.Path.{_≡_, refl, sym, _∙_}
+use mathlib.Core.Path.{_≡_, refl}
 use mathlib.Core.Logic.{_≢_}
 use mathlib.Core.List.{List}
 use Prim.Native.Nat.{ℕ, _≤_}
@@ -11,7 +11,7 @@ use Rattle.layout.specs.declared.shape.Shape.{Shape}
 use Rattle.layout.specs.Mate.{mate}
 use Rattle.validity.specs.Fields.{Field, Capacity, SolidUsed, Solid, Outer, Face, First, Isolated, Start, Loop, Next, Prev, VertexUsed, Columns, capOf}
 use Rattle.validity.specs.Solids.{Solids}
-use Rattle.validity.specs.Sound.{In, HalfUsed, Sound, VertexSound, alone, joined}
+use Rattle.validity.specs.Sound.{In, HalfUsed, Sound, vertex-same}
 
 -- the columns c with marks m, solids s, outer loops o, and faces t of the loops
 abbrev pub regrouped : Columns → (ℕ → ℕ) → (ℕ → ℕ) → (ℕ → ℕ) → (ℕ → ℕ) → Columns
@@ -55,11 +55,6 @@ pub record Regroup (sh : Shape) (c : Columns) (m s o t : ℕ → ℕ) : Type 0 w
   pub loop : (l : ℕ) → In (sh .loops) l → c Face l ≢ 0 → In (sh .faces) (t l) × (s (t l) ≢ 0)
   pub solids : Solids (HalfUsed sh c) (λ f. (1 ≤ f) × (f ≤ sh .faces) × (s f ≢ 0)) (λ k. t (c Loop k)) mate s
 
--- a vertex does not depend on faces
-vertex-same : {sh : Shape} {c d : Columns} → ((l : ℕ) → d Isolated l ≡ c Isolated l) → ((k : ℕ) → d Start k ≡ c Start k) → {v : ℕ} → VertexSound sh c v → VertexSound sh d v
-vertex-same e s (alone l i a b n) = alone l i (e l ∙ a) (λ m j q. b m j (sym (e m) ∙ q)) (λ k j q. n k j (sym (s k) ∙ q))
-vertex-same e s (joined n k i a) = joined (λ m j q. n m j (sym (e m) ∙ q)) k i (s k ∙ a)
-
 module _ {sh : Shape} {p : List ℤ} {c : Columns} (a : Sound sh p c) {m s o t : ℕ → ℕ} (r : Regroup sh c m s o t) where
   -- a loop in use now was in use
   was-used : (l : ℕ) → In (sh .loops) l → t l ≢ 0 → c Face l ≢ 0
@@ -81,7 +76,7 @@ module _ {sh : Shape} {p : List ℤ} {c : Columns} (a : Sound sh p c) {m s o t :
     half-free = λ k i h. let b = a .half-free k i h in record { loop = b .loop; next = b .next; prev = b .prev };
     half = λ k i h. let b = a .half k i h in record { start-in = b .start-in; start-used = b .start-used; loop-in = b .loop-in; loop-used = still-used (c Loop k) (b .loop-in) (b .loop-used) };
     vertex-mark = a .vertex-mark;
-    vertex = λ v i h. vertex-same (λ l. refl) (λ k. refl) (a .vertex v i h);
+    vertex = λ v i h. vertex-same (λ l i. refl) (λ k i. refl) (a .vertex v i h);
     point = λ v i. let b = a .point v i in record { range = b .range; zero = b .zero };
     rules = a .rules;
     solids = r .solids;

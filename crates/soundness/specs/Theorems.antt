@@ -1,7 +1,7 @@
 -- The two theorems about the operators, for all thirteen: a valid table stays valid, and the inverse of an accepted operator gives
 -- everything back. (An operator has eight operands, as the record of the code has; unused ones are 0.)
 use mathlib.Core.Path.{_≡_, sym, ap, _∙_, subst}
-use mathlib.Core.Bool.{Bool, true, false, false≢true}
+use mathlib.Core.Bool.{false≢true}
 use mathlib.Core.List.{List}
 use Prim.Native.Nat.{ℕ}
 use lib.Dec.{eqb}
@@ -9,7 +9,6 @@ use lib.IntN.{ℤ}
 use lib.ListN.{length}
 use Rattle.laws.specs.Bools.{split}
 use Rattle.script.specs.declared.Operator.{Operator}
-use Rattle.script.specs.Operands.{pattern}
 use Rattle.script.specs.OperandLaws.{NoneOf, pattern-none}
 use Rattle.layout.specs.declared.shape.Shape.{Shape}
 use Rattle.layout.specs.Layout.{shapeOf}
@@ -26,7 +25,7 @@ use Rattle.validity.specs.MevUndone.{mev-undone}
 use Rattle.spurs.specs.KevPair.{kev-holds}
 use Rattle.cuts.specs.MefHolds.{mef-holds}
 use Rattle.cuts.specs.KefHolds.{kef-holds}
-use Rattle.bridges.specs.Holds.{mekr-holds, kemr-holds}
+use Rattle.bridges.specs.BridgePair.{mekr-holds, kemr-holds}
 use Rattle.ringfaces.specs.RingFacePair.{kfmrh-holds, mfkrh-holds}
 use Rattle.splits.specs.SplitPair.{semv-holds, jekv-holds}
 

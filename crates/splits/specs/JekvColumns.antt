@@ -8,16 +8,18 @@ use native.Mathlib.Omega.{arith}
 use lib.IntN.{ℤ}
 use Rattle.laws.specs.Bools.{split}
 use Rattle.laws.specs.Update.{upd, upd-at, upd-same, upd-off}
-use Rattle.laws.specs.Permutations.{inj, redo, undo-in}
+use Rattle.laws.specs.Permutations.{inj}
 use Rattle.layout.specs.declared.shape.Shape.{Shape}
 use Rattle.layout.specs.Mate.{mate}
 use Rattle.layout.specs.MateLaws.{mate-mate}
 use Rattle.validity.specs.Fields.{Field, First, Isolated, Start, Loop, Next, Prev, VertexUsed, Columns, change}
 use Rattle.validity.specs.Mates.{mate-other}
+use Rattle.validity.specs.EdgeIn.{prev-in, next-prev}
 use Rattle.validity.specs.Sound.{In, HalfUsed, firstOf, HalfFree, Sound}
+use Rattle.validity.specs.Names.{not-isolated}
 use Rattle.validity.specs.Shown.{withHalf, withTie, withFirst}
 use Rattle.splits.specs.CycleMoves.{swapFor, swap-back}
-use Rattle.splits.specs.SplitFirst.{not-isolated, clear-zero, far-first, first-set}
+use Rattle.splits.specs.SplitFirst.{clear-zero, far-first, first-set}
 use Rattle.splits.specs.Split.{Tidy, sound-tidy, plain, by-plain, Place, fore, aft, Split}
 
 -- n comes after k, is of another edge, and after its mate comes k's mate
@@ -63,11 +65,11 @@ module _ {sh : Shape} {p : List ℤ} {d : Columns} (a : Sound sh p d) {k n : ℕ
   P = d Prev (mate n)
 
   pub P-used : HalfUsed sh d (d Prev (mate n))
-  P-used = undo-in (a .rules .loops .perm) (d Prev) (a .rules .undone) (mate n) b-used
+  P-used = prev-in (a .rules) (mate n) b-used
 
   -- and the mate follows it
   next-P : d Next P ≡ mate n
-  next-P = redo (a .rules .loops .perm) (d Prev) (a .rules .undone) (mate n) b-used
+  next-P = next-prev (a .rules) (mate n) b-used
 
   -- the four half-edges differ
   n≢b : n ≢ mate n
@@ -184,7 +186,7 @@ module _ {sh : Shape} {p : List ℤ} {d : Columns} (a : Sound sh p d) {k n : ℕ
     where
       -- k comes before n only
       before-k : (i : ℕ) → HalfUsed sh c i → d Prev i ≢ k
-      before-k i u z = was i u .1 (sym (redo (a .rules .loops .perm) (d Prev) (a .rules .undone) i (was i u .0)) ∙ ap (d Next) z ∙ o .next-k)
+      before-k i u z = was i u .1 (sym (next-prev (a .rules) i (was i u .0)) ∙ ap (d Next) z ∙ o .next-k)
 
   -- none in use is preceded by n
   jekv-prev-old : (i : ℕ) → HalfUsed sh c i → c Prev i ≢ n
@@ -192,7 +194,7 @@ module _ {sh : Shape} {p : List ℤ} {d : Columns} (a : Sound sh p d) {k n : ℕ
       (λ e. split P n (λ f. k≢n (sym (upd-at (λ j. j) k f) ∙ sym prev-m ∙ ap (c Prev) (sym e) ∙ z)) (λ f. f (sym (upd-off (λ j. j) k f) ∙ sym prev-m ∙ ap (c Prev) (sym e) ∙ z)))
       (λ e. split i (d Next n)
       (λ f. k≢n (sym (prev-o i u e ∙ upd-at (d Prev) k f) ∙ z))
-      (λ f. f (sym (redo (a .rules .loops .perm) (d Prev) (a .rules .undone) i (was i u .0)) ∙ ap (d Next) (sym (prev-o i u e ∙ upd-off (d Prev) k f) ∙ z))))
+      (λ f. f (sym (next-prev (a .rules) i (was i u .0)) ∙ ap (d Next) (sym (prev-o i u e ∙ upd-off (d Prev) k f) ∙ z))))
 
   -- the others lie in their loops
   loop-o : (i : ℕ) → i ≢ n → i ≢ mate n → d Loop i ≡ c Loop i
@@ -208,7 +210,7 @@ module _ {sh : Shape} {p : List ℤ} {d : Columns} (a : Sound sh p d) {k n : ℕ
   -- the other columns stay
   jekv-same : (F : Field) → plain F ≡ true → (i : ℕ) → d F i ≡ c F i
   jekv-same = by-plain (λ F. (i : ℕ) → d F i ≡ c F i) (λ i. refl) (λ i. refl) (λ i. refl) (λ i. refl) (λ i. refl)
-      (λ i. sym (clear-zero (d Isolated) (d Loop k) (d Loop (mate k)) (not-isolated a k (o .k-used)) (not-isolated a (mate k) m-used) i))
+      (λ i. sym (clear-zero (d Isolated) (d Loop k) (d Loop (mate k)) (not-isolated a k (o .k-used) refl) (not-isolated a (mate k) m-used refl) i))
 
   -- firsts and free half-edges
   jekv-tidy : Tidy sh c

@@ -8,7 +8,5 @@ pub mod SplitFirst
 pub mod SemvColumns
 pub mod JekvColumns
 pub mod SplitLists
-pub mod HalfNumbers
-pub mod PointsKept
 pub mod SplitOperators
 pub mod SplitPair

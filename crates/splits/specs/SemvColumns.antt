@@ -8,14 +8,15 @@ use native.Mathlib.Omega.{arith}
 use lib.IntN.{ℤ}
 use Rattle.laws.specs.Bools.{split}
 use Rattle.laws.specs.Update.{upd, upd-at, upd-same, upd-off}
-use Rattle.laws.specs.Permutations.{redo, undo-in}
 use Rattle.layout.specs.declared.shape.Shape.{Shape}
 use Rattle.layout.specs.Mate.{mate}
+use Rattle.validity.specs.EdgeIn.{prev-in, next-prev}
 use Rattle.validity.specs.Fields.{Field, First, Isolated, Start, Loop, Next, Prev, VertexUsed, Columns, change}
 use Rattle.validity.specs.Sound.{In, HalfUsed, firstOf, HalfFree, Sound}
+use Rattle.validity.specs.Names.{not-isolated}
 use Rattle.validity.specs.Shown.{withHalf, withBetween, withFirst}
 use Rattle.splits.specs.CycleMoves.{swapFor, swap-back}
-use Rattle.splits.specs.SplitFirst.{not-isolated, clear-zero, far-first, first-set}
+use Rattle.splits.specs.SplitFirst.{clear-zero, far-first, first-set}
 use Rattle.splits.specs.Split.{Tidy, sound-tidy, plain, by-plain, Place, fore, aft, Split, off-n, off-b, n≢b, n≢k, n≢m, b≢m}
 
 -- half-edge n from v in loop l goes in between k and A
@@ -42,15 +43,9 @@ module _ {sh : Shape} {p : List ℤ} {c : Columns} (a : Sound sh p c) {k n v : �
   abbrev d : Columns
   d = semvColumns sh c k n v (aft k n (c Prev (mate k)))
 
-  -- next and previous of one in use are in use
+  -- next of one in use is in use
   pub next-in : (i : ℕ) → HalfUsed sh c i → HalfUsed sh c (c Next i)
   next-in = a .rules .loops .perm .f-in
-
-  pub prev-in : (i : ℕ) → HalfUsed sh c i → HalfUsed sh c (c Prev i)
-  prev-in = undo-in (a .rules .loops .perm) (c Prev) (a .rules .undone)
-
-  pub next-prev : (i : ℕ) → HalfUsed sh c i → c Next (c Prev i) ≡ i
-  next-prev = redo (a .rules .loops .perm) (c Prev) (a .rules .undone)
 
   -- what is read for one in use is neither k nor n's mate
   aft-k : (i : ℕ) → aft k n i ≢ k
@@ -68,14 +63,14 @@ module _ {sh : Shape} {p : List ℤ} {c : Columns} (a : Sound sh p c) {k n v : �
   pub first-prev : (i : ℕ) → HalfUsed sh c i → upd (upd (c Prev) n k) (c Next k) n i ≡ aft k n (c Prev i)
   first-prev i u = split i (c Next k)
       (λ e. upd-at _ n e ∙ sym (upd-at (λ j. j) n (ap (c Prev) e ∙ a .rules .undone k (o .k-used))))
-      (λ e. upd-off _ n e ∙ upd-off (c Prev) k (off-n o i u) ∙ sym (upd-off (λ j. j) n (λ z. e (sym (next-prev i u) ∙ ap (c Next) z))))
+      (λ e. upd-off _ n e ∙ upd-off (c Prev) k (off-n o i u) ∙ sym (upd-off (λ j. j) n (λ z. e (sym (next-prev (a .rules) i u) ∙ ap (c Next) z))))
 
   -- what follows what is read for one in use
   semv-next : (i : ℕ) → HalfUsed sh c i → d Next (aft k n i) ≡ fore k n (c Next i)
   semv-next i u = split (aft k n i) q
       (λ e.
-      let z : i ≡ c Prev (mate k) = sym (swap-back k n i (off-n o i u)) ∙ ap (swapFor n k) e ∙ swap-back k n _ (off-n o _ (prev-in (mate k) (o .m-used))) in
-      upd-at _ (mate n) e ∙ sym (upd-at (λ j. j) (mate n) (ap (c Next) z ∙ next-prev (mate k) (o .m-used))))
+      let z : i ≡ c Prev (mate k) = sym (swap-back k n i (off-n o i u)) ∙ ap (swapFor n k) e ∙ swap-back k n _ (off-n o _ (prev-in (a .rules) (mate k) (o .m-used))) in
+      upd-at _ (mate n) e ∙ sym (upd-at (λ j. j) (mate n) (ap (c Next) z ∙ next-prev (a .rules) (mate k) (o .m-used))))
       (λ e.
       let z : c Next i ≢ mate k = λ y. e (ap (aft k n) (sym (a .rules .undone i u) ∙ ap (c Prev) y)) in
       upd-off _ (mate n) e ∙ upd-off _ (mate k) (aft-b i u) ∙ first-next i u ∙ sym (upd-off (λ j. j) (mate n) z))
@@ -89,7 +84,7 @@ module _ {sh : Shape} {p : List ℤ} {c : Columns} (a : Sound sh p c) {k n v : �
   -- the other columns stay
   semv-same : (F : Field) → plain F ≡ true → (i : ℕ) → d F i ≡ c F i
   semv-same = by-plain (λ F. (i : ℕ) → d F i ≡ c F i) (λ i. refl) (λ i. refl) (λ i. refl) (λ i. refl) (λ i. refl)
-      (clear-zero (c Isolated) (c Loop k) (c Loop (mate k)) (not-isolated a k (o .k-used)) (not-isolated a (mate k) (o .m-used)))
+      (clear-zero (c Isolated) (c Loop k) (c Loop (mate k)) (not-isolated a k (o .k-used) refl) (not-isolated a (mate k) (o .m-used) refl))
 
   -- the loops of the new half-edges
   loop-n : d Loop n ≡ c Loop k
@@ -123,7 +118,7 @@ module _ {sh : Shape} {p : List ℤ} {c : Columns} (a : Sound sh p c) {k n v : �
           let w : c Start i ≡ 0 = sym (start-o i e f g) ∙ z in
           let r = a .half-free i j w in
           let x : (h : ℕ) → HalfUsed sh c h → i ≢ h = λ h u y. u .2 (ap (c Start) (sym y) ∙ w) in
-          let y : i ≢ q = split (c Prev (mate k)) k (λ s t. f (t ∙ upd-at (λ j. j) n s)) (λ s t. x (c Prev (mate k)) (prev-in (mate k) (o .m-used)) (t ∙ upd-off (λ j. j) n s)) in
+          let y : i ≢ q = split (c Prev (mate k)) k (λ s t. f (t ∙ upd-at (λ j. j) n s)) (λ s t. x (c Prev (mate k)) (prev-in (a .rules) (mate k) (o .m-used)) (t ∙ upd-off (λ j. j) n s)) in
           record {
             loop = loop-o i f g ∙ r .loop;
             next = upd-off _ (mate n) y ∙ upd-off _ (mate k) g ∙ upd-off _ n (x k (o .k-used)) ∙ upd-off (c Next) (c Next k) f ∙ r .next;
@@ -145,13 +140,13 @@ module _ {sh : Shape} {p : List ℤ} {c : Columns} (a : Sound sh p c) {k n v : �
     loop-b = loop-b;
     loop = loop-o;
     next-k = upd-off _ (mate n) (λ z. aft-k _ (sym z)) ∙ upd-off _ (mate k) (off-b o k (o .k-used)) ∙ upd-same _ k n;
-    next-b = upd-off _ (mate n) (λ z. aft-b _ (prev-in (mate k) (o .m-used)) (sym z)) ∙ upd-same _ (mate n) (mate k);
+    next-b = upd-off _ (mate n) (λ z. aft-b _ (prev-in (a .rules) (mate k) (o .m-used)) (sym z)) ∙ upd-same _ (mate n) (mate k);
     next = semv-next;
     prev-m = upd-same _ (mate k) (mate n);
     prev-n = upd-off _ (mate n) (n≢m o) ∙ upd-off _ q (n≢b o) ∙ upd-off _ n (λ z. off-n o (c Next k) (next-in k (o .k-used)) (sym z)) ∙ upd-same (c Prev) n k;
     prev = semv-prev;
     next-old = λ i u. off-b o (c Next i) (next-in i u);
-    prev-old = λ i u. off-n o (c Prev i) (prev-in i u);
+    prev-old = λ i u. off-n o (c Prev i) (prev-in (a .rules) i u);
     tidy-c = sound-tidy a;
     tidy-d = semv-tidy;
   }

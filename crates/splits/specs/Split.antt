@@ -117,10 +117,6 @@ module _ {sh : Shape} {c : Columns} {k n v : ℕ} (o : Place sh c k n v) where
   pub off-b : (i : ℕ) → HalfUsed sh c i → i ≢ mate n
   off-b i u e = u .2 (ap (c Start) e ∙ o .b-free)
 
-  -- k and its mate
-  pub k≢m : k ≢ mate k
-  k≢m = mate-other k (o .k-used .0)
-
   -- n and its mate
   pub n≢b : n ≢ mate n
   n≢b = mate-other n (o .n-in .0)
@@ -168,14 +164,6 @@ module _ {sh : Shape} {c d : Columns} {k n v : ℕ} (r : Split sh c d k n v) whe
   used-was Q qn qb qo i u = split i n (λ e. subst Q (sym e) qn) λ e. split i (mate n) (λ f. subst Q (sym f) qb) λ f. split i (mate k)
       (λ g. qo i (subst (HalfUsed sh c) (sym g) (r .place .m-used)))
       (λ g. qo i (u .0, u .1, λ z. u .2 (r .start i g e f ∙ z)))
-
-  -- what is free afterwards was free before
-  pub free-was : (i : ℕ) → d Start i ≡ 0 → (i ≢ n) × (i ≢ mate n) × (i ≢ mate k) × (c Start i ≡ 0)
-  free-was i z =
-      let e : i ≢ n = λ q. used-n .2 (ap (d Start) (sym q) ∙ z) in
-      let f : i ≢ mate n = λ q. used-b .2 (ap (d Start) (sym q) ∙ z) in
-      let g : i ≢ mate k = λ q. omega (arith, r .place .v-in .0, sym (r .start-m) ∙ ap (d Start) (sym q) ∙ z) in
-      (e, f, g, sym (r .start i g e f) ∙ z)
 
   -- a statement about each half-edge: k, b, those read for one in use before, the free ones
   pub by-next : (Q : ℕ → Type 0) → Q k → Q (mate n) → ((i : ℕ) → HalfUsed sh c i → Q (aft k n i)) → ((i : ℕ) → In (2 * sh .edges) i → d Start i ≡ 0 → Q i) → (i : ℕ) → In (2 * sh .edges) i → Q i

@@ -1,26 +1,16 @@
 -- What both directions of a division need to know of loops: which have a first half-edge, and that the first of a loop away from it stays.
-use mathlib.Core.Path.{_≡_, refl, sym, ap, _∙_}
-use mathlib.Core.Logic.{_≢_, ⊎-elim}
-use mathlib.Core.List.{List}
+use mathlib.Core.Path.{_≡_, sym, ap, _∙_}
+use mathlib.Core.Logic.{_≢_}
 use Prim.Native.Nat.{ℕ, _*_, _≤_}
 use native.Mathlib.Omega.{arith}
 use lib.Dec.{eqb}
-use lib.IntN.{ℤ}
 use Rattle.laws.specs.Bools.{split, eqb-other}
 use Rattle.laws.specs.Search.{least-ext}
 use Rattle.laws.specs.Update.{upd, upd-at, upd-off}
 use Rattle.layout.specs.declared.shape.Shape.{Shape}
 use Rattle.layout.specs.Mate.{mate}
-use Rattle.validity.specs.Fields.{Isolated, Loop, Columns}
-use Rattle.validity.specs.Sound.{HalfUsed, firstOf, Sound}
-use Rattle.validity.specs.Labels.{label-some}
-
--- the loop of a half-edge in use is not isolated
-pub not-isolated : {sh : Shape} {p : List ℤ} {c : Columns} → Sound sh p c → (i : ℕ) → HalfUsed sh c i → c Isolated (c Loop i) ≡ 0
-not-isolated {sh} {c = c} a i u =
-    let h = a .half i (u .0, u .1) (u .2) in
-    let r = a .loop (c Loop i) (h .loop-in) (λ z. h .loop-used z) in
-    ⊎-elim (λ w. w .1) (λ w. absurd (label-some (2 * sh .edges) (c Loop) (c Loop i) i (u .0, u .1) refl (sym (r .first) ∙ w .0))) (r .either)
+use Rattle.validity.specs.Fields.{Loop, Columns}
+use Rattle.validity.specs.Sound.{firstOf}
 
 -- two entries that are zero, cleared
 pub clear-zero : (f : ℕ → ℕ) (a b : ℕ) → f a ≡ 0 → f b ≡ 0 → (i : ℕ) → upd (upd f a 0) b 0 i ≡ f i

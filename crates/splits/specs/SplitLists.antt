@@ -6,22 +6,22 @@ use native.Mathlib.Omega.{arith}
 use lib.IntN.{ℤ}
 use Rattle.laws.specs.Bools.{split}
 use Rattle.laws.specs.Update.{upd, upd-at, upd-off}
-use Rattle.laws.specs.Permutations.{redo}
 use Rattle.laws.specs.Cycles.{Cycles}
 use Rattle.layout.specs.declared.shape.Shape.{Shape}
 use Rattle.layout.specs.Layout.{nextOf, setVertexUsed}
 use Rattle.layout.specs.Mate.{mate}
 use Rattle.euler.specs.Surgery.{renew}
 use Rattle.euler.specs.Operators.{insertAfter, semvLinks, jekvLinks}
+use Rattle.validity.specs.EdgeIn.{next-prev, prev-in}
 use Rattle.validity.specs.Fields.{Start, Loop, Next, Prev, VertexUsed, Columns, change}
 use Rattle.validity.specs.Cells.{Shows, shows-put}
 use Rattle.validity.specs.Sound.{In, HalfUsed, firstOf, Sound}
-use Rattle.validity.specs.MvsfSound.{start-unnamed}
+use Rattle.validity.specs.Names.{start-unnamed}
 use Rattle.validity.specs.Shown.{withFirst, shows-half, shows-tie, shows-between, shows-first}
 use Rattle.splits.specs.CycleMoves.{swapFor}
 use Rattle.splits.specs.Split.{Tidy, Place, aft, off-n, off-b, used-old}
 use Rattle.splits.specs.SplitRules.{split-rules, join-rules}
-use Rattle.splits.specs.SemvColumns.{withAfter, semvColumns, first-next, first-prev, next-in, prev-in, next-prev, semv-split}
+use Rattle.splits.specs.SemvColumns.{withAfter, semvColumns, first-next, first-prev, next-in, semv-split}
 use Rattle.splits.specs.JekvColumns.{Joint, jekvColumns, n-used, b-used, m-used, q-used, jekv-split}
 
 -- a half-edge goes in after k, which A followed
@@ -53,10 +53,10 @@ semv-shows {sh} {x} {c = c} {k} {n} {v} s a o =
     let ik : In (2 * sh .edges) k = (o .k-used .0, o .k-used .1) in
     let im : In (2 * sh .edges) (mate k) = (o .m-used .0, o .m-used .1) in
     let A = next-in a o k (o .k-used) in
-    let P = prev-in a o (mate k) (o .m-used) in
+    let P = prev-in (a .rules) (mate k) (o .m-used) in
     let iq : In (2 * sh .edges) q = split (c Prev (mate k)) k (λ e. subst (In (2 * sh .edges)) (sym (upd-at (λ j. j) n e)) (o .n-in)) (λ e. subst (In (2 * sh .edges)) (sym (upd-off (λ j. j) n e)) (P .0, P .1)) in
     let s1 = shows-after s k n v (c Loop k) (c Next k) refl ik (o .n-in) (A .0, A .1) in
-    let s2 = shows-after s1 q (mate n) (c Start (mate k)) (c Loop (mate k)) (mate k) (first-next a o (c Prev (mate k)) P ∙ next-prev a o (mate k) (o .m-used)) iq (o .b-in) im in
+    let s2 = shows-after s1 q (mate n) (c Start (mate k)) (c Loop (mate k)) (mate k) (first-next a o (c Prev (mate k)) P ∙ next-prev (a .rules) (mate k) (o .m-used)) iq (o .b-in) im in
     let s3 = shows-put s2 Start (mate k) v (im .0) (im .1) in
     let r = semv-split a o in
     let rules = split-rules r (a .rules) (λ i u. start-unnamed a v (o .v-in) (o .v-free) i (u .0, u .1)) in
@@ -102,4 +102,4 @@ jekv-shows {sh} {x} {d = d} {k} {n} s a o =
     before : HalfUsed sh d n → HalfUsed sh d (mate n) → upd (d Prev) (d Next n) k (mate n) ≡ swapFor n k (d Prev (mate n))
     before nu bu = split (mate n) (d Next n)
         (λ e. upd-at (d Prev) k e ∙ sym (upd-at (λ j. j) k (ap (d Prev) e ∙ a .rules .undone n nu)))
-        (λ e. upd-off (d Prev) k e ∙ sym (upd-off (λ j. j) k (λ z. e (sym (redo (a .rules .loops .perm) (d Prev) (a .rules .undone) (mate n) bu) ∙ ap (d Next) z))))
+        (λ e. upd-off (d Prev) k e ∙ sym (upd-off (λ j. j) k (λ z. e (sym (next-prev (a .rules) (mate n) bu) ∙ ap (d Next) z))))

@@ -1,5 +1,5 @@
 -- semv and jekv as operators: what it says that one is accepted, and what it does to the list, points and inverse included.
-use mathlib.Core.Path.{_≡_, refl, ap, _∙_, subst}
+use mathlib.Core.Path.{_≡_, refl, ap, _∙_}
 use mathlib.Core.Logic.{_≢_, ⊎-elim}
 use mathlib.Core.Bool.{true, not}
 use mathlib.Core.List.{List, [], _∷_}
@@ -7,13 +7,11 @@ use Prim.Native.Nat.{ℕ, _*_, _≤_, _<_}
 use native.Mathlib.Omega.{arith}
 use lib.Dec.{T, eqb, eqb→eq, leb, lit≤, T-not, not-T}
 use lib.IntN.{ℤ, pos}
-use lib.ListN.{length, getD, replicate}
+use lib.ListN.{length, getD}
 use borrow.Author.Tests.{le-leb}
 use Rattle.laws.specs.Bools.{true-T, T-true, and-T, T-and, eqb-same}
 use Rattle.script.specs.declared.Operator.{Operator}
-use Rattle.script.specs.declared.Limits.{Limits}
-use Rattle.script.specs.Operands.{pattern, rows, largests, inRange, wire}
-use Rattle.script.specs.Ranges.{between-range}
+use Rattle.script.specs.Operands.{pattern, rows}
 use Rattle.script.specs.Operator.{operandOf}
 use Rattle.layout.specs.declared.shape.Shape.{Shape}
 use Rattle.layout.specs.Mate.{mate, edgeOf}
@@ -23,11 +21,11 @@ use Rattle.euler.specs.Operators.{semvLinks, jekvTest, jekvLinks}
 use Rattle.euler.specs.Exec.{limits, useWord, condition, refusalOf, linksAfter, killedVertex, pointsAfter, inverse}
 use Rattle.validity.specs.Fields.{Start, Next, VertexUsed, Columns}
 use Rattle.validity.specs.Sound.{In, HalfUsed}
-use Rattle.validity.specs.PointLists.{three}
-use Rattle.validity.specs.Accepted.{by-place, eight, accepted-back, ranges-cons, uses-cons, item-cons, use-old, old-use, use-new, new-use, use-none, in-range, Number, number, number-or-none, no-operand, coordinate-range, range-coordinate, unused-range, unused-use}
+use Rattle.validity.specs.PointLists.{three, all-three}
+use Rattle.validity.specs.Accepted.{by-place, eight, accepted-back, ranges-cons, uses-cons, item-cons, use-old, old-use, use-new, new-use, use-none, in-range, Number, number, number-or-none, coordinate-range, unused-range, unused-use, in-range-or-none, three-range, three-use}
 use Rattle.validity.specs.Good.{own, Capacities}
-use Rattle.validity.specs.SolidOperators.{all-three}
-use Rattle.splits.specs.HalfNumbers.{mate-edge, same-edge}
+use Rattle.validity.specs.HalfNumbers.{mate-edge, same-edge}
+use Rattle.validity.specs.OneOperand.{one-operand, one-accepted}
 use Rattle.splits.specs.JekvColumns.{Joint}
 
 -- semv k e v w x y z, as a record
@@ -76,7 +74,6 @@ semv-facts sh x o caps len e h =
     let c4 = coordinate-range (limits sh) (getD (o .args) 4 (pos 0)) (r 4 (lit≤ tt)) in
     let c5 = coordinate-range (limits sh) (getD (o .args) 5 (pos 0)) (r 5 (lit≤ tt)) in
     let c6 = coordinate-range (limits sh) (getD (o .args) 6 (pos 0)) (r 6 (lit≤ tt)) in
-    let z7 = no-operand (limits sh) (getD (o .args) 7 (pos 0)) (r 7 (lit≤ tt)) in
     record {
       k = operandOf o 0;
       e = operandOf o 1;
@@ -85,7 +82,7 @@ semv-facts sh x o caps len e h =
       x = getD (o .args) 4 (pos 0);
       y = getD (o .args) 5 (pos 0);
       z = getD (o .args) 6 (pos 0);
-      is = λ t. record { code = e t; count = a .count t; args = (eight (o .args) len ∙ (λ i. n0 .is i ∷ n1 .is i ∷ n2 .is i ∷ n3 .0 i ∷ getD (o .args) 4 (pos 0) ∷ getD (o .args) 5 (pos 0) ∷ getD (o .args) 6 (pos 0) ∷ z7 i ∷ [])) t };
+      is = λ t. record { code = e t; count = a .count t; args = (eight (o .args) len ∙ (λ i. n0 .is i ∷ n1 .is i ∷ n2 .is i ∷ n3 .0 i ∷ getD (o .args) 4 (pos 0) ∷ getD (o .args) 5 (pos 0) ∷ getD (o .args) 6 (pos 0) ∷ a .rest 7 (lit≤ tt) refl i ∷ [])) t };
       numbers = record {
         half = (n0 .range .0, n0 .range .1, use-old sh x 9 (operandOf o 0) (omega (arith, n0 .range)) refl (u 0 (lit≤ tt) (n0 .small)));
         edge-in = n1 .range;
@@ -96,11 +93,6 @@ semv-facts sh x o caps len e h =
       };
       range = all-three (λ q. T (rangeTest q)) _ _ _ c4 c5 c6;
     }
-
--- a way is in range
-way-range : (lim : Limits) (w : ℕ) → w ≤ 1 → inRange (largests lim) 12 (wire 12 (pos w)) ≡ true
-unfolding wire
-way-range lim w h = between-range (largests lim) 12 w (omega arith) h
 
 module _ (sh : Shape) (x : List ℕ) (k e v w : ℕ) (a b c : ℤ) (caps : Capacities sh) (r : Numbers sh (own sh x) k e v w) where
   -- the four numbers are read as they stand
@@ -141,19 +133,15 @@ module _ (sh : Shape) (x : List ℕ) (k e v w : ℕ) (a b c : ℤ) (caps : Capac
         ranges-cons (limits sh) 9 _ (pos k) (pos e ∷ pos v ∷ pos w ∷ a ∷ b ∷ c ∷ pos 0 ∷ []) (in-range (limits sh) 9 k refl refl (r .half .0, r .half .1))
         (ranges-cons (limits sh) 8 _ (pos e) (pos v ∷ pos w ∷ a ∷ b ∷ c ∷ pos 0 ∷ []) (in-range (limits sh) 8 e refl refl (r .edge-in))
         (ranges-cons (limits sh) 11 _ (pos v) (pos w ∷ a ∷ b ∷ c ∷ pos 0 ∷ []) (in-range (limits sh) 11 v refl refl (r .vertex-in))
-        (ranges-cons (limits sh) 12 _ (pos w) (a ∷ b ∷ c ∷ pos 0 ∷ []) (way-range (limits sh) w (r .way))
-        (ranges-cons (limits sh) 14 _ a (b ∷ c ∷ pos 0 ∷ []) (range-coordinate (limits sh) a ha)
-        (ranges-cons (limits sh) 14 _ b (c ∷ pos 0 ∷ []) (range-coordinate (limits sh) b hb)
-        (ranges-cons (limits sh) 14 _ c (pos 0 ∷ []) (range-coordinate (limits sh) c hc) (unused-range (limits sh) 1)))))));
+        (ranges-cons (limits sh) 12 _ (pos w) (a ∷ b ∷ c ∷ pos 0 ∷ []) (in-range-or-none (limits sh) 12 w refl refl (r .way))
+        (three-range (limits sh) _ (pos 0 ∷ []) a b c ha hb hc (unused-range (limits sh) 1)))));
     used =
         let o = semvOf k e v w a b c in
         item-cons sh x o 9 _ 0 kn (old-use sh x 9 k (omega (arith, r .half .0)) refl (r .half .2))
         (item-cons sh x o 8 _ 1 en (new-use sh x 8 e (omega (arith, r .edge-in .0)) refl (r .edge-free))
         (item-cons sh x o 11 _ 2 vn (new-use sh x 11 v (omega (arith, r .vertex-in .0)) refl (r .vertex-free))
         (uses-cons sh x o 12 _ 3 (use-none sh x 12 _ refl refl)
-        (uses-cons sh x o 14 _ 4 (use-none sh x 14 _ refl refl)
-        (uses-cons sh x o 14 _ 5 (use-none sh x 14 _ refl refl)
-        (uses-cons sh x o 14 _ 6 (use-none sh x 14 _ refl refl) (unused-use sh x o 1 7)))))));
+        (three-use sh x o _ 4 (unused-use sh x o 1 7)))));
     holds = refl;
   })
 
@@ -170,22 +158,8 @@ pub record JekvFacts (sh : Shape) (x : List ℕ) (o : Operator) : Type 0 where
 pub jekv-facts : (sh : Shape) (x : List ℕ) (o : Operator) → Capacities sh → length (o .args) ≡ 8 → o .code ≡ 12 → refusalOf sh x o ≡ 0 → JekvFacts sh x o
 unfolding pattern rows useWord condition
 jekv-facts sh x o caps len e h =
-    let a = by-place sh x o 12 len refl e h in
-    let r = a .range in
-    let u = a .used in
-    let n0 : Number (2 * sh .edges) (getD (o .args) 0 (pos 0)) = number (limits sh) 9 _ refl refl (omega (arith, caps .edges)) (r 0 (lit≤ tt)) in
-    let z : (i : ℕ) → i < 8 → getD (pattern 12 .kinds) i 0 ≡ 0 → getD (o .args) i (pos 0) ≡ pos 0 = λ i l q. no-operand (limits sh) _ (subst (λ k. inRange (largests (limits sh)) k (wire k (getD (o .args) i (pos 0))) ≡ true) q (r i l)) in
-    let is : o ≡ jekvOf (operandOf o 0) = λ t. record {
-      code = e t;
-      count = a .count t;
-      args = (eight (o .args) len ∙ (λ i. n0 .is i ∷ z 1 (lit≤ tt) refl i ∷ z 2 (lit≤ tt) refl i ∷ z 3 (lit≤ tt) refl i ∷ z 4 (lit≤ tt) refl i ∷ z 5 (lit≤ tt) refl i ∷ z 6 (lit≤ tt) refl i ∷ z 7 (lit≤ tt) refl i ∷ [])) t;
-    } in
-    record {
-      k = operandOf o 0;
-      is = is;
-      half = (n0 .range .0, n0 .range .1, use-old sh x 9 (operandOf o 0) (omega (arith, n0 .range)) refl (u 0 (lit≤ tt) (n0 .small)));
-      test = rw (le-leb (operandOf o 0) 8192 (n0 .small)) at (subst (λ q. condition sh x q ≡ true) is (a .holds));
-    }
+    let a = one-operand sh x 12 9 refl refl refl refl (omega (arith, caps .edges)) refl o len e h in
+    record { k = a .n; is = a .is; half = (a .range .0, a .range .1, a .used); test = rw (a .small) at (a .holds) }
 
 -- its test finds a joint
 pub tested-joint : (sh : Shape) (x : List ℕ) (k : ℕ) → HalfUsed sh (own sh x) k → jekvTest sh x k ≡ true → Joint sh (own sh x) k (own sh x Next k)
@@ -232,10 +206,4 @@ module _ (sh : Shape) (x : List ℕ) (k n : ℕ) (caps : Capacities sh) (o : Joi
   -- and accepted
   pub jekv-accepted : refusalOf sh x (jekvOf k) ≡ 0
   unfolding pattern rows useWord condition
-  jekv-accepted = accepted-back sh x (jekvOf k) (record {
-    code = refl;
-    count = refl;
-    range = ranges-cons (limits sh) 9 _ (pos k) (replicate 7 (pos 0)) (in-range (limits sh) 9 k refl refl (o .k-used .0, o .k-used .1)) (unused-range (limits sh) 7);
-    used = item-cons sh x (jekvOf k) 9 _ 0 (omega (arith, o .k-used .1, caps .edges)) (old-use sh x 9 k (omega (arith, o .k-used .0)) refl (o .k-used .2)) (unused-use sh x (jekvOf k) 7 1);
-    holds = rw k-small joint-tested;
-  })
+  jekv-accepted = one-accepted sh x 12 9 refl refl refl refl (omega (arith, caps .edges)) refl k (o .k-used .0, o .k-used .1) (o .k-used .2) (rw k-small joint-tested)

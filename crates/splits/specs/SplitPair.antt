@@ -19,11 +19,9 @@ use Rattle.euler.specs.Exec.{refusalOf}
 use Rattle.validity.specs.Fields.{Start, Next, Prev, VertexUsed, Columns}
 use Rattle.validity.specs.Cells.{Shows, shows-ext}
 use Rattle.validity.specs.Sound.{Sound}
-use Rattle.validity.specs.PointLists.{three, put-length, put-at, put-back, put-cleared}
+use Rattle.validity.specs.PointLists.{three, put-length, put-at, put-back, put-cleared, points-new, points-cleared}
 use Rattle.validity.specs.Good.{own, Good, good-shows, good-after}
 use Rattle.validity.specs.Undone.{Kept, Undone}
-use Rattle.validity.specs.SolidOperators.{all-three}
-use Rattle.validity.specs.MevOperator.{free-halves}
 use Rattle.splits.specs.CycleMoves.{swapFor}
 use Rattle.splits.specs.Split.{Place, aft, Split, n≢k, n≢m, used-old}
 use Rattle.splits.specs.Unique.{unique-after, unique-before}
@@ -31,8 +29,8 @@ use Rattle.splits.specs.SplitSound.{split-sound, join-sound}
 use Rattle.splits.specs.SemvColumns.{semvColumns, semv-split}
 use Rattle.splits.specs.JekvColumns.{Joint, jekvColumns, jekv-split}
 use Rattle.splits.specs.SplitLists.{semv-shows, jekv-shows}
-use Rattle.splits.specs.HalfNumbers.{edge-by, way-by, way-low, half-of, second-half}
-use Rattle.splits.specs.PointsKept.{points-put}
+use Rattle.validity.specs.HalfNumbers.{edge-by, way-by, way-small, half-is, second-half}
+use Rattle.validity.specs.Names.{free-halves}
 use Rattle.splits.specs.SplitOperators.{semvOf, jekvOf, Numbers, semv-facts, semv-links, semv-points, semv-inverse, semv-accepted, jekv-facts, tested-joint, jekv-links, jekv-points, jekv-inverse, jekv-accepted}
 
 -- ---- semv
@@ -78,7 +76,7 @@ module _ {sh : Shape} {x : List ℕ} {p : List ℤ} (g : Good sh x p) {k e v w :
   -- and it is sound
   d-sound : Sound sh q d
   d-sound = split-sound divided (g .sound)
-      (points-put sh p (own sh x) d v a b z (g .points) (r .vertex-in) (g .sound .point) (divided .used) range (λ h. absurd (omega (arith, sym (divided .v-used) ∙ h))))
+      (points-new sh p (own sh x) d v (g .points) (r .vertex-in) (g .sound .point) (divided .used) a b z (range 0 (omega arith)) (range 1 (omega arith)) (range 2 (omega arith)) (divided .v-used))
 
   -- a good table stays good
   semv-kept : Kept sh x p (semvOf k e v w a b z)
@@ -164,8 +162,7 @@ module _ {sh : Shape} {x : List ℕ} {p : List ℤ} (g : Good sh x p) {k n : ℕ
   -- and it is sound
   c-sound : Sound sh kq kc
   c-sound = join-sound rejoined (g .sound)
-      (points-put sh p (own sh x) kc kv (pos 0) (pos 0) (pos 0) (g .points) (rejoined .place .v-in) (g .sound .point) (λ w h. sym (rejoined .used w h))
-      (all-three (λ t. T (rangeTest t)) (pos 0) (pos 0) (pos 0) tt tt tt) (λ h. all-three (λ t. t ≡ pos 0) (pos 0) (pos 0) (pos 0) refl refl refl))
+      (points-cleared sh p (own sh x) kc kv (g .points) (rejoined .place .v-in) (g .sound .point) (λ w h. sym (rejoined .used w h)))
 
   -- a good table stays good
   jekv-kept : Kept sh x p (jekvOf k)
@@ -180,10 +177,10 @@ module _ {sh : Shape} {x : List ℕ} {p : List ℤ} (g : Good sh x p) {k n : ℕ
       record {
         half = (w .k-used .0, w .k-used .1, λ h. w .k-used .2 (sym (ky-shows .at Start k (w .k-used .1)) ∙ h));
         edge-in = (omega (arith, n1), u);
-        edge-free = ky-shows .at Start (2 * edgeOf n) (omega (arith, u)) ∙ ⊎-elim (λ h. ap (kc Start) h ∙ w .n-free) (λ h. ap (kc Start) h ∙ w .b-free) (second-half n n1);
+        edge-free = ky-shows .at Start (2 * edgeOf n) (omega (arith, u)) ∙ ⊎-elim (λ h. ap (kc Start) h ∙ w .n-free) (λ h. ap (kc Start) h ∙ w .b-free) (second-half n);
         vertex-in = w .v-in;
         vertex-free = ky-shows .at VertexUsed kv (w .v-in .1) ∙ w .v-free;
-        way = way-low n;
+        way = way-small n;
       }
 
   -- semv leads back
@@ -202,7 +199,7 @@ module _ {sh : Shape} {x : List ℕ} {p : List ℤ} (g : Good sh x p) {k n : ℕ
       let s = g .sound .point kv (rejoined .place .v-in) .range in
       record {
         accepted = rw (el, ei) (semv-accepted sh ky k (edgeOf n) kv (wayOf n) a b z (g .capacities) ky-numbers (s 0 (omega arith)) (s 1 (omega arith)) (s 2 (omega arith)));
-        links = rw (el, ei) (semv-links sh ky k (edgeOf n) kv (wayOf n) a b z (g .capacities) ky-numbers ∙ ap (λ t. semvLinks sh ky k t kv) (half-of n n1) ∙ jekv-back);
+        links = rw (el, ei) (semv-links sh ky k (edgeOf n) kv (wayOf n) a b z (g .capacities) ky-numbers ∙ ap (λ t. semvLinks sh ky k t kv) (half-is n n1) ∙ jekv-back);
         points = rw (el, ep, ei) (semv-points sh ky k (edgeOf n) kv (wayOf n) a b z (g .capacities) ky-numbers kq ∙ put-back (sh .vertices) p kv (pos 0) (pos 0) (pos 0) (g .points) (rejoined .place .v-in));
         again = rw (el, ep, ei) (semv-inverse sh ky k (edgeOf n) kv (wayOf n) a b z (g .capacities) ky-numbers kq);
       }

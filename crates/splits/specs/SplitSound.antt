@@ -13,7 +13,7 @@ use Rattle.layout.specs.Mate.{mate}
 use Rattle.layout.specs.MateLaws.{mate-mate}
 use Rattle.validity.specs.Fields.{Isolated, Start, Loop, VertexUsed, Columns}
 use Rattle.validity.specs.Sound.{In, HalfUsed, VertexSound, alone, joined, PointSound, Sound}
-use Rattle.validity.specs.MvsfSound.{start-unnamed, isolated-unnamed}
+use Rattle.validity.specs.Names.{start-unnamed, isolated-unnamed}
 use Rattle.splits.specs.Split.{Split, fore, off-n, off-b, n≢m, used-old, used-was}
 use Rattle.splits.specs.SplitRules.{fore-in, start-fore, split-rules, without-n, join-rules}
 use Rattle.splits.specs.Carried.{Matched, Started, vertex-carried, carried}

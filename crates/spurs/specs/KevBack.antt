@@ -10,16 +10,16 @@ use Rattle.laws.specs.Search.{least-ext}
 use Rattle.laws.specs.Update.{upd-at, upd-off}
 use Rattle.laws.specs.Cycles.{agree}
 use Rattle.layout.specs.declared.shape.Shape.{Shape}
-use Rattle.layout.specs.Layout.{setVertexUsed}
 use Rattle.layout.specs.Mate.{mate}
-use Rattle.euler.specs.Surgery.{edgeIn, renew}
 use Rattle.validity.specs.Fields.{Field, Capacity, SolidUsed, Solid, Outer, Face, First, Isolated, Start, Loop, Next, Prev, VertexUsed, Columns}
 use Rattle.validity.specs.Cells.{Shows, shows-put, shows-ext, upd-back}
 use Rattle.validity.specs.Sound.{HalfUsed, firstOf, Sound}
+use Rattle.validity.specs.Names.{not-isolated}
 use Rattle.validity.specs.Good.{own, Good, good-shows}
+use Rattle.validity.specs.MevOperator.{mevList}
 use Rattle.validity.specs.Shown.{withEdge, shows-edge, shows-first}
 use Rattle.validity.specs.MevSound.{mevColumns}
-use Rattle.spurs.specs.Spur.{in-k, in-b, in-P, in-N, next-P, prev-b, prev-N, spur-loop-b, spur-loop-in, spur-loop-used, not-isolated, far-in, far-used, named-used}
+use Rattle.spurs.specs.Spur.{in-k, in-b, in-P, in-N, next-P, prev-b, prev-N, spur-loop-b, spur-loop-in, spur-loop-used, far-in, far-used, named-used}
 use Rattle.spurs.specs.KevSound.{kevColumns, Left, columns-out}
 
 module _ {sh : Shape} {p : List ℤ} {c : Columns} (a : Sound sh p c) {k : ℕ} (uk : HalfUsed sh c k) (nk : c Next k ≡ mate k) {I : ℕ} (left : Left c k I) where
@@ -83,7 +83,7 @@ module _ {sh : Shape} {p : List ℤ} {c : Columns} (a : Sound sh p c) {k : ℕ} 
   back-all Outer n = refl
   back-all Face n = refl
   back-all First n = upd-back (c First) l _ _ first-was n
-  back-all Isolated n = upd-back (c Isolated) l I 0 (not-isolated a uk nk) n
+  back-all Isolated n = upd-back (c Isolated) l I 0 (not-isolated a k uk refl) n
   back-all Start n = back-start n
   back-all Loop n = back-loop n
   back-all Next n = back-next n
@@ -93,8 +93,7 @@ module _ {sh : Shape} {p : List ℤ} {c : Columns} (a : Sound sh p c) {k : ℕ} 
 -- the stores of mev on a list that shows the columns after kev give the list back
 pub mev-back : {sh : Shape} {x : List ℕ} {p : List ℤ} (g : Good sh x p) {k : ℕ} (uk : HalfUsed sh (own sh x) k) (nk : own sh x Next k ≡ mate k) {I : ℕ} (left : Left (own sh x) k I)
     {y : List ℕ} → Shows sh y (kevColumns sh (own sh x) k I)
-    → setVertexUsed sh (renew sh (edgeIn sh y k (own sh x Start k) (own sh x Loop k) (mate k) (own sh x Prev k) (own sh x Start (mate k)) (own sh x Loop k) (own sh x Next (mate k)) k) (own sh x Loop k) k 0)
-    (own sh x Start (mate k)) 1 ≡ x
+    → mevList sh y (own sh x Loop k) k (own sh x Start k) (own sh x Start (mate k)) (own sh x Prev k) (own sh x Next (mate k)) ≡ x
 mev-back {sh} {x} g {k} uk nk left s =
     let a = g .sound in
     let c = own sh x in

@@ -1,34 +1,33 @@
 -- kev as an operator: what it says that it is accepted, what it does, and that a good table stays good.
-use mathlib.Core.Path.{_≡_, refl, sym, _∙_, subst}
+use mathlib.Core.Path.{_≡_, refl, sym, _∙_}
 use mathlib.Core.Logic.{⊎-elim}
 use mathlib.Core.Bool.{true}
-use mathlib.Core.List.{List, [], _∷_}
-use Prim.Native.Nat.{ℕ, _*_, _≤_, _<_}
+use mathlib.Core.List.{List}
+use Prim.Native.Nat.{ℕ, _*_}
 use native.Mathlib.Omega.{arith}
-use lib.Dec.{T, eqb, eqb→eq, leb, lit≤}
+use lib.Dec.{eqb→eq, leb}
 use lib.IntN.{ℤ, pos}
-use lib.ListN.{length, getD}
+use lib.ListN.{length}
 use borrow.Author.Tests.{le-leb}
-use Rattle.laws.specs.Bools.{pick, split, true-T, eqb-same, eqb-other}
+use Rattle.laws.specs.Bools.{true-T, eqb-same, eqb-other}
 use Rattle.laws.specs.Update.{upd-off}
 use Rattle.script.specs.declared.Operator.{Operator}
-use Rattle.script.specs.Operands.{pattern, rows, largests, inRange, wire}
-use Rattle.script.specs.Operator.{operandOf}
+use Rattle.script.specs.Operands.{pattern, rows}
 use Rattle.layout.specs.declared.shape.Shape.{Shape}
 use Rattle.layout.specs.Layout.{setVertexUsed}
 use Rattle.layout.specs.Mate.{mate, edgeOf}
-use Rattle.layout.specs.Points.{coordinate, rangeTest}
+use Rattle.layout.specs.Points.{coordinate}
 use Rattle.euler.specs.Surgery.{wayOf, putPoint, edgeOut, renew}
 use Rattle.euler.specs.Operators.{kevTest, kevLinks}
-use Rattle.euler.specs.Exec.{limits, useWord, condition, refusalOf, linksAfter, killedVertex, pointsAfter, inverse}
+use Rattle.euler.specs.Exec.{useWord, condition, refusalOf, linksAfter, killedVertex, pointsAfter, inverse}
 use Rattle.validity.specs.Fields.{Start, Loop, Next, Prev, VertexUsed, Columns}
 use Rattle.validity.specs.Cells.{Shows, shows-put}
 use Rattle.validity.specs.Labels.{label-none}
-use Rattle.validity.specs.Sound.{In, HalfUsed, firstOf, PointSound, Sound}
-use Rattle.validity.specs.PointLists.{put-length, put-at, put-off}
-use Rattle.validity.specs.Accepted.{by-place, eight, use-old, Number, number, no-operand}
+use Rattle.validity.specs.Sound.{HalfUsed, firstOf, Sound}
+use Rattle.validity.specs.PointLists.{put-length, points-cleared}
+use Rattle.validity.specs.OneOperand.{one-operand}
 use Rattle.validity.specs.Good.{own, Capacities, Good, good-shows, good-after}
-use Rattle.validity.specs.SolidOperators.{all-three}
+use Rattle.validity.specs.CornerTest.{cornerLeft}
 use Rattle.validity.specs.Shown.{withFirst, shows-no-edge, shows-first, shows-isolated}
 use Rattle.validity.specs.MevOperator.{mevOf}
 use Rattle.validity.specs.MevBack.{kevOf}
@@ -46,31 +45,14 @@ pub record KevFacts (sh : Shape) (c : Columns) (o : Operator) : Type 0 where
 pub kev-facts : (sh : Shape) (x : List ℕ) (o : Operator) → Capacities sh → length (o .args) ≡ 8 → o .code ≡ 4 → refusalOf sh x o ≡ 0 → KevFacts sh (own sh x) o
 unfolding pattern rows useWord condition kevTest
 kev-facts sh x o caps len e h =
-    let a = by-place sh x o 4 len refl e h in
-    let r = a .range in
-    let n0 : Number (2 * sh .edges) (getD (o .args) 0 (pos 0)) = number (limits sh) 9 _ refl refl (omega (arith, caps .edges)) (r 0 (lit≤ tt)) in
-    let z : (i : ℕ) → i < 8 → getD (pattern 4 .kinds) i 0 ≡ 0 → getD (o .args) i (pos 0) ≡ pos 0 = λ i l q. no-operand (limits sh) _ (subst (λ k. inRange (largests (limits sh)) k (wire k (getD (o .args) i (pos 0))) ≡ true) q (r i l)) in
-    let is : o ≡ kevOf (operandOf o 0) = λ t. record {
-      code = e t;
-      count = a .count t;
-      args = (eight (o .args) len ∙ (λ i. n0 .is i ∷ z 1 (lit≤ tt) refl i ∷ z 2 (lit≤ tt) refl i ∷ z 3 (lit≤ tt) refl i ∷ z 4 (lit≤ tt) refl i ∷ z 5 (lit≤ tt) refl i ∷ z 6 (lit≤ tt) refl i ∷ z 7 (lit≤ tt) refl i ∷ [])) t;
-    } in
-    record {
-      k = operandOf o 0;
-      is = is;
-      used = (n0 .range .0, n0 .range .1, use-old sh x 9 (operandOf o 0) (omega (arith, n0 .range)) refl (a .used 0 (lit≤ tt) (n0 .small)));
-      next = eqb→eq _ _ (true-T (rw (le-leb (operandOf o 0) 8192 (n0 .small)) at (subst (λ q. condition sh x q ≡ true) is (a .holds))));
-    }
-
--- the half-edge behind k's edge, or 0
-abbrev pub behindOf : Columns → ℕ → ℕ
-behindOf c k = pick (eqb (c Next (mate k)) k) 0 (c Next (mate k))
+    let a = one-operand sh x 4 9 refl refl refl refl (omega (arith, caps .edges)) refl o len e h in
+    record { k = a .n; is = a .is; used = (a .range .0, a .range .1, a .used); next = eqb→eq _ _ (true-T (rw (a .small) at (a .holds))) }
 
 -- the links afterwards
 abbrev pub kevList : Shape → List ℕ → ℕ → List ℕ
 kevList sh x k =
     setVertexUsed sh
-    (renew sh (edgeOut sh x k (own sh x Prev k) (own sh x Next (mate k)) k (mate k)) (own sh x Loop k) (behindOf (own sh x) k) (own sh x Start k))
+    (renew sh (edgeOut sh x k (own sh x Prev k) (own sh x Next (mate k)) k (mate k)) (own sh x Loop k) (cornerLeft (own sh x) k (mate k)) (own sh x Start k))
     (own sh x Start (mate k)) 0
 
 -- the points afterwards
@@ -101,7 +83,7 @@ module _ {sh : Shape} {x : List ℕ} {p : List ℤ} (g : Good sh x p) {k : ℕ} 
   kev-points = rw kn
 
   -- and the operator that undoes it
-  pub kev-inverse : inverse sh x p (kevOf k) ≡ mevOf (own sh x Loop k) (behindOf (own sh x) k) (edgeOf k) (own sh x Start (mate k)) (wayOf k)
+  pub kev-inverse : inverse sh x p (kevOf k) ≡ mevOf (own sh x Loop k) (cornerLeft (own sh x) k (mate k)) (edgeOf k) (own sh x Start (mate k)) (wayOf k)
       (coordinate p (own sh x Start (mate k)) 0) (coordinate p (own sh x Start (mate k)) 1) (coordinate p (own sh x Start (mate k)) 2)
   unfolding inverse
   kev-inverse = rw kn
@@ -111,25 +93,10 @@ module _ {sh : Shape} {x : List ℕ} {p : List ℤ} (g : Good sh x p) {k : ℕ} 
     abbrev d : Columns
     d = kevColumns sh (own sh x) k I
 
-    -- the points reach that far
-    long : 3 * v ≤ length p
-    long = omega (arith, g .points, far-in (g .sound) uk nk .1)
-
-    -- its point is cleared, the others stay
-    kept-points : (w : ℕ) → In (sh .vertices) w → PointSound (kevPoints sh x p k) d w
-    kept-points w i = split w v
-        (λ e. rw e (record {
-          range = λ j h. rw (put-at p v (pos 0) (pos 0) (pos 0) (far-in (g .sound) uk nk .0) long j h) (all-three (λ t. T (rangeTest t)) (pos 0) (pos 0) (pos 0) tt tt tt j h);
-          zero = λ h j m. put-at p v (pos 0) (pos 0) (pos 0) (far-in (g .sound) uk nk .0) long j m ∙ all-three (λ t. t ≡ pos 0) (pos 0) (pos 0) (pos 0) refl refl refl j m;
-        }))
-        (λ n. let b = g .sound .point w i in record {
-          range = λ j h. rw (put-off p v (pos 0) (pos 0) (pos 0) w n j h) (b .range j h);
-          zero = λ h j m. put-off p v (pos 0) (pos 0) (pos 0) w n j m ∙ b .zero (sym (upd-off (c VertexUsed) 0 n) ∙ h) j m;
-        })
-
     -- the columns are sound
     d-sound : Sound sh (kevPoints sh x p k) d
-    d-sound = kev-sound (g .sound) uk nk left kept-points
+    d-sound = kev-sound (g .sound) uk nk left
+        (points-cleared sh p c d v (g .points) (far-in (g .sound) uk nk) (g .sound .point) (λ w n. upd-off (c VertexUsed) 0 n))
 
     -- the list once the edge is out
     out-shows : Shows sh (edgeOut sh x k (c Prev k) (c Next (mate k)) k (mate k)) (kevOut c k)
@@ -137,7 +104,7 @@ module _ {sh : Shape} {x : List ℕ} {p : List ℤ} (g : Good sh x p) {k : ℕ} 
         shows-no-edge (good-shows g) k (c Prev k) (c Next (mate k)) k (mate k) (in-k a uk nk) (in-b a uk nk) (in-P a uk nk) (in-N a uk nk) (in-k a uk nk) (in-b a uk nk)
 
     -- the loop's first and isolated vertex
-    first-shows : Shows sh (renew sh (edgeOut sh x k (c Prev k) (c Next (mate k)) k (mate k)) (c Loop k) (behindOf c k) (c Start k)) (withFirst (kevOut c k) (c Loop k) (firstOf sh (kevOut c k) (c Loop k)) I)
+    first-shows : Shows sh (renew sh (edgeOut sh x k (c Prev k) (c Next (mate k)) k (mate k)) (c Loop k) (cornerLeft c k (mate k)) (c Start k)) (withFirst (kevOut c k) (c Loop k) (firstOf sh (kevOut c k) (c Loop k)) I)
     first-shows = let a = g .sound in ⊎-elim
         (λ w.
         let z : firstOf sh (kevOut c k) (c Loop k) ≡ 0 = label-none (2 * sh .edges) (d Loop) (c Loop k) (none-named a uk nk left (w .0)) in

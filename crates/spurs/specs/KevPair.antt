@@ -10,24 +10,26 @@ use Rattle.laws.specs.Bools.{split, eqb-same, eqb-other}
 use Rattle.laws.specs.Update.{upd-same}
 use Rattle.script.specs.declared.Operator.{Operator}
 use Rattle.layout.specs.declared.shape.Shape.{Shape}
-use Rattle.layout.specs.Layout.{setVertexUsed}
 use Rattle.layout.specs.Mate.{mate, edgeOf}
 use Rattle.layout.specs.Points.{coordinate}
-use Rattle.euler.specs.Surgery.{wayOf, edgeIn, renew}
+use Rattle.euler.specs.Surgery.{wayOf}
 use Rattle.euler.specs.Exec.{refusalOf, linksAfter}
 use Rattle.validity.specs.Fields.{Face, Isolated, Start, Loop, Next, Prev, VertexUsed, Columns}
 use Rattle.validity.specs.Cells.{Shows}
 use Rattle.validity.specs.Sound.{HalfUsed}
 use Rattle.validity.specs.PointLists.{put-back}
+use Rattle.validity.specs.HalfNumbers.{way-small, half-is, edge-in, second-half}
 use Rattle.validity.specs.Good.{own, Good}
+use Rattle.validity.specs.CornerTest.{CornerAt, cornerLeft}
 use Rattle.validity.specs.Undone.{Kept, Undone}
-use Rattle.validity.specs.MevOperator.{mevOf, isolated-links, half-links, mev-points}
+use Rattle.validity.specs.MevOperator.{mevOf, isolated-links, half-links, mev-points, mevList}
 use Rattle.validity.specs.MevBack.{kevOf}
+use Rattle.validity.specs.MevUndone.{mev-inverse}
 use Rattle.spurs.specs.Spur.{in-k, in-b, in-N, Nb, whole-P, spur-loop-N, spur-loop-in, spur-loop-used, spur-start-N, near-in, far-in}
 use Rattle.spurs.specs.KevSound.{kevColumns, Left, columns-out, out-start-k, out-start-b}
-use Rattle.spurs.specs.KevOperator.{behindOf, kevList, kevPoints, kev-facts, kev-links, kev-points, kev-inverse, kev-shows, killed-good}
+use Rattle.spurs.specs.KevOperator.{kevList, kevPoints, kev-facts, kev-links, kev-points, kev-inverse, kev-shows, killed-good}
 use Rattle.spurs.specs.KevBack.{mev-back}
-use Rattle.spurs.specs.MevAccepted.{half-is, way-small, edge-in, second-half, MevFree, mev-small, mev-inverse, mev-accepted}
+use Rattle.spurs.specs.MevAccepted.{MevFree, mev-small, mev-accepted}
 
 -- the loop is isolated at k's vertex afterwards, or not
 left-of : (c : Columns) (k : ℕ) → (I : ℕ) × Left c k I
@@ -48,7 +50,7 @@ module _ {sh : Shape} {x : List ℕ} {p : List ℤ} (g : Good sh x p) {k : ℕ} 
 
   -- the corner that is left
   abbrev h : ℕ
-  h = behindOf (own sh x) k
+  h = cornerLeft (own sh x) k (mate k)
 
   -- the links afterwards
   abbrev y : List ℕ
@@ -101,23 +103,18 @@ module _ {sh : Shape} {x : List ℕ} {p : List ℤ} (g : Good sh x p) {k : ℕ} 
   free = let a = g .sound in record {
     loop-in = spur-loop-in a uk nk;
     loop-used = λ z. spur-loop-used a uk nk (sym (s .at Face l (spur-loop-in a uk nk .1)) ∙ z);
-    half-in = ⊎-elim (λ w. rw (h-whole (w .0)) (omega arith)) (λ w. rw (h-part (w .0)) (in-N a uk nk .1)) left;
     edge-in = edge-in k (sh .edges) (in-k a uk nk);
     edge-free = edge-free;
     vertex-in = far-in a uk nk;
     vertex-free = s .at VertexUsed v (far-in a uk nk .1) ∙ upd-same (c VertexUsed) v 0;
     corner = ⊎-elim
         (λ w. inl (h-whole (w .0), λ z. omega (arith, near-in a uk nk .0, sym (w .1) ∙ sym at-isolated ∙ z)))
-        (λ w. inr (
-          (λ z. omega (arith, in-N a uk nk .0, sym (h-part (w .0)) ∙ z)),
-          (λ z. omega (arith, near-in a uk nk .0, sym (at-start-N (w .0)) ∙ ap (own sh y Start) (sym (h-part (w .0))) ∙ z)),
-          ap (own sh y Loop) (h-part (w .0)) ∙ at-loop-N (w .0),
-        )) left;
+        (λ w. subst (CornerAt sh (own sh y) l) (sym (h-part (w .0))) (inr ((in-N a uk nk .0, in-N a uk nk .1, λ z. omega (arith, near-in a uk nk .0, sym (at-start-N (w .0)) ∙ z)), at-loop-N (w .0)))) left;
   }
 
   -- the mev that undoes it
   abbrev op : Operator
-  op = mevOf (own sh x Loop k) (behindOf (own sh x) k) (edgeOf k) (own sh x Start (mate k)) (wayOf k) (coordinate p (own sh x Start (mate k)) 0) (coordinate p (own sh x Start (mate k)) 1) (coordinate p (own sh x Start (mate k)) 2)
+  op = mevOf (own sh x Loop k) (cornerLeft (own sh x) k (mate k)) (edgeOf k) (own sh x Start (mate k)) (wayOf k) (coordinate p (own sh x Start (mate k)) 0) (coordinate p (own sh x Start (mate k)) 1) (coordinate p (own sh x Start (mate k)) 2)
 
   -- mev gives the links back
   links-back : linksAfter sh y op ≡ x
@@ -127,9 +124,9 @@ module _ {sh : Shape} {x : List ℕ} {p : List ℤ} (g : Good sh x p) {k : ℕ} 
       let m = mev-small sh y l h (edgeOf k) v (wayOf k) (coordinate p v 0) (coordinate p v 1) (coordinate p v 2) (g .capacities) free (way-small k) in
       ⊎-elim
       (λ w. isolated-links sh y l h (edgeOf k) v (wayOf k) _ _ _ m (h-whole (w .0))
-      ∙ (λ t. setVertexUsed sh (renew sh (edgeIn sh y (K t) ((at-isolated ∙ w .1) t) l (mate (K t)) ((ap mate K ∙ sym (whole-P a uk nk (w .0))) t) v l ((K ∙ sym (w .0)) t) (K t)) l (K t) 0) v 1))
+      ∙ (λ t. mevList sh y l (K t) ((at-isolated ∙ w .1) t) v ((ap mate K ∙ sym (whole-P a uk nk (w .0))) t) ((K ∙ sym (w .0)) t)))
       (λ w. half-links sh y l h (edgeOf k) v (wayOf k) _ _ _ m (λ z. omega (arith, in-N a uk nk .0, sym (h-part (w .0)) ∙ z))
-      ∙ (λ t. setVertexUsed sh (renew sh (edgeIn sh y (K t) ((ap (own sh y Start) (h-part (w .0)) ∙ at-start-N (w .0)) t) l (mate (K t)) ((ap (own sh y Prev) (h-part (w .0)) ∙ at-prev-N (w .0)) t) v l (h-part (w .0) t) (K t)) l (K t) 0) v 1)) left
+      ∙ (λ t. mevList sh y l (K t) ((ap (own sh y Start) (h-part (w .0)) ∙ at-start-N (w .0)) t) v ((ap (own sh y Prev) (h-part (w .0)) ∙ at-prev-N (w .0)) t) (h-part (w .0) t))) left
       ∙ mev-back g uk nk left s
 
   -- mev gives everything back
@@ -144,7 +141,7 @@ module _ {sh : Shape} {x : List ℕ} {p : List ℤ} (g : Good sh x p) {k : ℕ} 
         accepted = rw (el, ei) (mev-accepted sh y l h (edgeOf k) v (wayOf k) _ _ _ (g .capacities) free (way-small k) (r 0 (omega arith)) (r 1 (omega arith)) (r 2 (omega arith)));
         links = rw (el, ei) links-back;
         points = rw (el, ep, ei) (mev-points sh y l h (edgeOf k) v (wayOf k) _ _ _ m q ∙ put-back (sh .vertices) p v (pos 0) (pos 0) (pos 0) (g .points) (far-in (g .sound) uk nk));
-        again = rw (el, ep, ei) (mev-inverse sh y l h (edgeOf k) v (wayOf k) _ _ _ (g .capacities) free (way-small k) q ∙ ap kevOf (half-is k (uk .0)));
+        again = rw (el, ep, ei) (mev-inverse sh y q l h (edgeOf k) v (wayOf k) _ _ _ m ∙ ap kevOf (half-is k (uk .0)));
       }
 
 -- both for kev

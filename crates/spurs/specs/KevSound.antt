@@ -20,10 +20,11 @@ use Rattle.validity.specs.EdgeIn.{Rules}
 use Rattle.validity.specs.Dummies.{agree-rules}
 use Rattle.validity.specs.Labels.{label-some, label-none}
 use Rattle.validity.specs.Solids.{Solids}
-use Rattle.validity.specs.Sound.{In, halves, HalfUsed, FaceUsed, side, firstOf, FirstOrIsolated, LoopSound, HalfSound, HalfFree, VertexSound, alone, joined, PointSound, Sound}
+use Rattle.validity.specs.Sound.{In, halves, HalfUsed, FaceUsed, side, firstOf, FirstOrIsolated, LoopSound, HalfSound, HalfFree, VertexSound, alone, joined, PointSound, Sound, half-by}
+use Rattle.validity.specs.Names.{not-isolated}
 use Rattle.validity.specs.Shown.{withoutEdge, withFirst}
 use Rattle.spurs.specs.SpurOut.{SpurOut, spur-out}
-use Rattle.spurs.specs.Spur.{used-P, used-N, in-k, in-b, in-N, kb, next-P, Nb, spur-loop-b, spur-loop-N, spur-loop-in, spur-loop-used, not-isolated, spur-start-N, near-in, near-used, far-in, far-used, only-b, ends, named-used, whole-start, whole-loop}
+use Rattle.spurs.specs.Spur.{used-P, used-N, in-k, in-b, in-N, kb, next-P, Nb, spur-loop-b, spur-loop-N, spur-loop-in, spur-loop-used, spur-start-N, near-in, near-used, far-in, far-used, only-b, ends, named-used, whole-start, whole-loop}
 
 -- the columns once the edge is out
 abbrev pub kevOut : Columns → ℕ → Columns
@@ -123,12 +124,7 @@ module _ {sh : Shape} {p : List ℤ} {c : Columns} (a : Sound sh p c) {k : ℕ} 
       let r = a .half i (w .0, w .1) (o .0 .0 .2) in
       let s : d Start i ≡ c Start i = columns-out .start i (o .1) (o .0 .1) in
       let m : d Loop i ≡ c Loop i = columns-out .loop i (o .1) (o .0 .1) in
-      record {
-        start-in = subst (In (sh .vertices)) (sym s) (r .start-in);
-        start-used = λ z. stays-used (c Start i) (λ e. o .0 .1 (only-b a uk nk i (o .0 .0) e)) (r .start-used) (ap (d VertexUsed) (sym s) ∙ z);
-        loop-in = subst (In (sh .loops)) (sym m) (r .loop-in);
-        loop-used = λ z. r .loop-used (ap (c Face) (sym m) ∙ z);
-      }
+      half-by (c Start i) (c Loop i) s m (r .start-in) (stays-used (c Start i) (λ e. o .0 .1 (only-b a uk nk i (o .0 .0) e)) (r .start-used)) (r .loop-in) (r .loop-used)
 
   -- ---- loops
 
@@ -226,7 +222,7 @@ module _ {sh : Shape} {p : List ℤ} {c : Columns} (a : Sound sh p c) {k : ℕ} 
   -- each other vertex in use is sound
   vertex-stays : (w : ℕ) → In (sh .vertices) w → w ≢ v → VertexSound sh c w → VertexSound sh d w
   vertex-stays w i f (alone m j e u s) = alone m j
-      (upd-off (c Isolated) I (λ z. omega (arith, i .0, sym e ∙ ap (c Isolated) z ∙ not-isolated a uk nk)) ∙ e)
+      (upd-off (c Isolated) I (λ z. omega (arith, i .0, sym e ∙ ap (c Isolated) z ∙ not-isolated a k uk refl)) ∙ e)
       (λ m′ j′ e′. ⊎-elim (λ q. u m′ j′ q) (λ q. absurd (s k (in-k a uk nk) (sym (q .1)))) (isolated-was w i m′ e′))
       (λ i′ j′ e′. s i′ j′ (start-was w i i′ e′ .2))
   vertex-stays w i f (joined s i′ j e) = split i′ k

@@ -1,22 +1,22 @@
 -- A spur in a sound table: a half-edge k in use whose next is its mate b. b alone starts at its vertex; k and what follows b start at one vertex, in one
 -- loop. Where k follows b, the two are the whole loop, and k alone starts at its vertex.
-use mathlib.Core.Path.{_≡_, refl, sym, ap, _∙_}
-use mathlib.Core.Logic.{_≢_, _⊎_, inl, inr, ⊎-elim}
+use mathlib.Core.Path.{_≡_, sym, ap, _∙_}
+use mathlib.Core.Logic.{_≢_, _⊎_, inl, inr}
 use mathlib.Core.List.{List}
 use Prim.Native.Nat.{ℕ, _*_}
 use native.Mathlib.Omega.{arith}
 use lib.IntN.{ℤ}
 use Rattle.laws.specs.Bools.{split}
 use Rattle.laws.specs.Update.{upd-same}
-use Rattle.laws.specs.Permutations.{inj, redo, undo-in}
+use Rattle.laws.specs.Permutations.{inj}
 use Rattle.laws.specs.Cycles.{alone}
 use Rattle.laws.specs.Moves.{out-cycles}
 use Rattle.layout.specs.declared.shape.Shape.{Shape}
 use Rattle.layout.specs.Mate.{mate}
 use Rattle.layout.specs.MateLaws.{mate-mate}
-use Rattle.validity.specs.Fields.{Face, Isolated, Start, Loop, Next, Prev, VertexUsed, Columns}
+use Rattle.validity.specs.Fields.{Face, Start, Loop, Next, Prev, VertexUsed, Columns}
 use Rattle.validity.specs.Mates.{mate-other}
-use Rattle.validity.specs.Labels.{label-some}
+use Rattle.validity.specs.EdgeIn.{prev-in, next-prev}
 use Rattle.validity.specs.Sound.{In, HalfUsed, Sound}
 
 module _ {sh : Shape} {p : List ℤ} {c : Columns} (a : Sound sh p c) {k : ℕ} (uk : HalfUsed sh c k) (nk : c Next k ≡ mate k) where
@@ -26,7 +26,7 @@ module _ {sh : Shape} {p : List ℤ} {c : Columns} (a : Sound sh p c) {k : ℕ} 
 
   -- what is before k is in use
   pub used-P : HalfUsed sh c (c Prev k)
-  used-P = undo-in (a .rules .loops .perm) (c Prev) (a .rules .undone) k uk
+  used-P = prev-in (a .rules) k uk
 
   -- what is after the mate is in use
   pub used-N : HalfUsed sh c (c Next (mate k))
@@ -58,7 +58,7 @@ module _ {sh : Shape} {p : List ℤ} {c : Columns} (a : Sound sh p c) {k : ℕ} 
 
   -- k is next of what is before it
   pub next-P : c Next (c Prev k) ≡ k
-  next-P = redo (a .rules .loops .perm) (c Prev) (a .rules .undone) k uk
+  next-P = next-prev (a .rules) k uk
 
   -- k is before the mate
   pub prev-b : c Prev (mate k) ≡ k
@@ -91,12 +91,6 @@ module _ {sh : Shape} {p : List ℤ} {c : Columns} (a : Sound sh p c) {k : ℕ} 
   -- the loop is in use
   pub spur-loop-used : c Face (c Loop k) ≢ 0
   spur-loop-used = a .half k in-k (uk .2) .loop-used
-
-  -- it is not isolated
-  pub not-isolated : c Isolated (c Loop k) ≡ 0
-  not-isolated =
-      let L = a .loop (c Loop k) spur-loop-in spur-loop-used in
-      ⊎-elim (λ w. w .1) (λ w. absurd (label-some (2 * sh .edges) (c Loop) (c Loop k) k in-k refl (sym (L .first) ∙ w .0))) (L .either)
 
   -- what follows the mate starts where k does
   pub spur-start-N : c Start (c Next (mate k)) ≡ c Start k

@@ -1,18 +1,15 @@
 -- A spur goes out: k, its mate a just after it, p before k. Both leave their loop; a is alone at its vertex, which goes with it. Where p is a, the two were
 -- the whole loop, and k was alone at its vertex too.
-use mathlib.Core.Path.{_≡_, refl, sym, ap, _∙_, subst}
+use mathlib.Core.Path.{_≡_, sym, ap, _∙_, subst}
 use mathlib.Core.Logic.{_≢_}
 use Prim.Native.Nat.{ℕ}
 use Rattle.laws.specs.Bools.{split}
 use Rattle.laws.specs.Update.{upd, upd-same, upd-off}
 use Rattle.laws.specs.Permutations.{Perm, inj}
-use Rattle.laws.specs.Cycles.{Cycles, agree, death}
+use Rattle.laws.specs.Cycles.{Cycles, agree}
 use Rattle.laws.specs.Moves.{But, out-cycles}
+use Rattle.validity.specs.Lone.{death-cycles}
 use Rattle.validity.specs.EdgeIn.{Halves, Rules}
-
--- one that goes to itself leaves
-dead : {n : ℕ} {U : ℕ → Type 0} {f lab : ℕ → ℕ} → Cycles n U f lab → (x : ℕ) → U x → f x ≡ x → Cycles n (But x U) f lab
-dead c x u e = death c (record { x-in = u; f-x = e; old = λ i w z. (w, z); in-old = λ i w. w .0; not-x = λ w. w .1 refl; f-o = λ i z. refl; lab-o = λ i z. refl })
 
 -- the columns h′ afterwards: but for k and a, p is followed by what a was followed by
 pub record SpurOut (h h′ : Halves) (k a p : ℕ) : Type 0 where
@@ -62,7 +59,7 @@ module _ {n : ℕ} {mate : ℕ → ℕ} {U : ℕ → Type 0} {h h′ : Halves} (
   -- then k
   out-loops : Cycles n (But k (But a U)) (h′ .next) (h′ .loop)
   out-loops = split p a
-      (λ e. agree (dead without-a k (uk, ka) (upd-same _ k _ ∙ ap (h .next) (sym e) ∙ pk)) (λ i w. w) (λ i w. w)
+      (λ e. agree (death-cycles without-a k (uk, ka) (upd-same _ k _ ∙ ap (h .next) (sym e) ∙ pk)) (λ i w. w) (λ i w. w)
       (λ i w. s .next i (w .1) (w .0 .1) ∙ upd-off _ _ (λ z. w .0 .1 (z ∙ e)) ∙ sym (upd-off _ _ (w .1))) (λ i w. s .loop i (w .1) (w .0 .1)))
       (λ e. agree (out-cycles without-a k p (up, e) (upd-off _ _ (λ z. kp (sym z)) ∙ pk) kp) (λ i w. w) (λ i w. w)
       (λ i w. s .next i (w .1) (w .0 .1) ∙ split i p
@@ -71,12 +68,12 @@ module _ {n : ℕ} {mate : ℕ → ℕ} {U : ℕ → Type 0} {h h′ : Halves} (
 
   -- a leaves its vertex, where it was alone
   vertex-without-a : Cycles n (But a U) (λ i. h .next (mate i)) (h .start)
-  vertex-without-a = dead (r .verts) a ua (ap (h .next) a-k ∙ nka)
+  vertex-without-a = death-cycles (r .verts) a ua (ap (h .next) a-k ∙ nka)
 
   -- then k
   out-verts : Cycles n (But k (But a U)) (λ i. h′ .next (mate i)) (h′ .start)
   out-verts = split p a
-      (λ e. agree (dead vertex-without-a k (uk, ka) (ap (h .next) (k-a ∙ sym e) ∙ pk)) (λ i w. w) (λ i w. w)
+      (λ e. agree (death-cycles vertex-without-a k (uk, ka) (ap (h .next) (k-a ∙ sym e) ∙ pk)) (λ i w. w) (λ i w. w)
       (λ i w. s .next (mate i) (mate-k i (w .0 .1)) (mate-a i (w .1)) ∙ upd-off _ _ (λ z. mate-a i (w .1) (z ∙ e))) (λ i w. s .start i (w .1) (w .0 .1)))
       (λ e. agree (out-cycles vertex-without-a k (mate p) (r .mate-in p up, mate-a p (λ z. kp (sym z))) (ap (h .next) (mm p) ∙ pk) (λ z. mate-k p e (sym z))) (λ i w. w) (λ i w. w)
       (λ i w. s .next (mate i) (mate-k i (w .0 .1)) (mate-a i (w .1)) ∙ split i (mate p)

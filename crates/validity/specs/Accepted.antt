@@ -106,10 +106,17 @@ eight l e = ext-getD (pos 0) l _ e (λ i h. go i (omega (arith, h, e)))
     go (suc (suc (suc (suc (suc (suc (suc zero))))))) h = refl
     go (suc (suc (suc (suc (suc (suc (suc (suc i)))))))) h = absurd (omega arith)
 
+-- an unused operand is 0
+pub no-operand : (lim : Limits) (a : ℤ) → inRange (largests lim) unused (wire unused a) ≡ true → a ≡ pos 0
+unfolding wire
+no-operand lim (pos n) h = let r = range-between (largests lim) unused n h in ap pos (omega (arith, r .1))
+no-operand lim (negsuc n) h = let r = range-between (largests lim) unused 2097152 h in absurd (omega (arith, r .1))
+
 -- an accepted operator of this code, operand by operand
 pub record ByPlace (sh : Shape) (x : List ℕ) (o : Operator) (code : ℕ) : Type 0 where
   pub range : (i : ℕ) → i < 8 → inRange (largests (limits sh)) (getD (pattern code .kinds) i 0) (wire (getD (pattern code .kinds) i 0) (getD (o .args) i (pos 0))) ≡ true
   pub used : (i : ℕ) → i < 8 → operandOf o i ≤ 8192 → useRefusal sh x (getD (pattern code .kinds) i 0) (operandOf o i) ≡ 0
+  pub rest : (i : ℕ) → i < 8 → getD (pattern code .kinds) i 0 ≡ unused → getD (o .args) i (pos 0) ≡ pos 0
   pub count : o .count ≡ pattern code .count
   pub holds : condition sh x o ≡ true
 
@@ -117,9 +124,12 @@ pub record ByPlace (sh : Shape) (x : List ℕ) (o : Operator) (code : ℕ) : Typ
 pub by-place : (sh : Shape) (x : List ℕ) (o : Operator) (code : ℕ) → length (o .args) ≡ 8 → length (pattern code .kinds) ≡ 8 → o .code ≡ code → refusalOf sh x o ≡ 0 → ByPlace sh x o code
 by-place sh x o code len all e h =
     let a = accepted sh x o h in
+    let r : (i : ℕ) → i < 8 → inRange (largests (limits sh)) (getD (pattern code .kinds) i 0) (wire (getD (pattern code .kinds) i 0) (getD (o .args) i (pos 0))) ≡ true = λ i l.
+        ranges-at (limits sh) (pattern code .kinds) (o .args) (len ∙ sym all)
+        (subst (λ n. inRanges (largests (limits sh)) (pattern n .kinds) (wires (pattern n .kinds) (o .args)) ≡ true) e (a .range)) i (omega (arith, l, all)) in
     record {
-      range = λ i l. ranges-at (limits sh) (pattern code .kinds) (o .args) (len ∙ sym all)
-          (subst (λ n. inRanges (largests (limits sh)) (pattern n .kinds) (wires (pattern n .kinds) (o .args)) ≡ true) e (a .range)) i (omega (arith, l, all));
+      range = r;
+      rest = λ i l q. no-operand (limits sh) _ (subst (λ k. inRange (largests (limits sh)) k (wire k (getD (o .args) i (pos 0))) ≡ true) q (r i l));
       used = λ i l b. subst (λ n. useRefusal sh x (getD (pattern code .kinds) i 0) n ≡ 0) (item-is o i b)
           (subst (λ j. useRefusal sh x (getD (pattern code .kinds) i 0) (itemOf o j) ≡ 0) (zero-add i)
           (uses-at sh x o (pattern code .kinds) 0 (subst (λ n. useRefusals sh x o (pattern n .kinds) 0 ≡ 0) e (a .used)) i (omega (arith, l, all))));
@@ -172,6 +182,11 @@ pub use-none : (sh : Shape) (x : List ℕ) (kind n : ℕ) → getD whenFree kind
 unfolding useRefusal
 use-none sh x kind n a b = split n 0 (λ e. rw (eqb-same e)) (λ f. split (useWord sh x kind n) 0 (λ e. rw (eqb-other f, eqb-same e, a)) (λ w. rw (eqb-other f, eqb-other w, b)))
 
+-- the operand 0 names nothing
+pub zero-use : (sh : Shape) (x : List ℕ) (kind : ℕ) → useRefusal sh x kind 0 ≡ 0
+unfolding useRefusal
+zero-use sh x kind = refl
+
 -- the largest of a kind
 abbrev pub limitOf : Limits → ℕ → ℕ
 limitOf lim kind = getD (largests lim) kind 0
@@ -184,6 +199,11 @@ range-in lim kind n z h = let r = range-between (largests lim) kind n h in (omeg
 pub in-range : (lim : Limits) (kind n : ℕ) → eqb kind coordinate ≡ false → getD leasts kind 0 ≡ 1 → In (limitOf lim kind) n → inRange (largests lim) kind (wire kind (pos n)) ≡ true
 unfolding wire
 in-range lim kind n c z i = rw c (between-range (largests lim) kind n (omega (arith, z, i .0)) (i .1))
+
+-- the same where 0 is allowed
+pub in-range-or-none : (lim : Limits) (kind n : ℕ) → eqb kind coordinate ≡ false → getD leasts kind 0 ≡ 0 → n ≤ limitOf lim kind → inRange (largests lim) kind (wire kind (pos n)) ≡ true
+unfolding wire
+in-range-or-none lim kind n c z h = rw c (between-range (largests lim) kind n (omega (arith, z)) h)
 
 -- an operand that is a number: it is not negative
 pub record Number (cap : ℕ) (a : ℤ) : Type 0 where
@@ -201,12 +221,6 @@ pub number-or-none : (lim : Limits) (kind : ℕ) (a : ℤ) → eqb kind coordina
 unfolding wire
 number-or-none lim kind (pos n) c s h = (refl, range-between (largests lim) kind n (rw c at h) .1)
 number-or-none lim kind (negsuc n) c s h = let r = range-between (largests lim) kind 2097152 (rw c at h) in absurd (omega (arith, s, r .1))
-
--- an unused operand is 0
-pub no-operand : (lim : Limits) (a : ℤ) → inRange (largests lim) unused (wire unused a) ≡ true → a ≡ pos 0
-unfolding wire
-no-operand lim (pos n) h = let r = range-between (largests lim) unused n h in ap pos (omega (arith, r .1))
-no-operand lim (negsuc n) h = let r = range-between (largests lim) unused 2097152 h in absurd (omega (arith, r .1))
 
 -- a coordinate is in range
 pub coordinate-range : (lim : Limits) (a : ℤ) → inRange (largests lim) coordinate (wire coordinate a) ≡ true → T (rangeTest a)
@@ -227,6 +241,17 @@ range-coordinate lim (negsuc n) t = between-range (largests lim) coordinate (2 *
     tidy : (b : Bool) → T (b && true) → T b
     tidy true t = tt
     tidy false t = t
+
+-- three of them in a row
+pub three-range : (lim : Limits) (ks : List ℕ) (zs : List ℤ) (a b c : ℤ) → T (rangeTest a) → T (rangeTest b) → T (rangeTest c) → inRanges (largests lim) ks (wires ks zs) ≡ true
+    → inRanges (largests lim) (coordinate ∷ coordinate ∷ coordinate ∷ ks) (wires (coordinate ∷ coordinate ∷ coordinate ∷ ks) (a ∷ b ∷ c ∷ zs)) ≡ true
+three-range lim ks zs a b c ha hb hc t = ranges-cons lim coordinate _ a (b ∷ c ∷ zs) (range-coordinate lim a ha)
+    (ranges-cons lim coordinate _ b (c ∷ zs) (range-coordinate lim b hb) (ranges-cons lim coordinate ks c zs (range-coordinate lim c hc) t))
+
+-- they name nothing
+pub three-use : (sh : Shape) (x : List ℕ) (o : Operator) (ks : List ℕ) (j : ℕ) → useRefusals sh x o ks (j + 1 + 1 + 1) ≡ 0 → useRefusals sh x o (coordinate ∷ coordinate ∷ coordinate ∷ ks) j ≡ 0
+three-use sh x o ks j t = uses-cons sh x o coordinate _ j (use-none sh x coordinate _ refl refl)
+    (uses-cons sh x o coordinate _ (j + 1) (use-none sh x coordinate _ refl refl) (uses-cons sh x o coordinate ks (j + 1 + 1) (use-none sh x coordinate _ refl refl) t))
 
 -- ---- operands that are not used
 

@@ -98,7 +98,7 @@ module _ (sh : Shape) (x : List ℕ) (fit : Chained 0 (groups sh) (length x)) (g
       ∙ sym (bare-col μ w′ x n)
 
 -- changes of functions that agree at n agree there
-upd-near : (f g : ℕ → ℕ) (k v n : ℕ) → f n ≡ g n → upd f k v n ≡ upd g k v n
+pub upd-near : (f g : ℕ → ℕ) (k v n : ℕ) → f n ≡ g n → upd f k v n ≡ upd g k v n
 unfolding upd
 upd-near f g k v n e = rw e
 

@@ -1,14 +1,15 @@
 -- A dummy: a half-edge that is its own mate and stands for a corner, above all for the only one of an isolated loop. It goes in and out
--- anywhere, is born and dies; mev follows from these and from an edge going in.
+-- anywhere, and is born; mev follows from these and from an edge going in.
 use mathlib.Core.Path.{_≡_, refl, sym, ap, _∙_, subst}
 use mathlib.Core.Logic.{_≢_, inl, inr, ⊎-elim}
 use Prim.Native.Nat.{ℕ, _≤_}
 use Rattle.laws.specs.Update.{Apart, apart, upd, upd-off, upd-same, relabel-off}
 use Rattle.laws.specs.Bools.{split}
 use Rattle.laws.specs.Permutations.{Perm, inj}
-use Rattle.laws.specs.Cycles.{agree, birth, death}
+use Rattle.laws.specs.Cycles.{agree}
 use Rattle.laws.specs.Moves.{Or, But, ins, out, ins-cycles, out-cycles}
-use Rattle.validity.specs.EdgeIn.{Halves, Rules, joined, merged, merged-loops, joined-rules}
+use Rattle.validity.specs.Lone.{birth-cycles}
+use Rattle.validity.specs.EdgeIn.{Halves, Rules, joined, merged, merged-loops, joined-rules, start-mate}
 
 -- d goes in after y
 abbrev pub added : Halves → ℕ → ℕ → Halves
@@ -27,9 +28,6 @@ module _ {n : ℕ} {mate : ℕ → ℕ} {U : ℕ → Type 0} {h : Halves} (r : R
   P : Perm n U (h .next)
   P = r .loops .perm
 
-  start-mate : (i : ℕ) → U i → h .start (h .next i) ≡ h .start (mate i)
-  start-mate i u = ap (λ j. h .start (h .next j)) (sym (mm i)) ∙ r .verts .keeps (mate i) (r .mate-in i u)
-
   -- the rules once a dummy has gone in
   pub add-rules : ¬ U d → 1 ≤ d → d ≤ n → Rules n mate (Or d U) (added h d y)
   add-rules fd d1 dn =
@@ -46,7 +44,7 @@ module _ {n : ℕ} {mate : ℕ → ℕ} {U : ℕ → Type 0} {h : Halves} (r : R
             let g1 : mate i ≢ y = λ e. g (sym (mm i) ∙ ap mate e) in
             let g2 : mate i ≢ d = λ e. f (sym (mm i) ∙ ap mate e ∙ own) in
             simp upd-off)
-            (λ i u. rw (start-mate y uy));
+            (λ i u. rw (start-mate r mm y uy));
         undone = λ i. ⊎-elim (λ e. rw e (simp (upd-same, upd-off))) (λ u. split i y (λ e. rw e (simp (upd-same, upd-off))) λ g.
             let g1 : i ≢ d = off i u in
             let g2 : h .next i ≢ d = off _ (P .f-in i u) in
@@ -95,30 +93,9 @@ birth-rules {n} {mate} {U} {h} r mm d o v own fd d1 dn fo fv =
     let off : (i : ℕ) → U i → i ≢ d = λ i u e. fd (subst U e u) in
     record {
       mate-in = λ i. ⊎-elim (λ e. inl (ap mate e ∙ own)) (λ u. inr (r .mate-in i u));
-      loops = birth (r .loops) (record {
-        fresh = fd;
-        x-low = d1;
-        x-high = dn;
-        old = λ i u. inr u;
-        new = inl refl;
-        cases = λ i u. u;
-        f-x = upd-same _ d d;
-        f-o = λ i e. upd-off _ d e;
-        lab-x = λ i u. simp upd-same (fo i u);
-        lab-o = λ i e. upd-off _ o e;
-      });
-      verts = birth (r .verts) (record {
-        fresh = fd;
-        x-low = d1;
-        x-high = dn;
-        old = λ i u. inr u;
-        new = inl refl;
-        cases = λ i u. u;
-        f-x = rw own (upd-same _ d d);
-        f-o = λ i e. upd-off _ d (λ q. e (sym (mm i) ∙ ap mate q ∙ own));
-        lab-x = λ i u. simp upd-same (fv i u);
-        lab-o = λ i e. upd-off _ v e;
-      });
+      loops = birth-cycles (r .loops) d o fd d1 dn fo;
+      verts = agree (birth-cycles (r .verts) d v fd d1 dn fv) (λ i u. u) (λ i u. u)
+          (λ i u. split i d (λ e. rw e (rw own (simp upd-same))) (λ e. let g : mate i ≢ d = λ q. e (sym (mm i) ∙ ap mate q ∙ own) in simp upd-off)) (λ i u. refl);
       undone = λ i. ⊎-elim (λ e. rw e (simp upd-same)) (λ u. let g1 = off i u in let g2 = off _ (r .loops .perm .f-in i u) in simp (upd-off, r .undone i u));
     }
 
@@ -169,12 +146,3 @@ module _ {n : ℕ} {mate : ℕ → ℕ} {U : ℕ → Type 0} {h : Halves} (r : R
       (each _ (simp (upd-same, upd-off)) (simp (upd-same, upd-off)) (λ i w e1 e2 e3. simp (upd-same, upd-off) (sym (relabel-off _ o _ (rw (upd-off (h .loop) o e3) (fo i w)) ∙ upd-off _ o e3))))
       (each _ (simp (upd-same, upd-off)) (simp (upd-same, upd-off)) (λ i w e1 e2 e3. split i p (λ e. rw e (simp (upd-same, upd-off))) λ f. simp upd-off))
       (each _ (simp (upd-same, upd-off)) (simp (upd-same, upd-off)) (λ i w e1 e2 e3. split i (h .next p) (λ e. rw e (simp (upd-same, upd-off))) λ f. simp (upd-same, upd-off)))
-
--- a dummy that is alone in its loop and at its vertex goes (kvsf, and the end of kev)
-pub death-rules : {n : ℕ} {mate : ℕ → ℕ} {U : ℕ → Type 0} {h : Halves} → Rules n mate U h → ((i : ℕ) → mate (mate i) ≡ i) → (d : ℕ) → mate d ≡ d → U d → h .next d ≡ d → Rules n mate (But d U) h
-death-rules {mate = mate} {h = h} r mm d own ud dd = record {
-  mate-in = λ i u. (r .mate-in i (u .0), λ e. u .1 (sym (mm i) ∙ ap mate e ∙ own));
-  loops = death (r .loops) (record { x-in = ud; f-x = dd; old = λ i u e. (u, e); in-old = λ i u. u .0; not-x = λ u. u .1 refl; f-o = λ i e. refl; lab-o = λ i e. refl });
-  verts = death (r .verts) (record { x-in = ud; f-x = ap (h .next) own ∙ dd; old = λ i u e. (u, e); in-old = λ i u. u .0; not-x = λ u. u .1 refl; f-o = λ i e. refl; lab-o = λ i e. refl });
-  undone = λ i u. r .undone i (u .0);
-}

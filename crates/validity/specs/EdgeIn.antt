@@ -5,7 +5,7 @@ use mathlib.Core.Logic.{_≢_, inl, inr, ⊎-elim}
 use Prim.Native.Nat.{ℕ, _≤_}
 use Rattle.laws.specs.Bools.{eqb-other, split}
 use Rattle.laws.specs.Update.{upd, upd-off, upd-same, relabel}
-use Rattle.laws.specs.Permutations.{iter, inj}
+use Rattle.laws.specs.Permutations.{iter, inj, redo, undo-in}
 use Rattle.laws.specs.Cycles.{Cycles, agree, forwards}
 use Rattle.laws.specs.Exchange.{Till, stop, go, not-both, till-fx}
 use Rattle.laws.specs.Moves.{Or, ins, xchg, ins-cycles, merge-cycles, halve-cycles}
@@ -17,12 +17,36 @@ pub record Halves : Type 0 where
   pub next : ℕ → ℕ
   pub prev : ℕ → ℕ
 
+-- half-edge i is all zero
+pub record Zero (h : Halves) (i : ℕ) : Type 0 where
+  pub s : h .start i ≡ 0
+  pub l : h .loop i ≡ 0
+  pub n : h .next i ≡ 0
+  pub p : h .prev i ≡ 0
+
 -- rules 4 and 5: the half-edges in use, U, fall into loops under next and into vertices under next of the mate
 pub record Rules (n : ℕ) (mate : ℕ → ℕ) (U : ℕ → Type 0) (h : Halves) : Type 0 where
   pub mate-in : (i : ℕ) → U i → U (mate i)
   pub loops : Cycles n U (h .next) (h .loop)
   pub verts : Cycles n U (λ i. h .next (mate i)) (h .start)
   pub undone : (i : ℕ) → U i → h .prev (h .next i) ≡ i
+
+module _ {n : ℕ} {mate : ℕ → ℕ} {U : ℕ → Type 0} {h : Halves} (r : Rules n mate U h) where
+  -- what comes before one in use is in use
+  pub prev-in : (i : ℕ) → U i → U (h .prev i)
+  prev-in = undo-in (r .loops .perm) (h .prev) (r .undone)
+
+  -- it is followed by that one
+  pub next-prev : (i : ℕ) → U i → h .next (h .prev i) ≡ i
+  next-prev = redo (r .loops .perm) (h .prev) (r .undone)
+
+  -- and lies in the same loop
+  pub prev-loop : (i : ℕ) → U i → h .loop (h .prev i) ≡ h .loop i
+  prev-loop i u = sym (r .loops .keeps (h .prev i) (prev-in i u)) ∙ ap (h .loop) (next-prev i u)
+
+  -- what follows one starts where its mate does
+  pub start-mate : ((i : ℕ) → mate (mate i) ≡ i) → (i : ℕ) → U i → h .start (h .next i) ≡ h .start (mate i)
+  start-mate mm i u = ap (λ j. h .start (h .next j)) (sym (mm i)) ∙ r .verts .keeps (mate i) (r .mate-in i u)
 
 -- ---- the stores as moves: about any function, and four places that differ
 
@@ -148,15 +172,12 @@ module _ {n : ℕ} {mate : ℕ → ℕ} {U : ℕ → Type 0} {h : Halves} (r : R
       simp upd-off)
       i
 
-  start-mate : (i : ℕ) → U i → h .start (h .next i) ≡ h .start (mate i)
-  start-mate i u = ap (λ j. h .start (h .next j)) (sym (mm i)) ∙ r .verts .keeps (mate i) (r .mate-in i u)
-
   joined-verts : Cycles n (Or a (Or k U)) (λ i. joined h k a p q (h .loop) .next (mate i)) (joined h k a p q (h .loop) .start)
   joined-verts = with4 (mate p) (mate q) mp mq mpq λ d1 d2 d3 d4 d5 d6 d7 d8 d9 d10 d11 d12. agree
       (ins-cycles (ins-cycles (r .verts) k (mate p) fk k1 kn mp) a (mate q) (⊎-elim d2 fa) a1 an (inr mq))
       (λ i u. u) (λ i u. u)
       (λ i u. sigma-moves i)
-      (λ i u. rw (start-mate p up, start-mate q uq, upd-off (h .start) {k = k} (h .start (mate p)) d6))
+      (λ i u. rw (start-mate r mm p up, start-mate r mm q uq, upd-off (h .start) {k = k} (h .start (mate p)) d6))
 
   np : U (h .next p)
   np = r .loops .perm .f-in p up

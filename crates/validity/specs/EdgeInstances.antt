@@ -1,7 +1,7 @@
--- The theory of edges and dummies at a table: from nothing, an isolated loop (dummy 5), then an edge 1, 2 at its corner, and back. So no
+-- The theory of edges and dummies at a table: from nothing, an isolated loop (dummy 5). Then an edge 1, 2 at its corner. So no
 -- assumption of that theory rules everything out.
 use mathlib.Core.Path.{_≡_, refl}
-use mathlib.Core.Logic.{inl, inr, ⊎-elim}
+use mathlib.Core.Logic.{inl, ⊎-elim}
 use native.Mathlib.Omega.{arith}
 use Rattle.laws.specs.Update.{upd}
 use Rattle.laws.specs.Moves.{Or, But}
@@ -9,7 +9,6 @@ use Rattle.layout.specs.Mate.{mate}
 use Rattle.validity.specs.Mates.{mate⁺, mate⁺-mate⁺, mate⁺-high}
 use Rattle.validity.specs.EdgeIn.{Halves, Rules}
 use Rattle.validity.specs.Dummies.{born, birth-rules, spurred, spur-rules, dropped, drop-rules}
-use Rattle.validity.specs.Corners.{unspurred, kev-rules, alone-joined, corner-rules}
 
 -- no half-edge
 nothing : Halves
@@ -43,17 +42,3 @@ row-c : (let h = dropped (spurred (born nothing 5 1 1) 1 2 5 2) 5 2 in
     (h .start 1 ≡ 1) × (h .loop 1 ≡ 1) × (h .next 1 ≡ 2) × (h .prev 1 ≡ 2) × (h .start 2 ≡ 2) × (h .loop 2 ≡ 1) × (h .next 2 ≡ 1) × (h .prev 2 ≡ 1))
 unfolding nothing upd
 row-c = (refl, refl, refl, refl, refl, refl, refl, refl)
-
--- kev 1 at the table where the dummy 5 is still in: 5, 1, 2 becomes 5 (through `kemr-loops`, `parted-rules`, `death-rules`)
-kev-back : Rules 6 (mate⁺ 2) (But 6 (But 1 (But 2 (Or 6 (Or 2 (Or 1 (Or 5 (λ i. ⊥)))))))) (unspurred (spurred (born nothing 5 1 1) 1 2 5 2) 1 2 5)
-unfolding mate⁺ mate nothing upd
-kev-back = kev-rules edge-rules (mate⁺-mate⁺ 2) 1 2 5 6 2 refl (mate⁺-high 2 6 (omega arith)) (omega arith) (inr (inl refl)) (inr (inr (inl refl)))
-    (⊎-elim (omega arith) (⊎-elim (omega arith) (⊎-elim (omega arith) (λ u. u)))) (omega arith) (omega arith) refl refl (omega arith)
-    (λ i. ⊎-elim (λ e. rw e (omega arith)) (⊎-elim (λ e. rw e (omega arith)) (⊎-elim (λ e. rw e (omega arith)) (λ u. absurd u))))
-
--- mef with one corner at the dummy's: 5, 3 and 4 alone (through `halved-loops`)
-mef-one : Rules 6 (mate⁺ 2) (But 6 (Or 4 (Or 3 (Or 6 (Or 5 (λ i. ⊥)))))) (alone-joined (born nothing 5 1 1) 3 4 5 2)
-unfolding mate⁺ mate nothing upd
-mef-one = corner-rules isolated-rules (mate⁺-mate⁺ 2) 3 4 5 6 2 refl (mate⁺-high 2 6 (omega arith)) (omega arith) (omega arith) (omega arith)
-    (⊎-elim (omega arith) (λ u. u)) (⊎-elim (omega arith) (λ u. u)) (⊎-elim (omega arith) (λ u. u)) (omega arith) (omega arith) (omega arith) (omega arith) (omega arith) (omega arith) (inl refl)
-    (λ i. ⊎-elim (λ e. rw e (omega arith)) (λ u. absurd u))

@@ -34,9 +34,6 @@ module _ {n : ℕ} {mate : ℕ → ℕ} {U : ℕ → Type 0} {h : Halves} (r : R
   mate-inj : {i j : ℕ} → mate i ≡ mate j → i ≡ j
   mate-inj {i} {j} e = sym (mm i) ∙ ap mate e ∙ mm j
 
-  ak : a ≢ k
-  ak e = ka (sym e)
-
   kq : k ≢ q
   kq e = q≢k (sym e)
 

@@ -1,16 +1,12 @@
--- Faces that share an edge, and what becomes of the chains when a face is split or two are joined.
-use mathlib.Core.Path.{_≡_, refl, sym, ap, _∙_, subst}
+-- Faces that share an edge, and what becomes of the chains when a face is split.
+use mathlib.Core.Path.{_≡_, refl, sym, subst}
 use mathlib.Core.Logic.{_⊎_, inl, inr, ⊎-elim}
 use Prim.Native.Nat.{ℕ}
-use Rattle.laws.specs.Linked.{Linked, same, link, back, via, map-linked, carry}
+use Rattle.laws.specs.Linked.{Linked, same, link, back, via, carry}
 
 -- half-edge i has the face `side i` on its side and `side (mate i)` on the other
 abbrev pub Share : (ℕ → Type 0) → (ℕ → ℕ) → (ℕ → ℕ) → ℕ → ℕ → Type 0
 Share U side mate g h = (i : ℕ) × U i × (side i ≡ g) × (side (mate i) ≡ h)
-
--- two faces become one: each side f2 becomes f1
-pub join-faces : {U : ℕ → Type 0} {side side′ mate : ℕ → ℕ} (φ : ℕ → ℕ) → ((i : ℕ) → side′ i ≡ φ (side i)) → {g h : ℕ} → Linked (Share U side mate) g h → Linked (Share U side′ mate) (φ g) (φ h)
-join-faces φ e = map-linked φ (λ g h s. link (s .0, s .1, e (s .0) ∙ ap φ (s .2), e _ ∙ ap φ (s .3)))
 
 -- one face, f0, becomes two: some of its sides become f, the others stay. Each face that was linked to f0 is linked to f0 or to f.
 module _ (U : ℕ → Type 0) (mate : ℕ → ℕ) {side side′ : ℕ → ℕ} {f0 f : ℕ} (changed : (i : ℕ) → (side′ i ≡ side i) ⊎ ((side i ≡ f0) × (side′ i ≡ f))) where

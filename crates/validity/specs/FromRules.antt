@@ -2,7 +2,7 @@
 use mathlib.Core.Path.{_≡_, refl, sym, ap, _∙_, subst}
 use mathlib.Core.Logic.{_≢_, inl, inr, ⊎-elim}
 use mathlib.Core.List.{List}
-use Prim.Native.Nat.{ℕ, zero, suc, _-_, _*_, _≤_, _<_}
+use Prim.Native.Nat.{ℕ, zero, suc, _*_, _≤_, _<_}
 use native.Mathlib.Omega.{arith}
 use lib.Dec.{T, eqb, eqb→eq, leb→le, T-not, not-T}
 use lib.IntN.{ℤ, pos, negsuc}
@@ -12,18 +12,18 @@ use Rattle.laws.specs.Linked.{link, map-linked}
 use Rattle.laws.specs.Cycles.{agree}
 use Rattle.layout.specs.declared.shape.Shape.{Shape}
 use Rattle.layout.specs.Mate.{mate}
-use Rattle.layout.specs.MateLaws.{mate-odd, mate-range}
+use Rattle.layout.specs.MateLaws.{mate-range}
 use Rattle.layout.specs.Points.{coordinate, inRange, rangeTest}
 use Rattle.orbits.specs.OrbitsLaws.{Half}
 use Rattle.rules.specs.RulesSay.{Together, InRange, IsZero, Rule1, Rule2, Rule3, VertexEither}
-use Rattle.rules.specs.CyclesSay.{Rule4, Rule5, Rule6, Across}
+use Rattle.rules.specs.CyclesSay.{Rule4, Rule5, Rule6}
 use Rattle.validity.specs.Fields.{Solid, Face, First, Isolated, Start, Loop, Columns}
 use Rattle.validity.specs.EdgeIn.{Rules}
-use Rattle.validity.specs.Faces.{Share}
 use Rattle.validity.specs.Solids.{Solids}
 use Rattle.validity.specs.Sound.{In, halves, HalfUsed, FaceUsed, side, firstOf, LoopSound, HalfSound, VertexSound, alone, joined, PointSound, Sound}
 use Rattle.validity.specs.Labels.{leastWith, label-found, label-some, label-none, none-label, manyWith, many-none, none-many, one-many}
 use Rattle.validity.specs.Good.{own}
+use Rattle.validity.specs.EdgesAcross.{edge-half}
 
 -- what is there is at least 1
 some-in : {cap n : ℕ} → n ≢ 0 → n ≤ cap → In cap n
@@ -37,10 +37,6 @@ other-zero (inr h) z = absurd (h .0 z)
 other-some : {a b : ℕ} → Together a b → a ≢ 0 → b ≢ 0
 other-some (inl h) d = absurd (d (h .0))
 other-some (inr h) d = h .1
-
-some-other : {a b : ℕ} → Together a b → b ≢ 0 → a ≢ 0
-some-other (inl h) d = absurd (d (h .1))
-some-other (inr h) d = h .0
 
 -- between 0 and 0
 is-zero : (c : ℤ) → IsZero c → c ≡ pos 0
@@ -137,20 +133,11 @@ module _ {sh : Shape} {x : List ℕ} {p : List ℤ} (r1 : Rule1 sh x p) (r2 : Ru
     undone = λ k u. r4 .half k (u .0) (u .1) (u .2) .prev-next;
   }
 
-  -- an edge between two faces is one of its halves
-  edge-half : (f g : ℕ) → Across sh x f g → Share (HalfUsed sh c) (side c) mate f g
-  edge-half f g e =
-      let k : ℕ = 2 * e .0 - 1 in
-      let m : mate k ≡ 2 * e .0 = mate-odd k (omega (arith, e .1 .0)) ∙ omega (arith, e .1 .0) in
-      let i : In (2 * sh .edges) k = (omega (arith, e .1 .0), omega (arith, e .1 .1)) in
-      let u : c Start (2 * e .0) ≢ 0 = λ z. T-not (eqb (c Start (2 * e .0)) 0) (e .1 .2) (true-T (eqb-same z)) in
-      (k, (i .0, i .1, some-other (r1 .half k (i .0) (i .1) .with-mate) (λ z. u (ap (c Start) (sym m) ∙ z))), e .2, ap (side c) m ∙ e .3)
-
   solids-sound : Solids (HalfUsed sh c) (FaceUsed sh c) (side c) mate (c Solid)
   solids-sound = record {
     side-in = λ k u. let h = half-sound k (u .0, u .1) (u .2) in let l = loop-sound (c Loop k) (h .loop-in) (h .loop-used) in (l .face-in .0, l .face-in .1, l .face-used);
     edge = λ k u. sym (r6 .sides k (u .0) (u .1) (u .2));
-    one = λ f g u v e. map-linked (λ i. i) (λ i j t. link (edge-half i j t)) (r6 .linked f g (u .0) (u .1) (v .0) (v .1) (u .2) e);
+    one = λ f g u v e. map-linked (λ i. i) (λ i j t. link (edge-half sh c mate-used (side c) (t .0) i j (t .1 .0, t .1 .1) (λ z. T-not (eqb (c Start (2 * t .0)) 0) (t .1 .2) (true-T (eqb-same z))) (t .2) (t .3))) (r6 .linked f g (u .0) (u .1) (v .0) (v .1) (u .2) e);
   }
 
   -- the table is sound

@@ -1,6 +1,6 @@
 -- kvsf on the columns: a solid of one face with one isolated loop goes. What stays does not name what goes.
-use mathlib.Core.Path.{_≡_, sym, ap, _∙_}
-use mathlib.Core.Logic.{_≢_, inl, inr, ⊎-elim}
+use mathlib.Core.Path.{_≡_, sym, ap, _∙_, subst}
+use mathlib.Core.Logic.{_≢_, inl, inr}
 use mathlib.Core.List.{List}
 use Prim.Native.Nat.{ℕ, _*_}
 use native.Mathlib.Omega.{arith}
@@ -13,7 +13,7 @@ use Rattle.layout.specs.Mate.{mate}
 use Rattle.validity.specs.Fields.{SolidUsed, Solid, Outer, Face, First, Isolated, Start, Loop, VertexUsed, Columns}
 use Rattle.validity.specs.Solids.{Solids}
 use Rattle.validity.specs.Sound.{In, HalfUsed, FaceUsed, side, FaceSound, FirstOrIsolated, LoopSound, HalfSound, VertexSound, alone, joined, PointSound, Sound}
-use Rattle.validity.specs.Labels.{label-some}
+use Rattle.validity.specs.Names.{lone-used, lone-unnamed, lone-alone}
 use Rattle.validity.specs.MvsfSound.{placed}
 
 -- solid s has the face f alone, f the loop l alone, and l is isolated at v
@@ -30,10 +30,13 @@ pub record OneLoop (sh : Shape) (c : Columns) (s f l v : ℕ) : Type 0 where
   pub only-face : (g : ℕ) → In (sh .faces) g → c Solid g ≡ s → g ≡ f
   pub only-loop : (m : ℕ) → In (sh .loops) m → c Face m ≡ f → m ≡ l
 
--- its loop has no first, so the vertex is in use
+-- its loop is isolated
+one-isolated : {sh : Shape} {c : Columns} {s f l v : ℕ} → OneLoop sh c s f l v → c Isolated l ≢ 0
+one-isolated o z = omega (arith, o .vertex-in .0, sym (o .isolated) ∙ z)
+
+-- so the vertex is in use
 pub one-used : {sh : Shape} {p : List ℤ} {c : Columns} → Sound sh p c → {s f l v : ℕ} → OneLoop sh c s f l v → c VertexUsed v ≢ 0
-one-used {c = c} a {l = l} o = ⊎-elim (λ y. absurd (omega (arith, o .vertex-in .0, sym (o .isolated) ∙ y .1))) (λ y z. y .2 (ap (c VertexUsed) (o .isolated) ∙ z))
-    (a .loop l (o .loop-in) (λ z. omega (arith, o .face-in .0, sym (o .face) ∙ z)) .either)
+one-used {c = c} a {l = l} o z = lone-used a l (o .loop-in) (one-isolated o) .2 (ap (c VertexUsed) (o .isolated) ∙ z)
 
 module _ {sh : Shape} {p q : List ℤ} {c : Columns} (a : Sound sh p c) {s f l v : ℕ} (o : OneLoop sh c s f l v)
     (points : (w : ℕ) → In (sh .vertices) w → PointSound q (placed c s f l v 0 0 0 0 0) w) where
@@ -42,16 +45,12 @@ module _ {sh : Shape} {p q : List ℤ} {c : Columns} (a : Sound sh p c) {s f l v
   d = placed c s f l v 0 0 0 0 0
 
   -- v is isolated in l alone and starts nothing
-  v-alone : VertexSound sh c v → ((m : ℕ) → In (sh .loops) m → c Isolated m ≡ v → m ≡ l) × ((k : ℕ) → In (2 * sh .edges) k → c Start k ≢ v)
-  v-alone (alone m i e u n) = (λ m′ i′ e′. u m′ i′ e′ ∙ sym (u l (o .loop-in) (o .isolated)), n)
-  v-alone (joined n k i e) = absurd (n l (o .loop-in) (o .isolated))
-
   v-only : ((m : ℕ) → In (sh .loops) m → c Isolated m ≡ v → m ≡ l) × ((k : ℕ) → In (2 * sh .edges) k → c Start k ≢ v)
-  v-only = v-alone (a .vertex v (o .vertex-in) (one-used a o))
+  v-only = subst (λ w. ((m : ℕ) → In (sh .loops) m → c Isolated m ≡ w → m ≡ l) × ((k : ℕ) → In (2 * sh .edges) k → c Start k ≢ w)) (o .isolated) (lone-alone a l (o .loop-in) (one-isolated o))
 
-  -- no half-edge names l: it has no first
+  -- no half-edge names l
   none-named : (k : ℕ) → In (2 * sh .edges) k → c Loop k ≢ l
-  none-named k i e = label-some (2 * sh .edges) (c Loop) l k i e (sym (a .loop l (o .loop-in) (λ z. omega (arith, o .face-in .0, sym (o .face) ∙ z)) .first) ∙ o .first)
+  none-named = lone-unnamed a l (o .loop-in) (one-isolated o)
 
   killed-face : (g : ℕ) → In (sh .faces) g → d Solid g ≢ 0 → FaceSound sh d g
   killed-face g i h = split g f (λ e. absurd (h (rw e (upd-same (c Solid) f 0)))) (λ n.

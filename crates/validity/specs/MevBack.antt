@@ -7,7 +7,6 @@ use Prim.Native.Nat.{ℕ, _*_}
 use native.Mathlib.Omega.{arith}
 use lib.Dec.{eqb, leb}
 use lib.IntN.{ℤ, pos}
-use lib.ListN.{replicate}
 use borrow.Author.Tests.{le-leb}
 use Rattle.laws.specs.Bools.{pick, split, eqb-same, eqb-other}
 use Rattle.laws.specs.Search.{least-ext}
@@ -21,11 +20,11 @@ use Rattle.layout.specs.Mate.{mate, edgeOf}
 use Rattle.layout.specs.Points.{coordinate}
 use Rattle.euler.specs.Surgery.{wayOf, putPoint, edgeOut, renew}
 use Rattle.euler.specs.Operators.{kevTest, kevLinks}
-use Rattle.euler.specs.Exec.{limits, useWord, condition, refusalOf, linksAfter, killedVertex, pointsAfter, inverse}
+use Rattle.euler.specs.Exec.{useWord, condition, refusalOf, linksAfter, killedVertex, pointsAfter, inverse}
 use Rattle.validity.specs.Fields.{Field, Capacity, SolidUsed, Solid, Outer, Face, First, Isolated, Start, Loop, Next, Prev, VertexUsed, Columns, change}
 use Rattle.validity.specs.Cells.{Shows, shows-put, shows-ext, upd-back}
 use Rattle.validity.specs.Sound.{In, HalfUsed, firstOf, Sound}
-use Rattle.validity.specs.Accepted.{accepted-back, ranges-cons, item-cons, old-use, in-range, unused-range, unused-use}
+use Rattle.validity.specs.OneOperand.{one-accepted}
 use Rattle.validity.specs.Good.{own, Good, good-shows}
 use Rattle.validity.specs.Shown.{withoutEdge, withFirst, shows-no-edge, shows-first, shows-isolated}
 use Rattle.validity.specs.MevSound.{mevColumns, MevPlace, kb, off-k, off-b, start-k, start-b, start-old, loop-k, loop-old}
@@ -218,10 +217,4 @@ module _ {sh : Shape} {x : List ℕ} {p : List ℤ} (g : Good sh x p) {l k u v P
   -- it is accepted
   pub kev-accepted : refusalOf sh y (kevOf k) ≡ 0
   unfolding pattern rows useWord condition kevTest
-  kev-accepted = accepted-back sh y (kevOf k) (record {
-    code = refl;
-    count = refl;
-    range = ranges-cons (limits sh) 9 _ (pos k) (replicate 7 (pos 0)) (in-range (limits sh) 9 k refl refl (o .half-in)) (unused-range (limits sh) 7);
-    used = item-cons sh y (kevOf k) 9 _ 0 (omega (arith, o .half-in .1, g .capacities .edges)) (old-use sh y 9 k (omega (arith, o .half-in .0)) refl (λ m. omega (arith, o .corner-in .0, sym at-start-k ∙ m))) (unused-use sh y (kevOf k) 7 1);
-    holds = rw kn (eqb-same at-next-k);
-  })
+  kev-accepted = one-accepted sh y 4 9 refl refl refl refl (omega (arith, g .capacities .edges)) refl k (o .half-in) (λ m. omega (arith, o .corner-in .0, sym at-start-k ∙ m)) (rw kn (eqb-same at-next-k))

@@ -8,18 +8,16 @@ use native.Mathlib.Omega.{arith}
 use lib.IntN.{ℤ}
 use Rattle.laws.specs.Bools.{split}
 use Rattle.laws.specs.Update.{upd-same, upd-off}
-use Rattle.laws.specs.Permutations.{redo, undo-in}
 use Rattle.laws.specs.Cycles.{Cycles}
 use Rattle.laws.specs.Moves.{Or, But}
 use Rattle.layout.specs.declared.shape.Shape.{Shape}
 use Rattle.layout.specs.Mate.{mate}
 use Rattle.validity.specs.Fields.{Isolated, Start, Loop, Next, Prev, Columns}
 use Rattle.validity.specs.Mates.{mate⁺, mate⁺-low, mate⁺-high, mate⁺-mate⁺}
-use Rattle.validity.specs.EdgeIn.{Halves, Rules}
+use Rattle.validity.specs.EdgeIn.{Halves, Rules, prev-in, next-prev}
 use Rattle.validity.specs.Dummies.{spurred, spur-rules, dropped, drop-rules, agree-rules}
 use Rattle.validity.specs.Sound.{HalfUsed, Sound}
-use Rattle.validity.specs.Labels.{label-some}
-use Rattle.validity.specs.MvsfSound.{start-unnamed, isolated-unnamed}
+use Rattle.validity.specs.Names.{start-unnamed, isolated-unnamed, not-isolated}
 use Rattle.validity.specs.WithDummies.{upTo-low, upTo-high, extended, Dummy, Member, sound-corners, dummy-of, dummy-loop, dummy-start}
 use Rattle.validity.specs.MevSound.{mevColumns, MevPlace, kb, off-k, off-b, start-k, start-b, start-old, loop-k, loop-b, loop-old, new-k, new-b, half-stays, half-was, dummy-stays}
 
@@ -96,21 +94,16 @@ module _ {sh : Shape} {p : List ℤ} {c : Columns} (a : Sound sh p c) {l k v h :
   H₁ = spurred (extended sh c) k (mate k) (c Prev h) v
 
   pu : HalfUsed sh c (c Prev h)
-  pu = undo-in (a .rules .loops .perm) (c Prev) (a .rules .undone) h hu
+  pu = prev-in (a .rules) h hu
 
   np : extended sh c .next (c Prev h) ≡ h
-  np = upTo-low n₁ (c Next) (λ j. j) (c Prev h) (pu .1) ∙ redo (a .rules .loops .perm) (c Prev) (a .rules .undone) h hu
-
-  -- the loop is not isolated
-  not-isolated : c Isolated l ≡ 0
-  not-isolated = ⊎-elim (λ w. w .1)
-      (λ w. absurd (label-some n₁ (c Loop) l h (hu .0, hu .1) hl (sym (a .loop l (o .loop-in) (o .loop-used) .first) ∙ w .0))) (a .loop l (o .loop-in) (o .loop-used) .either)
+  np = upTo-low n₁ (c Next) (λ j. j) (c Prev h) (pu .1) ∙ next-prev (a .rules) h hu
 
   no-dummy : (i : ℕ) → Dummy sh c i → i - n₁ ≢ l
-  no-dummy i w e = w .2 (ap (c Isolated) e ∙ not-isolated)
+  no-dummy i w e = w .2 (ap (c Isolated) e ∙ not-isolated a h hu hl)
 
   p-loop : extended sh c .loop (c Prev h) ≡ l
-  p-loop = upTo-low n₁ (c Loop) (λ j. j - n₁) (c Prev h) (pu .1) ∙ sym (a .rules .loops .keeps (c Prev h) pu) ∙ ap (c Loop) (redo (a .rules .loops .perm) (c Prev) (a .rules .undone) h hu) ∙ hl
+  p-loop = upTo-low n₁ (c Loop) (λ j. j - n₁) (c Prev h) (pu .1) ∙ sym (a .rules .loops .keeps (c Prev h) pu) ∙ ap (c Loop) (next-prev (a .rules) h hu) ∙ hl
 
   at-start : (i : ℕ) → Or (mate k) (Or k (Member sh c)) i → extended sh d₁ .start i ≡ H₁ .start i
   at-start i = each a o (λ i. extended sh d₁ .start i ≡ H₁ .start i)

@@ -1,43 +1,46 @@
 -- mev as an operator: what it says that it is accepted, and that a good table stays good.
-use mathlib.Core.Path.{_≡_, refl, sym, ap, _∙_, subst}
+use mathlib.Core.Path.{_≡_, refl, sym, _∙_, subst}
 use mathlib.Core.Logic.{_≢_, _⊎_, inl, inr, ⊎-elim}
-use mathlib.Core.Bool.{true, not, _&&_}
+use mathlib.Core.Bool.{true}
 use mathlib.Core.List.{List, [], _∷_}
-use Prim.Native.Nat.{ℕ, _+_, _-_, _*_, _%_, _≤_, _<_}
+use Prim.Native.Nat.{ℕ, _+_, _*_, _≤_, _<_}
 use native.Mathlib.Omega.{arith}
-use lib.Dec.{T, eqb, eqb→eq, leb, lit≤, T-not}
+use lib.Dec.{T, leb, lit≤}
 use lib.IntN.{ℤ, pos}
 use lib.ListN.{length, getD}
 use borrow.Author.Tests.{le-leb}
-use Rattle.laws.specs.Bools.{true-T, and-T, or-T, split, eqb-same, eqb-other}
+use Rattle.laws.specs.Bools.{true-T, eqb-same, eqb-other}
 use Rattle.laws.specs.Update.{upd-same, upd-off}
-use Rattle.laws.specs.Permutations.{undo-in}
 use Rattle.script.specs.declared.Operator.{Operator}
 use Rattle.script.specs.Operands.{pattern, rows}
 use Rattle.script.specs.Operator.{operandOf}
 use Rattle.layout.specs.declared.shape.Shape.{Shape}
 use Rattle.layout.specs.Layout.{setVertexUsed}
 use Rattle.layout.specs.Mate.{mate}
-use Rattle.layout.specs.MateLaws.{mate-even, mate-mate, mate-range}
+use Rattle.layout.specs.MateLaws.{mate-range}
 use Rattle.layout.specs.Points.{rangeTest}
 use Rattle.euler.specs.Surgery.{corner, halfBy, putPoint, edgeIn, renew}
 use Rattle.euler.specs.Operators.{mevLinks}
 use Rattle.euler.specs.Exec.{limits, useWord, condition, refusalOf, linksAfter, pointsAfter}
 use Rattle.validity.specs.Fields.{Face, Isolated, Start, Loop, Prev, VertexUsed, Columns}
 use Rattle.validity.specs.Mates.{mate⁺}
-use Rattle.validity.specs.EdgeIn.{Rules}
+use Rattle.validity.specs.EdgeIn.{Rules, prev-in}
 use Rattle.validity.specs.Cells.{Shows, shows-put}
-use Rattle.validity.specs.Sound.{In, HalfUsed, PointSound, Sound}
-use Rattle.validity.specs.Labels.{label-some}
-use Rattle.validity.specs.PointLists.{three, put-length, put-at, put-off}
+use Rattle.validity.specs.Sound.{In, HalfUsed, Sound}
+use Rattle.validity.specs.Names.{not-isolated, lone-used, free-halves}
+use Rattle.validity.specs.PointLists.{three, put-length, all-three, points-new}
 use Rattle.validity.specs.Accepted.{by-place, eight, use-old, use-new, Number, number, number-or-none, coordinate-range}
 use Rattle.validity.specs.Good.{own, Capacities, Good, good-shows, good-after}
+use Rattle.validity.specs.CornerTest.{CornerAt, test-corner}
 use Rattle.validity.specs.Undone.{Kept}
-use Rattle.validity.specs.SolidOperators.{all-three}
 use Rattle.validity.specs.WithDummies.{extended, Member}
 use Rattle.validity.specs.Shown.{shows-edge, shows-first}
 use Rattle.validity.specs.MevSound.{mevColumns, MevPlace, loop-k, new-k, mev-sound}
 use Rattle.validity.specs.MevCorners.{mev-at-half, mev-at-isolated}
+
+-- the list afterwards
+abbrev pub mevList : Shape → List ℕ → (l k u v P N : ℕ) → List ℕ
+mevList sh x l k u v P N = setVertexUsed sh (renew sh (edgeIn sh x k u l (mate k) P v l N k) l k 0) v 1
 
 -- ---- the table afterwards
 
@@ -48,25 +51,12 @@ module _ {sh : Shape} {x : List ℕ} {p : List ℤ} (g : Good sh x p) {l k u v P
   d = mevColumns sh (own sh x) l k u v P N
 
   abbrev y : List ℕ
-  y = setVertexUsed sh (renew sh (edgeIn sh x k u l (mate k) P v l N k) l k 0) v 1
+  y = mevList sh x l k u v P N
 
-  pub long : 3 * v ≤ length p
-  long = omega (arith, g .points, o .vertex-in .1)
-
-  new-points : (w : ℕ) → In (sh .vertices) w → PointSound (putPoint p v a b z) d w
-  new-points w i = split w v
-      (λ e. rw e (record {
-        range = λ j h. rw (put-at p v a b z (o .vertex-in .0) long j h) (all-three (λ t. T (rangeTest t)) a b z ha hb hz j h);
-        zero = λ h. absurd (omega (arith, sym (upd-same (own sh x VertexUsed) v 1) ∙ h));
-      }))
-      (λ n. let r = g .sound .point w i in record {
-        range = λ j h. rw (put-off p v a b z w n j h) (r .range j h);
-        zero = λ h j m. put-off p v a b z w n j m ∙ r .zero (sym (upd-off (own sh x VertexUsed) 1 n) ∙ h) j m;
-      })
-
-  -- and they are sound
+  -- the columns are sound
   pub d-sound : Sound sh (putPoint p v a b z) d
-  d-sound = mev-sound o (g .sound) rules⁺ new-points
+  d-sound = mev-sound o (g .sound) rules⁺
+      (points-new sh p (own sh x) d v (g .points) (o .vertex-in) (g .sound .point) (λ w n. upd-off (own sh x VertexUsed) 1 n) a b z ha hb hz (upd-same (own sh x VertexUsed) v 1))
 
   -- the list shows these columns
   pub y-shows : Shows sh y d
@@ -114,16 +104,9 @@ pub record MevFacts (sh : Shape) (c : Columns) (o : Operator) : Type 0 where
   pub edge-free : c Start (2 * e) ≡ 0
   pub vertex-in : In (sh .vertices) v
   pub vertex-free : c VertexUsed v ≡ 0
-  pub corner : ((h ≡ 0) × (c Isolated l ≢ 0)) ⊎ (HalfUsed sh c h × (c Loop h ≡ l))
+  pub corner : CornerAt sh c l h
   pub way : w ≤ 1
   pub range : (i : ℕ) → i < 3 → T (rangeTest (three x y z i))
-
-corner-is : (sh : Shape) (x : List ℕ) (l h : ℕ) → corner sh x l h ≡ true → ((h ≡ 0) × (own sh x Isolated l ≢ 0)) ⊎ ((h ≢ 0) × (own sh x Loop h ≡ l))
-unfolding corner
-corner-is sh x l h t = ⊎-elim
-    (λ s. let r = and-T (eqb h 0) (not (eqb (own sh x Isolated l) 0)) s in inl (eqb→eq h 0 (r .0), λ z. T-not (eqb (own sh x Isolated l) 0) (r .1) (true-T (eqb-same z))))
-    (λ s. let r = and-T (not (eqb h 0)) (eqb (own sh x Loop h) l) s in inr ((λ z. T-not (eqb h 0) (r .0) (true-T (eqb-same z))), eqb→eq (own sh x Loop h) l (r .1)))
-    (or-T (eqb h 0 && not (eqb (own sh x Isolated l) 0)) (not (eqb h 0) && eqb (own sh x Loop h) l) (true-T t))
 
 -- all from the refusal 0
 pub mev-facts : (sh : Shape) (x : List ℕ) (o : Operator) → Capacities sh → length (o .args) ≡ 8 → o .code ≡ 3 → refusalOf sh x o ≡ 0 → MevFacts sh (own sh x) o
@@ -170,45 +153,23 @@ mev-facts sh x o caps len e h =
       edge-free = use-new sh x 8 (operandOf o 2) (omega (arith, n2 .range)) refl (u 2 (lit≤ tt) (n2 .small));
       vertex-in = n3 .range;
       vertex-free = use-new sh x 11 (operandOf o 3) (omega (arith, n3 .range)) refl (u 3 (lit≤ tt) (n3 .small));
-      corner = ⊎-elim (λ q. inl q) (λ q. inr ((omega (arith, q .0), n1 .1, use-old sh x 10 (operandOf o 1) (q .0) refl (u 1 (lit≤ tt) s1)), q .1))
-          (corner-is sh x (operandOf o 0) (operandOf o 1) (rw (s .loop, s .half) at (subst (λ q. condition sh x q ≡ true) is (a .holds))));
+      corner = test-corner sh x (operandOf o 0) (operandOf o 1) (n1 .1) (u 1 (lit≤ tt) s1) (true-T (rw (s .loop, s .half) at (subst (λ q. condition sh x q ≡ true) is (a .holds))));
       way = n4 .1;
       range = all-three (λ q. T (rangeTest q)) _ _ _ c5 c6 c7;
     }
-
--- ---- the new edge's halves
-
--- a free half-edge has a free mate
-free-mate : {sh : Shape} {p : List ℤ} {c : Columns} → Sound sh p c → (i : ℕ) → In (2 * sh .edges) i → c Start i ≡ 0 → c Start (mate i) ≡ 0
-free-mate {sh} {c = c} a i j z = split (c Start (mate i)) 0 (λ e. e) (λ d.
-    let m = mate-range i (sh .edges) (j .0) (j .1) in
-    absurd (a .rules .mate-in (mate i) (m .0, m .1, d) .2 (ap (c Start) (mate-mate i) ∙ z)))
-
--- both halves of a free edge are free, whichever the way names
-pub free-halves : {sh : Shape} {p : List ℤ} {c : Columns} → Sound sh p c → (e w : ℕ) → In (sh .edges) e → c Start (2 * e) ≡ 0
-    → In (2 * sh .edges) (halfBy e w) × (c Start (halfBy e w) ≡ 0) × (c Start (mate (halfBy e w)) ≡ 0)
-free-halves {sh} {c = c} a e w i z = split (w % 2) 0
-    (λ q. rw (eqb-same q) (
-    let m : mate (2 * e) ≡ 2 * e - 1 = mate-even (2 * e) (omega arith) in
-    let j : In (2 * sh .edges) (2 * e - 1) = (omega (arith, i .0), omega (arith, i .1)) in
-    let y : c Start (2 * e - 1) ≡ 0 = ap (c Start) (sym m) ∙ free-mate a (2 * e) (omega (arith, i .0), omega (arith, i .1)) z in
-    (j, y, free-mate a (2 * e - 1) j y)))
-    (λ q. rw (eqb-other q) (
-    let j : In (2 * sh .edges) (2 * e) = (omega (arith, i .0), omega (arith, i .1)) in
-    (j, z, free-mate a (2 * e) j z)))
 
 -- ---- what mev does
 
 module _ (sh : Shape) (x : List ℕ) (l h e v w : ℕ) (a b z : ℤ) (s : MevSmall l h e v w) where
   -- at an isolated loop
   pub isolated-links : h ≡ 0 → linksAfter sh x (mevOf l h e v w a b z)
-      ≡ setVertexUsed sh (renew sh (edgeIn sh x (halfBy e w) (own sh x Isolated l) l (mate (halfBy e w)) (mate (halfBy e w)) v l (halfBy e w) (halfBy e w)) l (halfBy e w) 0) v 1
+      ≡ mevList sh x l (halfBy e w) (own sh x Isolated l) v (mate (halfBy e w)) (halfBy e w)
   unfolding linksAfter mevLinks
   isolated-links q = rw (s .loop, s .half, s .edge, s .vertex, s .way, eqb-same q)
 
   -- at a half-edge
   pub half-links : h ≢ 0 → linksAfter sh x (mevOf l h e v w a b z)
-      ≡ setVertexUsed sh (renew sh (edgeIn sh x (halfBy e w) (own sh x Start h) l (mate (halfBy e w)) (own sh x Prev h) v l h (halfBy e w)) l (halfBy e w) 0) v 1
+      ≡ mevList sh x l (halfBy e w) (own sh x Start h) v (own sh x Prev h) h
   unfolding linksAfter mevLinks
   half-links q = rw (s .loop, s .half, s .edge, s .vertex, s .way, eqb-other q)
 
@@ -250,7 +211,7 @@ module _ {sh : Shape} {x : List ℕ} {p : List ℤ} (g : Good sh x p) {o : Opera
 
   kept-isolated : r .h ≡ 0 → c Isolated (r .l) ≢ 0 → Kept sh x p (mevOf (r .l) (r .h) (r .e) (r .v) (r .w) (r .x) (r .y) (r .z))
   kept-isolated q i =
-      let w = ⊎-elim (λ s. absurd (i (s .1))) (λ s. s) (g .sound .loop (r .l) (r .loop-in) (r .loop-used) .either) in
+      let w = lone-used (g .sound) (r .l) (r .loop-in) i in
       let m = place (c Isolated (r .l)) (mate k) k (w .1) (w .2) (inl refl) (inl refl) (inr refl) in
       rw (isolated-links sh x (r .l) (r .h) (r .e) (r .v) (r .w) (r .x) (r .y) (r .z) (r .small) q, mev-points sh x (r .l) (r .h) (r .e) (r .v) (r .w) (r .x) (r .y) (r .z) (r .small) p)
       (made-good g m (mev-at-isolated (g .sound) i m) (r .x) (r .y) (r .z) (r .range 0 (omega arith)) (r .range 1 (omega arith)) (r .range 2 (omega arith)))
@@ -258,10 +219,8 @@ module _ {sh : Shape} {x : List ℕ} {p : List ℤ} (g : Good sh x p) {o : Opera
   kept-half : HalfUsed sh c (r .h) → c Loop (r .h) ≡ r .l → Kept sh x p (mevOf (r .l) (r .h) (r .e) (r .v) (r .w) (r .x) (r .y) (r .z))
   kept-half hu hl =
       let s = g .sound .half (r .h) (hu .0, hu .1) (hu .2) in
-      let L = g .sound .loop (r .l) (r .loop-in) (r .loop-used) in
-      let ni : c Isolated (r .l) ≡ 0 = ⊎-elim (λ y. y .1) (λ y. absurd (label-some (2 * sh .edges) (c Loop) (r .l) (r .h) (hu .0, hu .1) hl (sym (L .first) ∙ y .0))) (L .either) in
-      let pu = undo-in (g .sound .rules .loops .perm) (c Prev) (g .sound .rules .undone) (r .h) hu in
-      let m = place (c Start (r .h)) (c Prev (r .h)) (r .h) (s .start-in) (s .start-used) (inr pu) (inr hu) (inl ni) in
+      let pu = prev-in (g .sound .rules) (r .h) hu in
+      let m = place (c Start (r .h)) (c Prev (r .h)) (r .h) (s .start-in) (s .start-used) (inr pu) (inr hu) (inl (not-isolated (g .sound) (r .h) hu hl)) in
       rw (half-links sh x (r .l) (r .h) (r .e) (r .v) (r .w) (r .x) (r .y) (r .z) (r .small) (λ z. omega (arith, hu .0, z)), mev-points sh x (r .l) (r .h) (r .e) (r .v) (r .w) (r .x) (r .y) (r .z) (r .small) p)
       (made-good g m (mev-at-half (g .sound) hu hl m) (r .x) (r .y) (r .z) (r .range 0 (omega arith)) (r .range 1 (omega arith)) (r .range 2 (omega arith)))
 

@@ -18,7 +18,8 @@ use Rattle.validity.specs.Fields.{Solid, Face, First, Isolated, Start, L
 use Rattle.validity.specs.Mates.{mate⁺, mate-other}
 use Rattle.validity.specs.EdgeIn.{Rules}
 use Rattle.validity.specs.Solids.{Solids}
-use Rattle.validity.specs.Sound.{In, HalfUsed, FaceUsed, side, firstOf, LoopSound, HalfSound, HalfFree, PointSound, Sound}
+use Rattle.validity.specs.Sound.{In, HalfUsed, FaceUsed, side, firstOf, LoopSound, HalfSound, HalfFree, PointSound, Sound, half-by}
+use Rattle.validity.specs.Names.{lone-kept}
 use Rattle.validity.specs.WithDummies.{upTo-low, upTo-high, extended, Dummy, Member, Corners, sound-corners, corners-rules, corners-loop, corners-vertex}
 use Rattle.validity.specs.Shown.{withEdge, withFirst}
 
@@ -146,11 +147,7 @@ module _ {sh : Shape} {c : Columns} {l k u v P N : ℕ} (o : MevPlace sh c l k u
     used w x z = split w v (λ e. omega (arith, sym (upd-at (c VertexUsed) 1 e) ∙ z)) (λ e. x (sym (upd-off (c VertexUsed) 1 e) ∙ z))
 
     isolated-used : (m : ℕ) → In (sh .loops) m → d Isolated m ≢ 0 → In (sh .vertices) (d Isolated m) × (d VertexUsed (d Isolated m) ≢ 0)
-    isolated-used m y h = split m l (λ e. absurd (h (ap (d Isolated) e ∙ upd-same (c Isolated) l 0))) (λ e.
-        let f : d Isolated m ≡ c Isolated m = upd-off (c Isolated) 0 e in
-        let g : c Isolated m ≢ 0 = λ z. h (f ∙ z) in
-        let r = ⊎-elim (λ w. absurd (g (w .1))) (λ w. w) (a .loop m y (λ z. g (a .loop-free m y z .1)) .either) in
-        (subst (In (sh .vertices)) (sym f) (r .1), λ z. used (c Isolated m) (r .2) (ap (d VertexUsed) (sym f) ∙ z)))
+    isolated-used m y h = split m l (λ e. absurd (h (ap (d Isolated) e ∙ upd-same (c Isolated) l 0))) (λ e. lone-kept a d m y (upd-off (c Isolated) 0 e) used h)
 
     free-half : (i : ℕ) → In n i → d Start i ≡ 0 → (i ≢ k) × (i ≢ mate k) × (c Start i ≡ 0)
     free-half i j z =
@@ -183,21 +180,12 @@ module _ {sh : Shape} {c : Columns} {l k u v P N : ℕ} (o : MevPlace sh c l k u
           prev = upd-off _ (mate k) y ∙ upd-off _ k (w .1) ∙ upd-off _ k (w .1) ∙ upd-off (c Prev) P (w .0) ∙ r .prev;
         }
 
-    -- from the values of start and loop
-    half-by : (i s m : ℕ) → d Start i ≡ s → d Loop i ≡ m → In (sh .vertices) s → d VertexUsed s ≢ 0 → In (sh .loops) m → c Face m ≢ 0 → HalfSound sh d i
-    half-by i s m es em x y z w = record {
-      start-in = subst (In (sh .vertices)) (sym es) x;
-      start-used = λ g. y (ap (d VertexUsed) (sym es) ∙ g);
-      loop-in = subst (In (sh .loops)) (sym em) z;
-      loop-used = λ g. w (ap (c Face) (sym em) ∙ g);
-    }
-
     mev-half : (i : ℕ) → HalfUsed sh d i → HalfSound sh d i
     mev-half = half-was
-        (half-by k u l start-k loop-k (o .corner-in) (used u (o .corner-used)) (o .loop-in) (o .loop-used))
-        (half-by (mate k) v l start-b loop-b (o .vertex-in) (λ z. omega (arith, sym (upd-same (c VertexUsed) v 1) ∙ z)) (o .loop-in) (o .loop-used))
+        (half-by u l start-k loop-k (o .corner-in) (used u (o .corner-used)) (o .loop-in) (o .loop-used))
+        (half-by v l start-b loop-b (o .vertex-in) (λ z. omega (arith, sym (upd-same (c VertexUsed) v 1) ∙ z)) (o .loop-in) (o .loop-used))
         (λ i w. let r = a .half i (w .0, w .1) (w .2) in
-        half-by i (c Start i) (c Loop i) (start-old i (off-k i w) (off-b i w)) (loop-old i (off-k i w) (off-b i w)) (r .start-in) (used (c Start i) (r .start-used)) (r .loop-in) (r .loop-used))
+        half-by (c Start i) (c Loop i) (start-old i (off-k i w) (off-b i w)) (loop-old i (off-k i w) (off-b i w)) (r .start-in) (used (c Start i) (r .start-used)) (r .loop-in) (r .loop-used))
 
     -- ---- faces
 

@@ -2,43 +2,34 @@
 use mathlib.Core.Path.{_≡_, refl, sym, ap, _∙_, subst}
 use mathlib.Core.Logic.{_≢_, inl, inr, ⊎-elim}
 use mathlib.Core.List.{List}
-use Prim.Native.Nat.{ℕ, _+_, _-_, _*_, _%_, _≤_}
+use Prim.Native.Nat.{ℕ, _+_, _*_, _≤_}
 use native.Mathlib.Omega.{arith}
 use lib.Dec.{eqb}
 use lib.IntN.{ℤ}
 use lib.ListN.{length}
-use Rattle.laws.specs.Bools.{pick, split, eqb-same, eqb-other}
-use Rattle.laws.specs.Permutations.{redo, undo-in}
+use Rattle.laws.specs.Bools.{pick, eqb-same, eqb-other}
 use Rattle.script.specs.declared.Operator.{Operator}
 use Rattle.layout.specs.declared.shape.Shape.{Shape}
-use Rattle.layout.specs.Layout.{setVertexUsed}
-use Rattle.layout.specs.Mate.{mate, edgeOf}
-use Rattle.euler.specs.Surgery.{halfBy, wayOf, putPoint, edgeIn, renew}
+use Rattle.layout.specs.Mate.{mate}
+use Rattle.euler.specs.Surgery.{halfBy, putPoint}
 use Rattle.euler.specs.Exec.{refusalOf, linksAfter, inverse}
 use Rattle.validity.specs.Fields.{Isolated, Start, Loop, Prev, Columns}
 use Rattle.validity.specs.Mates.{mate⁺}
-use Rattle.validity.specs.EdgeIn.{Rules}
+use Rattle.validity.specs.EdgeIn.{Rules, prev-in, next-prev}
 use Rattle.validity.specs.Sound.{HalfUsed}
-use Rattle.validity.specs.Labels.{label-some}
+use Rattle.validity.specs.HalfNumbers.{edge-by, way-by}
+use Rattle.validity.specs.Names.{not-isolated, lone-used}
 use Rattle.validity.specs.PointLists.{put-at, put-cleared}
 use Rattle.validity.specs.Good.{own, Good}
 use Rattle.validity.specs.Undone.{Undone}
 use Rattle.validity.specs.WithDummies.{extended, Member}
 use Rattle.validity.specs.MevSound.{mevColumns, MevPlace}
 use Rattle.validity.specs.MevCorners.{mev-at-half, mev-at-isolated}
-use Rattle.validity.specs.MevOperator.{mevOf, MevSmall, MevFacts, mev-facts, y-shows, place, isolated-links, half-links, mev-points}
+use Rattle.validity.specs.MevOperator.{mevOf, MevSmall, MevFacts, mev-facts, y-shows, place, isolated-links, half-links, mev-points, mevList}
 use Rattle.validity.specs.MevBack.{kevOf, Neighbours, Corner, kev-links, kev-points, kev-inverse, kev-accepted}
 
--- the edge and the way of the half that a way names
-edge-by : (e w : ℕ) → 1 ≤ e → w ≤ 1 → edgeOf (halfBy e w) ≡ e
-edge-by e w h u = split (w % 2) 0 (λ q. rw (eqb-same q) (omega (arith, h))) (λ q. rw (eqb-other q) (omega (arith, h)))
-
-way-by : (e w : ℕ) → 1 ≤ e → w ≤ 1 → wayOf (halfBy e w) ≡ w
-way-by e w h u = split (w % 2) 0
-    (λ q. let m : (2 * e - 1) % 2 ≡ 1 = omega (arith, h) in rw (eqb-same q, eqb-same m) (omega (arith, q, u)))
-    (λ q. let m : 2 * e % 2 ≢ 1 = omega arith in rw (eqb-other q, eqb-other m) (omega (arith, q, u)))
-
-mev-inverse : (sh : Shape) (x : List ℕ) (p : List ℤ) (l h e v w : ℕ) (a b z : ℤ) → MevSmall l h e v w → inverse sh x p (mevOf l h e v w a b z) ≡ kevOf (halfBy e w)
+-- it is undone by kev
+pub mev-inverse : (sh : Shape) (x : List ℕ) (p : List ℤ) (l h e v w : ℕ) (a b z : ℤ) → MevSmall l h e v w → inverse sh x p (mevOf l h e v w a b z) ≡ kevOf (halfBy e w)
 unfolding inverse
 mev-inverse sh x p l h e v w a b z s = rw (s .edge, s .way)
 
@@ -59,7 +50,7 @@ module _ {sh : Shape} {x : List ℕ} {p : List ℤ} (g : Good sh x p) {o : Opera
   undone-at : (u P N : ℕ) (m : MevPlace sh c (r .l) k u (r .v) P N)
       → Rules (2 * sh .edges + sh .loops) (mate⁺ (sh .edges)) (Member sh (mevColumns sh c (r .l) k u (r .v) P N)) (extended sh (mevColumns sh c (r .l) k u (r .v) P N))
       → Neighbours sh c k P N → Corner sh c (r .l) k u N → pick (eqb N k) 0 N ≡ r .h
-      → linksAfter sh x op ≡ setVertexUsed sh (renew sh (edgeIn sh x k u (r .l) (mate k) P (r .v) (r .l) N k) (r .l) k 0) (r .v) 1
+      → linksAfter sh x op ≡ mevList sh x (r .l) k u (r .v) P N
       → Undone sh x p op
   undone-at u P N m rules⁺ nb cn hN el =
       let ra = r .range 0 (omega arith) in
@@ -73,13 +64,13 @@ module _ {sh : Shape} {x : List ℕ} {p : List ℤ} (g : Good sh x p) {o : Opera
         accepted = rw (el, ei) (kev-accepted g m nb cn s);
         links = rw (el, ei) (kev-links g m nb cn s);
         points = rw (el, ep, ei) (kev-points g m nb cn s q ∙ put-cleared (sh .vertices) p (r .v) (r .x) (r .y) (r .z) (g .points) (r .vertex-in) (g .sound .point (r .v) (r .vertex-in) .zero (r .vertex-free)));
-        again = rw (el, ep, ei) (kev-inverse g m nb cn s q ∙ (λ t. mevOf (r .l) (hN t) (edge-by (r .e) (r .w) (r .edge-in .0) (r .way) t) (r .v) (way-by (r .e) (r .w) (r .edge-in .0) (r .way) t)
+        again = rw (el, ep, ei) (kev-inverse g m nb cn s q ∙ (λ t. mevOf (r .l) (hN t) (edge-by (r .e) (r .w) (r .edge-in .0) t) (r .v) (way-by (r .e) (r .w) (r .edge-in .0) (r .way) t)
             (put-at p (r .v) (r .x) (r .y) (r .z) (r .vertex-in .0) lo 0 (omega arith) t) (put-at p (r .v) (r .x) (r .y) (r .z) (r .vertex-in .0) lo 1 (omega arith) t) (put-at p (r .v) (r .x) (r .y) (r .z) (r .vertex-in .0) lo 2 (omega arith) t)));
       }
 
   undone-isolated : r .h ≡ 0 → c Isolated (r .l) ≢ 0 → Undone sh x p op
   undone-isolated e i =
-      let w = ⊎-elim (λ s. absurd (i (s .1))) (λ s. s) (g .sound .loop (r .l) (r .loop-in) (r .loop-used) .either) in
+      let w = lone-used (g .sound) (r .l) (r .loop-in) i in
       let m = place g r (c Isolated (r .l)) (mate k) k (w .1) (w .2) (inl refl) (inl refl) (inr refl) in
       undone-at (c Isolated (r .l)) (mate k) k m (mev-at-isolated (g .sound) i m) (inl (refl, refl)) (inl (refl, w .0, refl)) (rw (eqb-same {m = k} refl) (sym e))
       (isolated-links sh x (r .l) (r .h) (r .e) (r .v) (r .w) (r .x) (r .y) (r .z) (r .small) e)
@@ -87,13 +78,11 @@ module _ {sh : Shape} {x : List ℕ} {p : List ℤ} (g : Good sh x p) {o : Opera
   undone-half : HalfUsed sh c (r .h) → c Loop (r .h) ≡ r .l → Undone sh x p op
   undone-half hu hl =
       let s = g .sound .half (r .h) (hu .0, hu .1) (hu .2) in
-      let L = g .sound .loop (r .l) (r .loop-in) (r .loop-used) in
-      let ni : c Isolated (r .l) ≡ 0 = ⊎-elim (λ y. y .1) (λ y. absurd (label-some (2 * sh .edges) (c Loop) (r .l) (r .h) (hu .0, hu .1) hl (sym (L .first) ∙ y .0))) (L .either) in
-      let pu = undo-in (g .sound .rules .loops .perm) (c Prev) (g .sound .rules .undone) (r .h) hu in
-      let m = place g r (c Start (r .h)) (c Prev (r .h)) (r .h) (s .start-in) (s .start-used) (inr pu) (inr hu) (inl ni) in
+      let pu = prev-in (g .sound .rules) (r .h) hu in
+      let m = place g r (c Start (r .h)) (c Prev (r .h)) (r .h) (s .start-in) (s .start-used) (inr pu) (inr hu) (inl (not-isolated (g .sound) (r .h) hu hl)) in
       let n : r .h ≢ k = λ z. hu .2 (ap (c Start) z ∙ m .half-free) in
       undone-at (c Start (r .h)) (c Prev (r .h)) (r .h) m (mev-at-half (g .sound) hu hl m)
-      (inr (pu, hu, redo (g .sound .rules .loops .perm) (c Prev) (g .sound .rules .undone) (r .h) hu, refl)) (inr (hu, hl, ni)) (rw (eqb-other n))
+      (inr (pu, hu, next-prev (g .sound .rules) (r .h) hu, refl)) (inr (hu, hl, not-isolated (g .sound) (r .h) hu hl)) (rw (eqb-other n))
       (half-links sh x (r .l) (r .h) (r .e) (r .v) (r .w) (r .x) (r .y) (r .z) (r .small) (λ z. omega (arith, hu .0, z)))
 
 -- the inverse gives everything back

@@ -17,6 +17,7 @@ use Rattle.validity.specs.Fields.{SolidUsed, Solid, Outer, Face, First, 
 use Rattle.validity.specs.Cells.{Shows, shows-put}
 use Rattle.validity.specs.Solids.{Solids}
 use Rattle.validity.specs.Sound.{In, HalfUsed, FaceUsed, side, FaceSound, FirstOrIsolated, LoopSound, HalfSound, VertexSound, alone, joined, PointSound, Sound}
+use Rattle.validity.specs.Names.{loop-unnamed, start-unnamed, isolated-unnamed}
 
 -- the record of face f becomes s, l
 abbrev pub withFace : Columns → ℕ → ℕ → ℕ → Columns
@@ -42,27 +43,6 @@ shows-placed h s f l v m s′ l′ f′ v′ is jf il iv =
     let h2 = shows-put (shows-put h1 Solid f s′ (jf .0) (jf .1)) Outer f l′ (jf .0) (jf .1) in
     let h3 = shows-put (shows-put (shows-put h2 Face l f′ (il .0) (il .1)) First l 0 (il .0) (il .1)) Isolated l v′ (il .0) (il .1) in
     shows-put h3 VertexUsed v m (iv .0) (iv .1)
-
--- ---- what is free is named by nothing
-
-module _ {sh : Shape} {p : List ℤ} {c : Columns} (a : Sound sh p c) where
-  -- a number of a half-edge names no free loop
-  pub loop-unnamed : (l : ℕ) → In (sh .loops) l → c Face l ≡ 0 → (k : ℕ) → In (2 * sh .edges) k → c Loop k ≢ l
-  loop-unnamed l i z k j e = split (c Start k) 0
-      (λ y. let r = a .half-free k j y .loop in omega (arith, i .0, e, r))
-      (λ y. a .half k j y .loop-used (ap (c Face) e ∙ z))
-
-  -- and no free vertex
-  pub start-unnamed : (v : ℕ) → In (sh .vertices) v → c VertexUsed v ≡ 0 → (k : ℕ) → In (2 * sh .edges) k → c Start k ≢ v
-  start-unnamed v i z k j e = split (c Start k) 0
-      (λ y. omega (arith, i .0, e, y))
-      (λ y. a .half k j y .start-used (ap (c VertexUsed) e ∙ z))
-
-  -- a free vertex is isolated in no loop
-  pub isolated-unnamed : (v : ℕ) → In (sh .vertices) v → c VertexUsed v ≡ 0 → (m : ℕ) → In (sh .loops) m → c Isolated m ≢ v
-  isolated-unnamed v i z m j e = split (c Face m) 0
-      (λ y. let r = a .loop-free m j y .1 in omega (arith, i .0, e, r))
-      (λ y. ⊎-elim (λ q. omega (arith, i .0, e, q .1)) (λ q. q .2 (ap (c VertexUsed) e ∙ z)) (a .loop m j y .either))
 
 -- ---- mvsf
 

@@ -1,16 +1,19 @@
--- The list of coordinates: a point that is put is read back, the others stay, and the coordinates settle the list.
+-- The list of coordinates: a point that is put is read back, the others stay, and the coordinates settle the list; so points stay sound.
 use mathlib.Core.Path.{_≡_, refl, sym, _∙_, subst}
 use mathlib.Core.Logic.{_≢_, _⊎_, inl, inr, ⊎-elim}
 use mathlib.Core.List.{List, [], _∷_}
 use Prim.Native.Nat.{ℕ, zero, suc, _+_, _*_, _/_, _%_, _≤_, _<_}
 use native.Mathlib.Omega.{arith}
+use lib.Dec.{T}
 use lib.IntN.{ℤ, pos}
 use lib.ListN.{length, getD, length-set}
 use lib.Seq.{getD-set-same, getD-set-other, ext-getD}
 use Rattle.laws.specs.Bools.{split}
-use Rattle.layout.specs.Points.{coordinate, setCoordinate}
+use Rattle.layout.specs.declared.shape.Shape.{Shape}
+use Rattle.layout.specs.Points.{coordinate, setCoordinate, rangeTest}
 use Rattle.euler.specs.Surgery.{putPoint}
-use Rattle.validity.specs.Sound.{In}
+use Rattle.validity.specs.Fields.{VertexUsed, Columns}
+use Rattle.validity.specs.Sound.{In, PointSound}
 
 set-length : (p : List ℤ) (v i : ℕ) (a : ℤ) → length (setCoordinate p v i a) ≡ length p
 set-length p zero i a = refl
@@ -28,6 +31,13 @@ set-other p (suc v) (suc w) i j a hi hj d = getD-set-other p (3 * v + i) (3 * w 
 -- the three coordinates of a point
 abbrev pub three : ℤ → ℤ → ℤ → ℕ → ℤ
 three a b c i = getD (a ∷ b ∷ c ∷ []) i (pos 0)
+
+-- what holds of three coordinates holds of each
+pub all-three : (P : ℤ → Type 0) (a b c : ℤ) → P a → P b → P c → (i : ℕ) → i < 3 → P (three a b c i)
+all-three P a b c pa pb pc zero h = pa
+all-three P a b c pa pb pc (suc zero) h = pb
+all-three P a b c pa pb pc (suc (suc zero)) h = pc
+all-three P a b c pa pb pc (suc (suc (suc i))) h = absurd (omega arith)
 
 -- putting a point keeps the length
 pub put-length : (p : List ℤ) (v : ℕ) (a b c : ℤ) → length (putPoint p v a b c) ≡ length p
@@ -78,3 +88,31 @@ pub put-cleared : (n : ℕ) (p : List ℤ) (v : ℕ) (a b c : ℤ) → length p 
     → putPoint (putPoint p v a b c) v (pos 0) (pos 0) (pos 0) ≡ p
 put-cleared n p v a b c lp i o =
     (λ t. putPoint (putPoint p v a b c) v (sym (o 0 (omega arith)) t) (sym (o 1 (omega arith)) t) (sym (o 2 (omega arith)) t)) ∙ put-back n p v a b c lp i
+
+-- ---- the points of d, where only v is used otherwise than in c
+
+module _ (sh : Shape) (p : List ℤ) (c d : Columns) (v : ℕ) (len : length p ≡ 3 * sh .vertices) (iv : In (sh .vertices) v)
+    (old : (w : ℕ) → In (sh .vertices) w → PointSound p c w) (same : (w : ℕ) → w ≢ v → d VertexUsed w ≡ c VertexUsed w) where
+  -- v's point is put: it is in range, and zero where v is free
+  points-put : (a b z : ℤ) → ((i : ℕ) → i < 3 → T (rangeTest (three a b z i))) → (d VertexUsed v ≡ 0 → (i : ℕ) → i < 3 → three a b z i ≡ pos 0)
+      → (w : ℕ) → In (sh .vertices) w → PointSound (putPoint p v a b z) d w
+  points-put a b z range none w i =
+      let long : 3 * v ≤ length p = omega (arith, len, iv .1) in
+      split w v
+      (λ e. rw e (record {
+        range = λ j h. rw (put-at p v a b z (iv .0) long j h) (range j h);
+        zero = λ h j m. put-at p v a b z (iv .0) long j m ∙ none h j m;
+      }))
+      (λ n. let r = old w i in record {
+        range = λ j h. rw (put-off p v a b z w n j h) (r .range j h);
+        zero = λ h j m. put-off p v a b z w n j m ∙ r .zero (sym (same w n) ∙ h) j m;
+      })
+
+  -- v comes into use, with a point in range
+  pub points-new : (a b z : ℤ) → T (rangeTest a) → T (rangeTest b) → T (rangeTest z) → d VertexUsed v ≡ 1 → (w : ℕ) → In (sh .vertices) w → PointSound (putPoint p v a b z) d w
+  points-new a b z ha hb hz e = points-put a b z (all-three (λ t. T (rangeTest t)) a b z ha hb hz) (λ h. absurd (omega (arith, sym e ∙ h)))
+
+  -- v goes, and its point is cleared
+  pub points-cleared : (w : ℕ) → In (sh .vertices) w → PointSound (putPoint p v (pos 0) (pos 0) (pos 0)) d w
+  points-cleared = points-put (pos 0) (pos 0) (pos 0) (all-three (λ t. T (rangeTest t)) (pos 0) (pos 0) (pos 0) tt tt tt)
+      (λ h. all-three (λ t. t ≡ pos 0) (pos 0) (pos 0) (pos 0) refl refl refl)

@@ -3,29 +3,29 @@ use mathlib.Core.Path.{_≡_, refl, sym, ap, _∙_, subst}
 use mathlib.Core.Logic.{_≢_, _⊎_, inl, inr, ⊎-elim}
 use mathlib.Core.Bool.{Bool, true, not, _||_}
 use mathlib.Core.List.{List, [], _∷_}
-use Prim.Native.Nat.{ℕ, _*_, _≤_, _<_}
+use Prim.Native.Nat.{ℕ, _*_, _≤_}
 use native.Mathlib.Omega.{arith}
-use lib.Dec.{eqb, eqb→eq, lit≤, T-not, not-T}
+use lib.Dec.{eqb, eqb→eq, T-not, not-T}
 use lib.IntN.{ℤ, pos}
-use lib.ListN.{length, getD, replicate}
+use lib.ListN.{length}
 use borrow.Author.Tests.{le-leb}
 use Rattle.laws.specs.Bools.{true-T, T-true, false-T, and-T, T-and, or-T, T-or-l, T-or-r, split, eqb-same, eqb-other}
 use Rattle.laws.specs.Every.{every-T, T-every}
 use Rattle.laws.specs.Search.{least, Least, none-is, one-is, leastFrom-is}
 use Rattle.laws.specs.Update.{upd-same, upd-off}
 use Rattle.script.specs.declared.Operator.{Operator}
-use Rattle.script.specs.Operands.{pattern, rows, largests, inRange, wire}
-use Rattle.script.specs.Operator.{operandOf}
+use Rattle.script.specs.Operands.{pattern, rows}
 use Rattle.layout.specs.declared.shape.Shape.{Shape}
 use Rattle.layout.specs.Layout.{setFaceOuter, setLoopFace}
 use Rattle.layout.specs.Mate.{mate}
 use Rattle.layout.specs.MateLaws.{mate-mate}
 use Rattle.euler.specs.Operators.{sharesOutside, rmovTest, rmovLinks}
-use Rattle.euler.specs.Exec.{limits, useWord, condition, refusalOf, linksAfter, pointsAfter, inverse}
+use Rattle.euler.specs.Exec.{useWord, condition, refusalOf, linksAfter, pointsAfter, inverse}
 use Rattle.validity.specs.Fields.{Solid, Outer, Face, Start, Loop, Columns, change}
 use Rattle.validity.specs.Cells.{Shows, shows-put, put-back}
 use Rattle.validity.specs.Sound.{In, HalfUsed, side}
-use Rattle.validity.specs.Accepted.{by-place, eight, accepted-back, ranges-cons, item-cons, use-old, old-use, in-range, Number, number, no-operand, unused-range, unused-use}
+use Rattle.validity.specs.Accepted.{use-old, old-use}
+use Rattle.validity.specs.TwoOperands.{two-operands, two-accepted}
 use Rattle.validity.specs.Good.{own, Capacities, Good, good-shows, good-after}
 use Rattle.validity.specs.Undone.{Kept, Undone}
 use Rattle.validity.specs.RmovSound.{Ring, Shared, swap-sound, move-sound, mate-outside}
@@ -48,26 +48,16 @@ pub record RmovFacts (sh : Shape) (x : List ℕ) (o : Operator) : Type 0 where
 rmov-facts : (sh : Shape) (x : List ℕ) (o : Operator) → Capacities sh → length (o .args) ≡ 8 → o .code ≡ 13 → refusalOf sh x o ≡ 0 → RmovFacts sh x o
 unfolding pattern rows useWord condition
 rmov-facts sh x o caps len e h =
-    let a = by-place sh x o 13 len refl e h in
-    let r = a .range in
-    let u = a .used in
-    let n0 : Number (sh .loops) (getD (o .args) 0 (pos 0)) = number (limits sh) 6 _ refl refl (omega (arith, caps .loops)) (r 0 (lit≤ tt)) in
-    let n1 : Number (sh .faces) (getD (o .args) 1 (pos 0)) = number (limits sh) 4 _ refl refl (omega (arith, caps .faces)) (r 1 (lit≤ tt)) in
-    let z : (i : ℕ) → i < 8 → getD (pattern 13 .kinds) i 0 ≡ 0 → getD (o .args) i (pos 0) ≡ pos 0 = λ i l q. no-operand (limits sh) _ (subst (λ k. inRange (largests (limits sh)) k (wire k (getD (o .args) i (pos 0))) ≡ true) q (r i l)) in
-    let is : o ≡ rmovOf (operandOf o 0) (operandOf o 1) = λ t. record {
-      code = e t;
-      count = a .count t;
-      args = (eight (o .args) len ∙ (λ i. n0 .is i ∷ n1 .is i ∷ z 2 (lit≤ tt) refl i ∷ z 3 (lit≤ tt) refl i ∷ z 4 (lit≤ tt) refl i ∷ z 5 (lit≤ tt) refl i ∷ z 6 (lit≤ tt) refl i ∷ z 7 (lit≤ tt) refl i ∷ [])) t;
-    } in
+    let a = two-operands sh x 13 6 4 refl refl refl refl (omega (arith, caps .loops)) refl refl (omega (arith, caps .faces)) refl o len e h in
     record {
-      l = operandOf o 0;
-      f = operandOf o 1;
-      is = is;
-      loop-in = n0 .range;
-      loop-used = use-old sh x 6 (operandOf o 0) (omega (arith, n0 .range)) refl (u 0 (lit≤ tt) (n0 .small));
-      face-in = n1 .range;
-      face-used = use-old sh x 4 (operandOf o 1) (omega (arith, n1 .range)) refl (u 1 (lit≤ tt) (n1 .small));
-      test = rw (le-leb (operandOf o 0) 8192 (n0 .small), le-leb (operandOf o 1) 8192 (n1 .small)) at (subst (λ q. condition sh x q ≡ true) is (a .holds));
+      l = a .m;
+      f = a .n;
+      is = a .is;
+      loop-in = a .m-in;
+      loop-used = a .m-used;
+      face-in = a .n-in;
+      face-used = use-old sh x 4 (a .n) (omega (arith, a .n-in .0)) refl (a .n-use);
+      test = rw (a .m-small, a .n-small) at (a .holds);
     }
 
 -- ---- the condition
@@ -132,15 +122,8 @@ module _ (sh : Shape) (x : List ℕ) (l f : ℕ) where
 
   rmov-accepted : Capacities sh → Ring sh c l f → Reached → refusalOf sh x (rmovOf l f) ≡ 0
   unfolding pattern rows useWord condition
-  rmov-accepted caps r q = accepted-back sh x (rmovOf l f) (record {
-    code = refl;
-    count = refl;
-    range = ranges-cons (limits sh) 6 _ (pos l) (pos f ∷ replicate 6 (pos 0)) (in-range (limits sh) 6 l refl refl (r .loop-in))
-        (ranges-cons (limits sh) 4 _ (pos f) (replicate 6 (pos 0)) (in-range (limits sh) 4 f refl refl (r .face-in)) (unused-range (limits sh) 6));
-    used = item-cons sh x (rmovOf l f) 6 _ 0 (ln caps r) (old-use sh x 6 l (omega (arith, r .loop-in .0)) refl (r .loop-used))
-        (item-cons sh x (rmovOf l f) 4 _ 1 (fn caps r) (old-use sh x 4 f (omega (arith, r .face-in .0)) refl (r .face-used)) (unused-use sh x (rmovOf l f) 6 2));
-    holds = rw (le-leb l 8192 (ln caps r), le-leb f 8192 (fn caps r)) (of-reached (r .ring) q);
-  })
+  rmov-accepted caps r q = two-accepted sh x 13 6 4 refl refl refl refl (omega (arith, caps .loops)) refl refl (omega (arith, caps .faces)) refl l f (r .loop-in) (r .face-in) (r .loop-used)
+      (old-use sh x 4 f (omega (arith, r .face-in .0)) refl (r .face-used)) (rw (le-leb l 8192 (ln caps r), le-leb f 8192 (fn caps r)) (of-reached (r .ring) q))
 
   -- what it does
   swap-links : Capacities sh → Ring sh c l f → f ≡ c Face l → linksAfter sh x (rmovOf l f) ≡ setFaceOuter sh x f l

@@ -10,10 +10,11 @@ use Rattle.laws.specs.Update.{upd-at, upd-off}
 use Rattle.laws.specs.Linked.{Linked, same, link, back, via, map-linked}
 use Rattle.layout.specs.declared.shape.Shape.{Shape}
 use Rattle.layout.specs.Mate.{mate}
-use Rattle.validity.specs.Fields.{Solid, Outer, Face, Isolated, Start, Loop, Columns, change}
+use Rattle.validity.specs.Fields.{Solid, Outer, Face, Loop, Columns, change}
 use Rattle.validity.specs.Faces.{Share}
 use Rattle.validity.specs.Solids.{Solids}
-use Rattle.validity.specs.Sound.{In, HalfUsed, FaceUsed, side, LoopSound, VertexSound, alone, joined, Sound}
+use Rattle.validity.specs.Sound.{In, HalfUsed, FaceUsed, side, LoopSound, Sound, vertex-same}
+use Rattle.validity.specs.Names.{outer-other}
 
 -- loop l is a ring, and f a face in use
 pub record Ring (sh : Shape) (c : Columns) (l f : ℕ) : Type 0 where
@@ -29,11 +30,6 @@ pub record Shared (sh : Shape) (c : Columns) (l f k : ℕ) : Type 0 where
   pub here : side c k ≡ c Face l
   pub outside : c Loop k ≢ l
   pub there : side c (mate k) ≡ f
-
--- a vertex does not depend on faces
-vertex-same : {sh : Shape} {c d : Columns} → ((l : ℕ) → d Isolated l ≡ c Isolated l) → ((k : ℕ) → d Start k ≡ c Start k) → {v : ℕ} → VertexSound sh c v → VertexSound sh d v
-vertex-same e s (alone l i a b n) = alone l i (e l ∙ a) (λ m j q. b m j (sym (e m) ∙ q)) (λ k j q. n k j (sym (s k) ∙ q))
-vertex-same e s (joined n k i a) = joined (λ m j q. n m j (sym (e m) ∙ q)) k i (s k ∙ a)
 
 -- ---- the ring becomes the outer loop
 
@@ -52,7 +48,7 @@ module _ {sh : Shape} {p : List ℤ} {c : Columns} (a : Sound sh p c) {l f : ℕ
     half-free = λ k i h. let b = a .half-free k i h in record { loop = b .loop; next = b .next; prev = b .prev };
     half = λ k i h. let b = a .half k i h in record { start-in = b .start-in; start-used = b .start-used; loop-in = b .loop-in; loop-used = b .loop-used };
     vertex-mark = a .vertex-mark;
-    vertex = λ v i h. vertex-same (λ m. refl) (λ k. refl) (a .vertex v i h);
+    vertex = λ v i h. vertex-same (λ m i. refl) (λ k i. refl) (a .vertex v i h);
     point = λ v i. let b = a .point v i in record { range = b .range; zero = b .zero };
     rules = a .rules;
     solids = a .solids;
@@ -64,10 +60,6 @@ module _ {sh : Shape} {p : List ℤ} {c : Columns} (a : Sound sh p c) {l f k : �
   -- the columns afterwards
   abbrev d : Columns
   d = change c Face l f
-
-  -- an outer loop is not the ring
-  outer-other : (g : ℕ) → In (sh .faces) g → c Solid g ≢ 0 → c Outer g ≢ l
-  outer-other g i h e = r .ring (ap (c Outer) (ap (c Face) (sym e) ∙ a .face g i h .outer-face) ∙ e)
 
   -- a side stays, or becomes f
   side-is : (i : ℕ) → (side d i ≡ side c i) ⊎ ((side c i ≡ c Face l) × (side d i ≡ f))
@@ -111,7 +103,7 @@ module _ {sh : Shape} {p : List ℤ} {c : Columns} (a : Sound sh p c) {l f k : �
     solid-mark = a .solid-mark;
     solid = a .solid;
     face-free = a .face-free;
-    face = λ g i h. let b = a .face g i h in record { solid-in = b .solid-in; solid-used = b .solid-used; outer-in = b .outer-in; outer-face = upd-off (c Face) f (outer-other g i h) ∙ b .outer-face };
+    face = λ g i h. let b = a .face g i h in record { solid-in = b .solid-in; solid-used = b .solid-used; outer-in = b .outer-in; outer-face = upd-off (c Face) f (outer-other a l (r .ring) g i h) ∙ b .outer-face };
     loop-free = λ m i h. split m l (λ e. absurd (omega (arith, r .face-in .0, sym (upd-at (c Face) f e) ∙ h))) (λ q. a .loop-free m i (sym (upd-off (c Face) f q) ∙ h));
     loop = moved-loop;
     half-free = λ k i h. let b = a .half-free k i h in record { loop = b .loop; next = b .next; prev = b .prev };
@@ -122,7 +114,7 @@ module _ {sh : Shape} {p : List ℤ} {c : Columns} (a : Sound sh p c) {l f k : �
       loop-used = split (c Loop i) l (λ e z. omega (arith, r .face-in .0, sym (upd-at (c Face) f e) ∙ z)) (λ q z. b .loop-used (sym (upd-off (c Face) f q) ∙ z));
     };
     vertex-mark = a .vertex-mark;
-    vertex = λ v i h. vertex-same (λ m. refl) (λ k. refl) (a .vertex v i h);
+    vertex = λ v i h. vertex-same (λ m i. refl) (λ k i. refl) (a .vertex v i h);
     point = λ v i. let b = a .point v i in record { range = b .range; zero = b .zero };
     rules = a .rules;
     solids = moved-solids;

@@ -1,20 +1,20 @@
 -- mvsf and kvsf as operators: what it says that one is accepted, and what it does to the list, points and inverse included.
-use mathlib.Core.Path.{_≡_, refl, sym, ap, _∙_, subst}
+use mathlib.Core.Path.{_≡_, refl, sym, ap, _∙_}
 use mathlib.Core.Logic.{_≢_, ⊎-elim}
 use mathlib.Core.Bool.{true, not}
 use mathlib.Core.List.{List, [], _∷_}
-use Prim.Native.Nat.{ℕ, zero, suc, _≤_, _<_}
+use Prim.Native.Nat.{ℕ, _≤_, _<_}
 use native.Mathlib.Omega.{arith}
 use lib.Dec.{T, eqb, eqb→eq, leb, lit≤, T-not, not-T}
 use lib.IntN.{ℤ, pos}
-use lib.ListN.{length, getD, replicate}
+use lib.ListN.{length, getD}
 use borrow.Author.Tests.{le-leb}
 use Rattle.laws.specs.Bools.{true-T, T-true, split, eqb-same}
 use Rattle.laws.specs.Every.{every-T, T-every}
 use Rattle.laws.specs.Sums.{countTo}
 use Rattle.laws.specs.Update.{upd-same, upd-off}
 use Rattle.script.specs.declared.Operator.{Operator}
-use Rattle.script.specs.Operands.{pattern, rows, largests, inRange, wire}
+use Rattle.script.specs.Operands.{pattern, rows}
 use Rattle.script.specs.Operator.{operandOf}
 use Rattle.layout.specs.declared.shape.Shape.{Shape}
 use Rattle.layout.specs.Points.{coordinate, rangeTest}
@@ -24,20 +24,14 @@ use Rattle.euler.specs.Exec.{limits, useWord, condition, refusalOf, linksAfter,
 use Rattle.validity.specs.Fields.{Field, SolidUsed, Solid, Outer, Face, First, Isolated, VertexUsed, Columns, capOf}
 use Rattle.validity.specs.Sound.{In, Sound}
 use Rattle.validity.specs.Labels.{label-found, label-some, label-only, many-one, one-many}
-use Rattle.validity.specs.PointLists.{three}
-use Rattle.validity.specs.Accepted.{by-place, eight, accepted-back, ranges-cons, uses-cons, item-cons, use-old, old-use, use-new, new-use, use-none, in-range, Number, number, no-operand, coordinate-range, range-coordinate, unused-range, unused-use}
+use Rattle.validity.specs.PointLists.{three, all-three}
+use Rattle.validity.specs.Accepted.{by-place, eight, accepted-back, ranges-cons, item-cons, use-new, new-use, in-range, Number, number, coordinate-range, unused-range, unused-use, three-range, three-use}
 use Rattle.validity.specs.Good.{own, Capacities}
 use Rattle.validity.specs.MvsfSound.{placed, placedLinks}
 use Rattle.validity.specs.KvsfSound.{OneLoop}
+use Rattle.validity.specs.OneOperand.{one-operand, one-accepted}
 
 -- ---- the operands
-
--- what holds of three coordinates holds of each
-pub all-three : (P : ℤ → Type 0) (a b c : ℤ) → P a → P b → P c → (i : ℕ) → i < 3 → P (three a b c i)
-all-three P a b c pa pb pc zero h = pa
-all-three P a b c pa pb pc (suc zero) h = pb
-all-three P a b c pa pb pc (suc (suc zero)) h = pc
-all-three P a b c pa pb pc (suc (suc (suc i))) h = absurd (omega arith)
 
 -- mvsf s f l v x y z, as a record
 abbrev pub mvsfOf : ℕ → ℕ → ℕ → ℕ → ℤ → ℤ → ℤ → Operator
@@ -85,7 +79,6 @@ mvsf-facts sh x o caps len e h =
     let c4 = coordinate-range (limits sh) (getD (o .args) 4 (pos 0)) (r 4 (lit≤ tt)) in
     let c5 = coordinate-range (limits sh) (getD (o .args) 5 (pos 0)) (r 5 (lit≤ tt)) in
     let c6 = coordinate-range (limits sh) (getD (o .args) 6 (pos 0)) (r 6 (lit≤ tt)) in
-    let z7 = no-operand (limits sh) (getD (o .args) 7 (pos 0)) (r 7 (lit≤ tt)) in
     record {
       s = operandOf o 0;
       f = operandOf o 1;
@@ -94,7 +87,7 @@ mvsf-facts sh x o caps len e h =
       x = getD (o .args) 4 (pos 0);
       y = getD (o .args) 5 (pos 0);
       z = getD (o .args) 6 (pos 0);
-      is = λ t. record { code = e t; count = a .count t; args = (eight (o .args) len ∙ (λ i. n0 .is i ∷ n1 .is i ∷ n2 .is i ∷ n3 .is i ∷ getD (o .args) 4 (pos 0) ∷ getD (o .args) 5 (pos 0) ∷ getD (o .args) 6 (pos 0) ∷ z7 i ∷ [])) t };
+      is = λ t. record { code = e t; count = a .count t; args = (eight (o .args) len ∙ (λ i. n0 .is i ∷ n1 .is i ∷ n2 .is i ∷ n3 .is i ∷ getD (o .args) 4 (pos 0) ∷ getD (o .args) 5 (pos 0) ∷ getD (o .args) 6 (pos 0) ∷ a .rest 7 (lit≤ tt) refl i ∷ [])) t };
       free = record {
         solid-in = n0 .range;
         face-in = n1 .range;
@@ -120,23 +113,8 @@ pub record KvsfFacts (sh : Shape) (x : List ℕ) (o : Operator) : Type 0 where
 pub kvsf-facts : (sh : Shape) (x : List ℕ) (o : Operator) → Capacities sh → length (o .args) ≡ 8 → o .code ≡ 2 → refusalOf sh x o ≡ 0 → KvsfFacts sh x o
 unfolding pattern rows useWord condition
 kvsf-facts sh x o caps len e h =
-    let a = by-place sh x o 2 len refl e h in
-    let r = a .range in
-    let u = a .used in
-    let n0 : Number (sh .solids) (getD (o .args) 0 (pos 0)) = number (limits sh) 1 _ refl refl (omega (arith, caps .solids)) (r 0 (lit≤ tt)) in
-    let z : (i : ℕ) → i < 8 → getD (pattern 2 .kinds) i 0 ≡ 0 → getD (o .args) i (pos 0) ≡ pos 0 = λ i l q. no-operand (limits sh) _ (subst (λ k. inRange (largests (limits sh)) k (wire k (getD (o .args) i (pos 0))) ≡ true) q (r i l)) in
-    let is : o ≡ kvsfOf (operandOf o 0) = λ t. record {
-      code = e t;
-      count = a .count t;
-      args = (eight (o .args) len ∙ (λ i. n0 .is i ∷ z 1 (lit≤ tt) refl i ∷ z 2 (lit≤ tt) refl i ∷ z 3 (lit≤ tt) refl i ∷ z 4 (lit≤ tt) refl i ∷ z 5 (lit≤ tt) refl i ∷ z 6 (lit≤ tt) refl i ∷ z 7 (lit≤ tt) refl i ∷ [])) t;
-    } in
-    record {
-      s = operandOf o 0;
-      is = is;
-      solid-in = n0 .range;
-      used = use-old sh x 1 (operandOf o 0) (omega (arith, n0 .range)) refl (u 0 (lit≤ tt) (n0 .small));
-      test = rw (le-leb (operandOf o 0) 8192 (n0 .small)) at (subst (λ q. condition sh x q ≡ true) is (a .holds));
-    }
+    let a = one-operand sh x 2 1 refl refl refl refl (omega (arith, caps .solids)) refl o len e h in
+    record { s = a .n; is = a .is; solid-in = a .range; used = a .used; test = rw (a .small) at (a .holds) }
 
 -- ---- a solid of one isolated loop
 
@@ -251,13 +229,7 @@ module _ {sh : Shape} {x : List ℕ} {s f l v : ℕ} (o : OneLoop sh (own sh x) 
   -- it is accepted
   pub kvsf-accepted : own sh x SolidUsed s ≢ 0 → refusalOf sh x (kvsfOf s) ≡ 0
   unfolding pattern rows useWord condition
-  kvsf-accepted h = accepted-back sh x (kvsfOf s) (record {
-    code = refl;
-    count = refl;
-    range = ranges-cons (limits sh) 1 _ (pos s) (replicate 7 (pos 0)) (in-range (limits sh) 1 s refl refl (o .solid-in)) (unused-range (limits sh) 7);
-    used = item-cons sh x (kvsfOf s) 1 _ 0 (omega (arith, o .solid-in .1, caps .solids)) (old-use sh x 1 s (omega (arith, o .solid-in .0)) refl h) (unused-use sh x (kvsfOf s) 7 1);
-    holds = rw s-small one-tested;
-  })
+  kvsf-accepted h = one-accepted sh x 2 1 refl refl refl refl (omega (arith, caps .solids)) refl s (o .solid-in) h (rw s-small one-tested)
 
 -- ---- mvsf on free numbers
 
@@ -301,17 +273,13 @@ module _ (sh : Shape) (x : List ℕ) (s f l v : ℕ) (a b c : ℤ) (caps : Capac
         (ranges-cons (limits sh) 5 _ (pos f) (pos l ∷ pos v ∷ a ∷ b ∷ c ∷ pos 0 ∷ []) (in-range (limits sh) 5 f refl refl (r .face-in))
         (ranges-cons (limits sh) 7 _ (pos l) (pos v ∷ a ∷ b ∷ c ∷ pos 0 ∷ []) (in-range (limits sh) 7 l refl refl (r .loop-in))
         (ranges-cons (limits sh) 11 _ (pos v) (a ∷ b ∷ c ∷ pos 0 ∷ []) (in-range (limits sh) 11 v refl refl (r .vertex-in))
-        (ranges-cons (limits sh) 14 _ a (b ∷ c ∷ pos 0 ∷ []) (range-coordinate (limits sh) a ha)
-        (ranges-cons (limits sh) 14 _ b (c ∷ pos 0 ∷ []) (range-coordinate (limits sh) b hb)
-        (ranges-cons (limits sh) 14 _ c (pos 0 ∷ []) (range-coordinate (limits sh) c hc) (unused-range (limits sh) 1)))))));
+        (three-range (limits sh) _ (pos 0 ∷ []) a b c ha hb hc (unused-range (limits sh) 1)))));
     used =
         let o = mvsfOf s f l v a b c in
         item-cons sh x o 2 _ 0 sn (new-use sh x 2 s (omega (arith, r .solid-in .0)) refl (r .solid))
         (item-cons sh x o 5 _ 1 fn (new-use sh x 5 f (omega (arith, r .face-in .0)) refl (r .face))
         (item-cons sh x o 7 _ 2 ln (new-use sh x 7 l (omega (arith, r .loop-in .0)) refl (r .loop))
         (item-cons sh x o 11 _ 3 vn (new-use sh x 11 v (omega (arith, r .vertex-in .0)) refl (r .vertex))
-        (uses-cons sh x o 14 _ 4 (use-none sh x 14 _ refl refl)
-        (uses-cons sh x o 14 _ 5 (use-none sh x 14 _ refl refl)
-        (uses-cons sh x o 14 _ 6 (use-none sh x 14 _ refl refl) (unused-use sh x o 1 7)))))));
+        (three-use sh x o _ 4 (unused-use sh x o 1 7)))));
     holds = refl;
   })

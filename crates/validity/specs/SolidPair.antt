@@ -8,7 +8,6 @@ use native.Mathlib.Omega.{arith}
 use lib.Dec.{T}
 use lib.IntN.{ℤ, pos}
 use lib.ListN.{length}
-use Rattle.laws.specs.Bools.{split}
 use Rattle.laws.specs.Update.{upd-same, upd-off}
 use Rattle.script.specs.declared.Operator.{Operator}
 use Rattle.layout.specs.declared.shape.Shape.{Shape}
@@ -17,13 +16,12 @@ use Rattle.euler.specs.Surgery.{putPoint}
 use Rattle.euler.specs.Exec.{refusalOf}
 use Rattle.validity.specs.Fields.{Field, Capacity, SolidUsed, Solid, Outer, Face, First, Isolated, Start, Loop, Next, Prev, VertexUsed, Columns}
 use Rattle.validity.specs.Cells.{upd-back, Shows, shows-ext}
-use Rattle.validity.specs.Sound.{In, PointSound}
-use Rattle.validity.specs.PointLists.{put-length, put-at, put-off, put-back, put-cleared}
+use Rattle.validity.specs.PointLists.{put-length, put-at, put-back, put-cleared, points-new, points-cleared}
 use Rattle.validity.specs.Good.{own, Good, good-shows, good-after}
 use Rattle.validity.specs.Undone.{Kept, Undone}
 use Rattle.validity.specs.MvsfSound.{placed, placedLinks, shows-placed, mvsf-sound}
 use Rattle.validity.specs.KvsfSound.{OneLoop, one-used, kvsf-sound}
-use Rattle.validity.specs.SolidOperators.{mvsfOf, kvsfOf, Free, all-three, mvsf-facts, kvsf-facts, one-agree, made-one, tested-one, kvsf-links, kvsf-points, kvsf-inverse, kvsf-accepted, mvsf-links, mvsf-points, mvsf-inverse, mvsf-accepted}
+use Rattle.validity.specs.SolidOperators.{mvsfOf, kvsfOf, Free, mvsf-facts, kvsf-facts, one-agree, made-one, tested-one, kvsf-links, kvsf-points, kvsf-inverse, kvsf-accepted, mvsf-links, mvsf-points, mvsf-inverse, mvsf-accepted}
 
 -- ---- there and back
 
@@ -62,22 +60,12 @@ module _ {sh : Shape} {x : List ℕ} {p : List ℤ} (g : Good sh x p) {s f l v :
   long : 3 * v ≤ length p
   long = omega (arith, g .points, r .vertex-in .1)
 
-  new-points : (w : ℕ) → In (sh .vertices) w → PointSound q d w
-  new-points w i = split w v
-      (λ e. rw e (record {
-        range = λ j h. rw (put-at p v a b z (r .vertex-in .0) long j h) (all-three (λ t. T (rangeTest t)) a b z ha hb hz j h);
-        zero = λ h. absurd (omega (arith, sym (upd-same (own sh x VertexUsed) v 1) ∙ h));
-      }))
-      (λ n. let o = g .sound .point w i in record {
-        range = λ j h. rw (put-off p v a b z w n j h) (o .range j h);
-        zero = λ h j k. put-off p v a b z w n j k ∙ o .zero (sym (upd-off (own sh x VertexUsed) 1 n) ∙ h) j k;
-      })
-
   -- a good table stays good
   pub mvsf-kept : Kept sh x p (mvsfOf s f l v a b z)
   mvsf-kept = rw (mvsf-links sh x s f l v a b z (g .capacities) r, mvsf-points sh x s f l v a b z (g .capacities) r p)
       (good-after g y-shows (λ n. refl) (put-length p v a b z)
-      (mvsf-sound (g .sound) s f l v (r .solid-in) (r .face-in) (r .loop-in) (r .vertex-in) (r .solid) (r .face) (r .loop) (r .vertex) new-points))
+      (mvsf-sound (g .sound) s f l v (r .solid-in) (r .face-in) (r .loop-in) (r .vertex-in) (r .solid) (r .face) (r .loop) (r .vertex)
+      (points-new sh p (own sh x) d v (g .points) (r .vertex-in) (g .sound .point) (λ w n. upd-off (own sh x VertexUsed) 1 n) a b z ha hb hz (upd-same (own sh x VertexUsed) v 1))))
 
   y-one : OneLoop sh (own sh y) s f l v
   y-one = one-agree (λ F n h. y-shows .at F n h) (made-one (g .sound) r)
@@ -121,23 +109,11 @@ module _ {sh : Shape} {x : List ℕ} {p : List ℤ} (g : Good sh x p) {s f l v :
   ky-shows : Shows sh ky kd
   ky-shows = shows-placed (good-shows g) s f l v 0 0 0 0 0 (o .solid-in) (o .face-in) (o .loop-in) (o .vertex-in)
 
-  klong : 3 * v ≤ length p
-  klong = omega (arith, g .points, o .vertex-in .1)
-
-  kept-points : (w : ℕ) → In (sh .vertices) w → PointSound kq kd w
-  kept-points w i = split w v
-      (λ e. rw e (record {
-        range = λ j h. rw (put-at p v (pos 0) (pos 0) (pos 0) (o .vertex-in .0) klong j h) (all-three (λ t. T (rangeTest t)) (pos 0) (pos 0) (pos 0) tt tt tt j h);
-        zero = λ h j k. put-at p v (pos 0) (pos 0) (pos 0) (o .vertex-in .0) klong j k ∙ all-three (λ t. t ≡ pos 0) (pos 0) (pos 0) (pos 0) refl refl refl j k;
-      }))
-      (λ n. let b = g .sound .point w i in record {
-        range = λ j h. rw (put-off p v (pos 0) (pos 0) (pos 0) w n j h) (b .range j h);
-        zero = λ h j k. put-off p v (pos 0) (pos 0) (pos 0) w n j k ∙ b .zero (sym (upd-off (own sh x VertexUsed) 0 n) ∙ h) j k;
-      })
-
   -- a good table stays good
   pub kvsf-kept : Kept sh x p (kvsfOf s)
-  kvsf-kept = rw (kvsf-links o (g .capacities), kvsf-points o (g .capacities) p) (good-after g ky-shows (λ n. refl) (put-length p v (pos 0) (pos 0) (pos 0)) (kvsf-sound (g .sound) o kept-points))
+  kvsf-kept = rw (kvsf-links o (g .capacities), kvsf-points o (g .capacities) p)
+      (good-after g ky-shows (λ n. refl) (put-length p v (pos 0) (pos 0) (pos 0))
+      (kvsf-sound (g .sound) o (points-cleared sh p (own sh x) kd v (g .points) (o .vertex-in) (g .sound .point) (λ w n. upd-off (own sh x VertexUsed) 0 n))))
 
   ky-free : Free sh (own sh ky) s f l v
   ky-free = record {

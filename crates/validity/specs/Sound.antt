@@ -99,6 +99,15 @@ pub record Sound (sh : Shape) (p : List ℤ) (c : Columns) : Type 0 where
   pub rules : Rules (2 * sh .edges) mate (HalfUsed sh c) (halves c)
   pub solids : Solids (HalfUsed sh c) (FaceUsed sh c) (side c) mate (c Solid)
 
+-- a half-edge is sound by its start and its loop
+pub half-by : {sh : Shape} {c : Columns} {k : ℕ} (v l : ℕ) → c Start k ≡ v → c Loop k ≡ l → In (sh .vertices) v → c VertexUsed v ≢ 0 → In (sh .loops) l → c Face l ≢ 0 → HalfSound sh c k
+half-by v l ev el iv uv il ul = record { start-in = rw ev iv; start-used = rw ev uv; loop-in = rw el il; loop-used = rw el ul }
+
+-- a vertex depends on the isolated vertices and on the starts alone
+pub vertex-same : {sh : Shape} {c d : Columns} → ((l : ℕ) → In (sh .loops) l → d Isolated l ≡ c Isolated l) → ((k : ℕ) → In (2 * sh .edges) k → d Start k ≡ c Start k) → {v : ℕ} → VertexSound sh c v → VertexSound sh d v
+vertex-same e s (alone l i a b n) = alone l i (e l i ∙ a) (λ m j q. b m j (sym (e m j) ∙ q)) (λ k j q. n k j (sym (s k j) ∙ q))
+vertex-same e s (joined n k i a) = joined (λ m j q. n m j (sym (e m j) ∙ q)) k i (s k i ∙ a)
+
 -- ---- what is said of columns is said of columns that agree up to the capacities
 
 module _ (sh : Shape) (p : List ℤ) {c d : Columns} (e : (F : Field) (n : ℕ) → n ≤ capOf sh F → d F n ≡ c F n) where
@@ -126,10 +135,6 @@ module _ (sh : Shape) (p : List ℤ) {c d : Columns} (e : (F : Field) (n : ℕ) 
     loop-in = rw (e Loop k (i .1)) (r .loop-in);
     loop-used = rw (e Loop k (i .1), e Face (c Loop k) (r .loop-in .1)) (r .loop-used);
   }
-
-  vertex-agree : (v : ℕ) → VertexSound sh c v → VertexSound sh d v
-  vertex-agree v (alone l i a b n) = alone l i (e Isolated l (i .1) ∙ a) (λ m j q. b m j (sym (e Isolated m (j .1)) ∙ q)) (λ k j q. n k j (sym (e Start k (j .1)) ∙ q))
-  vertex-agree v (joined n k i a) = joined (λ m j q. n m j (sym (e Isolated m (j .1)) ∙ q)) k i (e Start k (i .1) ∙ a)
 
   half-to : (k : ℕ) → HalfUsed sh c k → HalfUsed sh d k
   half-to k u = (u .0, u .1, rw (e Start k (u .1)) (u .2))
@@ -164,7 +169,7 @@ module _ (sh : Shape) (p : List ℤ) {c d : Columns} (e : (F : Field) (n : ℕ) 
       half-free = λ k i h. let r = s .half-free k i (sym (e Start k (i .1)) ∙ h) in record { loop = e Loop k (i .1) ∙ r .loop; next = e Next k (i .1) ∙ r .next; prev = e Prev k (i .1) ∙ r .prev };
       half = λ k i h. half-agree k i (s .half k i (λ z. h (e Start k (i .1) ∙ z)));
       vertex-mark = λ v i. rw (e VertexUsed v (i .1)) (s .vertex-mark v i);
-      vertex = λ v i h. vertex-agree v (s .vertex v i (λ z. h (e VertexUsed v (i .1) ∙ z)));
+      vertex = λ v i h. vertex-same (λ l j. e Isolated l (j .1)) (λ k j. e Start k (j .1)) (s .vertex v i (λ z. h (e VertexUsed v (i .1) ∙ z)));
       point = λ v i. record { range = s .point v i .range; zero = λ h. s .point v i .zero (sym (e VertexUsed v (i .1)) ∙ h) };
       rules = agree-rules (s .rules) half-to half-from (λ k u. e Start k (u .1)) (λ k u. e Loop k (u .1)) (λ k u. e Next k (u .1)) (λ k u. e Prev k (u .1));
       solids = solids-agree;

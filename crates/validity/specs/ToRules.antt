@@ -2,26 +2,26 @@
 use mathlib.Core.Path.{_≡_, refl, sym, ap, _∙_, subst}
 use mathlib.Core.Logic.{_≢_, inl, inr, ⊎-elim}
 use mathlib.Core.List.{List}
-use Prim.Native.Nat.{ℕ, _+_, _-_, _*_, _/_, _%_, _≤_}
+use Prim.Native.Nat.{ℕ, _*_, _≤_}
 use native.Mathlib.Omega.{arith}
 use lib.Dec.{T, eqb, eqb→eq, not-T}
 use lib.IntN.{ℤ, pos, negsuc}
 use lib.Signed.{leZ}
 use Rattle.laws.specs.Bools.{split, and-T}
-use Rattle.laws.specs.Linked.{Linked, link, back, map-linked}
-use Rattle.laws.specs.Permutations.{redo, undo-in}
+use Rattle.laws.specs.Linked.{map-linked}
 use Rattle.laws.specs.Cycles.{agree}
 use Rattle.layout.specs.declared.shape.Shape.{Shape}
 use Rattle.layout.specs.Mate.{mate}
-use Rattle.layout.specs.MateLaws.{mate-odd, mate-even, mate-mate, mate-range}
+use Rattle.layout.specs.MateLaws.{mate-mate, mate-range}
 use Rattle.layout.specs.Points.{coordinate, rangeTest}
 use Rattle.rules.specs.RulesSay.{Together, InRange, IsZero, FaceRange, LoopRange, HalfRange, VertexRange, Rule1, Rule2, Rule3, HalfLinks, VertexEither}
-use Rattle.rules.specs.CyclesSay.{Rule4, Rule5, Rule6, Across}
-use Rattle.validity.specs.Fields.{Solid, Face, First, Isolated, Start, Loop, Next, Prev, VertexUsed, Columns}
-use Rattle.validity.specs.Faces.{Share}
+use Rattle.rules.specs.CyclesSay.{Rule4, Rule5, Rule6}
+use Rattle.validity.specs.EdgeIn.{prev-in, next-prev}
+use Rattle.validity.specs.Fields.{Solid, Face, First, Isolated, Start, Loop, Next, VertexUsed, Columns}
 use Rattle.validity.specs.Sound.{In, HalfUsed, side, VertexSound, alone, joined, Sound}
 use Rattle.validity.specs.Labels.{label-found, label-some, label-none, many-none, many-one}
 use Rattle.validity.specs.Good.{own}
+use Rattle.validity.specs.EdgesAcross.{half-edge}
 use Rattle.validity.specs.FromRules.{half-used, used-half}
 
 in-some : {cap n : ℕ} → In cap n → n ≢ 0
@@ -45,9 +45,6 @@ module _ {sh : Shape} {x : List ℕ} {p : List ℤ} (a : Sound sh p (own sh x)) 
 
   next-in : (k : ℕ) → HalfUsed sh c k → HalfUsed sh c (c Next k)
   next-in k u = a .rules .loops .perm .f-in k u
-
-  prev-in : (k : ℕ) → HalfUsed sh c k → HalfUsed sh c (c Prev k)
-  prev-in k u = undo-in (a .rules .loops .perm) (c Prev) (a .rules .undone) k u
 
   -- ---- rule 1
 
@@ -98,7 +95,7 @@ module _ {sh : Shape} {x : List ℕ} {p : List ℤ} (a : Sound sh p (own sh x)) 
         with-prev = inl (z, r .prev);
         with-mate = mate-together k l u;
       })
-      (λ h. let r = a .half k (l, u) h in let n = next-in k (l, u, h) in let m = prev-in k (l, u, h) in record {
+      (λ h. let r = a .half k (l, u) h in let n = next-in k (l, u, h) in let m = prev-in (a .rules) k (l, u, h) in record {
         start = r .start-in .1;
         loop = r .loop-in .1;
         next = n .1;
@@ -143,7 +140,7 @@ module _ {sh : Shape} {x : List ℕ} {p : List ℤ} (a : Sound sh p (own sh x)) 
       first = λ d. first-names l (lo, u) d .1;
       isolated = λ d. ⊎-elim (λ q. absurd (d (q .1))) (λ q. q .2) (r .either);
     };
-    half = λ k l u h. let r = a .half k (l, u) h in record { start = r .start-used; loop = r .loop-used; next = next-in k (l, u, h) .2; prev = prev-in k (l, u, h) .2 };
+    half = λ k l u h. let r = a .half k (l, u) h in record { start = r .start-used; loop = r .loop-used; next = next-in k (l, u, h) .2; prev = prev-in (a .rules) k (l, u, h) .2 };
     solid = λ s l u h. let r = a .solid s (l, u) h in label-some (sh .faces) (c Solid) s (r .0) (r .1) (r .2);
   }
 
@@ -161,7 +158,7 @@ module _ {sh : Shape} {x : List ℕ} {p : List ℤ} (a : Sound sh p (own sh x)) 
       let b = label-found n2 (c Loop) (c Loop k) s in
       record {
         prev-next = a .rules .undone k w;
-        next-prev = redo (a .rules .loops .perm) (c Prev) (a .rules .undone) k w;
+        next-prev = next-prev (a .rules) k w;
         next-start = ap (λ i. c Start (c Next i)) (sym (mate-mate k)) ∙ a .rules .verts .keeps (mate k) (a .rules .mate-in k w);
         next-loop = a .rules .loops .keeps k w;
         has-first = λ z. s (sym e ∙ z);
@@ -189,24 +186,8 @@ module _ {sh : Shape} {x : List ℕ} {p : List ℤ} (a : Sound sh p (own sh x)) 
 
   -- ---- rule 6
 
-  -- a half-edge between two faces is of an edge between them, one way or the other
-  half-edge : (f g : ℕ) → Share (HalfUsed sh c) (side c) mate f g → Linked (Across sh x) f g
-  half-edge f g t =
-      let k = t .0 in
-      let w = t .1 in
-      let m = a .rules .mate-in k w in
-      split (k % 2) 1
-      (λ o.
-      let e : 2 * ((k + 1) / 2) - 1 ≡ k = omega (arith, w .0) in
-      let d : 2 * ((k + 1) / 2) ≡ mate k = omega (arith, w .0, mate-odd k o) in
-      link ((k + 1) / 2, (omega (arith, w .0), omega (arith, w .1), not-T (eqb (c Start (2 * ((k + 1) / 2))) 0) (λ z. m .2 (ap (c Start) (sym d) ∙ eqb→eq (c Start (2 * ((k + 1) / 2))) 0 z))), ap (side c) e ∙ t .2, ap (side c) d ∙ t .3))
-      (λ o.
-      let e : 2 * (k / 2) ≡ k = omega (arith, w .0) in
-      let d : 2 * (k / 2) - 1 ≡ mate k = omega (arith, w .0, mate-even k o) in
-      back (link (k / 2, (omega (arith, w .0), omega (arith, w .1), not-T (eqb (c Start (2 * (k / 2))) 0) (λ z. w .2 (ap (c Start) (sym e) ∙ eqb→eq (c Start (2 * (k / 2))) 0 z))), ap (side c) d ∙ t .3, ap (side c) e ∙ t .2)))
-
   pub to-rule6 : Rule6 sh x
   to-rule6 = record {
     sides = λ k l u h. sym (a .solids .edge k (l, u, h));
-    linked = λ f g lf uf lg ug h e. map-linked (λ i. i) half-edge (a .solids .one f g (lf, uf, h) (lg, ug, λ z. h (e ∙ z)) e);
+    linked = λ f g lf uf lg ug h e. map-linked (λ i. i) (half-edge sh c (a .rules .mate-in) (side c) (λ k i u w. (k, (i .0, i .1, not-T (eqb (c Start (2 * k)) 0) (λ z. w .2 (eqb→eq (c Start (2 * k)) 0 z))), refl, refl))) (a .solids .one f g (lf, uf, h) (lg, ug, λ z. h (e ∙ z)) e);
   }

@@ -122,13 +122,13 @@ least-walk sh (suc n) (suc d) x c k stop b s h w i =
         under zero l = omega (arith, g .start, smaller k b .0)
         under (suc t) l = g .below t (omega arith)
 
-module _ {n : ℕ} {U : ℕ → Type 0} {f lab : ℕ → ℕ} (c : Cycles n U f lab) (k : ℕ) (u : U k) where
-  -- labels are kept along the way
-  iter-keeps : (t i : ℕ) → U i → lab (iter f t i) ≡ lab i
-  unfolding iter
-  iter-keeps zero i w = refl
-  iter-keeps (suc t) i w = iter-keeps t (f i) (c .perm .f-in i w) ∙ c .keeps i w
+-- labels are kept along the way
+pub iter-keeps : {n : ℕ} {U : ℕ → Type 0} {f lab : ℕ → ℕ} → Cycles n U f lab → (t i : ℕ) → U i → lab (iter f t i) ≡ lab i
+unfolding iter
+iter-keeps c zero i w = refl
+iter-keeps {f = f} c (suc t) i w = iter-keeps c t (f i) (c .perm .f-in i w) ∙ c .keeps i w
 
+module _ {n : ℕ} {U : ℕ → Type 0} {f lab : ℕ → ℕ} (c : Cycles n U f lab) (k : ℕ) (u : U k) where
   -- it comes back in fewer than n steps
   pub way-round : (d : ℕ) × (d < n) × Steps f (f k) k d
   way-round =
@@ -164,7 +164,7 @@ cycle-least sh x c U k s y u all =
     -- it is of the cycle
     member : {r d : ℕ} → LeastOf (c Next) (c Next k) d k r → U r × (c Loop r ≡ c Loop k)
     member g = ⊎-elim (λ e. (subst U (sym e) u, ap (c Loop) e))
-        (λ q. (subst U (sym (q .2)) (iter-in (y .perm) (q .0) (c Next k) (y .perm .f-in k u)), ap (c Loop) (q .2) ∙ iter-keeps y k u (q .0) (c Next k) (y .perm .f-in k u) ∙ y .keeps k u)) (g .one)
+        (λ q. (subst U (sym (q .2)) (iter-in (y .perm) (q .0) (c Next k) (y .perm .f-in k u)), ap (c Loop) (q .2) ∙ iter-keeps y (q .0) (c Next k) (y .perm .f-in k u) ∙ y .keeps k u)) (g .one)
 
     found : {r d : ℕ} → Steps (c Next) (c Next k) k d → LeastOf (c Next) (c Next k) d k r → leastWith (2 * sh .edges) (c Loop) (c Loop k) ≡ r
     found {r} st g =

@@ -1,7 +1,7 @@
 -- The form with dummies: each isolated loop l has a half-edge of its own, number 2E + l, that is its own mate and its own next and starts at
 -- the isolated vertex. Then rules 3 to 5 say of all half-edges, dummies included, what they say of loops and vertices that have half-edges:
 -- two labelled permutations (`Rules`), and each loop and vertex in use has a member.
-use mathlib.Core.Path.{_≡_, refl, sym, ap, _∙_, subst}
+use mathlib.Core.Path.{_≡_, sym, ap, _∙_, subst}
 use mathlib.Core.Logic.{_≢_, inl, inr, ⊎-elim}
 use mathlib.Core.List.{List}
 use Prim.Native.Nat.{ℕ, _+_, _-_, _*_, _≤_, _<_}
@@ -19,7 +19,8 @@ use Rattle.validity.specs.Mates.{mate⁺, mate⁺-low, mate⁺-high}
 use Rattle.validity.specs.EdgeIn.{Halves, Rules}
 use Rattle.validity.specs.Extra.{Extra, Own, With, more, fewer}
 use Rattle.validity.specs.Sound.{In, halves, HalfUsed, firstOf, FirstOrIsolated, VertexSound, alone, joined, Sound}
-use Rattle.validity.specs.Labels.{label-found, label-some, label-none, none-label}
+use Rattle.validity.specs.Labels.{label-found, label-some, label-none}
+use Rattle.validity.specs.Names.{lone-unnamed, lone-alone}
 
 -- f up to n, g above
 unfoldable pub upTo : ℕ → (ℕ → ℕ) → (ℕ → ℕ) → ℕ → ℕ
@@ -106,23 +107,6 @@ module _ {sh : Shape} {p : List ℤ} {c : Columns} (a : Sound sh p c) where
   abbrev n₁ : ℕ
   n₁ = 2 * sh .edges
 
-  -- the loop of a dummy is in use and isolated
-  dummy-isolated : (l : ℕ) → In (sh .loops) l → c Isolated l ≢ 0 → (c First l ≡ 0) × In (sh .vertices) (c Isolated l) × (c VertexUsed (c Isolated l) ≢ 0)
-  dummy-isolated l i h = ⊎-elim (λ q. absurd (h (q .1))) (λ q. q) (a .loop l i (λ z. h (a .loop-free l i z .1)) .either)
-
-  -- no half-edge names it
-  dummy-unnamed : (l : ℕ) → In (sh .loops) l → c Isolated l ≢ 0 → (k : ℕ) → In n₁ k → c Loop k ≢ l
-  dummy-unnamed l i h = none-label n₁ (c Loop) l (sym (a .loop l i (λ z. h (a .loop-free l i z .1)) .first) ∙ dummy-isolated l i h .0)
-
-  -- its vertex is isolated there alone and starts nothing
-  dummy-alone : (l : ℕ) → In (sh .loops) l → c Isolated l ≢ 0
-      → ((l′ : ℕ) → In (sh .loops) l′ → c Isolated l′ ≡ c Isolated l → l′ ≡ l) × ((k : ℕ) → In n₁ k → c Start k ≢ c Isolated l)
-  dummy-alone l i h = let q = dummy-isolated l i h in by (a .vertex (c Isolated l) (q .1) (q .2))
-    where
-      by : VertexSound sh c (c Isolated l) → ((l′ : ℕ) → In (sh .loops) l′ → c Isolated l′ ≡ c Isolated l → l′ ≡ l) × ((k : ℕ) → In n₁ k → c Start k ≢ c Isolated l)
-      by (alone l″ j e u s) = (λ l′ i′ e′. u l′ i′ e′ ∙ sym (u l i refl), s)
-      by (joined s k j e) = absurd (s l i refl)
-
   -- the number of a dummy's loop
   loop-in : (d : ℕ) → Dummy sh c d → In (sh .loops) (d - n₁)
   loop-in d u = (omega (arith, u .0), omega (arith, u .1))
@@ -130,15 +114,15 @@ module _ {sh : Shape} {p : List ℤ} {c : Columns} (a : Sound sh p c) where
   loops-own : Own (HalfUsed sh c) (Dummy sh c) (extended sh c .loop)
   loops-own = (
     λ i j d e q. let y : i - n₁ ≡ j - n₁ = sym (upTo-high n₁ (c Loop) (λ k. k - n₁) i (d .0)) ∙ q ∙ upTo-high n₁ (c Loop) (λ k. k - n₁) j (e .0) in omega (arith, y, d .0, e .0),
-    λ i j u d q. dummy-unnamed (j - n₁) (loop-in j d) (d .2) i (u .0, u .1) (sym (upTo-low n₁ (c Loop) (λ k. k - n₁) i (u .1)) ∙ q ∙ upTo-high n₁ (c Loop) (λ k. k - n₁) j (d .0)),
+    λ i j u d q. lone-unnamed a (j - n₁) (loop-in j d) (d .2) i (u .0, u .1) (sym (upTo-low n₁ (c Loop) (λ k. k - n₁) i (u .1)) ∙ q ∙ upTo-high n₁ (c Loop) (λ k. k - n₁) j (d .0)),
   )
 
   verts-own : Own (HalfUsed sh c) (Dummy sh c) (extended sh c .start)
   verts-own = (
     λ i j d e q.
         let y : c Isolated (i - n₁) ≡ c Isolated (j - n₁) = sym (upTo-high n₁ (c Start) (λ k. c Isolated (k - n₁)) i (d .0)) ∙ q ∙ upTo-high n₁ (c Start) (λ k. c Isolated (k - n₁)) j (e .0) in
-        omega (arith, dummy-alone (j - n₁) (loop-in j e) (e .2) .0 (i - n₁) (loop-in i d) y, d .0, e .0),
-    λ i j u d q. dummy-alone (j - n₁) (loop-in j d) (d .2) .1 i (u .0, u .1) (sym (upTo-low n₁ (c Start) (λ k. c Isolated (k - n₁)) i (u .1)) ∙ q ∙ upTo-high n₁ (c Start) (λ k. c Isolated (k - n₁)) j (d .0)),
+        omega (arith, lone-alone a (j - n₁) (loop-in j e) (e .2) .0 (i - n₁) (loop-in i d) y, d .0, e .0),
+    λ i j u d q. lone-alone a (j - n₁) (loop-in j d) (d .2) .1 i (u .0, u .1) (sym (upTo-low n₁ (c Start) (λ k. c Isolated (k - n₁)) i (u .1)) ∙ q ∙ upTo-high n₁ (c Start) (λ k. c Isolated (k - n₁)) j (d .0)),
   )
 
   extended-rules : Rules (2 * sh .edges + sh .loops) (mate⁺ (sh .edges)) (Member sh c) (extended sh c)

@@ -1,55 +1,37 @@
 -- mekr and kemr: a good table stays good, and each undoes the other to the word.
 use mathlib.Core.Path.{_≡_, refl, sym, ap, _∙_, subst}
-use mathlib.Core.Logic.{_≢_, _⊎_, inl, inr, ⊎-elim}
+use mathlib.Core.Logic.{_≢_, inl, inr, ⊎-elim}
 use mathlib.Core.List.{List}
-use Prim.Native.Nat.{ℕ, _-_, _*_, _%_, _≤_}
+use Prim.Native.Nat.{ℕ, _*_, _≤_}
 use native.Mathlib.Omega.{arith}
 use lib.Dec.{eqb}
 use lib.IntN.{ℤ}
 use lib.ListN.{length}
-use Rattle.laws.specs.Bools.{pick, split, eqb-same, eqb-other}
-use Rattle.laws.specs.Permutations.{redo, undo-in}
+use Rattle.laws.specs.Bools.{pick, eqb-same, eqb-other}
 use Rattle.script.specs.declared.Operator.{Operator}
 use Rattle.layout.specs.declared.shape.Shape.{Shape}
 use Rattle.layout.specs.Mate.{mate, edgeOf}
-use Rattle.layout.specs.MateLaws.{mate-odd, mate-range}
-use Rattle.euler.specs.Surgery.{halfBy, wayOf, edgeIn, edgeOut, putLoop, relabelRun, renew}
+use Rattle.layout.specs.MateLaws.{mate-range}
+use Rattle.euler.specs.Surgery.{halfBy, wayOf}
 use Rattle.euler.specs.Exec.{refusalOf}
+use Rattle.validity.specs.EdgeIn.{prev-in, next-prev}
 use Rattle.validity.specs.Fields.{Outer, Face, Isolated, Start, Loop, Next, Prev, VertexUsed, Columns}
-use Rattle.validity.specs.EdgeBack.{Zero}
 use Rattle.validity.specs.Cells.{Shows, shows-ext}
-use Rattle.validity.specs.Sound.{In, halves, HalfUsed, Sound}
+use Rattle.validity.specs.Sound.{In, HalfUsed, Sound}
+use Rattle.validity.specs.HalfNumbers.{edge-by, way-by, way-small, half-is, edge-in, second-half}
+use Rattle.validity.specs.Names.{not-isolated, lone-used, free-zero, free-halves}
 use Rattle.validity.specs.Good.{own, Good, good-shows}
+use Rattle.validity.specs.CornerTest.{CornerAt, cornerLeft}
 use Rattle.validity.specs.Undone.{Kept, Undone}
-use Rattle.validity.specs.MevOperator.{free-halves}
-use Rattle.bridges.specs.Bridge.{unnamed, Corner, Bridged, off-k, off-a}
+use Rattle.bridges.specs.Bridge.{Corner, Bridged, off-k, off-a, Ends}
 use Rattle.bridges.specs.Same.{Alike, down-same, up-same}
-use Rattle.bridges.specs.UpColumns.{mekrColumns, Ends, up-bridged}
+use Rattle.bridges.specs.UpColumns.{mekrColumns, up-bridged}
 use Rattle.bridges.specs.UpShown.{mekr-sound, mekr-shows, mekr-good}
 use Rattle.bridges.specs.DownColumns.{kemrColumns, Span, walk, down-bridged}
 use Rattle.bridges.specs.DownShown.{kemr-sound, kemr-shows, kemr-good}
-use Rattle.bridges.specs.MekrOperator.{mekrOf, CornerAt, MekrFacts, mekr-said, mekr-accepted, mekr-links, mekr-points}
+use Rattle.bridges.specs.MekrOperator.{mekrOf, MekrFacts, mekr-said, mekr-accepted, mekr-links, mekr-points}
 use Rattle.bridges.specs.KemrOperator.{kemrOf, kemr-facts, kemr-accepted, kemr-links, kemr-points, kemr-inverse, mekr-inverse}
-
--- ---- halves and ways
-
--- the edge and the way of the half that a way names
-edge-by : (e w : ℕ) → 1 ≤ e → edgeOf (halfBy e w) ≡ e
-edge-by e w h = split (w % 2) 0 (λ q. rw (eqb-same q) (omega (arith, h))) (λ q. rw (eqb-other q) (omega (arith, h)))
-
--- its way
-way-by : (e w : ℕ) → 1 ≤ e → w ≤ 1 → wayOf (halfBy e w) ≡ w
-way-by e w h u = split (w % 2) 0
-    (λ q. let m : (2 * e - 1) % 2 ≡ 1 = omega (arith, h) in rw (eqb-same q, eqb-same m) (omega (arith, q, u)))
-    (λ q. let m : 2 * e % 2 ≢ 1 = omega arith in rw (eqb-other q, eqb-other m) (omega (arith, q, u)))
-
--- the half that k's edge and way name is k, and the way is 0 or 1
-half-by : (k : ℕ) → 1 ≤ k → (halfBy (edgeOf k) (wayOf k) ≡ k) × (wayOf k ≤ 1)
-half-by k h = split (k % 2) 1 (λ q. rw (eqb-same q) (omega (arith, q, h), omega arith)) (λ q. rw (eqb-other q) (omega (arith, q, h), omega arith))
-
--- the second half of k's edge is k or its mate
-second-half : (k : ℕ) → 1 ≤ k → (2 * edgeOf k ≡ k) ⊎ (2 * edgeOf k ≡ mate k)
-second-half k h = split (k % 2) 1 (λ q. inr (rw (mate-odd k q) (omega (arith, q)))) (λ q. inl (omega (arith, q)))
+use Rattle.bridges.specs.BridgeLists.{mekrList, kemrList}
 
 -- ---- the corners of mekr
 
@@ -59,19 +41,19 @@ module _ {sh : Shape} {p : List ℤ} {c : Columns} (a : Sound sh p c) {l h : ℕ
   corner-of k b = ⊎-elim
       (λ r. rw (eqb-same (r .0)) (inl (record { before = refl; after = refl; isolated = refl })))
       (λ r. let z : h ≢ 0 = λ e. omega (arith, r .0 .0, e) in rw (eqb-other z) (inr (record {
-        before = undo-in (a .rules .loops .perm) (c Prev) (a .rules .undone) h (r .0);
+        before = prev-in (a .rules) h (r .0);
         after = r .0;
-        next = redo (a .rules .loops .perm) (c Prev) (a .rules .undone) h (r .0);
+        next = next-prev (a .rules) h (r .0);
         prev = refl;
         loop = r .1;
         start = refl;
-        isolated = split (c Isolated l) 0 (λ e. e) (λ e. absurd (unnamed a l i e h (r .0 .0, r .0 .1) (r .1)));
+        isolated = not-isolated a h (r .0) (r .1);
       }))) q
 
   -- its vertex is in use
   corner-vertex : In (sh .vertices) (pick (eqb h 0) (c Isolated l) (c Start h)) × (c VertexUsed (pick (eqb h 0) (c Isolated l) (c Start h)) ≢ 0)
   corner-vertex = ⊎-elim
-      (λ r. let s = ⊎-elim (λ v. absurd (r .1 (v .1))) (λ v. v) (a .loop l i (λ e. r .1 (a .loop-free l i e .1)) .either) in rw (eqb-same (r .0)) (s .1, s .2))
+      (λ r. let s = lone-used a l i (r .1) in rw (eqb-same (r .0)) (s .1, s .2))
       (λ r. let z : h ≢ 0 = λ e. omega (arith, r .0 .0, e) in let s = a .half h (r .0 .0, r .0 .1) (r .0 .2) in rw (eqb-other z) (s .start-in, s .start-used)) q
 
 -- the same bridge, with the numbers said otherwise
@@ -114,10 +96,6 @@ module _ {sh : Shape} {x : List ℕ} {p : List ℤ} (g : Good sh x p) {l h1 l2 h
   free : In (2 * sh .edges) k × (c Start k ≡ 0) × (c Start (mate k) ≡ 0)
   free = subst (λ j. In (2 * sh .edges) j × (c Start j ≡ 0) × (c Start (mate j) ≡ 0)) hk (free-halves (g .sound) e w (r .edge-in) (r .edge-free))
 
-  -- a free half-edge is all zero
-  zero-at : (i : ℕ) → In (2 * sh .edges) i → c Start i ≡ 0 → Zero (halves c) i
-  zero-at i j z = let f = g .sound .half-free i j z in record { s = z; l = f .loop; n = f .next; p = f .prev }
-
   -- so mekr can be done
   ends : Ends sh (own sh x) k l l2 u1 P1 N1 u2 P2 N2
   ends =
@@ -139,8 +117,8 @@ module _ {sh : Shape} {x : List ℕ} {p : List ℤ} (g : Good sh x p) {l h1 l2 h
         in-2 = v2 .0;
         used-1 = v1 .1;
         used-2 = v2 .1;
-        zero-k = zero-at k (free .0) (free .1);
-        zero-a = zero-at (mate k) m (free .2);
+        zero-k = free-zero (g .sound) k (free .0) (free .1);
+        zero-a = free-zero (g .sound) (mate k) m (free .2);
         keeps = g .sound .rules .loops .keeps;
       }
 
@@ -150,7 +128,7 @@ module _ {sh : Shape} {x : List ℕ} {p : List ℤ} (g : Good sh x p) {l h1 l2 h
 
   -- the list afterwards
   abbrev y : List ℕ
-  y = renew sh (putLoop sh (relabelRun sh (edgeIn sh x k u1 l N2 P1 u2 l N1 P2) N2 (mate k) l) l2 0 0 0) l k 0
+  y = mekrList sh x k l l2 u1 P1 N1 u2 P2 N2
 
   -- the columns afterwards
   abbrev d : Columns
@@ -171,10 +149,10 @@ module _ {sh : Shape} {x : List ℕ} {p : List ℤ} (g : Good sh x p) {l h1 l2 h
   -- k and its mate are in one loop there
   span : Span sh (own sh y) k l2
   span =
-      let hi = b .half-in .1 in
-      let mi = b .mate-in .1 in
+      let hi = b .ends .half-in .1 in
+      let mi = b .ends .mate-in .1 in
       record {
-        half = (b .half-in .0, hi, λ z. omega (arith, b .in-1 .0, sym (b .start-k) ∙ sym (s .at Start k hi) ∙ z));
+        half = (b .ends .half-in .0, hi, λ z. omega (arith, b .ends .in-1 .0, sym (b .start-k) ∙ sym (s .at Start k hi) ∙ z));
         one = s .at Loop (mate k) mi ∙ b .loop-a ∙ sym (s .at Loop k hi ∙ b .loop-k);
         ring-in = r .ring-in;
         free = s .at Face l2 (r .ring-in .1) ∙ b .face-2;
@@ -183,8 +161,8 @@ module _ {sh : Shape} {x : List ℕ} {p : List ℤ} (g : Good sh x p) {l h1 l2 h
   -- kemr leads back to the same columns
   mekr-back : Alike sh (kemrColumns sh (own sh y) k l2 (walk (gy .sound) span .0)) (own sh x)
   mekr-back =
-      let hi = b .half-in .1 in
-      let mi = b .mate-in .1 in
+      let hi = b .ends .half-in .1 in
+      let mi = b .ends .mate-in .1 in
       down-same (kemr-sound gy span) (g .sound)
       (bridged-as (down-bridged (gy .sound) span) (s .at Loop k hi ∙ b .loop-k) (s .at Start k hi ∙ b .start-k) (s .at Prev k hi ∙ b .prev-k) (s .at Next (mate k) mi ∙ b .next-a)
       (s .at Start (mate k) mi ∙ b .start-a) (s .at Prev (mate k) mi ∙ b .prev-a) (s .at Next k hi ∙ b .next-k)) b (λ F i v h. s .at F i h)
@@ -199,8 +177,8 @@ module _ {sh : Shape} {x : List ℕ} {p : List ℤ} (g : Good sh x p) {l h1 l2 h
       let el = mekr-links sh x (g .capacities) r k hk in
       let ep = mekr-points sh x (g .capacities) r p in
       let ei = mekr-inverse sh x p (g .capacities) r ∙ ap (λ j. kemrOf j l2) hk in
-      let hi = b .half-in .1 in
-      let mi = b .mate-in .1 in
+      let hi = b .ends .half-in .1 in
+      let mi = b .ends .mate-in .1 in
       let e-l : own sh y Loop k ≡ l = s .at Loop k hi ∙ b .loop-k in
       let e-1 : own sh y Next (mate k) ≡ N1 = s .at Next (mate k) mi ∙ b .next-a in
       let e-2 : own sh y Next k ≡ N2 = s .at Next k hi ∙ b .next-k in
@@ -225,22 +203,15 @@ module _ {sh : Shape} {x : List ℕ} {p : List ℤ} (g : Good sh x p) {k l2 : �
 
   -- the two corners, 0 where isolated
   abbrev h₁ : ℕ
-  h₁ = pick (eqb (own sh x Next (mate k)) k) 0 (own sh x Next (mate k))
+  h₁ = cornerLeft (own sh x) k (mate k)
 
   -- and the other
   abbrev h₂ : ℕ
-  h₂ = pick (eqb (own sh x Next k) (mate k)) 0 (own sh x Next k)
+  h₂ = cornerLeft (own sh x) (mate k) k
 
   -- the list afterwards
   abbrev yₖ : List ℕ
-  yₖ =
-      renew sh
-      (renew sh
-      (putLoop sh
-      (edgeOut sh (relabelRun sh x (own sh x Next k) (mate k) l2) k (own sh x Prev k) (own sh x Next (mate k)) (own sh x Prev (mate k)) (own sh x Next k))
-      l2 (own sh x Face (own sh x Loop k)) 0 0)
-      l2 h₂ (own sh x Start (mate k)))
-      (own sh x Loop k) h₁ (own sh x Start k)
+  yₖ = kemrList sh x k l2
 
   -- before and after
   bₖ : Bridged sh cₖ (own sh x) k (dₖ Loop k) l2 (dₖ Start k) (dₖ Prev k) (dₖ Next (mate k)) (dₖ Start (mate k)) (dₖ Prev (mate k)) (dₖ Next k)
@@ -276,40 +247,40 @@ module _ {sh : Shape} {x : List ℕ} {p : List ℤ} (g : Good sh x p) {k l2 : �
   -- mekr is accepted there
   facts : MekrFacts sh (own sh yₖ) (dₖ Loop k) h₁ l2 h₂ (edgeOf k) (wayOf k)
   facts =
-      let hi = bₖ .half-in in
-      let li = bₖ .loop-in in
-      let ri = bₖ .ring-in in
+      let hi = bₖ .ends .half-in in
+      let li = bₖ .ends .loop-in in
+      let ri = bₖ .ends .ring-in in
       let f-1 : own sh yₖ Face (dₖ Loop k) ≡ cₖ Face (dₖ Loop k) = sₖ .at Face (dₖ Loop k) (li .1) in
       let f-2 : own sh yₖ Face l2 ≡ cₖ Face l2 = sₖ .at Face l2 (ri .1) in
-      let ru : cₖ Face l2 ≢ 0 = λ z. bₖ .used (sym (bₖ .one-face) ∙ z) in
+      let ru : cₖ Face l2 ≢ 0 = λ z. bₖ .ends .used (sym (bₖ .ends .one-face) ∙ z) in
       let fi = kemr-sound g o .loop l2 ri ru .face-in in
       let e2 : 2 * edgeOf k ≤ 2 * sh .edges = omega (arith, hi .1) in
       record {
         loop-in = li;
-        loop-used = λ z. bₖ .used (sym f-1 ∙ z);
-        at-1 = corner-at (bₖ .at-1) (off-k bₖ) li (λ z. omega (arith, bₖ .in-1 .0, z));
+        loop-used = λ z. bₖ .ends .used (sym f-1 ∙ z);
+        at-1 = corner-at (bₖ .ends .at-1) (off-k bₖ) li (λ z. omega (arith, bₖ .ends .in-1 .0, z));
         ring-in = ri;
         ring-used = λ z. ru (sym f-2 ∙ z);
-        at-2 = corner-at (bₖ .at-2) (off-a bₖ) ri (λ z. omega (arith, bₖ .in-2 .0, z));
-        edge-in = (omega (arith, hi .0), omega (arith, hi .1));
-        edge-free = sₖ .at Start (2 * edgeOf k) e2 ∙ ⊎-elim (λ q. ap (cₖ Start) q ∙ bₖ .zero-k .s) (λ q. ap (cₖ Start) q ∙ bₖ .zero-a .s) (second-half k (hi .0));
-        way = half-by k (hi .0) .1;
-        two = bₖ .two;
-        one-face = f-1 ∙ sym (f-2 ∙ bₖ .one-face);
-        ring = λ z. bₖ .ring (sym (sₖ .at Outer (cₖ Face l2) (fi .1)) ∙ ap (own sh yₖ Outer) (sym f-2) ∙ z);
+        at-2 = corner-at (bₖ .ends .at-2) (off-a bₖ) ri (λ z. omega (arith, bₖ .ends .in-2 .0, z));
+        edge-in = edge-in k (sh .edges) hi;
+        edge-free = sₖ .at Start (2 * edgeOf k) e2 ∙ ⊎-elim (λ q. ap (cₖ Start) q ∙ bₖ .ends .zero-k .s) (λ q. ap (cₖ Start) q ∙ bₖ .ends .zero-a .s) (second-half k);
+        way = way-small k;
+        two = bₖ .ends .two;
+        one-face = f-1 ∙ sym (f-2 ∙ bₖ .ends .one-face);
+        ring = λ z. bₖ .ends .ring (sym (sₖ .at Outer (cₖ Face l2) (fi .1)) ∙ ap (own sh yₖ Outer) (sym f-2) ∙ z);
       }
 
   -- the half that it names is k
   hₖ : halfBy (edgeOf k) (wayOf k) ≡ k
-  hₖ = half-by k (o .half .0) .0
+  hₖ = half-is k (o .half .0)
 
   -- mekr leads back to the same columns
   kemr-back : Alike sh (mekrColumns sh (own sh yₖ) k (dₖ Loop k) l2
       (pick (eqb h₁ 0) (own sh yₖ Isolated (dₖ Loop k)) (own sh yₖ Start h₁)) (pick (eqb h₁ 0) (mate k) (own sh yₖ Prev h₁)) (pick (eqb h₁ 0) k h₁)
       (pick (eqb h₂ 0) (own sh yₖ Isolated l2) (own sh yₖ Start h₂)) (pick (eqb h₂ 0) k (own sh yₖ Prev h₂)) (pick (eqb h₂ 0) (mate k) h₂)) (own sh x)
   kemr-back =
-      let q1 = read-back (bₖ .at-1) (off-k bₖ) (bₖ .loop-in) in
-      let q2 = read-back (bₖ .at-2) (off-a bₖ) (bₖ .ring-in) in
+      let q1 = read-back (bₖ .ends .at-1) (off-k bₖ) (bₖ .ends .loop-in) in
+      let q2 = read-back (bₖ .ends .at-2) (off-a bₖ) (bₖ .ends .ring-in) in
       up-same (mekr-sound gₖ (ends gₖ facts hₖ)) (g .sound) (bridged-as (up-bridged (ends gₖ facts hₖ)) refl (q1 .0) (q1 .1) (q1 .2) (q2 .0) (q2 .1) (q2 .2)) bₖ (λ F i v h. sₖ .at F i h)
 
   -- mekr gives everything back
