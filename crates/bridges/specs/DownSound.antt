@@ -138,7 +138,7 @@ module _ {sh : Shape} {p : List ℤ} {c d : Columns} {k l l2 u1 P1 N1 u2 P2 N2 :
       let r = a .half i (v .0, v .1) (v .2) in
       let es : d Start i ≡ c Start i = b .start-o i (off-k b i w) (off-a b i w) in
       let by : (m : ℕ) → c Loop i ≡ m → In (sh .loops) m → c Face m ≢ 0 → HalfSound sh c i = λ m em x y.
-          half-by (d Start i) m (sym es) em (r .start-in) (used _ (r .start-used)) x y in
+      half-by (d Start i) m (sym es) em (r .start-in) (used _ (r .start-used)) x y in
       split (c Loop i) l2
       (λ e. by l2 e (b .ends .ring-in) (λ z. b .ends .used (sym (b .ends .one-face) ∙ z)))
       (λ e.

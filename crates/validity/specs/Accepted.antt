@@ -125,8 +125,8 @@ pub by-place : (sh : Shape) (x : List ℕ) (o : Operator) (code : ℕ) → lengt
 by-place sh x o code len all e h =
     let a = accepted sh x o h in
     let r : (i : ℕ) → i < 8 → inRange (largests (limits sh)) (getD (pattern code .kinds) i 0) (wire (getD (pattern code .kinds) i 0) (getD (o .args) i (pos 0))) ≡ true = λ i l.
-        ranges-at (limits sh) (pattern code .kinds) (o .args) (len ∙ sym all)
-        (subst (λ n. inRanges (largests (limits sh)) (pattern n .kinds) (wires (pattern n .kinds) (o .args)) ≡ true) e (a .range)) i (omega (arith, l, all)) in
+    ranges-at (limits sh) (pattern code .kinds) (o .args) (len ∙ sym all)
+    (subst (λ n. inRanges (largests (limits sh)) (pattern n .kinds) (wires (pattern n .kinds) (o .args)) ≡ true) e (a .range)) i (omega (arith, l, all)) in
     record {
       range = r;
       rest = λ i l q. no-operand (limits sh) _ (subst (λ k. inRange (largests (limits sh)) k (wire k (getD (o .args) i (pos 0))) ≡ true) q (r i l));

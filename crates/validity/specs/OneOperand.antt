@@ -38,7 +38,7 @@ module _ (sh : Shape) (x : List ℕ) (code kind : ℕ) (count : pattern code .co
       let a = by-place sh x o code len (ap length kinds) e h in
       let k : (i : ℕ) → getD (pattern code .kinds) i 0 ≡ getD (kind ∷ replicate 7 unused) i 0 = λ i. ap (λ ks. getD ks i 0) kinds in
       let n0 : Number (limitOf (limits sh) kind) (getD (o .args) 0 (pos 0)) = number (limits sh) kind _ plain least most
-          (subst (λ j. inRange (largests (limits sh)) j (wire j (getD (o .args) 0 (pos 0))) ≡ true) (k 0) (a .range 0 (lit≤ tt))) in
+      (subst (λ j. inRange (largests (limits sh)) j (wire j (getD (o .args) 0 (pos 0))) ≡ true) (k 0) (a .range 0 (lit≤ tt))) in
       let is : o ≡ oneOf code (operandOf o 0) = λ t. record {
         code = e t;
         count = (a .count ∙ count) t;

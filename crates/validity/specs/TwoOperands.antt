@@ -43,7 +43,7 @@ module _ (sh : Shape) (x : List ℕ) (code j k : ℕ) (count : pattern code .cou
       let a = by-place sh x o code len (ap length kinds) e h in
       let q : (i : ℕ) → getD (pattern code .kinds) i 0 ≡ getD (j ∷ k ∷ replicate 6 unused) i 0 = λ i. ap (λ ks. getD ks i 0) kinds in
       let r : (i : ℕ) → i < 8 → inRange (largests (limits sh)) (getD (j ∷ k ∷ replicate 6 unused) i 0) (wire (getD (j ∷ k ∷ replicate 6 unused) i 0) (getD (o .args) i (pos 0))) ≡ true
-          = λ i l. subst (λ t. inRange (largests (limits sh)) t (wire t (getD (o .args) i (pos 0))) ≡ true) (q i) (a .range i l) in
+      = λ i l. subst (λ t. inRange (largests (limits sh)) t (wire t (getD (o .args) i (pos 0))) ≡ true) (q i) (a .range i l) in
       let n0 : Number (limitOf (limits sh) j) (getD (o .args) 0 (pos 0)) = number (limits sh) j _ j-plain j-least j-most (r 0 (lit≤ tt)) in
       let n1 : Number (limitOf (limits sh) k) (getD (o .args) 1 (pos 0)) = number (limits sh) k _ k-plain k-least k-most (r 1 (lit≤ tt)) in
       let is : o ≡ twoOf code (operandOf o 0) (operandOf o 1) = λ t. record {
