@@ -1,7 +1,7 @@
 -- An instance that goes through the assumptions: the table of example d of document 01. Loop 1 has the half-edges 2, 3; loop 2 has 1, 4.
 use mathlib.Core.Path.{_≡_, refl}
 use mathlib.Core.List.{List, [], _∷_}
-use Prim.Native.Nat.{ℕ}
+use Prim.Native.Nat.{ℕ, _+_, _*_}
 use lib.Dec.{lit≤}
 use native.Mathlib.Omega.{arith}
 use lib.IntN.{ℤ, pos}
@@ -17,13 +17,14 @@ use Rattle.layout.specs.Mate.{mate}
 use Rattle.items.specs.Rules.{solidRange, faceRange, loopRange, halfRange, vertexRange, rule1, solidNames, faceNames, loopNames, halfNames, rule2, loopEither, rule3, halfLinks, firstNames, halfInLoop, rule4, vertexEither, halfAtVertex, rule5, halfSides, faceLinked, rule6, brokenRule}
 use Rattle.table.specs.Sizes.{sizesFit}
 use Rattle.table.specs.Check.{checkOf}
-use Rattle.euler.specs.Surgery.{leastOn, cycleLeast}
+use Rattle.euler.specs.Surgery.{leastOn, cycleLeast, relabel, relabelRun}
 use Rattle.euler.specs.Operators.{operator, kefTest}
 use Rattle.euler.specs.Exec.{refusalOf, admitOf, rangeRefusal, useRefusals, useRefusal, useWord, condition, inverse}
 use Rattle.validity.specs.Sound.{HalfUsed}
 use Rattle.validity.specs.Good.{Good, own}
 use Rattle.promises.specs.Checked.{checked-good}
 use Rattle.fuel.specs.Walks.{LeastFuel, RelabelFuel, least-fuel, relabel-fuel}
+use Rattle.fuel.specs.Amid.{relabel-amid}
 use Rattle.fuel.specs.Held.{HeldInRange, held-in-range}
 use Rattle.fuel.specs.Inverse.{SmallOperator, inverse-small}
 
@@ -72,3 +73,7 @@ kef-4 = operator 6 (4 ∷ [])
 inverse-kef-4 : SmallOperator shape (inverse shape links points kef-4)
 unfolding refusalOf admitOf rangeRefusal pattern rows inRanges inRange wire zig useRefusals useRefusal useWord condition kefTest sumTo mate
 inverse-kef-4 = inverse-small good kef-4 refl refl
+
+-- and as amid an operator, the list standing for itself: the run from 4 to 1
+amid-4 : (n : ℕ) → relabel shape (2 * shape .edges + n) links 4 1 1 ≡ relabelRun shape links 4 1 1
+amid-4 = relabel-amid good links (λ i u. refl) 4 1 1 used-4 used-1 refl

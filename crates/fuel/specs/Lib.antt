@@ -1,5 +1,6 @@
 pub mod Fuel
 pub mod Walks
+pub mod Amid
 pub mod Held
 pub mod Operands
 pub mod Inverse
