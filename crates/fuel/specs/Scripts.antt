@@ -6,26 +6,20 @@ use Prim.Native.Nat.{ℕ, zero, suc, _+_, _≤_}
 use native.Mathlib.Nat.{suc-add}
 use native.Mathlib.Omega.{arith}
 use lib.ListN.{length}
-use borrow.Author.Tests.{lt-ltb, le-ltb}
+use borrow.Author.Tests.{lt-ltb}
 use Rattle.laws.specs.Bools.{split, le?, eqb-same, eqb-other}
 use Rattle.script.specs.RoundTrip.{read-next}
 use Rattle.layout.specs.declared.shape.Shape.{Shape}
 use Rattle.euler.specs.Exec.{limits}
 use Rattle.runs.specs.Run.{State, readAt, runRefusal, stepped, ran, runFrom}
-use Rattle.runs.specs.RunLaws.{admitted-read, run-admitted}
-
--- at the script's end a run stops, whatever its fuel
-at-end : (sh : Shape) (s : List ℕ) (n at done : ℕ) (t : State) → length s ≤ at → runFrom n sh s at done t ≡ ran 0 done at t
-unfolding runFrom
-at-end sh s zero at done t h = refl
-at-end sh s (suc n) at done t h = rw (le-ltb at (length s) h)
+use Rattle.runs.specs.RunLaws.{admitted-read, run-admitted, run-ended}
 
 -- as many steps as bytes are left are as good as more
 run-enough : (sh : Shape) (s : List ℕ) (m n at done : ℕ) (t : State) → length s ≤ at + m → runFrom (m + n) sh s at done t ≡ runFrom m sh s at done t
 unfolding runFrom
-run-enough sh s zero n at done t h = at-end sh s (0 + n) at done t (omega arith)
+run-enough sh s zero n at done t h = run-ended sh s (0 + n) at done t (omega arith)
 run-enough sh s (suc m) n at done t h = ⊎-elim
-    (λ e. at-end sh s (suc m + n) at done t e ∙ sym (at-end sh s (suc m) at done t e))
+    (λ e. run-ended sh s (suc m + n) at done t e ∙ sym (run-ended sh s (suc m) at done t e))
     (λ l. split (runRefusal sh t s at) 0
     (λ z.
     let r = read-next (limits sh) s at (admitted-read sh (t .links) (readAt sh s at) (run-admitted sh t s at z)) in

@@ -14,7 +14,7 @@ use Rattle.script.specs.Operator.{putBytes}
 use Rattle.layout.specs.declared.shape.Shape.{Shape}
 use Rattle.layout.specs.Layout.{shapeOf}
 use Rattle.runs.specs.Run.{State, state, Ran, readAt, inverseBytes, runRefusal, stepped, ran, runFrom, entry, runOf}
-use Rattle.promises.specs.Clauses.{run-none, run-some, run-in, run-out, entry-passed}
+use Rattle.runs.specs.Clauses.{run-none, run-some, run-in, run-out, entry-passed}
 use Rattle.promises.specs.Logging.{put-length, put-live}
 use Rattle.promises.specs.Back.{steps}
 

@@ -17,7 +17,7 @@ use Rattle.euler.specs.Exec.{refusalOf, pointsAfter, inverse}
 use Rattle.validity.specs.Good.{Good}
 use Rattle.runs.specs.Run.{State, Ran, readAt, refusalAt, inverseBytes, runRefusal, stepped, runFrom, runOf, undid, undoFrom}
 use Rattle.promises.specs.RunAll.{leftBy, runAll}
-use Rattle.promises.specs.Clauses.{pick-by, run-none, run-some}
+use Rattle.runs.specs.Clauses.{pick-by, run-none, run-some}
 use Rattle.promises.specs.Reading.{neither, taken}
 use Rattle.promises.specs.Inverses.{inverse-eight}
 use Rattle.promises.specs.Logging.{put-length, put-live, put-rest}

@@ -1,5 +1,4 @@
 pub mod RunAll
-pub mod Clauses
 pub mod Inverses
 pub mod Reading
 pub mod Logging

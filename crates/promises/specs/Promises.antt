@@ -14,7 +14,7 @@ use Rattle.layout.specs.Layout.{shapeOf}
 use Rattle.table.specs.Check.{checkOf}
 use Rattle.runs.specs.Run.{State, Undid, undid, undoFrom, notRun, notUndone, entry, runOf, undoOf}
 use Rattle.promises.specs.RunAll.{runAll, undoneBy}
-use Rattle.promises.specs.Clauses.{run-out, undo-in, undo-out, entry-beyond}
+use Rattle.runs.specs.Clauses.{run-out, undo-in, undo-out, entry-beyond}
 use Rattle.promises.specs.Checked.{checked-good, good-checked, good-entry}
 use Rattle.promises.specs.Again.{withLog, Alike, Same, same-run}
 use Rattle.promises.specs.UndoParts.{counted, onward, undo-counted, undo-add, undo-fewer, undo-full, undo-entered, undo-kept}

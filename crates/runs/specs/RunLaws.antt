@@ -23,6 +23,7 @@ use Rattle.table.specs.declared.check.CheckAnswer.{CheckAnswer}
 use Rattle.table.specs.Check.{checkOf}
 use Rattle.table.specs.CheckLaws.{checked-fits}
 use Rattle.table.specs.SizesLaws.{fits-small}
+use Rattle.runs.specs.Clauses.{run-in, run-out, undo-in, undo-out, entry-beyond, entry-passed}
 use Rattle.runs.specs.Run.{State, state, admitRead, readAt, refusalAt, inverseBytes, runRefusal, stepped, Stepped, stepIs, stepOf, Ran, leaves, ran, runFrom, notRun, entry, runOf, Undid, restores, undid, undoFrom, notUndone, undoOf}
 
 -- what was read is refused, or its operator is
@@ -92,7 +93,7 @@ module _ (sh : Shape) (t : State) (s : List ℕ) (at : ℕ) where
         subst (λ n. (at < n) × (n ≤ length s)) (sym (ap (λ u. u .next) (e ∙ step-taken r))) g
 
 -- past the script's end nothing is done
-run-ended : (sh : Shape) (s : List ℕ) (n at done : ℕ) (t : State) → length s ≤ at → runFrom n sh s at done t ≡ ran 0 done at t
+pub run-ended : (sh : Shape) (s : List ℕ) (n at done : ℕ) (t : State) → length s ≤ at → runFrom n sh s at done t ≡ ran 0 done at t
 unfolding runFrom
 run-ended sh s zero at done t h = refl
 run-ended sh s (suc n) at done t h = rw (le-ltb at (length s) h)
@@ -130,9 +131,9 @@ module _ (sh : Shape) (log : List ℕ) (n at k : ℕ) (x : List ℕ) (p : List �
   unfolding undoFrom
   undo-end h = let z : n ≡ 0 = omega (arith, h) in rw z at rest
 
-  pub undo-out : 0 < n → length log ≤ at → undid 11 k at x p ≡ whole
+  pub undo-past : 0 < n → length log ≤ at → undid 11 k at x p ≡ whole
   unfolding undoFrom
-  undo-out m h = let e : n ≡ suc (n - 1) = omega (arith, m) in rw (e, le-ltb at (length log) h) at rest
+  undo-past m h = let e : n ≡ suc (n - 1) = omega (arith, m) in rw (e, le-ltb at (length log) h) at rest
 
   module _ (m : 0 < n) (h : at < length log) (lim : Limits) (el : lim ≡ limits sh) (rd : ReadAnswer) (er : rd ≡ readOperator lim log at) (a : ℕ) (ea : a ≡ admitRead sh x rd) where
     here : rd ≡ readAt sh log at
@@ -150,36 +151,34 @@ module _ (sh : Shape) (log : List ℕ) (n at k : ℕ) (x : List ℕ) (p : List �
 
 -- the way in: the start is beyond the log, or the check answers
 module _ (x : List ℕ) (p : List ℤ) (log : List ℕ) (start : ℕ) where
-  pub entry-beyond : length log < start → record { refusal = 1; rule = 0 } ≡ entry (state x p log start)
-  unfolding entry
-  entry-beyond h = rw (lt-leb start (length log) h)
+  -- the state as the code holds it
+  abbrev held : State
+  held = state x p log start
 
-  pub entry-checked : start ≤ length log → (a : CheckAnswer) → a ≡ checkOf x p → a ≡ entry (state x p log start)
-  unfolding entry
-  entry-checked h a e = rw (le-leb start (length log) h) e
+  pub enter-beyond : length log < start → record { refusal = 1; rule = 0 } ≡ entry (state x p log start)
+  enter-beyond h = sym (entry-beyond held h)
 
-  -- an entered table has been checked
-  pub entered-checked : entry (state x p log start) .refusal ≡ 0 → checkOf x p .refusal ≡ 0
+  pub enter-checked : start ≤ length log → (a : CheckAnswer) → a ≡ checkOf x p → a ≡ entry (state x p log start)
   unfolding entry
-  entered-checked z = ⊎-elim (λ f. rw f at z) (λ f. let n : _≡_ {A = ℕ} 1 0 = rw f at z in absurd (omega arith)) (ask (leb start (length log)))
+  enter-checked h a e = rw (le-leb start (length log) h) e
 
   module _ (a : CheckAnswer) (e : a ≡ entry (state x p log start)) where
     pub run-refused : (s : List ℕ) → a .refusal ≢ 0 → notRun (a .refusal) (a .rule) (state x p log start) ≡ runOf (state x p log start) s
-    unfolding runOf
-    run-refused s z = rw (← e, ne-eqb (a .refusal) 0 z)
+    run-refused s z = rw e (sym (run-out held s (λ h. z (ap (λ c. c .refusal) e ∙ h))))
 
     pub undo-refused : (n : ℕ) → a .refusal ≢ 0 → notUndone (a .refusal) (a .rule) (state x p log start) ≡ undoOf (state x p log start) n
-    unfolding undoOf
-    undo-refused n z = rw (← e, ne-eqb (a .refusal) 0 z)
+    undo-refused n z = rw e (sym (undo-out held n (λ h. z (ap (λ c. c .refusal) e ∙ h))))
 
     module _ (z : a .refusal ≡ 0) (sh : Shape) (h : sh ≡ shapeOf x) where
+      -- it is let in
+      let-in : entry (state x p log start) .refusal ≡ 0
+      let-in = sym (ap (λ c. c .refusal) e) ∙ z
+
       pub entered-small : Small sh
-      entered-small = rw h (fits-small x p (checked-fits x p (entered-checked (ap (λ c. c .refusal) (sym e) ∙ z))))
+      entered-small = rw h (fits-small x p (checked-fits x p (entry-passed held let-in .1)))
 
       pub run-entered : (s : List ℕ) (r : Ran) → r ≡ runFrom (length s) sh s 0 0 (state x p log start) → r ≡ runOf (state x p log start) s
-      unfolding runOf
-      run-entered s r g = rw (← e, eq-eqb (a .refusal) 0 z, ← h) g
+      run-entered s r g = rw h at g ∙ sym (run-in held s let-in)
 
       pub undo-entered : (n : ℕ) (r : Undid) → r ≡ undoFrom n sh log start 0 x p → r ≡ undoOf (state x p log start) n
-      unfolding undoOf
-      undo-entered n r g = rw (← e, eq-eqb (a .refusal) 0 z, ← h) g
+      undo-entered n r g = rw h at g ∙ sym (undo-in held n let-in)

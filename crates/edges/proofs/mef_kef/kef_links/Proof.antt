@@ -53,7 +53,7 @@ put-loop-requires c κs = search needs
 
 -- src/mef_kef.rt:163:5
 renew-loop-requires : tie.Need-renew-loop-requires
-renew-loop-requires c κs = (omega (arith, c .before .before .before .before .before .before .before .before .before .before .before .before .before .before .before .before .before .before .before .before .half-at2 .ensures .owner-small), omega (arith, c .before .before .before .before .before .before .before .before .before .before .before .before .before .before .before .before .before .rest-of .ensures .1), omega (arith, c .before .before .before .before .before .before .before .before .before .before .before .before .before .before .before .before .before .before .before .before .before .before .half-at .ensures .start-small))
+renew-loop-requires c κs = (omega (arith, c .before .before .before .before .before .before .before .before .before .before .before .before .before .before .before .before .before .before .before .before .half-at2 .ensures .owner-small, c .before .before .before .before .before .before .before .before .before .before .before .before .before .before .before .before .before .before .before .before .before .before .half-at .ensures .owner-small), omega (arith, c .before .before .before .before .before .before .before .before .before .before .before .before .before .before .before .before .before .rest-of .ensures .1), omega (arith, c .before .before .before .before .before .before .before .before .before .before .before .before .before .before .before .before .before .before .before .before .before .before .half-at .ensures .start-small))
 
 -- src/mef_kef.rt:150:1
 same-length : tie.Need-same-length

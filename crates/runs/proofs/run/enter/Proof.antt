@@ -1,4 +1,4 @@
-use Rattle.runs.specs.RunLaws.{entry-beyond, entry-checked}
+use Rattle.runs.specs.RunLaws.{enter-beyond, enter-checked}
 use borrow.Author.Needs.{needs}
 use Rattle.runs.proofs.run.enter.Statement.{statement}
 use Rattle.runs.proofs.run.enter.Tie as tie
@@ -8,7 +8,7 @@ use Rattle.table.proofs.check.check.Reads as check-reads
 
 -- src/run.rt:29:9
 returns : tie.Need-returns
-returns c = entry-beyond _ _ _ _ (c .if1 .taken)
+returns c = enter-beyond _ _ _ _ (c .if1 .taken)
 
 -- src/run.rt:34:5
 check-requires : tie.Need-check-requires
@@ -16,7 +16,7 @@ check-requires c κs = search needs
 
 -- src/run.rt:25:1
 returns-2 : tie.Need-returns-2
-returns-2 c = entry-checked _ _ _ _ (c .before .if1 .left) _ (c .check .ensures)
+returns-2 c = enter-checked _ _ _ _ (c .before .if1 .left) _ (c .check .ensures)
 
 pub enter-spec : {M : Type 1} → statement M
 enter-spec = tie.close (tie.spec returns check-requires returns-2)

@@ -4,7 +4,7 @@ use mathlib.Core.Path.{_≡_, refl}
 use native.Mathlib.Omega.{arith}
 use lib.ListN.{length}
 use Rattle.runs.specs.Run.{undoFrom}
-use Rattle.runs.specs.RunLaws.{undo-begins, undo-out, undo-stop, undo-turn, undo-end}
+use Rattle.runs.specs.RunLaws.{undo-begins, undo-past, undo-stop, undo-turn, undo-end}
 use Rattle.runs.proofs.undo.undo_all.Statement.{statement}
 use Rattle.runs.proofs.undo.undo_all.Tie as tie
 use Rattle.runs.proofs.undo.undo_all.Reads as reads
@@ -38,7 +38,7 @@ same-length-2 c = search needs
 
 -- src/undo.rt:42:13
 returns : tie.Need-returns Inv-loop μ-loop
-returns c = undo-out _ _ _ _ _ _ _ _ (c .before .before .loop .inv .3) (omega arith) (omega arith)
+returns c = undo-past _ _ _ _ _ _ _ _ (c .before .before .loop .inv .3) (omega arith) (omega arith)
 
 -- src/undo.rt:49:13
 read-within-requires : tie.Need-read-within-requires Inv-loop μ-loop
