@@ -9,6 +9,7 @@ use Rattle.script.specs.Operator.{operatorBytes}
 use Rattle.script.specs.Scripts.{operator-size}
 use Rattle.layout.specs.declared.shape.Shape.{Shape}
 use Rattle.euler.specs.Exec.{rangeRefusal, refusalOf, inverse}
+use Rattle.validity.specs.Accepted.{accepted}
 use Rattle.validity.specs.Good.{Good}
 use Rattle.soundness.specs.Theorems.{all-hold}
 use Rattle.promises.specs.Checked.{good-within}
@@ -26,9 +27,8 @@ pub record SmallOperator (sh : Shape) (i : Operator) : Type 0 where
 -- an accepted operator is
 pub accepted-small : {sh : Shape} {x : List ℕ} {p : List ℤ} → Good sh x p → (o : Operator) → length (o .args) ≡ 8 → refusalOf sh x o ≡ 0 → SmallOperator sh o
 accepted-small {sh} {x} g o len h =
-    let r = in-range sh x o h .0 in
-    let s = operator-size o (range-writable sh (good-within g) o len r) in
-    record { range = r; operands = operands-in-range g o len h; least = s .0; most = s .1 }
+    let s = operator-size o (range-writable (good-within g) o len (accepted sh x o h)) in
+    record { range = in-range sh x o h .0; operands = operands-in-range g o len h; least = s .0; most = s .1 }
 
 -- and so is its inverse, which the table that it leaves accepts
 pub inverse-small : {sh : Shape} {x : List ℕ} {p : List ℤ} → Good sh x p → (o : Operator) → length (o .args) ≡ 8 → refusalOf sh x o ≡ 0

@@ -18,7 +18,8 @@ use Rattle.validity.specs.Good.{Good}
 use Rattle.runs.specs.Run.{State, Ran, readAt, refusalAt, inverseBytes, runRefusal, stepped, runFrom, runOf, undid, undoFrom}
 use Rattle.promises.specs.RunAll.{leftBy, runAll}
 use Rattle.runs.specs.Clauses.{pick-by, run-none, run-some}
-use Rattle.promises.specs.Reading.{neither, taken}
+use Rattle.validity.specs.Accepted.{first-zero}
+use Rattle.promises.specs.Reading.{taken}
 use Rattle.promises.specs.Inverses.{inverse-eight}
 use Rattle.promises.specs.Logging.{put-length, put-live, put-rest}
 use Rattle.promises.specs.Leads.{Leads, none, first, leads-undo}
@@ -51,7 +52,7 @@ pub steps : (sh : Shape) (t : State) (s : List ℕ) (at : ℕ) → runRefusal sh
     → (refusalAt sh (t .links) s at ≡ 0) × (length (inverseBytes sh t (readAt sh s at .op)) ≤ t .start)
 unfolding runRefusal
 steps sh t s at h =
-    let n = neither (refusalAt sh (t .links) s at) _ h in
+    let n = first-zero (refusalAt sh (t .links) s at) _ h in
     (n .0, leb-true _ _ (yes (leb (length (inverseBytes sh t (readAt sh s at .op))) (t .start)) (n .1)))
   where
     yes : (b : Bool) → _≡_ {A = ℕ} (pick b 0 9) 0 → b ≡ true

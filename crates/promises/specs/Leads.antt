@@ -15,6 +15,7 @@ use Rattle.script.specs.Scripts.{operator-size}
 use Rattle.layout.specs.declared.shape.Shape.{Shape}
 use Rattle.euler.specs.Exec.{limits, refusalOf, linksAfter, pointsAfter}
 use Rattle.runs.specs.Run.{admitRead, undid, undoFrom}
+use Rattle.validity.specs.Accepted.{accepted}
 use Rattle.promises.specs.Reading.{in-range, range-writable, written-at}
 use Rattle.promises.specs.Logging.{behind-part}
 
@@ -34,11 +35,11 @@ leads-undo {q₀} v (none ex ep eq) log at k h d =
     let f : at ≡ length log - length q₀ = omega (arith, l, e, h) in
     rw (ex, ep, ← f, add-zero k)
 leads-undo {sh} {x} {p} v (first {n} o rest eq len acc more) log at k h d =
-    let r = in-range sh x o acc in
-    let size = operator-size o (range-writable sh v o len (r .0)) in
+    let b = accepted sh x o acc in
+    let size = operator-size o (range-writable v o len b) in
     let g : drop at log ≡ operatorBytes o ++ rest = d ∙ eq in
     let l = length-drop at log in
     let m : length (drop at log) ≡ length (operatorBytes o) + length rest = ap length g ∙ length-append (operatorBytes o) rest in
     let i = leads-undo v more log (at + length (operatorBytes o)) (k + 1) (omega (arith, l, m, h)) (behind-part log at (operatorBytes o) rest g) in
     let c : k + 1 + n ≡ k + suc n = omega arith in
-    rw (lt-ltb at (length log) (omega (arith, l, m, h, size .0)), written-at sh v o len (r .0) log at rest g, r .1, ← c) i
+    rw (lt-ltb at (length log) (omega (arith, l, m, h, size .0)), written-at v o len b log at rest g, in-range sh x o acc .1, ← c) i

@@ -1,29 +1,23 @@
--- Reading meets executing: an operator that is read from a script or log is in range of the table, and one in range of the table,
+-- Reading meets executing: an operator that is read from a script or log is in range of the table, and one that the table accepts,
 -- written anywhere, is read from there.
 use mathlib.Core.Path.{_≡_, refl, sym, ap, _∙_, subst}
-use mathlib.Core.Bool.{Bool, true, false}
+use mathlib.Core.Bool.{true}
 use mathlib.Core.List.{List, _++_}
-use Prim.Native.Nat.{ℕ, _+_, _≤_}
-use native.Mathlib.Omega.{arith}
-use lib.Dec.{eqb}
+use Prim.Native.Nat.{ℕ, _+_}
 use lib.ListN.{length, drop}
-use borrow.Author.Tests.{eq-eqb, ne-eqb, eqb-false}
-use Rattle.laws.specs.Bools.{pick, split, eqb-same, eqb-other}
+use borrow.Author.Tests.{eq-eqb, ne-eqb}
 use Rattle.script.specs.declared.Operator.{Operator}
 use Rattle.script.specs.declared.ReadAnswer.{ReadAnswer}
 use Rattle.script.specs.Operands.{pattern, widest, largests, inRanges, unwire}
 use Rattle.script.specs.Operator.{numbersOf, operatorBytes, operatorRefusal}
-use Rattle.script.specs.Ranges.{Within, within-largest, ranges-wider, eight, code-between}
+use Rattle.script.specs.Ranges.{Within, within-largest, ranges-wider, eight}
 use Rattle.script.specs.OperandTrip.{operands-length, wires-unwires, each-length}
 use Rattle.script.specs.Accepted.{operatorIs, accepted, read-accepted}
 use Rattle.script.specs.RoundTrip.{Writable, operator-written}
 use Rattle.layout.specs.declared.shape.Shape.{Shape}
 use Rattle.euler.specs.Exec.{limits, rangeRefusal, admitOf, refusalOf}
+use Rattle.validity.specs.Accepted.{first-zero, Accepted}
 use Rattle.runs.specs.Run.{readAt, admitRead, refusalAt}
-
--- of two refusals, one behind the other, neither stands
-pub neither : (a r : ℕ) → pick (eqb a 0) r a ≡ 0 → (a ≡ 0) × (r ≡ 0)
-neither a r h = split a 0 (λ e. (e, rw (eqb-same e) at h)) (λ f. absurd (f (rw (eqb-other f) at h)))
 
 -- ---- what is read is in range
 
@@ -59,62 +53,36 @@ pub record Taken (sh : Shape) (x s : List ℕ) (at : ℕ) : Type 0 where
 pub taken : (sh : Shape) (x s : List ℕ) (at : ℕ) → refusalAt sh x s at ≡ 0 → Taken sh x s at
 unfolding admitRead refusalOf
 taken sh x s at h =
-    let n = neither (readAt sh s at .refusal) (admitOf sh x (readAt sh s at .op)) h in
+    let n = first-zero (readAt sh s at .refusal) (admitOf sh x (readAt sh s at .op)) h in
     record {
       read = n .0;
       eight = read-eight sh s at (n .0);
       admitted = rw (read-range sh s at (n .0)) (n .1);
     }
 
--- ---- what is in range is read where it was written
+-- ---- what is accepted is read where it was written
 
 -- the two parts of an acceptance
 pub in-range : (sh : Shape) (x : List ℕ) (o : Operator) → refusalOf sh x o ≡ 0 → (rangeRefusal sh o ≡ 0) × (admitOf sh x o ≡ 0)
 unfolding refusalOf
-in-range sh x o h = neither (rangeRefusal sh o) (admitOf sh x o) h
-
--- three tests that give no refusal
-tests : (a b t : Bool) → _≡_ {A = ℕ} (pick a 4 (pick b (pick t 0 5) 5)) 0 → (a ≡ false) × (b ≡ true) × (t ≡ true)
-tests true b t e = absurd (omega arith)
-tests false true true e = (refl, refl, refl)
-tests false true false e = absurd (omega arith)
-tests false false t e = absurd (omega arith)
-
--- what it says to be in range of a table
-record Ranged (sh : Shape) (o : Operator) : Type 0 where
-  code : eqb (pattern (o .code) .count) 0 ≡ false
-  count : eqb (o .count) (pattern (o .code) .count) ≡ true
-  ranges : inRanges (largests (limits sh)) (pattern (o .code) .kinds) (numbersOf o) ≡ true
-
--- from the refusal 0
-ranged : (sh : Shape) (o : Operator) → rangeRefusal sh o ≡ 0 → Ranged sh o
-unfolding rangeRefusal
-ranged sh o h =
-    let t = tests (eqb (pattern (o .code) .count) 0) (eqb (o .count) (pattern (o .code) .count)) (inRanges (largests (limits sh)) (pattern (o .code) .kinds) (numbersOf o)) h in
-    record { code = t .0; count = t .1; ranges = t .2 }
-
--- the code of an accepted operator is 1 to 13
-pub accepted-code : (sh : Shape) (x : List ℕ) (o : Operator) → refusalOf sh x o ≡ 0 → (1 ≤ o .code) × (o .code ≤ 13)
-accepted-code sh x o h = code-between (o .code) (eqb-false _ 0 (ranged sh o (in-range sh x o h .0) .code))
+in-range sh x o h = first-zero (rangeRefusal sh o) (admitOf sh x o) h
 
 -- two answers of the same operator and the same place behind it
 same-answer : {m n : ℕ} {i o : Operator} → m ≡ n → i ≡ o → _≡_ {A = ReadAnswer} (record { refusal = 0; next = m; op = i }) (record { refusal = 0; next = n; op = o })
 same-answer e f = rw (e, f)
 
-module _ (sh : Shape) (v : Within (limits sh)) (o : Operator) (len : length (o .args) ≡ 8) (h : rangeRefusal sh o ≡ 0) where
-  -- an operator in range of a table can be written
+module _ {sh : Shape} {x : List ℕ} (v : Within (limits sh)) (o : Operator) (len : length (o .args) ≡ 8) (b : Accepted sh x o) where
+  -- an operator that a table accepts can be written
   pub range-writable : Writable o
   unfolding operatorRefusal
-  range-writable =
-      let r = ranged sh o h in
-      record {
-        eight-args = len;
-        not-refused = rw (
-          r .code,
-          r .count,
-          ranges-wider (largests (limits sh)) (largests widest) (within-largest (limits sh) v) (pattern (o .code) .kinds) (numbersOf o) (r .ranges),
-        );
-      }
+  range-writable = record {
+    eight-args = len;
+    not-refused = rw (
+      b .code,
+      b .count,
+      ranges-wider (largests (limits sh)) (largests widest) (within-largest (limits sh) v) (pattern (o .code) .kinds) (numbersOf o) (b .range),
+    );
+  }
 
   -- written anywhere it is read from there, within the limits of the table, and `next` is the place behind its bytes
   pub written-at : (s : List ℕ) (at : ℕ) (q : List ℕ) → drop at s ≡ operatorBytes o ++ q
@@ -124,7 +92,7 @@ module _ (sh : Shape) (v : Within (limits sh)) (o : Operator) (len : length (o .
       let a = accepted widest s at (ap (λ (r : ReadAnswer). r .refusal) e) in
       let same : o ≡ operatorIs (a .code) (a .numbers) = sym (ap (λ (r : ReadAnswer). r .op) e) ∙ a .op-is in
       let l = operands-length (pattern (a .code) .kinds) s (a .from) (a .numbers) _ (a .read) in
-      let f = subst (λ (i : Operator). inRanges (largests (limits sh)) (pattern (i .code) .kinds) (numbersOf i) ≡ true) same (ranged sh o h .ranges) in
+      let f = subst (λ (i : Operator). inRanges (largests (limits sh)) (pattern (i .code) .kinds) (numbersOf i) ≡ true) same (b .range) in
       let g : inRanges (largests (limits sh)) (pattern (a .code) .kinds) (a .numbers) ≡ true =
       rw (wires-unwires (pattern (a .code) .kinds) (a .numbers) l) at f in
       read-accepted (limits sh) s at (a .code) (a .from) (a .numbers) _ (a .code-read) (a .is-code) (a .read) g

@@ -25,7 +25,8 @@ use Rattle.validity.specs.Sound.{In}
 
 -- ---- the refusals, one after the other
 
-first-zero : (a r : ℕ) → pick (eqb a 0) r a ≡ 0 → (a ≡ 0) × (r ≡ 0)
+-- of two refusals, one behind the other, neither stands
+pub first-zero : (a r : ℕ) → pick (eqb a 0) r a ≡ 0 → (a ≡ 0) × (r ≡ 0)
 first-zero a r h = split a 0 (λ e. (e, rw (eqb-same e) at h)) (λ f. absurd (f (rw (eqb-other f) at h)))
 
 pick-no : (b : Bool) (n r : ℕ) → pick b (suc n) r ≡ 0 → (b ≡ false) × (r ≡ 0)
