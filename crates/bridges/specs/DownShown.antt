@@ -1,12 +1,12 @@
 -- kemr on the list: what it leaves shows the columns without the bridge.
 use mathlib.Core.Path.{_≡_, refl, sym, ap, _∙_}
-use mathlib.Core.Logic.{_≢_, ⊎-elim}
+use mathlib.Core.Logic.{_≢_, _⊎_, inl, inr, ⊎-elim}
 use mathlib.Core.List.{List}
-use Prim.Native.Nat.{ℕ, _*_}
+use Prim.Native.Nat.{ℕ, _*_, _≤_}
 use native.Mathlib.Omega.{arith}
 use lib.Dec.{eqb}
 use lib.IntN.{ℤ}
-use Rattle.laws.specs.Bools.{pick, eqb-same, eqb-other}
+use Rattle.laws.specs.Bools.{pick, split, eqb-same, eqb-other}
 use Rattle.laws.specs.Search.{least-ext}
 use Rattle.laws.specs.Permutations.{iter-in}
 use Rattle.laws.specs.Cycles.{Cycles}
@@ -20,6 +20,7 @@ use Rattle.validity.specs.Sound.{In, HalfUsed, firstOf, Sound}
 use Rattle.validity.specs.Labels.{label-none}
 use Rattle.validity.specs.Names.{lone-unnamed}
 use Rattle.validity.specs.Walking.{runColumns, shows-relabel}
+use Rattle.validity.specs.Low.{first-low}
 use Rattle.validity.specs.Shown.{withFirst, shows-no-edge, shows-first, shows-isolated}
 use Rattle.validity.specs.Good.{own, Good, good-shows, good-after}
 use Rattle.bridges.specs.Bridge.{Corner, Bridged, off-k, off-a, new-a}
@@ -86,23 +87,33 @@ module _ {sh : Shape} {x : List ℕ} {p : List ℤ} (g : Good sh x p) {k l2 : �
   no-first : (m : ℕ) → In (sh .loops) m → c Isolated m ≢ 0 → firstOf sh c m ≡ 0
   no-first m i h = label-none (2 * sh .edges) (c Loop) m (lone-unnamed kemr-sound m i h)
 
+  -- what names the ring or the loop afterwards named the loop before
+  from : (m : ℕ) → In (sh .loops) m → (m ≡ l2) ⊎ (m ≡ l) → (i : ℕ) → In n i → c Loop i ≡ m → d First l ≤ i
+  from m r w i j e =
+      let u : HalfUsed sh c i = (j .0, j .1, λ z. omega (arith, r .0, sym e ∙ kemr-sound .half-free i j z .loop)) in
+      let was : d Loop i ≡ l = split (c Loop i) l2 (b .loop-2 i j)
+      (λ z. b .loop-o i (off-k b i u) (off-a b i u) z ∙ ⊎-elim (λ q. absurd (z (e ∙ q))) (λ q. e ∙ q) w) in
+      first-low (g .sound) l i (b .ends .loop-in .0) j was .1
+
   -- a loop with the corner at N gets its first, or is isolated at u
   renewed : {y : List ℕ} {e : Columns} (m k′ b′ u P N : ℕ) → Shows sh y e → Cycles (2 * sh .edges) (HalfUsed sh c) (e Next) (e Loop) → ((i : ℕ) → e Loop i ≡ c Loop i)
-      → Corner sh c m k′ b′ u P N → In (sh .loops) m → u ≢ 0 → ((i : ℕ) → HalfUsed sh c i → i ≢ k′) → Shows sh (renew sh y m (pick (eqb N k′) 0 N) u) (withFirst e m (firstOf sh e m) (pick (eqb N k′) u 0))
-  renewed {e = e} m k′ b′ u P N s cy el q i h off = ⊎-elim
+      → Corner sh c m k′ b′ u P N → In (sh .loops) m → u ≢ 0 → ((i : ℕ) → HalfUsed sh c i → i ≢ k′) → (m ≡ l2) ⊎ (m ≡ l)
+      → Shows sh (renew sh y m (own sh x First (own sh x Loop k)) (pick (eqb N k′) 0 N) u) (withFirst e m (firstOf sh e m) (pick (eqb N k′) u 0))
+  renewed {e = e} m k′ b′ u P N s cy el q i h off which = ⊎-elim
       (λ r.
       let f : firstOf sh e m ≡ 0 = least-ext (2 * sh .edges) _ _ (λ j v w. ap (λ y. eqb y m) (el j)) ∙ no-first m i (λ y. h (sym (r .isolated) ∙ y)) in
-      rw (eqb-same (r .after), f) (shows-isolated s m u i))
-      (λ r. rw (eqb-other (off N (r .after))) (shows-first {U = HalfUsed sh c} s m N u i cy (r .after) (el N ∙ r .loop)
-      (λ j v w. (v .0, v .1, λ y. omega (arith, i .0, sym w ∙ el j ∙ kemr-sound .half-free j v y .loop))))) q
+      rw (eqb-same (r .after), f) (shows-isolated s m (d First l) u i))
+      (λ r. rw (eqb-other (off N (r .after))) (shows-first {U = HalfUsed sh c} s m (d First l) N u i cy (r .after) (el N ∙ r .loop)
+      (λ j v w. (v .0, v .1, λ y. omega (arith, i .0, sym w ∙ el j ∙ kemr-sound .half-free j v y .loop)))
+      (λ j v w. from m i which j v (sym (el j) ∙ w)))) q
 
   -- the list shows these columns
   pub kemr-shows : Shows sh (kemrList sh x k l2) (kemrColumns sh (own sh x) k l2 (walk (g .sound) o .0))
   kemr-shows =
       let cy = kemr-sound .rules .loops in
       renewed l k a (d Start k) (d Prev k) (d Next a)
-      (renewed l2 a k (d Start a) (d Prev a) (d Next k) cut-shows cy (λ i. refl) (b .ends .at-2) (o .ring-in) (λ e. omega (arith, b .ends .in-2 .0, e)) (off-a b))
-      cy (λ i. refl) (b .ends .at-1) (b .ends .loop-in) (λ e. omega (arith, b .ends .in-1 .0, e)) (off-k b)
+      (renewed l2 a k (d Start a) (d Prev a) (d Next k) cut-shows cy (λ i. refl) (b .ends .at-2) (o .ring-in) (λ e. omega (arith, b .ends .in-2 .0, e)) (off-a b) (inl refl))
+      cy (λ i. refl) (b .ends .at-1) (b .ends .loop-in) (λ e. omega (arith, b .ends .in-1 .0, e)) (off-k b) (inr refl)
 
   -- the table is good afterwards
   pub kemr-good : Good sh (kemrList sh x k l2) p

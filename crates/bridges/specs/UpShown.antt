@@ -11,12 +11,13 @@ use Rattle.laws.specs.Permutations.{iter, iter-in, inj}
 use Rattle.laws.specs.Cycles.{forwards}
 use Rattle.layout.specs.declared.shape.Shape.{Shape}
 use Rattle.layout.specs.Mate.{mate}
-use Rattle.euler.specs.Surgery.{edgeIn, relabelRun}
+use Rattle.euler.specs.Surgery.{edgeIn, relabelRun, lower}
 use Rattle.validity.specs.Fields.{Field, Capacity, SolidUsed, Solid, Outer, Face, First, Isolated, Start, Loop, Next, Prev, VertexUsed, Columns, capOf}
 use Rattle.validity.specs.Cells.{Shows, shows-put, shows-agree}
 use Rattle.validity.specs.Sound.{In, HalfUsed, Sound}
 use Rattle.validity.specs.Names.{lone-unnamed}
 use Rattle.validity.specs.Walking.{Steps, runColumns, shows-relabel, run-met, run-off, run-other}
+use Rattle.validity.specs.Low.{lower-one, lower-other, lower-new, first-low}
 use Rattle.validity.specs.Shown.{withEdge, shows-edge, shows-first}
 use Rattle.validity.specs.Good.{own, Good, good-shows, good-after}
 use Rattle.bridges.specs.Bridge.{Corner, Bridged, new-k, new-a, Ends}
@@ -128,6 +129,14 @@ module _ {sh : Shape} {x : List ℕ} {p : List ℤ} (g : Good sh x p) {k l l2 u1
   run-agree Prev i h = run-other e₀ (run .0) (d Next k) l Prev refl i
   run-agree VertexUsed i h = run-other e₀ (run .0) (d Next k) l VertexUsed refl i
 
+  -- where the first of l is looked for: what names l is new, or named l or l2 before
+  from : (i : ℕ) → In n i → d Loop i ≡ l → lower (c First l) (lower (c First l2) (lower k a)) ≤ i
+  from i j e = split (c Loop i) l
+      (λ z. let f = first-low (g .sound) l i (o .loop-in .0) j z in lower-one (c First l) _ i (f .0) (f .1))
+      (λ z. lower-other (c First l) _ i (lower-new (c First l2) k a i (o .half-in .0) (λ f h. split (c Loop i) l2
+      (λ y. first-low (g .sound) l2 i (o .ring-in .0) j y)
+      (λ y. absurd (z (sym (b .loop-o i f h y) ∙ e))))))
+
   -- the list shows these columns
   pub mekr-shows : Shows sh (mekrList sh x k l l2 u1 P1 N1 u2 P2 N2) (mekrColumns sh (own sh x) k l l2 u1 P1 N1 u2 P2 N2)
   mekr-shows =
@@ -141,8 +150,8 @@ module _ {sh : Shape} {x : List ℕ} {p : List ℤ} (g : Good sh x p) {k l l2 u1
       let s3 : Shows sh (relabelRun sh (edgeIn sh x k u1 l N2 P1 u2 l N1 P2) N2 a l) (withLoops e₀ (joinedLoops c k l l2)) = subst (λ z. Shows sh (relabelRun sh (edgeIn sh x k u1 l N2 P1 u2 l N1 P2) z a l) (withLoops e₀ (joinedLoops c k l l2))) (b .next-k) (shows-agree s2 run-agree) in
       let r = o .ring-in in
       let s4 = shows-put (shows-put (shows-put s3 Face l2 0 (r .0) (r .1)) First l2 0 (r .0) (r .1)) Isolated l2 0 (r .0) (r .1) in
-      shows-first {U = HalfUsed sh d} s4 l k 0 (o .loop-in) (mekr-sound .rules .loops) (new-k b) (b .loop-k)
-      (λ i j e. (j .0, j .1, λ q. omega (arith, o .loop-in .0, sym e ∙ mekr-sound .half-free i j q .loop)))
+      shows-first {U = HalfUsed sh d} s4 l (lower (c First l) (lower (c First l2) (lower k a))) k 0 (o .loop-in) (mekr-sound .rules .loops) (new-k b) (b .loop-k)
+      (λ i j e. (j .0, j .1, λ q. omega (arith, o .loop-in .0, sym e ∙ mekr-sound .half-free i j q .loop))) from
 
   -- the table is good afterwards
   pub mekr-good : Good sh (mekrList sh x k l l2 u1 P1 N1 u2 P2 N2) p

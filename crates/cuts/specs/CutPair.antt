@@ -26,7 +26,7 @@ module _ {sh : Shape} {x : List ℕ} {p : List ℤ} (g : Good sh x p) {d : Colum
 
   -- shows the columns with the edge
   y-shows : Shows sh y d
-  y-shows = cut-shows k t (good-shows g)
+  y-shows = cut-shows k t (good-shows g) (g .sound)
 
   -- a good table stays good
   pub mef-kept : Kept sh x p (mefAt q)
@@ -69,7 +69,7 @@ module _ {sh : Shape} {y : List ℕ} {p : List ℤ} (g : Good sh y p) {c : Colum
       let ei = kef-inverse k s (g .sound) (good-shows g) (g .capacities) p in
       record {
         accepted = rw (el, ei) (mef-accepted k (g .sound) x-shows (g .capacities) s);
-        links = rw (el, ei) (mef-links k (g .sound) x-shows (g .capacities) s ∙ shows-ext (cut-shows k (g .sound) x-shows) (good-shows g) (λ F n i j. refl));
+        links = rw (el, ei) (mef-links k (g .sound) x-shows (g .capacities) s ∙ shows-ext (cut-shows k (g .sound) x-shows s) (good-shows g) (λ F n i j. refl));
         points = rw (el, ep, ei) (mef-points sh x p (q .l) (restOf q) (endOf q) (edgeOf (q .b)) (q .f) (q .m) (wayBack q));
         again = rw (el, ep, ei) (mef-inverse k (g .sound) x-shows (g .capacities) s p);
       }

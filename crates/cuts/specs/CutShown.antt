@@ -8,12 +8,13 @@ use lib.IntN.{ℤ}
 use Rattle.laws.specs.Bools.{split}
 use Rattle.laws.specs.Update.{upd, upd-at, upd-off}
 use Rattle.layout.specs.declared.shape.Shape.{Shape}
-use Rattle.layout.specs.Layout.{faceSolid, loopFace}
-use Rattle.euler.specs.Surgery.{edgeIn, relabelRun, putLoop, putFace, renew}
+use Rattle.layout.specs.Layout.{faceSolid, loopFace, loopFirst}
+use Rattle.euler.specs.Surgery.{edgeIn, relabelRun, putLoop, putFace, lower, renew}
 use Rattle.validity.specs.Fields.{Field, Capacity, SolidUsed, Solid, Outer, Face, First, Isolated, Start, Loop, Next, Prev, VertexUsed, Columns, capOf, change}
 use Rattle.validity.specs.Cells.{Shows, shows-put, shows-agree}
 use Rattle.validity.specs.EdgeIn.{Halves}
 use Rattle.validity.specs.Sound.{In, halves, HalfUsed, firstOf, Sound}
+use Rattle.validity.specs.Low.{lower-new, first-low}
 use Rattle.validity.specs.Shown.{withEdge, withFirst, shows-edge, shows-first}
 use Rattle.cuts.specs.Cut.{Spot, Cut, used-a, used-b, around}
 use Rattle.cuts.specs.Round.{withHalves, names-new, roundColumns, shows-round, round-other, round-in, round-off}
@@ -136,19 +137,33 @@ module _ {sh : Shape} {p : List ℤ} {c d : Columns} {q : Spot} (k : Cut sh c d 
 
   -- the list after mef
   abbrev pub cutList : List ℕ
-  cutList = renew sh (renew sh (putFace sh (putLoop sh z2 (q .m) (q .f) 0 0) (q .f) (faceSolid sh x (loopFace sh x (q .l))) (q .m)) (q .l) (q .a) 0) (q .m) (q .b) 0
+  cutList =
+      renew sh
+      (renew sh (putFace sh (putLoop sh z2 (q .m) (q .f) 0 0) (q .f) (faceSolid sh x (loopFace sh x (q .l))) (q .m))
+      (q .l) (lower (loopFirst sh x (q .l)) (lower (q .a) (q .b))) (q .a) 0)
+      (q .m) (lower (loopFirst sh x (q .l)) (lower (q .a) (q .b))) (q .b) 0
 
   -- shows the columns with the edge
-  pub cut-shows : Shows sh cutList d
-  cut-shows = rw solid-read (
+  pub cut-shows : Sound sh p c → Shows sh cutList d
+  cut-shows a = rw (solid-read, s .at First (q .l) (k .l-in .1)) (
+      let low = lower (c First (q .l)) (lower (q .a) (q .b)) in
       let mi = k .m-in in
       let fi = k .f-in in
       let s3 = shows-put (shows-put (shows-put shows-run Face (q .m) (q .f) (mi .0) (mi .1)) First (q .m) 0 (mi .0) (mi .1)) Isolated (q .m) 0 (mi .0) (mi .1) in
       let s4 = shows-put (shows-put s3 Solid (q .f) (c Solid (c Face (q .l))) (fi .0) (fi .1)) Outer (q .f) (q .m) (fi .0) (fi .1) in
-      let s5 = shows-first {U = HalfUsed sh d} s4 (q .l) (q .a) 0 (k .l-in) (t .rules .loops) (used-a k) (k .loop-a) (names (q .l) (k .l-in)) in
-      let s6 = shows-first {U = HalfUsed sh d} s5 (q .m) (q .b) 0 mi (t .rules .loops) (used-b k) (k .loop-b) (names (q .m) mi) in
+      let s5 = shows-first {U = HalfUsed sh d} s4 (q .l) low (q .a) 0 (k .l-in) (t .rules .loops) (used-a k) (k .loop-a) (names (q .l) (k .l-in)) (low-l a) in
+      let s6 = shows-first {U = HalfUsed sh d} s5 (q .m) low (q .b) 0 mi (t .rules .loops) (used-b k) (k .loop-b) (names (q .m) mi) (low-m a) in
       shows-agree s6 (λ F i h. last F i))
     where
+      -- where l's first is looked for
+      low-l : Sound sh p c → (i : ℕ) → In n i → d Loop i ≡ q .l → lower (c First (q .l)) (lower (q .a) (q .b)) ≤ i
+      low-l a i j e = lower-new (c First (q .l)) (q .a) (q .b) i (k .a-in .0)
+          (λ f g. first-low a (q .l) i (k .l-in .0) j (sym (k .loop-else i (j .1) f (λ z. k .l-m (sym e ∙ z))) ∙ e))
+
+      -- and m's
+      low-m : Sound sh p c → (i : ℕ) → In n i → d Loop i ≡ q .m → lower (c First (q .l)) (lower (q .a) (q .b)) ≤ i
+      low-m a i j e = lower-new (c First (q .l)) (q .a) (q .b) i (k .a-in .0) (λ f g. first-low a (q .l) i (k .l-in .0) j (k .loop-new i (j .1) g e))
+
       -- the first of l in d
       first-l : firstOf sh d (q .l) ≡ d First (q .l)
       first-l = sym (t .loop (q .l) (k .l-in) (λ z. k .l-used (sym (k .face-else (q .l) (k .l-m)) ∙ z)) .first)

@@ -9,11 +9,13 @@ use lib.IntN.{ℤ}
 use Rattle.laws.specs.Bools.{pick, split, eqb-same, eqb-other}
 use Rattle.laws.specs.Update.{upd, upd-at, upd-off}
 use Rattle.layout.specs.declared.shape.Shape.{Shape}
-use Rattle.euler.specs.Surgery.{edgeOut, relabelRun, putLoop, putFace, renew}
+use Rattle.layout.specs.Layout.{loopFirst}
+use Rattle.euler.specs.Surgery.{edgeOut, relabelRun, putLoop, putFace, lower, renew}
 use Rattle.validity.specs.Fields.{Field, Capacity, SolidUsed, Solid, Outer, Face, First, Isolated, Start, Loop, Next, Prev, VertexUsed, Columns, capOf, change}
 use Rattle.validity.specs.Cells.{Shows, shows-put, shows-agree, upd-near}
 use Rattle.validity.specs.Sound.{In, halves, HalfUsed, firstOf, Sound}
 use Rattle.validity.specs.Names.{lone-used}
+use Rattle.validity.specs.Low.{lower-one, lower-other, first-low}
 use Rattle.validity.specs.Shown.{withoutEdge, withFirst, shows-no-edge, shows-first, shows-isolated}
 use Rattle.cuts.specs.Cut.{Spot, Near, both, right, left, pair, Cut, off-a, off-b, used-b, around}
 use Rattle.cuts.specs.Round.{withHalves, names-new, roundColumns, shows-round, round-other, round-in, round-off}
@@ -179,17 +181,33 @@ module _ {sh : Shape} {p : List ℤ} {c d : Columns} {q : Spot} (k : Cut sh c d 
   first-l : c First (q .l) ≡ firstOf sh c (q .l)
   first-l = s .loop (q .l) (k .l-in) (k .l-used) .first
 
+  -- where l's first is looked for
+  abbrev low : ℕ
+  low = lower (loopFirst sh x (q .m)) (loopFirst sh x (q .l))
+
+  -- a half-edge in use that names a loop of d is not below that one's first
+  first-d : (m i : ℕ) → In (sh .loops) m → In n i → d Loop i ≡ m → (loopFirst sh x m ≢ 0) × (loopFirst sh x m ≤ i)
+  first-d m i r j e = rw (y .at First m (r .1)) (first-low t m i (r .0) j e)
+
+  -- what names l in c named l or m in d
+  from : (i : ℕ) → In n i → c Loop i ≡ q .l → lower (loopFirst sh x (q .m)) (loopFirst sh x (q .l)) ≤ i
+  from i j e =
+      let w : HalfUsed sh c i = (j .0, j .1, λ r. omega (arith, k .l-in .0, sym e ∙ s .half-free i j r .loop)) in
+      split (d Loop i) (q .m)
+      (λ z. let f = first-d (q .m) i (k .m-in) j z in lower-one _ _ i (f .0) (f .1))
+      (λ z. lower-other (loopFirst sh x (q .m)) _ i (first-d (q .l) i (k .l-in) j (k .loop-else i (j .1) (off-a k i w) z ∙ e) .1))
+
   -- first and isolated vertex of l become c's
-  renewed : (h : ℕ) → HalfUsed sh c h → c Loop h ≡ q .l → c Isolated (q .l) ≡ 0 → Shows sh (renew sh z3 (q .l) h (q .v)) (withFirst e3 (q .l) (c First (q .l)) (c Isolated (q .l)))
-  renewed h w e z = rw (first-l, z) (shows-first {U = HalfUsed sh c} shows-records (q .l) h (q .v) (k .l-in) (s .rules .loops) w e
-      (λ i j g. (j .0, j .1, λ r. omega (arith, k .l-in .0, sym g ∙ s .half-free i j r .loop))))
+  renewed : (h : ℕ) → HalfUsed sh c h → c Loop h ≡ q .l → c Isolated (q .l) ≡ 0 → Shows sh (renew sh z3 (q .l) low h (q .v)) (withFirst e3 (q .l) (c First (q .l)) (c Isolated (q .l)))
+  renewed h w e z = rw (first-l, z) (shows-first {U = HalfUsed sh c} shows-records (q .l) low h (q .v) (k .l-in) (s .rules .loops) w e
+      (λ i j g. (j .0, j .1, λ r. omega (arith, k .l-in .0, sym g ∙ s .half-free i j r .loop))) from)
 
   -- the same for an equal half-edge
-  at : {i j : ℕ} → i ≡ j → Shows sh (renew sh z3 (q .l) j (q .v)) (withFirst e3 (q .l) (c First (q .l)) (c Isolated (q .l))) → Shows sh (renew sh z3 (q .l) i (q .v)) (withFirst e3 (q .l) (c First (q .l)) (c Isolated (q .l)))
-  at e = subst (λ i. Shows sh (renew sh z3 (q .l) i (q .v)) (withFirst e3 (q .l) (c First (q .l)) (c Isolated (q .l)))) (sym e)
+  at : {i j : ℕ} → i ≡ j → Shows sh (renew sh z3 (q .l) low j (q .v)) (withFirst e3 (q .l) (c First (q .l)) (c Isolated (q .l))) → Shows sh (renew sh z3 (q .l) low i (q .v)) (withFirst e3 (q .l) (c First (q .l)) (c Isolated (q .l)))
+  at e = subst (λ i. Shows sh (renew sh z3 (q .l) low i (q .v)) (withFirst e3 (q .l) (c First (q .l)) (c Isolated (q .l)))) (sym e)
 
   -- in each case
-  renew-l : Near sh c q → Shows sh (renew sh z3 (q .l) (restOf q) (q .v)) (withFirst e3 (q .l) (c First (q .l)) (c Isolated (q .l)))
+  renew-l : Near sh c q → Shows sh (renew sh z3 (q .l) low (restOf q) (q .v)) (withFirst e3 (q .l) (c First (q .l)) (c Isolated (q .l)))
   renew-l (both o) =
       let e : restOf q ≡ q .M = rw (eqb-other (off-b k (q .M) (o .M-in))) in
       at e (renewed (q .M) (o .M-in) (ap (c Loop) (sym (o .next-P)) ∙ s .rules .loops .keeps (q .P) (o .P-in) ∙ o .loop-P) (o .isolated))
@@ -202,11 +220,11 @@ module _ {sh : Shape} {p : List ℤ} {c d : Columns} {q : Spot} (k : Cut sh c d 
   renew-l (pair o) =
       let e : restOf q ≡ 0 = rw (eqb-same (o .M-b), eqb-same (o .N-a)) in
       let r : c First (q .l) ≡ 0 = lone-used s (q .l) (k .l-in) (λ g. k .u-some (sym (o .isolated) ∙ g)) .0 in
-      at e (rw (r, o .isolated ∙ o .start) (shows-isolated shows-records (q .l) (q .v) (k .l-in)))
+      at e (rw (r, o .isolated ∙ o .start) (shows-isolated shows-records (q .l) low (q .v) (k .l-in)))
 
   -- the list after kef
   abbrev pub mendList : List ℕ
-  mendList = renew sh z3 (q .l) (restOf q) (q .v)
+  mendList = renew sh z3 (q .l) (lower (loopFirst sh x (q .m)) (loopFirst sh x (q .l))) (restOf q) (q .v)
 
   -- shows the columns without the edge
   pub mend-shows : Shows sh mendList c

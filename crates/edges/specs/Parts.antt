@@ -28,8 +28,8 @@ unfoldable pub withThree : Operator → ℕ → ℕ → ℕ → ℕ → Operator
 withThree op i a b c = withNumber (withNumber (withNumber op i a) (i + 1) b) (i + 2) c
 
 -- the loops l and l′ on the two sides of k's edge have their firsts anew
-unfoldable pub renewSides : Shape → List ℕ → ℕ → ℕ → ℕ → List ℕ
-renewSides sh x l l′ k = renew sh (renew sh x l k 0) l′ (mate k) 0
+unfoldable pub renewSides : Shape → List ℕ → ℕ → ℕ → ℕ → ℕ → ℕ → List ℕ
+renewSides sh x l low l′ low′ k = renew sh (renew sh x l low k 0) l′ low′ (mate k) 0
 
 -- both halves of n's edge cleared
 unfoldable pub clearEdge : Shape → List ℕ → ℕ → List ℕ

@@ -13,9 +13,11 @@ use euler::records::put_loop;
 use euler::records::way_of;
 use euler::surgery::edge_in;
 use euler::surgery::edge_out;
+use euler::walks::lower;
 use euler::walks::relabel_run;
 use euler::walks::renew_loop;
 use layout::columns::loop_face;
+use layout::columns::loop_first;
 use layout::columns::loop_of;
 use layout::columns::prev_of;
 use layout::mates::edge_of;
@@ -48,11 +50,12 @@ pub fn kemr_links(links: &mut [u16], sh: Shape, k: usize, l2: usize)
     let f = loop_face(links, sh, a.owner);
     let ring = choose(a.next == m, 0, a.next);
     let rest = choose(b.next == k, 0, b.next);
+    let low = loop_first(links, sh, a.owner);
     relabel_run(links, sh, a.next, m, l2);
     edge_out(links, sh, k, a.prev, b.next, b.prev, a.next);
     put_loop(links, sh, l2, f, 0, 0);
-    renew_loop(links, sh, l2, ring, b.start);
-    renew_loop(links, sh, a.owner, rest, a.start);
+    renew_loop(links, sh, l2, low, ring, b.start);
+    renew_loop(links, sh, a.owner, low, rest, a.start);
 }
 
 pub fn kemr_inverse(links: &[u16], sh: Shape, k: usize, l2: usize) -> Operator
@@ -115,10 +118,13 @@ pub fn mekr_links(links: &mut [u16], sh: Shape, l: usize, h1: usize, l2: usize, 
 {
     let m = mate_of(k);
     let from = choose(h2 == 0, m, h2);
+    let first = loop_first(links, sh, l);
+    let second = loop_first(links, sh, l2);
+    let low = lower(first, lower(second, lower(k, m)));
     mekr_edge(links, sh, l, h1, l2, h2, k);
     relabel_run(links, sh, from, m, l);
     put_loop(links, sh, l2, 0, 0, 0);
-    renew_loop(links, sh, l, k, 0);
+    renew_loop(links, sh, l, low, k, 0);
 }
 
 pub fn mekr_inverse(k: usize, l2: usize) -> Operator

@@ -16,10 +16,12 @@ use euler::records::put_loop;
 use euler::records::way_of;
 use euler::surgery::edge_in;
 use euler::surgery::edge_out;
+use euler::walks::lower;
 use euler::walks::relabel_run;
 use euler::walks::renew_loop;
 use layout::columns::face_solid;
 use layout::columns::loop_face;
+use layout::columns::loop_first;
 use layout::columns::prev_of;
 use layout::columns::side_of;
 use layout::mates::edge_of;
@@ -95,11 +97,13 @@ pub fn mef_links(
     let old = loop_face(links, sh, l);
     let s = face_solid(links, sh, old);
     let from = choose((h1 == h2) & !(2 <= w), b, h1);
+    let first = loop_first(links, sh, l);
+    let low = lower(first, lower(a, b));
     mef_edge(links, sh, l, h1, h2, a, l2, w);
     relabel_run(links, sh, from, b, l2);
     put_loop(links, sh, l2, f, 0, 0);
     put_face(links, sh, f, s, l2);
-    renew_sides(links, sh, l, l2, a);
+    renew_sides(links, sh, l, low, l2, low, a);
 }
 
 // b is the half-edge in the new face.
@@ -156,11 +160,14 @@ pub fn kef_links(links: &mut [u16], sh: Shape, k: usize)
     let b = half_at(links, sh, m);
     let f = loop_face(links, sh, a.owner);
     let rest = rest_of(k, a.next, m, b.next);
+    let first = loop_first(links, sh, a.owner);
+    let second = loop_first(links, sh, b.owner);
+    let low = lower(first, second);
     relabel_run(links, sh, a.next, k, b.owner);
     kef_edge(links, sh, k, a, b);
     put_face(links, sh, f, 0, 0);
     put_loop(links, sh, a.owner, 0, 0, 0);
-    renew_loop(links, sh, b.owner, rest, a.start);
+    renew_loop(links, sh, b.owner, low, rest, a.start);
 }
 
 // The corners are the ends of the two rests; where only k's loop has a rest, it was the whole: way 2 or 3.

@@ -12,7 +12,9 @@ use euler::records::is_corner;
 use euler::records::way_of;
 use euler::surgery::edge_in;
 use euler::surgery::edge_out;
+use euler::walks::lower;
 use euler::walks::renew_loop;
+use layout::columns::loop_first;
 use layout::columns::next_of;
 use layout::columns::prev_of;
 use layout::columns::set_vertex_used;
@@ -53,8 +55,10 @@ pub fn mev_links(links: &mut [u16], sh: Shape, l: usize, h: usize, k: usize, v: 
         next: n,
         prev: k,
     };
+    let first = loop_first(links, sh, l);
+    let low = lower(first, lower(k, m));
     edge_in(links, sh, k, out, back);
-    renew_loop(links, sh, l, k, 0);
+    renew_loop(links, sh, l, low, k, 0);
     set_vertex_used(links, sh, v, 1);
 }
 
@@ -84,8 +88,9 @@ pub fn kev_links(links: &mut [u16], sh: Shape, k: usize)
     let a = half_at(links, sh, k);
     let b = half_at(links, sh, m);
     let rest = choose(b.next == k, 0, b.next);
+    let low = loop_first(links, sh, a.owner);
     edge_out(links, sh, k, a.prev, b.next, b.prev, a.next);
-    renew_loop(links, sh, a.owner, rest, a.start);
+    renew_loop(links, sh, a.owner, low, rest, a.start);
     set_vertex_used(links, sh, b.start, 0);
 }
 

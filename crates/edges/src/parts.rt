@@ -43,13 +43,21 @@ pub fn with_three(op: Operator, i: usize, a: usize, b: usize, c: usize) -> Opera
 }
 
 // The loops l of half-edge k and o of its mate have their firsts anew.
-pub fn renew_sides(links: &mut [u16], sh: Shape, l: usize, o: usize, k: usize)
+pub fn renew_sides(
+    links: &mut [u16],
+    sh: Shape,
+    l: usize,
+    low: usize,
+    o: usize,
+    low2: usize,
+    k: usize,
+)
     requires { ⌜ (l ≤ 65536) × (o ≤ 65536) × (k < 65535) ⌝ }
-    ensures { λ _. ⌜ now (links .exit) ≡ renewSides sh (now (links .entry)) l o k ⌝ }
+    ensures { λ _. ⌜ now (links .exit) ≡ renewSides sh (now (links .entry)) l low o low2 k ⌝ }
 {
     let m = mate_of(k);
-    renew_loop(links, sh, l, k, 0);
-    renew_loop(links, sh, o, m, 0);
+    renew_loop(links, sh, l, low, k, 0);
+    renew_loop(links, sh, o, low2, m, 0);
 }
 
 // Both halves of n's edge cleared.

@@ -12,6 +12,8 @@ use euler::records::put_half;
 use euler::records::way_of;
 use euler::surgery::set_between;
 use euler::surgery::tie_halves;
+use euler::walks::lower;
+use layout::columns::loop_first;
 use layout::columns::loop_of;
 use layout::columns::next_of;
 use layout::columns::prev_of;
@@ -52,11 +54,16 @@ pub fn semv_links(links: &mut [u16], sh: Shape, k: usize, n: usize, v: usize)
     let l = loop_of(links, sh, k);
     let o = loop_of(links, sh, km);
     let u = start_of(links, sh, km);
+    let first = loop_first(links, sh, l);
+    let second = loop_first(links, sh, o);
+    let new = lower(n, nm);
+    let low = lower(first, new);
+    let low2 = lower(second, new);
     insert_after(links, sh, k, n, v, l);
     let p = prev_of(links, sh, km);
     insert_after(links, sh, p, nm, u, o);
     set_start(links, sh, km, v);
-    renew_sides(links, sh, l, o, k);
+    renew_sides(links, sh, l, low, o, low2, k);
     set_vertex_used(links, sh, v, 1);
 }
 
@@ -106,9 +113,11 @@ pub fn jekv_links(links: &mut [u16], sh: Shape, k: usize, n: usize)
     let l = loop_of(links, sh, k);
     let o = loop_of(links, sh, km);
     let v = start_of(links, sh, n);
+    let first = loop_first(links, sh, l);
+    let second = loop_first(links, sh, o);
     join_halves(links, sh, k, n);
     clear_edge(links, sh, n);
-    renew_sides(links, sh, l, o, k);
+    renew_sides(links, sh, l, first, o, second, k);
     set_vertex_used(links, sh, v, 0);
 }
 

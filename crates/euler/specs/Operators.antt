@@ -1,6 +1,8 @@
 -- The thirteen operators of document 01, one after the other. For each: when it is refused with 8 (`Test`, where it has a condition),
 -- what it does to the links (`Links`), and the operator that undoes it (`Inverse`), whose numbers are read before.
 -- `m` is always k's mate. Points are in `Points`, below: made with a vertex, cleared with it.
+-- Where a loop gets its first anew (`renew`), no half-edge below the old firsts of the loops concerned and the new half-edges names it:
+-- the search begins at the least of these.
 use Prim.Native.Nat.{ℕ, _+_, _-_, _*_}
 use mathlib.Core.Bool.{Bool, true, not, _&&_, _||_}
 use mathlib.Core.List.{List, [], _∷_}
@@ -18,7 +20,7 @@ use Rattle.layout.specs.declared.shape.Shape.{Shape}
 use Rattle.layout.specs.Layout.{kind, solidUsed, faceSolid, faceOuter, loopFace, loopFirst, loopIsolated, startOf, loopOf, nextOf, prevOf, vertexUsed, setSolidUsed, setFaceSolid, setFaceOuter, setLoopFace, setStart, setVertexUsed, side}
 use Rattle.layout.specs.Mate.{mate, edgeOf}
 use Rattle.shells.specs.Shells.{facesLinkedAs}
-use Rattle.euler.specs.Surgery.{some, halfBy, wayOf, corner, cornerVertex, withPoint, putFace, putLoop, putHalf, between, edgeIn, edgeOut, tie, relabelRun, renew}
+use Rattle.euler.specs.Surgery.{some, halfBy, wayOf, corner, cornerVertex, withPoint, putFace, putLoop, putHalf, between, edgeIn, edgeOut, tie, relabelRun, lower, renew}
 
 -- ---- operators as records
 
@@ -53,6 +55,10 @@ loopsIn sh x f = countTo (sh .loops) (λ l. eqb (loopFace sh x l) f)
 abbrev pub isRing : Shape → List ℕ → ℕ → Bool
 isRing sh x l = not (eqb (faceOuter sh x (loopFace sh x l)) l)
 
+-- the first of half-edge k's loop
+abbrev pub firstBy : Shape → List ℕ → ℕ → ℕ
+firstBy sh x k = loopFirst sh x (loopOf sh x k)
+
 -- ---- 1 mvsf s f l v x y z: a solid of one face with one lone loop
 
 unfoldable pub mvsfLinks : Shape → List ℕ → ℕ → ℕ → ℕ → ℕ → List ℕ
@@ -86,7 +92,7 @@ mevLinks sh x l h k v =
     setVertexUsed sh
     (renew sh
     (edgeIn sh x k (cornerVertex sh x l h) l (mate k) (pick (eqb h 0) (mate k) (prevOf sh x h)) v l (pick (eqb h 0) k h) k)
-    l k 0)
+    l (lower (loopFirst sh x l) (lower k (mate k))) k 0)
     v 1
 
 abbrev pub mevInverse : ℕ → Operator
@@ -106,7 +112,7 @@ kevLinks sh x k =
     setVertexUsed sh
     (renew sh
     (edgeOut sh x k (prevOf sh x k) (nextOf sh x (mate k)) (prevOf sh x (mate k)) (nextOf sh x k))
-    (loopOf sh x k) (behind sh x k (nextOf sh x (mate k))) (startOf sh x k))
+    (loopOf sh x k) (firstBy sh x k) (behind sh x k (nextOf sh x (mate k))) (startOf sh x k))
     (startOf sh x (mate k)) 0
 
 abbrev pub kevInverse : Shape → List ℕ → List ℤ → ℕ → Operator
@@ -147,8 +153,8 @@ mefLinks sh x l h1 h2 a f l2 w =
     (relabelRun sh (mefEdge sh x l h1 h2 a l2 w) (pick (bAlone h1 h2 w) (mate a) h1) (mate a) l2)
     l2 f 0 0)
     f (faceSolid sh x (loopFace sh x l)) l2)
-    l a 0)
-    l2 (mate a) 0
+    l (lower (loopFirst sh x l) (lower a (mate a))) a 0)
+    l2 (lower (loopFirst sh x l) (lower a (mate a))) (mate a) 0
 
 abbrev pub mefInverse : ℕ → Operator
 mefInverse b = operator 6 (b ∷ [])
@@ -180,7 +186,7 @@ kefLinks sh x k =
     (putLoop sh
     (putFace sh (kefEdge sh x k (relabelRun sh x (nextOf sh x k) k (loopOf sh x (mate k)))) (side sh x k) 0 0)
     (loopOf sh x k) 0 0 0)
-    (loopOf sh x (mate k)) (kefRest sh x k) (startOf sh x k)
+    (loopOf sh x (mate k)) (lower (firstBy sh x k) (firstBy sh x (mate k))) (kefRest sh x k) (startOf sh x k)
 
 -- the corners are the ends of the two rests; where only k's loop has a rest, it was the whole: way 2 or 3
 abbrev pub kefInverse : Shape → List ℕ → ℕ → Operator
@@ -203,8 +209,8 @@ kemrLinks sh x k l2 =
     (edgeOut sh (relabelRun sh x (nextOf sh x k) (mate k) l2) k
     (prevOf sh x k) (nextOf sh x (mate k)) (prevOf sh x (mate k)) (nextOf sh x k))
     l2 (side sh x k) 0 0)
-    l2 (behind sh x (mate k) (nextOf sh x k)) (startOf sh x (mate k)))
-    (loopOf sh x k) (behind sh x k (nextOf sh x (mate k))) (startOf sh x k)
+    l2 (firstBy sh x k) (behind sh x (mate k) (nextOf sh x k)) (startOf sh x (mate k)))
+    (loopOf sh x k) (firstBy sh x k) (behind sh x k (nextOf sh x (mate k))) (startOf sh x k)
 
 abbrev pub kemrInverse : Shape → List ℕ → ℕ → ℕ → Operator
 kemrInverse sh x k l2 =
@@ -229,7 +235,7 @@ unfoldable pub mekrLinks : Shape → List ℕ → ℕ → ℕ → ℕ → ℕ �
 mekrLinks sh x l h1 l2 h2 k =
     renew sh
     (putLoop sh (relabelRun sh (mekrEdge sh x l h1 l2 h2 k) (pick (eqb h2 0) (mate k) h2) (mate k) l) l2 0 0 0)
-    l k 0
+    l (lower (loopFirst sh x l) (lower (loopFirst sh x l2) (lower k (mate k)))) k 0
 
 abbrev pub mekrInverse : ℕ → ℕ → Operator
 mekrInverse k l2 = operator 7 (k ∷ l2 ∷ [])
@@ -296,8 +302,8 @@ semvLinks sh x k n v =
     (renew sh
     (renew sh
     (setStart sh (insertAfter sh first (prevOf sh first (mate k)) (mate n) (startOf sh x (mate k)) (loopOf sh x (mate k))) (mate k) v)
-    (loopOf sh x k) k 0)
-    (loopOf sh x (mate k)) (mate k) 0)
+    (loopOf sh x k) (lower (firstBy sh x k) (lower n (mate n))) k 0)
+    (loopOf sh x (mate k)) (lower (firstBy sh x (mate k)) (lower n (mate n))) (mate k) 0)
     v 1
   where
     first : List ℕ
@@ -321,8 +327,8 @@ jekvLinks sh x k n =
     (putHalf sh (putHalf sh
     (setStart sh (tie sh first (prevOf sh first (mate n)) (mate k)) (mate k) (startOf sh x (mate n)))
     n 0 0 0 0) (mate n) 0 0 0 0)
-    (loopOf sh x k) k 0)
-    (loopOf sh x (mate k)) (mate k) 0)
+    (loopOf sh x k) (firstBy sh x k) k 0)
+    (loopOf sh x (mate k)) (firstBy sh x (mate k)) (mate k) 0)
     (startOf sh x n) 0
   where
     first : List ℕ

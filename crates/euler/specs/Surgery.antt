@@ -1,5 +1,5 @@
 -- What the operators share: corners, an edge going in, an edge coming out, a run given another loop, a loop's first anew.
--- `sh` is the table's shape, `x` its links. Walks carry fuel of 2E steps; on a sound table that cuts nothing off.
+-- `sh` is the table's shape, `x` its links. Walks carry fuel; on a sound table that cuts nothing off.
 use Prim.Native.Nat.{ℕ, zero, suc, _+_, _-_, _*_, _%_}
 use mathlib.Core.Bool.{Bool, not, _&&_, _||_}
 use mathlib.Core.List.{List}
@@ -95,20 +95,29 @@ unfoldable pub relabel : Shape → ℕ → List ℕ → ℕ → ℕ → ℕ → 
 relabel sh zero x k stop l = x
 relabel sh (suc n) x k stop l = pick (eqb k stop) x (relabel sh n (setLoop sh x k l) (nextOf sh (setLoop sh x k l) k) stop l)
 
--- the least of `best` and the half-edges from k up to before stop, at most n of them
-unfoldable pub leastOn : Shape → ℕ → List ℕ → ℕ → ℕ → ℕ → ℕ
-leastOn sh zero x k stop best = best
-leastOn sh (suc n) x k stop best = pick (eqb k stop) best (leastOn sh n x (nextOf sh x k) stop (pick (ltb k best) k best))
-
 -- a run given loop l
 abbrev pub relabelRun : Shape → List ℕ → ℕ → ℕ → ℕ → List ℕ
 relabelRun sh x k stop l = relabel sh (2 * sh .edges) x k stop l
 
--- the least half-edge of k's cycle
-abbrev pub cycleLeast : Shape → List ℕ → ℕ → ℕ
-cycleLeast sh x k = leastOn sh (2 * sh .edges) x (nextOf sh x k) k k
+-- ---- a loop's first
 
--- loop l now has the cycle of half-edge k, and first is the least of it; where k is 0, l is isolated at vertex u
-unfoldable pub renew : Shape → List ℕ → ℕ → ℕ → ℕ → List ℕ
-renew sh x l k u =
-    setLoopIsolated sh (setLoopFirst sh x l (pick (eqb k 0) 0 (cycleLeast sh x k))) l (pick (eqb k 0) u 0)
+-- the lesser of two half-edges; f may be 0, none
+abbrev pub lower : ℕ → ℕ → ℕ
+lower f k = pick (eqb f 0) k (pick (ltb f k) f k)
+
+-- the least half-edge of loop l, looked for in two ways at once: n numbers from j on are tried (does half-edge j name l?), and with each
+-- trial goes one step along the loop's cycle, from k up to stop, keeping the least in `best`. Whichever way ends first has the answer
+unfoldable pub seek : Shape → ℕ → List ℕ → ℕ → ℕ → ℕ → ℕ → ℕ → ℕ
+seek sh zero x l j k stop best = best
+seek sh (suc n) x l j k stop best =
+    pick (eqb (loopOf sh x j) l) j
+    (pick (eqb k stop) best (seek sh n x l (j + 1) (nextOf sh x k) stop (pick (ltb k best) k best)))
+
+-- the least half-edge that names loop l, where k names it and none below `low` does: the numbers to try end before k
+abbrev pub firstFrom : Shape → List ℕ → ℕ → ℕ → ℕ → ℕ
+firstFrom sh x l low k = seek sh (k - low) x l low (nextOf sh x k) k k
+
+-- loop l now has the cycle of half-edge k, no half-edge below `low` names it, and first is the least that does; where k is 0, first is 0
+-- and l is isolated at vertex u
+unfoldable pub renew : Shape → List ℕ → ℕ → ℕ → ℕ → ℕ → List ℕ
+renew sh x l low k u = setLoopIsolated sh (setLoopFirst sh x l (firstFrom sh x l low k)) l (pick (eqb k 0) u 0)

@@ -14,11 +14,11 @@ use mir.Facts.{toZ-ofZ}
 use borrow.Author.Tests.{eq-eqb, ne-eqb}
 use Rattle.laws.specs.Bools.{pick, pick-ind}
 use Rattle.layout.specs.declared.shape.Shape.{Shape}
-use Rattle.layout.specs.Layout.{nextOf, setLoop}
+use Rattle.layout.specs.Layout.{loopOf, nextOf, setLoop}
 use Rattle.script.specs.declared.Operator.{Operator}
 use Rattle.layout.specs.Points.{coordinate, setCoordinate}
 use Rattle.layout.specs.PointsLaws.{coordinate-at, setCoordinate-at}
-use Rattle.euler.specs.Surgery.{halfBy, relabel, leastOn, withOperand, withPoint}
+use Rattle.euler.specs.Surgery.{halfBy, relabel, seek, withOperand, withPoint}
 
 module _ (sh : Shape) (left : ℕ) (x : List ℕ) (k stop l : ℕ) (whole : List ℕ) (rest : relabel sh left x k stop l ≡ whole) where
   pub relabel-stop : 0 < left → k ≡ stop → x ≡ whole
@@ -34,19 +34,25 @@ module _ (sh : Shape) (left : ℕ) (x : List ℕ) (k stop l : ℕ) (whole : List
   unfolding relabel
   relabel-out h = let n : left ≡ 0 = omega arith in rw n at rest
 
-module _ (sh : Shape) (left : ℕ) (x : List ℕ) (k stop best whole : ℕ) (rest : leastOn sh left x k stop best ≡ whole) where
-  pub least-stop : 0 < left → k ≡ stop → best ≡ whole
-  unfolding leastOn
-  least-stop h e = let n : left ≡ suc (left - 1) = omega arith in rw (n, eq-eqb k stop e) at rest
+module _ (sh : Shape) (x : List ℕ) (l top j k stop best whole : ℕ) (rest : seek sh (top - j) x l j k stop best ≡ whole) where
+  pub seek-here : j < top → (owner : ℕ) → owner ≡ loopOf sh x j → owner ≡ l → j ≡ whole
+  unfolding seek
+  seek-here h owner e q = let n : top - j ≡ suc (top - j - 1) = omega arith in rw (n, ← e, eq-eqb owner l q) at rest
 
-  pub least-turn : 0 < left → (k ≡ stop → ⊥) → (b m : ℕ) → b ≡ pick (ltb k best) k best → m ≡ nextOf sh x k
-      → leastOn sh (left - 1) x m stop b ≡ whole
-  unfolding leastOn
-  least-turn h e b m p q = let n : left ≡ suc (left - 1) = omega arith in rw (q, p) (rw (n, ne-eqb k stop e) at rest)
+  pub seek-stop : j < top → (owner : ℕ) → owner ≡ loopOf sh x j → (owner ≡ l → ⊥) → k ≡ stop → best ≡ whole
+  unfolding seek
+  seek-stop h owner e q f = let n : top - j ≡ suc (top - j - 1) = omega arith in rw (n, ← e, ne-eqb owner l q, eq-eqb k stop f) at rest
 
-  pub least-out : left ≤ 0 → best ≡ whole
-  unfolding leastOn
-  least-out h = let n : left ≡ 0 = omega arith in rw n at rest
+  pub seek-turn : j < top → (owner : ℕ) → owner ≡ loopOf sh x j → (owner ≡ l → ⊥) → (k ≡ stop → ⊥) → (b m : ℕ) → b ≡ pick (ltb k best) k best → m ≡ nextOf sh x k
+      → seek sh (top - (j + 1)) x l (j + 1) m stop b ≡ whole
+  unfolding seek
+  seek-turn h owner e q f b m p r =
+      let n : top - j ≡ suc (top - (j + 1)) = omega arith in
+      rw (r, p) (rw (n, ← e, ne-eqb owner l q, ne-eqb k stop f) at rest)
+
+  pub seek-out : top ≤ j → best ≡ whole
+  unfolding seek
+  seek-out h = let n : top - j ≡ 0 = omega arith in rw n at rest
 
 -- a coordinate that the machine reads back, stored
 pub stored-coordinate : (p : List ℤ) (v i : ℕ) (z : ℤ) → SFits w32 z → (v ≡ 0 → ⊥) → set p (3 * (v - 1) + i) (toZ w32 (ofZ w32 z)) ≡ setCoordinate p v i z

@@ -1,8 +1,9 @@
-// Walks along next: a run given another loop, the least half-edge of a cycle, a loop's first anew.
+// Walks along next: a run given another loop, the least half-edge of a loop, a loop's first anew.
 ghost use mathlib.Core.Path.{_≡_};
 ghost use Prim.Native.Nat.{ℕ, _*_, _<_, _≤_};
-ghost use Rattle.euler.specs.Surgery.{relabel, leastOn, relabelRun, cycleLeast, renew};
+ghost use Rattle.euler.specs.Surgery.{relabel, relabelRun, lower, firstFrom, renew};
 use crate::records::choose;
+use layout::columns::loop_of;
 use layout::columns::next_of;
 use layout::columns::set_loop;
 use layout::columns::set_loop_first;
@@ -35,49 +36,45 @@ pub fn relabel_run(links: &mut [u16], sh: Shape, from: usize, stop: usize, l: us
     relabel_steps(links, sh, fuel, from, stop, l);
 }
 
-// The least of `least` and the half-edges from k up to before stop.
-fn least_steps(
-    links: &[u16],
-    sh: Shape,
-    fuel: usize,
-    from: usize,
-    stop: usize,
-    least: usize,
-) -> usize
-    requires { ⌜ (from < 65536) × (least < 65536) ⌝ }
-    ensures { λ r. ⌜ (r ≡ leastOn sh fuel (now (links .entry)) from stop least) × (r < 65536) ⌝ }
+// The lesser of two half-edges; f may be 0, none.
+pub fn lower(f: usize, k: usize) -> usize
+    requires { ⌜ (f < 65536) × (k < 65536) ⌝ }
+    ensures { λ r. ⌜ (r ≡ lower f k) × (r < 65536) ⌝ }
 {
-    let mut k = from;
-    let mut best = least;
-    let mut left = fuel;
-    while left > 0 {
-        if k == stop {
+    choose(f == 0, k, choose(f < k, f, k))
+}
+
+// The least half-edge that names loop l, where k names it and none below low does. The numbers from low up are tried, and with each
+// trial goes one step along the cycle, keeping the least: whichever ends first has the answer.
+pub fn first_from(links: &[u16], sh: Shape, l: usize, low: usize, k: usize) -> usize
+    requires { ⌜ k < 65536 ⌝ }
+    ensures { λ r. ⌜ (r ≡ firstFrom sh (now (links .entry)) l low k) × (r < 65536) ⌝ }
+{
+    let mut at = next_of(links, sh, k);
+    let mut best = k;
+    let mut j = low;
+    while j < k {
+        let owner = loop_of(links, sh, j);
+        if owner == l {
+            return j;
+        }
+        if at == k {
             return best;
         }
-        best = choose(k < best, k, best);
-        k = next_of(links, sh, k);
-        left -= 1;
+        best = choose(at < best, at, best);
+        at = next_of(links, sh, at);
+        j += 1;
     }
     best
 }
 
-// The least half-edge of k's cycle.
-pub fn cycle_least(links: &[u16], sh: Shape, k: usize) -> usize
-    requires { ⌜ k < 65536 ⌝ }
-    ensures { λ r. ⌜ (r ≡ cycleLeast sh (now (links .entry)) k) × (r < 65536) ⌝ }
-{
-    let n = next_of(links, sh, k);
-    let fuel = 2 * sh.edges as usize;
-    least_steps(links, sh, fuel, n, k, k)
-}
-
-// Loop l has the cycle of half-edge k, and first is the least of it; where k is 0, l is isolated at vertex u.
-pub fn renew_loop(links: &mut [u16], sh: Shape, l: usize, k: usize, u: usize)
+// Loop l has the cycle of half-edge k, no half-edge below low names it, and first is the least that does; where k is 0, first is 0
+// and l is isolated at vertex u.
+pub fn renew_loop(links: &mut [u16], sh: Shape, l: usize, low: usize, k: usize, u: usize)
     requires { ⌜ (l ≤ 65536) × (k < 65536) × (u < 65536) ⌝ }
-    ensures { λ _. ⌜ now (links .exit) ≡ renew sh (now (links .entry)) l k u ⌝ }
+    ensures { λ _. ⌜ now (links .exit) ≡ renew sh (now (links .entry)) l low k u ⌝ }
 {
-    let least = cycle_least(links, sh, k);
-    let first = choose(k == 0, 0, least);
+    let first = first_from(links, sh, l, low, k);
     let isolated = choose(k == 0, u, 0);
     set_loop_first(links, sh, l, first);
     set_loop_isolated(links, sh, l, isolated);

@@ -8,10 +8,10 @@ use Rattle.laws.specs.Permutations.{iter, Perm}
 use Rattle.laws.specs.Cycles.{forwards}
 use Rattle.layout.specs.declared.shape.Shape.{Shape}
 use Rattle.layout.specs.Layout.{loopOf, nextOf}
-use Rattle.euler.specs.Surgery.{relabel, leastOn, relabelRun, cycleLeast}
+use Rattle.euler.specs.Surgery.{relabel, relabelRun}
 use Rattle.validity.specs.Sound.{HalfUsed}
 use Rattle.validity.specs.Good.{Good, own}
-use Rattle.fuel.specs.Walks.{least-more, relabel-more}
+use Rattle.fuel.specs.Walks.{relabel-more}
 
 -- functions that agree where one of them stays go the same way
 iter-agree : (f h : ℕ → ℕ) (U : ℕ → Type 0) → ((i : ℕ) → U i → U (h i)) → ((i : ℕ) → U i → f i ≡ h i) → (m k : ℕ) → U k → iter f m k ≡ iter h m k
@@ -31,10 +31,6 @@ module _ {sh : Shape} {z : List ℕ} {q : List ℤ} (g : Good sh z q) (y : List 
         inv = P .inv;
         undo = λ i u. ap (P .inv) (same i u) ∙ P .undo i u;
       }
-
-  -- the walk round a loop
-  pub least-amid : (k : ℕ) → HalfUsed sh (own sh z) k → (n : ℕ) → leastOn sh (2 * sh .edges + n) y (nextOf sh y k) k k ≡ cycleLeast sh y k
-  least-amid k u n = least-more sh y (HalfUsed sh (own sh z)) amid k u n
 
   -- the run to a half-edge of the same loop
   pub relabel-amid : (k stop l : ℕ) → HalfUsed sh (own sh z) k → HalfUsed sh (own sh z) stop → loopOf sh z stop ≡ loopOf sh z k → (n : ℕ)

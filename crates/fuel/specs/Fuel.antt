@@ -3,25 +3,14 @@ use mathlib.Core.Path.{_≡_, refl, sym, subst}
 use mathlib.Core.List.{List}
 use Prim.Native.Nat.{ℕ, zero, suc, _≤_}
 use native.Mathlib.Omega.{arith}
-use lib.Dec.{ltb, lit≤}
-use Rattle.laws.specs.Bools.{pick, eqb-same, eqb-other}
+use lib.Dec.{lit≤}
+use Rattle.laws.specs.Bools.{eqb-same, eqb-other}
 use Rattle.laws.specs.Columns.{col-store-other}
 use Rattle.laws.specs.Permutations.{iter}
 use Rattle.layout.specs.declared.shape.Shape.{Shape}
 use Rattle.layout.specs.Layout.{kind, nextOf, setLoop}
-use Rattle.euler.specs.Surgery.{relabel, leastOn}
+use Rattle.euler.specs.Surgery.{relabel}
 use Rattle.validity.specs.Walking.{Steps, steps-on}
-
--- the least of a walk of d steps
-pub least-enough : (sh : Shape) (n d : ℕ) (x : List ℕ) (k stop best : ℕ) → d ≤ n → Steps (nextOf sh x) k stop d
-    → leastOn sh n x k stop best ≡ leastOn sh d x k stop best
-unfolding leastOn iter
-least-enough sh zero zero x k stop best h w = refl
-least-enough sh (suc n) zero x k stop best h w = rw (eqb-same (w .at)) refl
-least-enough sh zero (suc d) x k stop best h w = absurd (omega arith)
-least-enough sh (suc n) (suc d) x k stop best h w =
-    let o = steps-on (nextOf sh x) k stop d w in
-    rw (eqb-other (o .0)) (least-enough sh n d x (nextOf sh x k) stop (pick (ltb k best) k best) (omega arith) (o .1))
 
 -- a half-edge that is given another loop is followed by the same one
 next-kept : (sh : Shape) (x : List ℕ) (k l : ℕ) → nextOf sh (setLoop sh x k l) ≡ nextOf sh x

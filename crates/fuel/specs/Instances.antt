@@ -17,7 +17,7 @@ use Rattle.layout.specs.Mate.{mate}
 use Rattle.items.specs.Rules.{solidRange, faceRange, loopRange, halfRange, vertexRange, rule1, solidNames, faceNames, loopNames, halfNames, rule2, loopEither, rule3, halfLinks, firstNames, halfInLoop, rule4, vertexEither, halfAtVertex, rule5, halfSides, faceLinked, rule6, brokenRule}
 use Rattle.table.specs.Sizes.{sizesFit}
 use Rattle.table.specs.Check.{checkOf}
-use Rattle.euler.specs.Surgery.{leastOn, cycleLeast, relabel, relabelRun}
+use Rattle.euler.specs.Surgery.{seek, firstFrom, relabel, relabelRun}
 use Rattle.euler.specs.Operators.{operator, kefTest}
 use Rattle.euler.specs.Exec.{refusalOf, admitOf, rangeRefusal, useRefusals, useRefusal, useWord, condition, inverse}
 use Rattle.validity.specs.Sound.{HalfUsed}
@@ -50,12 +50,12 @@ used-1 = (lit≤ tt, lit≤ tt, omega arith)
 used-4 : HalfUsed shape (own shape links) 4
 used-4 = (lit≤ tt, lit≤ tt, omega arith)
 
--- the walk round loop 2 from 4, and the least half-edge that it finds
-least-4 : LeastFuel shape links 4
-least-4 = least-fuel good 4 used-4
+-- the search for the first of loop 2, which has 4, from 1 on, and the half-edge that it finds
+least-4 : LeastFuel shape links 1 4
+least-4 = least-fuel good 4 used-4 1 (lit≤ tt)
 
-least-is-1 : cycleLeast shape links 4 ≡ 1
-unfolding leastOn
+least-is-1 : firstFrom shape links 2 1 4 ≡ 1
+unfolding seek
 least-is-1 = refl
 
 -- the run from 1 to 4 given loop 1

@@ -1,24 +1,25 @@
--- On a sound table the fuel of the operators' walks, 2E steps, cuts nothing off: the walk round a loop sees the whole loop, and a run
--- given another loop is the whole run. (Said first for any table whose next column is a permutation, as it is amid an operator.)
+-- On a sound table the fuel of the operators' walks cuts nothing off: a run given another loop, by 2E steps at most, is the whole run, and the
+-- search for a loop's first finds it. (The run is said first for any table whose next column is a permutation, as it is amid an operator.)
 use mathlib.Core.Path.{_≡_, refl, sym, _∙_}
 use mathlib.Core.Logic.{_≢_}
 use mathlib.Core.Bool.{false}
 use mathlib.Core.List.{List}
-use Prim.Native.Nat.{ℕ, _+_, _*_, _<_}
+use Prim.Native.Nat.{ℕ, _+_, _-_, _*_, _≤_, _<_}
 use native.Mathlib.Omega.{arith}
 use lib.IntN.{ℤ}
-use Rattle.laws.specs.Permutations.{iter, Perm, iter-in, comes-back, soon}
+use Rattle.laws.specs.Permutations.{iter, Perm, iter-in, soon}
 use Rattle.laws.specs.Cycles.{Cycles, forwards}
 use Rattle.layout.specs.declared.shape.Shape.{Shape}
 use Rattle.layout.specs.Layout.{loopFirst, loopOf, nextOf}
-use Rattle.euler.specs.Surgery.{relabel, leastOn, relabelRun, cycleLeast}
+use Rattle.euler.specs.Surgery.{relabel, relabelRun, seek, firstFrom}
 use Rattle.validity.specs.Fields.{Field, Loop, capOf, column, sameField}
 use Rattle.validity.specs.Cells.{Shows}
 use Rattle.validity.specs.Sound.{In, HalfUsed}
-use Rattle.validity.specs.Labels.{LeastIs, label-found, label-some}
-use Rattle.validity.specs.Walking.{Steps, first-hit, runColumns, shows-relabel, run-met, run-off, run-other, cycle-least}
+use Rattle.validity.specs.Labels.{leastWith, LeastIs, label-found, label-some}
+use Rattle.validity.specs.Walking.{Steps, first-hit, runColumns, shows-relabel, run-met, run-off, run-other, seek-first}
+use Rattle.validity.specs.Low.{first-low}
 use Rattle.validity.specs.Good.{Good, own, good-shows}
-use Rattle.fuel.specs.Fuel.{least-enough, relabel-enough}
+use Rattle.fuel.specs.Fuel.{relabel-enough}
 
 -- ---- a table whose next column permutes the half-edges of U
 
@@ -30,15 +31,7 @@ module _ (sh : Shape) (x : List ℕ) (U : ℕ → Type 0) (P : Perm (2 * sh .edg
       let r = first-hit (nextOf sh x) (s .0) k stop (s .3 ∙ e) in
       (r .0, omega (arith, r .1, s .1), r .2)
 
-  -- more fuel finds no other least
-  pub least-more : (k : ℕ) → U k → (n : ℕ) → leastOn sh (2 * sh .edges + n) x (nextOf sh x k) k k ≡ cycleLeast sh x k
-  least-more k u n =
-      let b = comes-back P k u in
-      let d = near (nextOf sh x k) k (b .0) (P .f-in k u) (b .1) in
-      least-enough sh (2 * sh .edges + n) (d .0) x (nextOf sh x k) k k (omega (arith, d .1)) (d .2)
-      ∙ sym (least-enough sh (2 * sh .edges) (d .0) x (nextOf sh x k) k k (omega (arith, d .1)) (d .2))
-
-  -- and gives no other half-edge another loop
+  -- more fuel gives no other half-edge another loop
   pub relabel-more : (k stop m l : ℕ) → U k → iter (nextOf sh x) m k ≡ stop → (n : ℕ) → relabel sh (2 * sh .edges + n) x k stop l ≡ relabelRun sh x k stop l
   relabel-more k stop m l u e n =
       let d = near k stop m u e in
@@ -47,11 +40,12 @@ module _ (sh : Shape) (x : List ℕ) (U : ℕ → Type 0) (P : Perm (2 * sh .edg
 
 -- ---- a sound table
 
--- the walk round the loop of half-edge k: no fuel is missing, and what is found is the least half-edge that names k's loop, its first
-pub record LeastFuel (sh : Shape) (x : List ℕ) (k : ℕ) : Type 0 where
-  pub fuel : (n : ℕ) → leastOn sh (2 * sh .edges + n) x (nextOf sh x k) k k ≡ cycleLeast sh x k
-  pub least : LeastIs (2 * sh .edges) (loopOf sh x) (loopOf sh x k) (cycleLeast sh x k)
-  pub first : cycleLeast sh x k ≡ loopFirst sh x (loopOf sh x k)
+-- the search for the first of k's loop from `low` on: to try more numbers finds no other, and what is found is the least half-edge that names
+-- the loop, its first
+pub record LeastFuel (sh : Shape) (x : List ℕ) (low k : ℕ) : Type 0 where
+  pub fuel : (n : ℕ) → seek sh (k - low + n) x (loopOf sh x k) low (nextOf sh x k) k k ≡ firstFrom sh x (loopOf sh x k) low k
+  pub least : LeastIs (2 * sh .edges) (loopOf sh x) (loopOf sh x k) (firstFrom sh x (loopOf sh x k) low k)
+  pub first : firstFrom sh x (loopOf sh x k) low k ≡ loopFirst sh x (loopOf sh x k)
 
 -- the run from half-edge k up to before stop, given loop l: no fuel is missing; the d half-edges met from k on name l, and no other word
 -- is changed
@@ -79,12 +73,15 @@ module _ {sh : Shape} {x : List ℕ} {p : List ℤ} (g : Good sh x p) (k : ℕ) 
         omega (arith, e, g .sound .half-free i r z .loop, g .sound .half k (u .0, u .1) (u .2) .loop-in .0),
   )
 
-  pub least-fuel : LeastFuel sh x k
-  least-fuel =
+  pub least-fuel : (low : ℕ) → low ≤ loopFirst sh x (loopOf sh x k) → LeastFuel sh x low k
+  least-fuel low h =
       let s = g .sound .half k (u .0, u .1) (u .2) in
-      let e = cycle-least sh x (own sh x) (HalfUsed sh (own sh x)) k (good-shows g) loops u loop-used in
+      let from : (i : ℕ) → In (2 * sh .edges) i → loopOf sh x i ≡ loopOf sh x k → low ≤ i = λ i r q. omega (arith, h, first-low (g .sound) (loopOf sh x k) i (s .loop-in .0) r q .1) in
+      let found : (n : ℕ) → k ≤ low + n → seek sh n x (loopOf sh x k) low (nextOf sh x k) k k ≡ leastWith (2 * sh .edges) (loopOf sh x) (loopOf sh x k) = λ n r.
+      seek-first sh x (own sh x) (HalfUsed sh (own sh x)) (loopOf sh x k) low k n (good-shows g) loops (s .loop-in .0) u refl loop-used from r in
+      let e = found (k - low) (omega arith) in
       record {
-        fuel = least-more sh x (HalfUsed sh (own sh x)) (loops .perm) k u;
+        fuel = λ n. found (k - low + n) (omega arith) ∙ sym e;
         least = rw e (label-found (2 * sh .edges) (loopOf sh x) (loopOf sh x k) (label-some (2 * sh .edges) (loopOf sh x) (loopOf sh x k) k (u .0, u .1) refl));
         first = e ∙ sym (g .sound .loop (loopOf sh x k) (s .loop-in) (s .loop-used) .first);
       }

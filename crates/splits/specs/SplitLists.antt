@@ -13,10 +13,11 @@ use Rattle.layout.specs.Mate.{mate}
 use Rattle.euler.specs.Surgery.{renew}
 use Rattle.euler.specs.Operators.{insertAfter, semvLinks, jekvLinks}
 use Rattle.validity.specs.EdgeIn.{next-prev, prev-in}
-use Rattle.validity.specs.Fields.{Start, Loop, Next, Prev, VertexUsed, Columns, change}
+use Rattle.validity.specs.Fields.{First, Start, Loop, Next, Prev, VertexUsed, Columns, change}
 use Rattle.validity.specs.Cells.{Shows, shows-put}
 use Rattle.validity.specs.Sound.{In, HalfUsed, firstOf, Sound}
 use Rattle.validity.specs.Names.{start-unnamed}
+use Rattle.validity.specs.Low.{lower-new, first-low}
 use Rattle.validity.specs.Shown.{withFirst, shows-half, shows-tie, shows-between, shows-first}
 use Rattle.splits.specs.CycleMoves.{swapFor}
 use Rattle.splits.specs.Split.{Tidy, Place, aft, off-n, off-b, used-old}
@@ -32,11 +33,14 @@ shows-after {sh} {x} s k n v l A e ik jn ia =
     rw q (shows-between (shows-half s n v l A k jn) k n A ik ia)
 
 -- two loops get their firsts anew, and a vertex its mark
-shows-close : {sh : Shape} {y : List ℕ} {H : Columns} {U : ℕ → Type 0} → Shows sh y H → (k m l1 l2 v t : ℕ) → In (sh .loops) l1 → In (sh .loops) l2 → In (sh .vertices) v
+shows-close : {sh : Shape} {y : List ℕ} {H : Columns} {U : ℕ → Type 0} → Shows sh y H → (k m l1 low1 l2 low2 v t : ℕ) → In (sh .loops) l1 → In (sh .loops) l2 → In (sh .vertices) v
     → Cycles (2 * sh .edges) U (H Next) (H Loop) → U k → U m → H Loop k ≡ l1 → H Loop m ≡ l2 → ((i l : ℕ) → 1 ≤ l → In (2 * sh .edges) i → H Loop i ≡ l → U i)
-    → Shows sh (setVertexUsed sh (renew sh (renew sh y l1 k 0) l2 m 0) v t) (change (withFirst (withFirst H l1 (firstOf sh H l1) 0) l2 (firstOf sh H l2) 0) VertexUsed v t)
-shows-close s k m l1 l2 v t i1 i2 iv cy uk um e1 e2 all =
-    shows-put (shows-first (shows-first s l1 k 0 i1 cy uk e1 (λ i j e. all i l1 (i1 .0) j e)) l2 m 0 i2 cy um e2 (λ i j e. all i l2 (i2 .0) j e)) VertexUsed v t (iv .0) (iv .1)
+    → ((i : ℕ) → In (2 * sh .edges) i → H Loop i ≡ l1 → low1 ≤ i) → ((i : ℕ) → In (2 * sh .edges) i → H Loop i ≡ l2 → low2 ≤ i)
+    → Shows sh (setVertexUsed sh (renew sh (renew sh y l1 low1 k 0) l2 low2 m 0) v t) (change (withFirst (withFirst H l1 (firstOf sh H l1) 0) l2 (firstOf sh H l2) 0) VertexUsed v t)
+shows-close s k m l1 low1 l2 low2 v t i1 i2 iv cy uk um e1 e2 all h1 h2 =
+    shows-put
+    (shows-first (shows-first s l1 low1 k 0 i1 cy uk e1 (λ i j e. all i l1 (i1 .0) j e) h1) l2 low2 m 0 i2 cy um e2 (λ i j e. all i l2 (i2 .0) j e) h2)
+    VertexUsed v t (iv .0) (iv .1)
 
 -- what names a loop is in use
 in-use : {sh : Shape} (c : Columns) → Tidy sh c → (i l : ℕ) → 1 ≤ l → In (2 * sh .edges) i → c Loop i ≡ l → HalfUsed sh c i
@@ -63,9 +67,11 @@ semv-shows {sh} {x} {c = c} {k} {n} {v} s a o =
     let h1 = a .half k ik (o .k-used .2) in
     let h2 = a .half (mate k) im (o .m-used .2) in
     let e = s1 .at Prev (mate k) (im .1) ∙ first-prev a o (mate k) (o .m-used) in
-    rw (s .at Loop k (ik .1), s .at Loop (mate k) (im .1), s .at Start (mate k) (im .1), e)
-    (shows-close {U = HalfUsed sh (semvColumns sh c k n v q)} s3 k (mate k) (c Loop k) (c Loop (mate k)) v 1 (h1 .loop-in) (h2 .loop-in) (o .v-in) (rules .loops)
-    (used-old r k (o .k-used)) (used-old r (mate k) (o .m-used)) (r .loop k (off-n o k (o .k-used)) (off-b o k (o .k-used))) (r .loop (mate k) (off-n o (mate k) (o .m-used)) (off-b o (mate k) (o .m-used))) (in-use _ (r .tidy-d)))
+    rw (s .at Loop k (ik .1), s .at Loop (mate k) (im .1), s .at Start (mate k) (im .1), e, s .at First (c Loop k) (h1 .loop-in .1), s .at First (c Loop (mate k)) (h2 .loop-in .1))
+    (shows-close {U = HalfUsed sh (semvColumns sh c k n v q)} s3 k (mate k) (c Loop k) _ (c Loop (mate k)) _ v 1 (h1 .loop-in) (h2 .loop-in) (o .v-in) (rules .loops)
+    (used-old r k (o .k-used)) (used-old r (mate k) (o .m-used)) (r .loop k (off-n o k (o .k-used)) (off-b o k (o .k-used))) (r .loop (mate k) (off-n o (mate k) (o .m-used)) (off-b o (mate k) (o .m-used))) (in-use _ (r .tidy-d))
+    (λ i j z. lower-new (c First (c Loop k)) n (mate n) i (o .n-in .0) (λ f g. first-low a (c Loop k) i (h1 .loop-in .0) j (sym (r .loop i f g) ∙ z)))
+    (λ i j z. lower-new (c First (c Loop (mate k))) n (mate n) i (o .n-in .0) (λ f g. first-low a (c Loop (mate k)) i (h2 .loop-in .0) j (sym (r .loop i f g) ∙ z))))
 
 -- ---- jekv
 
@@ -94,9 +100,11 @@ jekv-shows {sh} {x} {d = d} {k} {n} s a o =
     let h = a .half n jn (nu .2) in
     let e = s1 .at Prev (mate n) (ib .1) ∙ before nu bu in
     let w = r .place in
-    rw (s .at Loop k (ik .1), s .at Loop (mate k) (im .1), s .at Start (mate n) (ib .1), s .at Start n (jn .1), s .at Next n (jn .1), e)
-    (shows-close {U = HalfUsed sh (jekvColumns sh d k n q)} s4 k (mate k) (d Loop k) (d Loop (mate k)) (d Start n) 0 (h1 .loop-in) (h2 .loop-in) (h .start-in) (join-rules r (a .rules) .loops)
-    (w .k-used) (w .m-used) (sym (r .loop k (off-n w k (w .k-used)) (off-b w k (w .k-used)))) (sym (r .loop (mate k) (off-n w (mate k) (w .m-used)) (off-b w (mate k) (w .m-used)))) (in-use _ (r .tidy-c)))
+    rw (s .at Loop k (ik .1), s .at Loop (mate k) (im .1), s .at Start (mate n) (ib .1), s .at Start n (jn .1), s .at Next n (jn .1), e, s .at First (d Loop k) (h1 .loop-in .1), s .at First (d Loop (mate k)) (h2 .loop-in .1))
+    (shows-close {U = HalfUsed sh (jekvColumns sh d k n q)} s4 k (mate k) (d Loop k) (d First (d Loop k)) (d Loop (mate k)) (d First (d Loop (mate k))) (d Start n) 0 (h1 .loop-in) (h2 .loop-in) (h .start-in) (join-rules r (a .rules) .loops)
+    (w .k-used) (w .m-used) (sym (r .loop k (off-n w k (w .k-used)) (off-b w k (w .k-used)))) (sym (r .loop (mate k) (off-n w (mate k) (w .m-used)) (off-b w (mate k) (w .m-used)))) (in-use _ (r .tidy-c))
+    (λ i j z. let u = in-use _ (r .tidy-c) i (d Loop k) (h1 .loop-in .0) j z in first-low a (d Loop k) i (h1 .loop-in .0) j (r .loop i (off-n w i u) (off-b w i u) ∙ z) .1)
+    (λ i j z. let u = in-use _ (r .tidy-c) i (d Loop (mate k)) (h2 .loop-in .0) j z in first-low a (d Loop (mate k)) i (h2 .loop-in .0) j (r .loop i (off-n w i u) (off-b w i u) ∙ z) .1))
   where
     -- what comes before n's mate once k is joined
     before : HalfUsed sh d n → HalfUsed sh d (mate n) → upd (d Prev) (d Next n) k (mate n) ≡ swapFor n k (d Prev (mate n))

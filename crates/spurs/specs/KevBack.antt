@@ -7,16 +7,18 @@ use lib.Dec.{eqb}
 use lib.IntN.{ℤ}
 use Rattle.laws.specs.Bools.{split}
 use Rattle.laws.specs.Search.{least-ext}
-use Rattle.laws.specs.Update.{upd-at, upd-off}
+use Rattle.laws.specs.Update.{upd-at, upd-same, upd-off}
 use Rattle.laws.specs.Cycles.{agree}
 use Rattle.layout.specs.declared.shape.Shape.{Shape}
 use Rattle.layout.specs.Mate.{mate}
+use Rattle.euler.specs.Surgery.{lower}
 use Rattle.validity.specs.Fields.{Field, Capacity, SolidUsed, Solid, Outer, Face, First, Isolated, Start, Loop, Next, Prev, VertexUsed, Columns}
 use Rattle.validity.specs.Cells.{Shows, shows-put, shows-ext, upd-back}
 use Rattle.validity.specs.Sound.{HalfUsed, firstOf, Sound}
 use Rattle.validity.specs.Names.{not-isolated}
 use Rattle.validity.specs.Good.{own, Good, good-shows}
 use Rattle.validity.specs.MevOperator.{mevList}
+use Rattle.validity.specs.Low.{lower-new, least-low}
 use Rattle.validity.specs.Shown.{withEdge, shows-edge, shows-first}
 use Rattle.validity.specs.MevSound.{mevColumns}
 use Rattle.spurs.specs.Spur.{in-k, in-b, in-P, in-N, next-P, prev-b, prev-N, spur-loop-b, spur-loop-in, spur-loop-used, far-in, far-used, named-used}
@@ -94,12 +96,15 @@ module _ {sh : Shape} {p : List ℤ} {c : Columns} (a : Sound sh p c) {k : ℕ} 
 pub mev-back : {sh : Shape} {x : List ℕ} {p : List ℤ} (g : Good sh x p) {k : ℕ} (uk : HalfUsed sh (own sh x) k) (nk : own sh x Next k ≡ mate k) {I : ℕ} (left : Left (own sh x) k I)
     {y : List ℕ} → Shows sh y (kevColumns sh (own sh x) k I)
     → mevList sh y (own sh x Loop k) k (own sh x Start k) (own sh x Start (mate k)) (own sh x Prev k) (own sh x Next (mate k)) ≡ x
-mev-back {sh} {x} g {k} uk nk left s =
+mev-back {sh} {x} g {k} uk nk {I} left {y} s =
     let a = g .sound in
     let c = own sh x in
     let l = c Loop k in
     let s1 = shows-edge s k (c Start k) l (mate k) (c Prev k) (c Start (mate k)) l (c Next (mate k)) k (in-k a uk nk) (in-b a uk nk) (in-b a uk nk) (in-P a uk nk) (in-N a uk nk) (in-k a uk nk) in
-    let s2 = shows-first {U = HalfUsed sh c} s1 l k 0 (spur-loop-in a uk nk)
+    let s2 = shows-first {U = HalfUsed sh c} s1 l (lower (own sh y First l) (lower k (mate k))) k 0 (spur-loop-in a uk nk)
     (agree (a .rules .loops) (λ i h. h) (λ i h. h) (λ i h. back-next a uk nk left i) (λ i h. back-loop a uk nk left i)) uk (back-loop a uk nk left k)
-    (λ i j h. named-used a uk nk i j (sym (back-loop a uk nk left i) ∙ h)) in
+    (λ i j h. named-used a uk nk i j (sym (back-loop a uk nk left i) ∙ h))
+    (λ i j h. lower-new (own sh y First l) k (mate k) i (uk .0) (λ z w.
+    rw (s .at First l (spur-loop-in a uk nk .1) ∙ upd-same _ l _)
+    (least-low sh (kevColumns sh c k I) l i j (columns-out a uk nk left .loop i z w ∙ sym (back-loop a uk nk left i) ∙ h)))) in
     shows-ext (shows-put s2 VertexUsed (c Start (mate k)) 1 (far-in a uk nk .0) (far-in a uk nk .1)) (good-shows g) (λ F n i j. back-all a uk nk left F n)

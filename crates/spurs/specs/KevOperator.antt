@@ -1,5 +1,5 @@
 -- kev as an operator: what it says that it is accepted, what it does, and that a good table stays good.
-use mathlib.Core.Path.{_≡_, refl, sym, _∙_}
+use mathlib.Core.Path.{_≡_, refl, sym, ap, _∙_}
 use mathlib.Core.Logic.{⊎-elim}
 use mathlib.Core.Bool.{true}
 use mathlib.Core.List.{List}
@@ -9,7 +9,7 @@ use lib.Dec.{eqb→eq, leb}
 use lib.IntN.{ℤ, pos}
 use lib.ListN.{length}
 use borrow.Author.Tests.{le-leb}
-use Rattle.laws.specs.Bools.{true-T, eqb-same, eqb-other}
+use Rattle.laws.specs.Bools.{true-T, split, eqb-same, eqb-other}
 use Rattle.laws.specs.Update.{upd-off}
 use Rattle.script.specs.declared.Operator.{Operator}
 use Rattle.script.specs.Operands.{pattern, rows}
@@ -20,7 +20,7 @@ use Rattle.layout.specs.Points.{coordinate}
 use Rattle.euler.specs.Surgery.{wayOf, putPoint, edgeOut, renew}
 use Rattle.euler.specs.Operators.{kevTest, kevLinks}
 use Rattle.euler.specs.Exec.{useWord, condition, refusalOf, linksAfter, killedVertex, pointsAfter, inverse}
-use Rattle.validity.specs.Fields.{Start, Loop, Next, Prev, VertexUsed, Columns}
+use Rattle.validity.specs.Fields.{First, Start, Loop, Next, Prev, VertexUsed, Columns}
 use Rattle.validity.specs.Cells.{Shows, shows-put}
 use Rattle.validity.specs.Labels.{label-none}
 use Rattle.validity.specs.Sound.{HalfUsed, firstOf, Sound}
@@ -28,10 +28,11 @@ use Rattle.validity.specs.PointLists.{put-length, points-cleared}
 use Rattle.validity.specs.OneOperand.{one-operand}
 use Rattle.validity.specs.Good.{own, Capacities, Good, good-shows, good-after}
 use Rattle.validity.specs.CornerTest.{cornerLeft}
+use Rattle.validity.specs.Low.{first-low}
 use Rattle.validity.specs.Shown.{withFirst, shows-no-edge, shows-first, shows-isolated}
 use Rattle.validity.specs.MevOperator.{mevOf}
 use Rattle.validity.specs.MevBack.{kevOf}
-use Rattle.spurs.specs.Spur.{used-N, in-k, in-b, in-P, in-N, prev-b, Nb, spur-loop-N, spur-loop-in, far-in}
+use Rattle.spurs.specs.Spur.{used-N, in-k, in-b, in-P, in-N, prev-b, Nb, spur-loop-b, spur-loop-N, spur-loop-in, far-in}
 use Rattle.spurs.specs.KevSound.{kevOut, kevColumns, Left, columns-out, half-stays, kev-rules, free-half, none-named, kev-sound}
 
 -- what an accepted kev says
@@ -52,7 +53,7 @@ kev-facts sh x o caps len e h =
 abbrev pub kevList : Shape → List ℕ → ℕ → List ℕ
 kevList sh x k =
     setVertexUsed sh
-    (renew sh (edgeOut sh x k (own sh x Prev k) (own sh x Next (mate k)) k (mate k)) (own sh x Loop k) (cornerLeft (own sh x) k (mate k)) (own sh x Start k))
+    (renew sh (edgeOut sh x k (own sh x Prev k) (own sh x Next (mate k)) k (mate k)) (own sh x Loop k) (own sh x First (own sh x Loop k)) (cornerLeft (own sh x) k (mate k)) (own sh x Start k))
     (own sh x Start (mate k)) 0
 
 -- the points afterwards
@@ -103,17 +104,24 @@ module _ {sh : Shape} {x : List ℕ} {p : List ℤ} (g : Good sh x p) {k : ℕ} 
     out-shows = let a = g .sound in
         shows-no-edge (good-shows g) k (c Prev k) (c Next (mate k)) k (mate k) (in-k a uk nk) (in-b a uk nk) (in-P a uk nk) (in-N a uk nk) (in-k a uk nk) (in-b a uk nk)
 
+    -- what names the loop now named it before
+    named : (i : ℕ) → kevOut c k Loop i ≡ c Loop k → c Loop i ≡ c Loop k
+    named i e = let a = g .sound in split i k
+        (λ z. ap (c Loop) z)
+        (λ z. split i (mate k) (λ y. ap (c Loop) y ∙ spur-loop-b a uk nk) (λ y. sym (columns-out a uk nk left .loop i z y) ∙ e))
+
     -- the loop's first and isolated vertex
-    first-shows : Shows sh (renew sh (edgeOut sh x k (c Prev k) (c Next (mate k)) k (mate k)) (c Loop k) (cornerLeft c k (mate k)) (c Start k)) (withFirst (kevOut c k) (c Loop k) (firstOf sh (kevOut c k) (c Loop k)) I)
+    first-shows : Shows sh (renew sh (edgeOut sh x k (c Prev k) (c Next (mate k)) k (mate k)) (c Loop k) (c First (c Loop k)) (cornerLeft c k (mate k)) (c Start k)) (withFirst (kevOut c k) (c Loop k) (firstOf sh (kevOut c k) (c Loop k)) I)
     first-shows = let a = g .sound in ⊎-elim
         (λ w.
         let z : firstOf sh (kevOut c k) (c Loop k) ≡ 0 = label-none (2 * sh .edges) (d Loop) (c Loop k) (none-named a uk nk left (w .0)) in
-        rw (eqb-same (w .0), w .1, z) (shows-isolated out-shows (c Loop k) (c Start k) (spur-loop-in a uk nk)))
+        rw (eqb-same (w .0), w .1, z) (shows-isolated out-shows (c Loop k) (c First (c Loop k)) (c Start k) (spur-loop-in a uk nk)))
         (λ w.
         rw (eqb-other (w .0), w .1)
-        (shows-first {U = HalfUsed sh d} out-shows (c Loop k) (c Next (mate k)) (c Start k) (spur-loop-in a uk nk) (kev-rules a uk nk left .loops)
+        (shows-first {U = HalfUsed sh d} out-shows (c Loop k) (c First (c Loop k)) (c Next (mate k)) (c Start k) (spur-loop-in a uk nk) (kev-rules a uk nk left .loops)
         (half-stays a uk nk left _ ((used-N a uk nk, Nb a uk nk), w .0)) (columns-out a uk nk left .loop _ (w .0) (Nb a uk nk) ∙ spur-loop-N a uk nk)
-        (λ i j e. (j .0, j .1, λ s. omega (arith, spur-loop-in a uk nk .0, sym e ∙ free-half a uk nk left i j s .loop))))) left
+        (λ i j e. (j .0, j .1, λ s. omega (arith, spur-loop-in a uk nk .0, sym e ∙ free-half a uk nk left i j s .loop)))
+        (λ i j e. first-low a (c Loop k) i (spur-loop-in a uk nk .0) j (named i e) .1))) left
 
     -- the list shows these columns
     pub kev-shows : Shows sh (kevList sh x k) d

@@ -33,6 +33,7 @@ pub mod MevOperator
 pub mod MevBack
 pub mod MevUndone
 pub mod WithDummies
+pub mod Low
 pub mod Walking
 pub mod Shown
 pub mod MevSound

@@ -3,7 +3,7 @@ use mathlib.Core.Path.{_≡_, refl, sym, ap, _∙_, subst}
 use mathlib.Core.Logic.{_≢_, _⊎_, inl, inr, ⊎-elim}
 use mathlib.Core.Bool.{true}
 use mathlib.Core.List.{List, [], _∷_}
-use Prim.Native.Nat.{ℕ, _*_}
+use Prim.Native.Nat.{ℕ, _*_, _≤_}
 use native.Mathlib.Omega.{arith}
 use lib.Dec.{eqb, leb}
 use lib.IntN.{ℤ, pos}
@@ -26,6 +26,7 @@ use Rattle.validity.specs.Cells.{Shows, shows-put, shows-ext, upd-back}
 use Rattle.validity.specs.Sound.{In, HalfUsed, firstOf, Sound}
 use Rattle.validity.specs.OneOperand.{one-accepted}
 use Rattle.validity.specs.Good.{own, Good, good-shows}
+use Rattle.validity.specs.Low.{least-low}
 use Rattle.validity.specs.Shown.{withoutEdge, withFirst, shows-no-edge, shows-first, shows-isolated}
 use Rattle.validity.specs.MevSound.{mevColumns, MevPlace, kb, off-k, off-b, start-k, start-b, start-old, loop-k, loop-old}
 use Rattle.validity.specs.MevOperator.{mevOf}
@@ -159,18 +160,29 @@ module _ {sh : Shape} {x : List ℕ} {p : List ℤ} (g : Good sh x p) {l k u v P
   out-shows = shows-no-edge s k P N k (mate k) (o .half-in) (o .mate-in) P-in N-in (o .half-in) (o .mate-in)
 
   -- the loop's first and isolated vertex come out as they were
-  first-again : Corner sh (own sh x) l k u N → Shows sh (renew sh z₁ l (pick (eqb N k) 0 N) u) (withFirst e₁ l (own sh x First l) (own sh x Isolated l))
-  first-again (inl q) = rw (eqb-same (q .0), q .1, q .2) (shows-isolated out-shows l u (o .loop-in))
+  first-again : Corner sh (own sh x) l k u N → Shows sh (renew sh z₁ l (own sh y First l) (pick (eqb N k) 0 N) u) (withFirst e₁ l (own sh x First l) (own sh x Isolated l))
+  first-again (inl q) = rw (eqb-same (q .0), q .1, q .2) (shows-isolated out-shows l (own sh y First l) u (o .loop-in))
   first-again (inr q) =
       let a = g .sound in
       let n : N ≢ k = off-k o N (q .0) in
       let f : firstOf sh e₁ l ≡ c₁ First l = least-ext (2 * sh .edges) _ _ (λ i h j. ap (λ m. eqb m l) (back-loop a o i)) ∙ sym (a .loop l (o .loop-in) (o .loop-used) .first) in
       rw (eqb-other n, q .2, ← f)
-      (shows-first {U = HalfUsed sh c₁} out-shows l N u (o .loop-in)
+      (shows-first {U = HalfUsed sh c₁} out-shows l (own sh y First l) N u (o .loop-in)
       (agree (a .rules .loops) (λ i h. h) (λ i h. h) (λ i h. back-next a o w i) (λ i h. back-loop a o i)) (q .0) (back-loop a o N ∙ q .1)
-      (λ i j h. (j .0, j .1, λ m. omega (arith, o .loop-in .0, sym h ∙ back-loop a o i ∙ a .half-free i j m .loop))))
+      used low)
+    where
+      -- what names the loop is in use
+      used : (i : ℕ) → In (2 * sh .edges) i → e₁ Loop i ≡ l → HalfUsed sh c₁ i
+      used i j h = (j .0, j .1, λ m. omega (arith, o .loop-in .0, sym h ∙ back-loop (g .sound) o i ∙ g .sound .half-free i j m .loop))
 
-  kev-back : setVertexUsed sh (renew sh z₁ l (pick (eqb N k) 0 N) u) v 0 ≡ x
+      -- and not below the first that mev left
+      low : (i : ℕ) → In (2 * sh .edges) i → e₁ Loop i ≡ l → own sh y First l ≤ i
+      low i j h =
+          let w = used i j h in
+          rw (s .at First l (o .loop-in .1) ∙ upd-same _ l _)
+          (least-low sh (mevColumns sh (own sh x) l k u v P N) l i j (loop-old o i (off-k o i w) (off-b o i w) ∙ sym (back-loop (g .sound) o i) ∙ h) .1)
+
+  kev-back : setVertexUsed sh (renew sh z₁ l (own sh y First l) (pick (eqb N k) 0 N) u) v 0 ≡ x
   kev-back = shows-ext (shows-put (first-again r) VertexUsed v 0 (o .vertex-in .0) (o .vertex-in .1)) (good-shows g) (λ F n i j. back-all (g .sound) o w F n)
 
   -- what kev reads

@@ -19,10 +19,10 @@ use Rattle.layout.specs.Layout.{setVertexUsed}
 use Rattle.layout.specs.Mate.{mate}
 use Rattle.layout.specs.MateLaws.{mate-range}
 use Rattle.layout.specs.Points.{rangeTest}
-use Rattle.euler.specs.Surgery.{corner, halfBy, putPoint, edgeIn, renew}
+use Rattle.euler.specs.Surgery.{corner, halfBy, putPoint, edgeIn, lower, renew}
 use Rattle.euler.specs.Operators.{mevLinks}
 use Rattle.euler.specs.Exec.{limits, useWord, condition, refusalOf, linksAfter, pointsAfter}
-use Rattle.validity.specs.Fields.{Face, Isolated, Start, Loop, Prev, VertexUsed, Columns}
+use Rattle.validity.specs.Fields.{Face, First, Isolated, Start, Loop, Prev, VertexUsed, Columns}
 use Rattle.validity.specs.Mates.{mate⁺}
 use Rattle.validity.specs.EdgeIn.{Rules, prev-in}
 use Rattle.validity.specs.Cells.{Shows, shows-put}
@@ -34,13 +34,14 @@ use Rattle.validity.specs.Good.{own, Capacities, Good, good-shows, good-
 use Rattle.validity.specs.CornerTest.{CornerAt, test-corner}
 use Rattle.validity.specs.Undone.{Kept}
 use Rattle.validity.specs.WithDummies.{extended, Member}
+use Rattle.validity.specs.Low.{lower-new, first-low}
 use Rattle.validity.specs.Shown.{shows-edge, shows-first}
-use Rattle.validity.specs.MevSound.{mevColumns, MevPlace, loop-k, new-k, mev-sound}
+use Rattle.validity.specs.MevSound.{mevColumns, MevPlace, loop-k, loop-old, new-k, mev-sound}
 use Rattle.validity.specs.MevCorners.{mev-at-half, mev-at-isolated}
 
 -- the list afterwards
 abbrev pub mevList : Shape → List ℕ → (l k u v P N : ℕ) → List ℕ
-mevList sh x l k u v P N = setVertexUsed sh (renew sh (edgeIn sh x k u l (mate k) P v l N k) l k 0) v 1
+mevList sh x l k u v P N = setVertexUsed sh (renew sh (edgeIn sh x k u l (mate k) P v l N k) l (lower (own sh x First l) (lower k (mate k))) k 0) v 1
 
 -- ---- the table afterwards
 
@@ -64,8 +65,9 @@ module _ {sh : Shape} {x : List ℕ} {p : List ℤ} (g : Good sh x p) {l k u v P
       let P-in : In (2 * sh .edges) P = ⊎-elim (λ e. subst (In (2 * sh .edges)) (sym e) (o .mate-in)) (λ w. (w .0, w .1)) (o .before) in
       let N-in : In (2 * sh .edges) N = ⊎-elim (λ e. subst (In (2 * sh .edges)) (sym e) (o .half-in)) (λ w. (w .0, w .1)) (o .after) in
       let s1 = shows-edge (good-shows g) k u l (mate k) P v l N k (o .half-in) (o .mate-in) (o .mate-in) P-in N-in (o .half-in) in
-      let s2 = shows-first {U = HalfUsed sh d} s1 l k 0 (o .loop-in) (d-sound .rules .loops) (new-k o) (loop-k o)
-      (λ i j e. (j .0, j .1, λ s. omega (arith, o .loop-in .0, sym e ∙ d-sound .half-free i j s .loop))) in
+      let s2 = shows-first {U = HalfUsed sh d} s1 l (lower (own sh x First l) (lower k (mate k))) k 0 (o .loop-in) (d-sound .rules .loops) (new-k o) (loop-k o)
+      (λ i j e. (j .0, j .1, λ s. omega (arith, o .loop-in .0, sym e ∙ d-sound .half-free i j s .loop)))
+      (λ i j e. lower-new (own sh x First l) k (mate k) i (o .half-in .0) (λ y z. first-low (g .sound) l i (o .loop-in .0) j (sym (loop-old o i y z) ∙ e))) in
       shows-put s2 VertexUsed v 1 (o .vertex-in .0) (o .vertex-in .1)
 
   -- the table is good afterwards

@@ -3,7 +3,7 @@ use mathlib.Core.Path.{_≡_, refl, ap, _∙_}
 use mathlib.Core.Logic.{_≢_}
 use mathlib.Core.Bool.{false}
 use mathlib.Core.List.{List}
-use Prim.Native.Nat.{ℕ, zero, suc, _*_, _≤_, _<_}
+use Prim.Native.Nat.{ℕ, zero, suc, _-_, _*_, _≤_, _<_}
 use native.Mathlib.Omega.{arith}
 use Rattle.laws.specs.Bools.{split, eqb-other}
 use Rattle.laws.specs.Update.{upd-same, upd-off}
@@ -12,11 +12,11 @@ use Rattle.laws.specs.Cycles.{Cycles}
 use Rattle.layout.specs.declared.shape.Shape.{Shape}
 use Rattle.layout.specs.Layout.{kind}
 use Rattle.layout.specs.Mate.{mate}
-use Rattle.euler.specs.Surgery.{putHalf, tie, between, edgeIn, edgeOut, cycleLeast, renew}
+use Rattle.euler.specs.Surgery.{putHalf, tie, between, edgeIn, edgeOut, seek, firstFrom, renew}
 use Rattle.validity.specs.Fields.{Field, Solid, First, Isolated, Start, Loop, Next, Prev, Columns, change, sameField}
 use Rattle.validity.specs.Cells.{Shows, shows-put}
 use Rattle.validity.specs.Sound.{In, firstOf}
-use Rattle.validity.specs.Walking.{cycle-least}
+use Rattle.validity.specs.Walking.{seek-first}
 
 -- ---- half-edges
 
@@ -74,17 +74,20 @@ abbrev pub withFirst : Columns → ℕ → ℕ → ℕ → Columns
 withFirst c l k v = change (change c First l k) Isolated l v
 
 -- where it has no half-edge, it is isolated at u
-pub shows-isolated : {sh : Shape} {x : List ℕ} {c : Columns} → Shows sh x c → (l u : ℕ) → In (sh .loops) l → Shows sh (renew sh x l 0 u) (withFirst c l 0 u)
-unfolding renew
-shows-isolated s l u i = shows-put (shows-put s First l 0 (i .0) (i .1)) Isolated l u (i .0) (i .1)
+pub shows-isolated : {sh : Shape} {x : List ℕ} {c : Columns} → Shows sh x c → (l low u : ℕ) → In (sh .loops) l → Shows sh (renew sh x l low 0 u) (withFirst c l 0 u)
+unfolding renew seek
+shows-isolated s l low u i =
+    let z : 0 - low ≡ 0 = omega arith in
+    rw z (shows-put (shows-put s First l 0 (i .0) (i .1)) Isolated l u (i .0) (i .1))
 
--- where its half-edges are the cycle of k, first is the least that names it
-pub shows-first : {sh : Shape} {x : List ℕ} {c : Columns} {U : ℕ → Type 0} → Shows sh x c → (l k u : ℕ) → In (sh .loops) l → Cycles (2 * sh .edges) U (c Next) (c Loop) → U k → c Loop k ≡ l
-    → ((i : ℕ) → In (2 * sh .edges) i → c Loop i ≡ l → U i) → Shows sh (renew sh x l k u) (withFirst c l (firstOf sh c l) 0)
+-- where its half-edges are the cycle of k, none of them below `low`, first is the least that names it
+pub shows-first : {sh : Shape} {x : List ℕ} {c : Columns} {U : ℕ → Type 0} → Shows sh x c → (l low k u : ℕ) → In (sh .loops) l → Cycles (2 * sh .edges) U (c Next) (c Loop) → U k → c Loop k ≡ l
+    → ((i : ℕ) → In (2 * sh .edges) i → c Loop i ≡ l → U i) → ((i : ℕ) → In (2 * sh .edges) i → c Loop i ≡ l → low ≤ i)
+    → Shows sh (renew sh x l low k u) (withFirst c l (firstOf sh c l) 0)
 unfolding renew
-shows-first {sh} {x} {c} {U} s l k u i y w e all =
+shows-first {sh} {x} {c} {U} s l low k u i y w e all from =
     let d : k ≢ 0 = λ z. omega (arith, y .perm .low k w, z) in
-    let q : cycleLeast sh x k ≡ firstOf sh c l = cycle-least sh x c U k s y w (λ j h f. all j h (f ∙ e)) ∙ ap (firstOf sh c) e in
+    let q : firstFrom sh x l low k ≡ firstOf sh c l = seek-first sh x c U l low k (k - low) s y (i .0) w e all from (omega arith) in
     rw (eqb-other d, q) (shows-put (shows-put s First l (firstOf sh c l) (i .0) (i .1)) Isolated l 0 (i .0) (i .1))
 
 -- ---- a sweep over the faces: each solid becomes g of the face and of what it was

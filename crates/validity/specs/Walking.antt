@@ -1,5 +1,5 @@
--- The walks of the operators, seen through the columns: a run given another loop, and the least half-edge of a cycle. On a permutation the fuel of 2E
--- steps is enough, and the least half-edge of a loop's cycle is the least that names the loop.
+-- The walks of the operators, seen through the columns: a run given another loop, and the least half-edge of a loop. On a permutation the fuel of 2E
+-- steps is enough for a run, and what is found for a loop is the least half-edge that names it.
 use mathlib.Core.Path.{_≡_, refl, sym, ap, _∙_, subst}
 use mathlib.Core.Logic.{_≢_, _⊎_, inl, inr, ⊎-elim}
 use mathlib.Core.Bool.{false}
@@ -10,14 +10,14 @@ use lib.Dec.{ltb, lt→ltb, ltb→lt}
 use Rattle.laws.specs.Bools.{pick, split, le?, T-true, T-false, eqb-same, eqb-other}
 use Rattle.laws.specs.Update.{upd-same, upd-off}
 use Rattle.laws.specs.Permutations.{iter, iter-add, iter-last, iter-in, comes-back, soon}
-use Rattle.laws.specs.Search.{least-unique}
 use Rattle.laws.specs.Cycles.{Cycles, forwards}
 use Rattle.layout.specs.declared.shape.Shape.{Shape}
-use Rattle.euler.specs.Surgery.{relabel, leastOn, cycleLeast}
+use Rattle.layout.specs.Layout.{loopOf, nextOf}
+use Rattle.euler.specs.Surgery.{relabel, seek}
 use Rattle.validity.specs.Fields.{Field, Loop, Next, Columns, change, sameField}
 use Rattle.validity.specs.Cells.{Shows, shows-put}
 use Rattle.validity.specs.Sound.{In}
-use Rattle.validity.specs.Labels.{leastWith}
+use Rattle.validity.specs.Labels.{leastWith, LeastIs, label-found, label-some}
 
 -- ---- how far it is
 
@@ -90,7 +90,7 @@ unfolding runColumns
 run-other c zero k l F e n = refl
 run-other c (suc d) k l F e n = run-other (change c Loop k l) d (c Next k) l F e n ∙ rw e
 
--- ---- the least of a cycle
+-- ---- the least half-edge of a loop
 
 -- r is the least of b and the d half-edges from k on
 pub record LeastOf (f : ℕ → ℕ) (k d b r : ℕ) : Type 0 where
@@ -104,23 +104,46 @@ smaller k b = ⊎-elim
     (λ h. rw (T-true {b = ltb k b} (lt→ltb k b h)) (omega arith, omega arith, inl refl))
     (λ h. rw (T-false {b = ltb k b} (λ t. omega (arith, h, ltb→lt k b t))) (omega arith, omega arith, inr refl)) (le? (suc k) b)
 
-least-walk : (sh : Shape) (n d : ℕ) (x : List ℕ) (c : Columns) (k stop b : ℕ) → Shows sh x c → d ≤ n → Steps (c Next) k stop d
-    → ((t : ℕ) → t < d → In (2 * sh .edges) (iter (c Next) t k)) → LeastOf (c Next) k d b (leastOn sh n x k stop b)
-unfolding leastOn iter
-least-walk sh zero zero x c k stop b s h w i = record { start = omega arith; below = λ t l. absurd (omega arith); one = inl refl }
-least-walk sh (suc n) zero x c k stop b s h w i = rw (eqb-same (w .at)) (record { start = omega arith; below = λ t l. absurd (omega arith); one = inl refl })
-least-walk sh zero (suc d) x c k stop b s h w i = absurd (omega arith)
-least-walk sh (suc n) (suc d) x c k stop b s h w i =
-    let o = steps-on (c Next) k stop d w in
-    let r = i 0 (omega arith) in
-    rw (eqb-other (o .0), s .at Next k (r .1)) (wider (least-walk sh n d x c (c Next k) stop (pick (ltb k b) k b) s (omega arith) (o .1) (λ t l. i (suc t) (omega arith))))
+-- one step on, with the smaller of k and b for b
+least-on : (f : ℕ → ℕ) (k d b r : ℕ) → LeastOf f k (suc d) b r → LeastOf f (f k) d (pick (ltb k b) k b) r
+unfolding iter
+least-on f k d b r g = record { start = under; below = λ t l. g .below (suc t) (omega arith); one = ⊎-elim (λ e. inl (omega (arith, under, smaller k b .1, e))) (λ q. met (q .0) (q .1) (q .2)) (g .one) }
   where
-    wider : {r : ℕ} → LeastOf (c Next) (c Next k) d (pick (ltb k b) k b) r → LeastOf (c Next) k (suc d) b r
-    wider {r} g = record { start = omega (arith, g .start, smaller k b .1); below = under; one = ⊎-elim (λ e. ⊎-elim (λ q. inr (0, omega arith, e ∙ q)) (λ q. inl (e ∙ q)) (smaller k b .2)) (λ q. inr (suc (q .0), omega (arith, q .1), q .2)) (g .one) }
-      where
-        under : (t : ℕ) → t < suc d → r ≤ iter (c Next) t k
-        under zero l = omega (arith, g .start, smaller k b .0)
-        under (suc t) l = g .below t (omega arith)
+    under : r ≤ pick (ltb k b) k b
+    under = ⊎-elim (λ q. omega (arith, q, g .below 0 (omega arith))) (λ q. omega (arith, q, g .start)) (smaller k b .2)
+
+    met : (t : ℕ) → t < suc d → r ≡ iter f t k → (r ≡ pick (ltb k b) k b) ⊎ ((t : ℕ) × (t < d) × (r ≡ iter f t (f k)))
+    met zero l e = inl (omega (arith, under, smaller k b .0, e))
+    met (suc t) l e = inr (t, omega arith, e)
+
+-- a number not above the least is the least where it names l, else it is below
+tried : (sh : Shape) (x : List ℕ) (c : Columns) (l j r : ℕ) → Shows sh x c → 1 ≤ l → LeastIs (2 * sh .edges) (c Loop) l r → j ≤ r
+    → ((loopOf sh x j ≡ l) × (j ≡ r)) ⊎ ((loopOf sh x j ≢ l) × (j + 1 ≤ r))
+tried sh x c l j r s p m h = split (loopOf sh x j) l
+    (λ e. inl (e, omega (arith, h, m .before j (above j e, omega (arith, h, m .range .1)) (sym (s .at Loop j (omega (arith, h, m .range .1))) ∙ e))))
+    (λ e. let d : j ≢ r = λ q. e (ap (loopOf sh x) q ∙ s .at Loop r (m .range .1) ∙ m .label) in inr (e, omega (arith, h, d)))
+  where
+    -- number 0 names no loop
+    above : (j : ℕ) → loopOf sh x j ≡ l → 1 ≤ j
+    above zero e = absurd (omega (arith, p, e))
+    above (suc j) e = omega arith
+
+-- both searches end at the least: the numbers from j on, which it is among, and the walk from k to stop, which meets it
+seek-is : (sh : Shape) (n d : ℕ) (x : List ℕ) (c : Columns) (l j k stop b r : ℕ) → Shows sh x c → 1 ≤ l → LeastIs (2 * sh .edges) (c Loop) l r → j ≤ r → b ≤ j + n
+    → Steps (c Next) k stop d → ((t : ℕ) → t < d → In (2 * sh .edges) (iter (c Next) t k)) → LeastOf (c Next) k d b r → seek sh n x l j k stop b ≡ r
+unfolding seek iter
+seek-is sh zero d x c l j k stop b r s p m h v w i g = omega (arith, g .start, h, v)
+seek-is sh (suc n) zero x c l j k stop b r s p m h v w i g = ⊎-elim
+    (λ f. rw (eqb-same (f .0)) (f .1))
+    (λ f. rw (eqb-other (f .0), eqb-same (w .at)) (⊎-elim sym (λ q. absurd (omega (arith, q .1))) (g .one)))
+    (tried sh x c l j r s p m h)
+seek-is sh (suc n) (suc d) x c l j k stop b r s p m h v w i g = ⊎-elim
+    (λ f. rw (eqb-same (f .0)) (f .1))
+    (λ f.
+    let o = steps-on (c Next) k stop d w in
+    rw (eqb-other (f .0), eqb-other (o .0), s .at Next k (i 0 (omega arith) .1))
+    (seek-is sh n d x c l (j + 1) (c Next k) stop (pick (ltb k b) k b) r s p m (f .1) (omega (arith, v, smaller k b .1)) (o .1) (λ t a. i (suc t) (omega arith)) (least-on (c Next) k d b r g)))
+    (tried sh x c l j r s p m h)
 
 -- labels are kept along the way
 pub iter-keeps : {n : ℕ} {U : ℕ → Type 0} {f lab : ℕ → ℕ} → Cycles n U f lab → (t i : ℕ) → U i → lab (iter f t i) ≡ lab i
@@ -149,26 +172,21 @@ module _ {n : ℕ} {U : ℕ → Type 0} {f lab : ℕ → ℕ} (c : Cycles n U f 
       absurd (r .2 .first (r .0 - suc d) (omega (arith, h, q))
       (ap (iter f (r .0 - suc d)) (sym (iter-last f d (f k) ∙ ap f (s .at))) ∙ sym (iter-add f (suc d) (r .0 - suc d) (f k)) ∙ ap (λ t. iter f t (f k)) p ∙ r .2 .at)))) (le? (suc (r .0)) d)
 
--- the least half-edge of k's cycle is the least that names k's loop
-pub cycle-least : (sh : Shape) (x : List ℕ) (c : Columns) (U : ℕ → Type 0) (k : ℕ) → Shows sh x c → Cycles (2 * sh .edges) U (c Next) (c Loop) → U k
-    → ((i : ℕ) → In (2 * sh .edges) i → c Loop i ≡ c Loop k → U i) → cycleLeast sh x k ≡ leastWith (2 * sh .edges) (c Loop) (c Loop k)
-cycle-least sh x c U k s y u all =
-    let n = 2 * sh .edges in
+-- where the cycle of k is loop l and none below `low` names l, the least that names it is found, if the numbers up to k may be tried
+pub seek-first : (sh : Shape) (x : List ℕ) (c : Columns) (U : ℕ → Type 0) (l low k n : ℕ) → Shows sh x c → Cycles (2 * sh .edges) U (c Next) (c Loop) → 1 ≤ l → U k → c Loop k ≡ l
+    → ((i : ℕ) → In (2 * sh .edges) i → c Loop i ≡ l → U i) → ((i : ℕ) → In (2 * sh .edges) i → c Loop i ≡ l → low ≤ i) → k ≤ low + n
+    → seek sh n x l low (nextOf sh x k) k k ≡ leastWith (2 * sh .edges) (c Loop) l
+seek-first sh x c U l low k n s y p u e all from h =
+    let N = 2 * sh .edges in
     let P = y .perm in
     let d = way-round y k u in
     let fk = P .f-in k u in
-    let i : (t : ℕ) → In n (iter (c Next) t (c Next k)) = λ t. let w = iter-in P t (c Next k) fk in (P .low _ w, P .high _ w) in
-    let g : LeastOf (c Next) (c Next k) (d .0) k (leastOn sh n x (c Next k) k k) = least-walk sh n (d .0) x c (c Next k) k k s (omega (arith, d .1)) (d .2) (λ t l. i t) in
-    ap (λ z. leastOn sh n x z k k) (s .at Next k (P .high k u)) ∙ sym (found (d .2) g)
-  where
-    -- it is of the cycle
-    member : {r d : ℕ} → LeastOf (c Next) (c Next k) d k r → U r × (c Loop r ≡ c Loop k)
-    member g = ⊎-elim (λ e. (subst U (sym e) u, ap (c Loop) e))
-        (λ q. (subst U (sym (q .2)) (iter-in (y .perm) (q .0) (c Next k) (y .perm .f-in k u)), ap (c Loop) (q .2) ∙ iter-keeps y (q .0) (c Next k) (y .perm .f-in k u) ∙ y .keeps k u)) (g .one)
-
-    found : {r d : ℕ} → Steps (c Next) (c Next k) k d → LeastOf (c Next) (c Next k) d k r → leastWith (2 * sh .edges) (c Loop) (c Loop k) ≡ r
-    found {r} st g =
-        let w = member g in
-        least-unique (2 * sh .edges) _ r (y .perm .low r (w .0)) (y .perm .high r (w .0)) (eqb-same (w .1)) (λ j a b. eqb-other (λ e.
-        ⊎-elim (λ q. omega (arith, b, g .start, q)) (λ q. omega (arith, b, g .below (q .0) (q .1), q .2))
-        (on-the-way y k u st j (all j (a, omega (arith, b, y .perm .high r (w .0))) e) e)))
+    let i : (t : ℕ) → In N (iter (c Next) t (c Next k)) = λ t. let w = iter-in P t (c Next k) fk in (P .low _ w, P .high _ w) in
+    let m : LeastIs N (c Loop) l (leastWith N (c Loop) l) = label-found N (c Loop) l (label-some N (c Loop) l k (P .low k u, P .high k u) e) in
+    let g : LeastOf (c Next) (c Next k) (d .0) k (leastWith N (c Loop) l) = record {
+      start = m .before k (P .low k u, P .high k u) e;
+      below = λ t a. m .before _ (i t) (iter-keeps y t (c Next k) fk ∙ y .keeps k u ∙ e);
+      one = ⊎-elim inl (λ q. inr (q .0, q .1, sym (q .2))) (on-the-way y k u (d .2) _ (all _ (m .range) (m .label)) (m .label ∙ sym e));
+    } in
+    ap (λ z. seek sh n x l low z k k) (s .at Next k (P .high k u))
+    ∙ seek-is sh n (d .0) x c l low (c Next k) k k _ s p m (from _ (m .range) (m .label)) h (d .2) (λ t a. i t) g

@@ -5,35 +5,31 @@ use Rattle.euler.proofs.walks.renew_loop.Tie as tie
 use Rattle.euler.proofs.walks.renew_loop.Reads as reads
 use Rattle.euler.proofs.walks.renew_loop.Lts as lts
 use Rattle.euler.proofs.records.choose.Reads as choose-reads
-use Rattle.euler.proofs.walks.cycle_least.Reads as cycle-least-reads
+use Rattle.euler.proofs.walks.first_from.Reads as first-from-reads
 use Rattle.layout.proofs.columns.set_loop_first.Reads as set-loop-first-reads
 use Rattle.layout.proofs.columns.set_loop_isolated.Reads as set-loop-isolated-reads
 
--- src/walks.rt:69:9
-cycle-least-requires : tie.Need-cycle-least-requires
-cycle-least-requires c κs = search needs
+-- src/walks.rt:77:9
+first-from-requires : tie.Need-first-from-requires
+first-from-requires c κs = search needs
 
--- src/walks.rt:70:9
+-- src/walks.rt:78:9
 choose-requires : tie.Need-choose-requires
 choose-requires c κs = search needs
 
--- src/walks.rt:71:9
-choose-requires-2 : tie.Need-choose-requires-2
-choose-requires-2 c κs = search needs
-
--- src/walks.rt:72:5
+-- src/walks.rt:79:5
 set-loop-first-requires : tie.Need-set-loop-first-requires
 set-loop-first-requires c κs = search needs
 
--- src/walks.rt:73:5
+-- src/walks.rt:80:5
 set-loop-isolated-requires : tie.Need-set-loop-isolated-requires
 set-loop-isolated-requires c κs = search needs
 
--- src/walks.rt:65:1
+-- src/walks.rt:73:1
 same-length : tie.Need-same-length
 same-length c = search needs
 
--- src/walks.rt:65:1
+-- src/walks.rt:73:1
 returns : tie.Need-returns
 unfolding renew
 returns c = cc
@@ -42,9 +38,8 @@ pub renew-loop-spec : {M : Type 1} → statement M
 renew-loop-spec =
     tie.close
     (tie.spec
-    cycle-least-requires
+    first-from-requires
     choose-requires
-    choose-requires-2
     set-loop-first-requires
     set-loop-isolated-requires
     same-length
