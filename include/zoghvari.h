@@ -54,6 +54,13 @@ typedef struct {
     size_t start;    /* where the log's live part starts now; with 1 and 2 the start handed in */
 } ZoghvariUndone;
 
+typedef struct {
+    uint8_t refusal; /* 0, 1, 2, 9 or 10 */
+    uint8_t rule;    /* with 2: the lowest broken rule, 1 to 6 */
+    size_t done;     /* operators carried out; 0 with a refusal */
+    size_t start;    /* where the log's live part starts now; with a refusal the start handed in */
+} ZoghvariInverted;
+
 /* Makes an empty table of the capacities s, f, l, e, v (solids, faces, loops, edges, vertices), each 1 to 4,096.
  * links has 5 + s + 2f + 3l + 8e + v words, points 3v numbers; of the log only its length is told. */
 ZoghvariCleared zoghvari_clear(uint16_t *links, size_t links_n, int32_t *points, size_t points_n, size_t log_n,
@@ -82,5 +89,12 @@ ZoghvariRan zoghvari_run(uint16_t *links, size_t links_n, int32_t *points, size_
  * only read. Handed what the last run left and the sum of the done counts, it gives back every byte of links and points. */
 ZoghvariUndone zoghvari_undo(uint16_t *links, size_t links_n, int32_t *points, size_t points_n, const uint8_t *log,
                              size_t log_n, size_t start, size_t n);
+
+/* Takes a sound table down to nothing; links and points are then as clearing leaves them. Each operator's inverse is put into
+ * the log just before `start`, which moves down: what lies between the new start and the old one is a script that builds the
+ * table again. Refusals: 1 and 2 of the table and the start, 10 where no face, loop or edge number is free, 9 where fewer than
+ * 19 (v + 2f + 2r + 3h - 2s) bytes lie in front of the start. A refusal changes nothing. */
+ZoghvariInverted zoghvari_invert(uint16_t *links, size_t links_n, int32_t *points, size_t points_n, uint8_t *log,
+                                 size_t log_n, size_t start);
 
 #endif

@@ -8,6 +8,7 @@ ghost use Rattle.table.specs.Check.{checkOf};
 ghost use Rattle.table.specs.Clear.{cleared, clearOf};
 ghost use Rattle.table.specs.Count.{countOf};
 ghost use Rattle.runs.specs.Run.{state, leaves, runOf, restores, undoOf};
+ghost use Rattle.takedown.specs.Inversion.{inverts, invertOf};
 ghost use Rattle.kernel.specs.Kernel.{operatorOf};
 use runs::run::RunAnswer;
 use runs::undo::UndoAnswer;
@@ -17,6 +18,7 @@ use script::WriteAnswer;
 use table::check::CheckAnswer;
 use table::clear::ClearAnswer;
 use table::count::CountAnswer;
+use takedown::invert::InvertAnswer;
 
 // Makes an empty table of five capacities: solids, faces, loops, edges, vertices. Refusal 1, or 0 and the start of the empty log,
 // of which only the length is handed in.
@@ -107,4 +109,19 @@ pub extern "C" fn zoghvari_undo(
     ensures { λ r. ⌜ restores r (now (links .exit)) (now (points .exit)) ≡ undoOf (state (now (links .entry)) (now (points .entry)) (now (log .entry)) start) n ⌝ }
 {
     runs::undo::undo(links, points, log, start, n)
+}
+
+// Takes a sound table down to nothing (document 01: the take-down), each operator with its inverse in the log below `start`, so that the part
+// of the log from the new start up to the old one is a script that builds the table again. Refusal 1, or 2 with the rule; 10 where no face,
+// loop or edge number is free; 9 where fewer than 19 (v + 2f + 2r + 3h − 2s) bytes are free; or 0; the operators done and the log's new start.
+#[no_mangle]
+pub extern "C" fn zoghvari_invert(
+    links: &mut [u16],
+    points: &mut [i32],
+    log: &mut [u8],
+    start: usize,
+) -> InvertAnswer
+    ensures { λ r. ⌜ inverts r (now (links .exit)) (now (points .exit)) (now (log .exit)) ≡ invertOf (state (now (links .entry)) (now (points .entry)) (now (log .entry)) start) ⌝ }
+{
+    takedown::invert::invert(links, points, log, start)
 }

@@ -1,0 +1,24 @@
+-- Every kind of turn, put together.
+-- PROVED: `turns-made`.
+use mathlib.Core.Logic.{⊎-elim}
+use Rattle.laws.specs.Bools.{split, ask}
+use Rattle.euler.specs.Operators.{faceIn, facesIn}
+use Rattle.takedown.specs.Inversion.{solidAt, edgesLeft, ringHalf, spurHalf, ringOf}
+use Rattle.inversion.specs.Turn.{TurnsMade}
+use Rattle.inversion.specs.TurnAcross.{turn-across}
+use Rattle.inversion.specs.TurnRing.{turn-ring}
+use Rattle.inversion.specs.TurnSpur.{turn-spur}
+use Rattle.inversion.specs.TurnCross.{turn-cross}
+use Rattle.inversion.specs.TurnBridge.{turn-bridge}
+use Rattle.inversion.specs.TurnLast.{turn-last}
+
+pub turns-made : TurnsMade
+turns-made sh x p g ready sn =
+    split (facesIn sh x (solidAt sh x)) 1
+    (λ one. ⊎-elim
+    (λ left. split (ringHalf sh x (solidAt sh x)) 0
+    (λ none. split (spurHalf sh x (solidAt sh x)) 0 (λ z. turn-cross g ready sn one left none z) (λ d. turn-spur g ready sn one left none d))
+    (λ d. turn-ring g ready sn one left d))
+    (λ left. split (ringOf sh x (faceIn sh x (solidAt sh x))) 0 (λ z. turn-last g ready sn one left z) (λ d. turn-bridge g ready sn one left d))
+    (ask (edgesLeft sh x (solidAt sh x))))
+    (λ many. turn-across g ready sn many)

@@ -1,0 +1,125 @@
+-- The take-down computed: example e of document 01 (with L = 3: mfkrh 2 2 0, kef 2, kvsf 1; with L = 2: refusal 10; with a byte too few in
+-- front of the start: 9), and a table whose edge 1 is a bridge between two handles, so that the least crossed k is not the least k; a table that takes every kind of turn; two solids;
+-- and a full table, a torus of two edges with no number free: 10, and its holes are counted.
+-- PROVED: all, by computation.
+use Prim.Native.Nat.{ℕ}
+use mathlib.Core.Path.{_≡_, refl}
+use mathlib.Core.List.{List, [], _∷_, _++_}
+use lib.IntN.{ℤ, pos, negsuc}
+use lib.ListN.{replicate}
+use Rattle.laws.specs.Search.{allTo, anyTo, leastFrom}
+use Rattle.laws.specs.Sums.{sumTo}
+use Rattle.laws.specs.Walks.{meets}
+use Rattle.laws.specs.Columns.{sweep}
+use Rattle.laws.specs.Closure.{across, pass, rounds, linkedb}
+use Rattle.script.specs.Number.{third, second, first, readNumber, groups}
+use Rattle.script.specs.Operands.{pattern, rows, inRanges, inRange, zig, zag, wire, unwire}
+use Rattle.script.specs.Operator.{operandBytes, operandsBytes, operatorBytes, putBytes}
+use Rattle.layout.specs.Mate.{mate}
+use Rattle.shells.specs.Shells.{within, joins, linkedBy}
+use Rattle.items.specs.Rules.{solidRange, faceRange, loopRange, halfRange, vertexRange, rule1, solidNames, faceNames, loopNames, halfNames, rule2, loopEither, rule3, halfLinks, firstNames, halfInLoop, rule4, vertexEither, halfAtVertex, rule5, halfSides, faceLinked, rule6, brokenRule}
+use Rattle.table.specs.Sizes.{sizesFit}
+use Rattle.table.specs.Check.{checkOf}
+use Rattle.table.specs.Count.{itemUsed, tallyOf, counts, countOf}
+use Rattle.euler.specs.Surgery.{corner, edgeIn, edgeOut, relabel, seek, renew}
+use Rattle.euler.specs.Operators.{kvsfLinks, kevLinks, kefEdge, kefLinks, kemrLinks, mekrEdge, mekrLinks, mfkrhLinks, rmovLinks}
+use Rattle.euler.specs.Exec.{linksAfter, pointsAfter, killedVertex, inverse}
+use Rattle.runs.specs.Run.{state, inverseBytes, stepped, entry}
+use Rattle.takedown.specs.Inversion.{Inverted, onRun, crossed, act, makeOuter, moveRings, turnB, turned, invertBy, invertOf}
+
+-- what is left
+abbrev pub leaves : ℕ → ℕ → ℕ → List ℕ → List ℤ → List ℕ → Inverted
+leaves refusal done start x p log =
+    record { answer = record { refusal = refusal; rule = 0; done = done; start = start }; links = x; points = p; log = log }
+
+-- ---- example e
+
+abbrev linksE : List ℕ
+linksE =
+    1 ∷ 2 ∷ 3 ∷ 2 ∷ 2 ∷ 1 ∷ 1 ∷ 1 ∷ 0 ∷ 0 ∷ 1 ∷ 1 ∷ 0 ∷ 1 ∷ 2 ∷ 0 ∷ 0 ∷ 0 ∷ 0 ∷ 1 ∷ 1 ∷ 1 ∷ 1 ∷ 1 ∷ 2 ∷ 2 ∷ 2 ∷ 0 ∷ 0 ∷ 0 ∷ 0 ∷ 0 ∷ 0 ∷ 0 ∷ 0 ∷ 1 ∷ 0 ∷ []
+
+-- the same with two loops
+abbrev linksE2 : List ℕ
+linksE2 =
+    1 ∷ 2 ∷ 2 ∷ 2 ∷ 2 ∷ 1 ∷ 1 ∷ 1 ∷ 0 ∷ 0 ∷ 1 ∷ 1 ∷ 0 ∷ 1 ∷ 2 ∷ 0 ∷ 1 ∷ 1 ∷ 1 ∷ 1 ∷ 1 ∷ 2 ∷ 2 ∷ 2 ∷ 0 ∷ 0 ∷ 0 ∷ 0 ∷ 0 ∷ 0 ∷ 0 ∷ 0 ∷ 1 ∷ 0 ∷ []
+
+-- the script that builds it: mvsf 1 1 1 1 0 0 0, mef 1 0 0 1 2 2 0, kfmrh 1 2
+abbrev scriptE : List ℕ
+scriptE = 1 ∷ 1 ∷ 1 ∷ 1 ∷ 1 ∷ 0 ∷ 0 ∷ 0 ∷ 5 ∷ 1 ∷ 0 ∷ 0 ∷ 1 ∷ 2 ∷ 2 ∷ 0 ∷ 9 ∷ 1 ∷ 2 ∷ []
+
+-- ---- a bridge: one face, one loop 7 9 8 10 1 3 5 4 6 2 along next
+
+abbrev linksBridge : List ℕ
+linksBridge =
+    1 ∷ 2 ∷ 2 ∷ 6 ∷ 2 ∷ 1 ∷ 1 ∷ 1 ∷ 0 ∷ 0 ∷ 1 ∷ 1 ∷ 0 ∷ 0 ∷ 0 ∷ 0 ∷ 1 ∷ 1 ∷ 3 ∷ 10 ∷ 2 ∷ 1 ∷ 7 ∷ 6 ∷ 2 ∷ 1 ∷ 5 ∷ 1 ∷ 2 ∷ 1 ∷ 6 ∷ 5 ∷ 2 ∷ 1 ∷ 4 ∷ 3 ∷ 2 ∷ 1 ∷ 2 ∷ 4 ∷ 1 ∷ 1 ∷ 9 ∷ 2 ∷ 1 ∷ 1 ∷ 10 ∷ 9 ∷ 1 ∷ 1 ∷ 8
+    ∷ 7 ∷ 1 ∷ 1 ∷ 1 ∷ 8 ∷ 0 ∷ 0 ∷ 0 ∷ 0 ∷ 0 ∷ 0 ∷ 0 ∷ 0 ∷ 1 ∷ 1 ∷ []
+
+abbrev pointsBridge : List ℤ
+pointsBridge = pos 10 ∷ pos 0 ∷ pos 0 ∷ pos 20 ∷ pos 0 ∷ pos 0 ∷ []
+
+-- mvsf, mef, kfmrh, mekr, mev, mef, kfmrh, mekr: the inverses of kvsf 1, kef 9, mfkrh 2 2 0, kemr 7 2, kev 1, kef 5, mfkrh 2 2 0, kemr 3 2
+abbrev scriptBridge : List ℕ
+scriptBridge =
+    1 ∷ 1 ∷ 1 ∷ 1 ∷ 1 ∷ 20 ∷ 0 ∷ 0 ∷ 5 ∷ 1 ∷ 0 ∷ 0 ∷ 5 ∷ 2 ∷ 2 ∷ 1 ∷ 9 ∷ 1 ∷ 2 ∷ 8 ∷ 1 ∷ 10 ∷ 2 ∷ 9 ∷ 4 ∷ 0 ∷ 3 ∷ 1 ∷ 7 ∷ 1 ∷ 2 ∷ 0 ∷ 40 ∷ 0 ∷ 0 ∷ 5 ∷ 1 ∷ 2 ∷ 2 ∷ 3 ∷ 2 ∷ 2 ∷ 1 ∷ 9 ∷ 1 ∷ 2 ∷ 8 ∷ 1 ∷ 6 ∷ 2 ∷ 5 ∷ 2 ∷ 0 ∷ []
+
+-- ---- all kinds of turn: rmov 1 3 (the swap), rmov 3 2, kef 6; kemr 1 1, mfkrh 1 1 0 (a face below the root, 2), kef 3; mekr 2 0 3 0 1 0, kev 1; kvsf 1
+
+abbrev linksAll : List ℕ
+linksAll =
+    3 ∷ 4 ∷ 4 ∷ 4 ∷ 2 ∷ 1 ∷ 0 ∷ 0 ∷ 0 ∷ 0 ∷ 1 ∷ 2 ∷ 1 ∷ 3 ∷ 0 ∷ 0 ∷ 3 ∷ 6 ∷ 0 ∷ 2 ∷ 1 ∷ 0 ∷ 3 ∷ 0 ∷ 2 ∷ 0 ∷ 0 ∷ 0 ∷ 1 ∷ 2 ∷ 3 ∷ 4 ∷ 1 ∷ 2 ∷ 5 ∷ 3 ∷ 1 ∷ 2 ∷ 2 ∷ 1 ∷ 1 ∷ 2 ∷ 1 ∷ 5 ∷ 1 ∷ 2 ∷ 4 ∷ 2 ∷ 1 ∷ 1 ∷ 6 ∷ 6 ∷ 0 ∷ 0 ∷ 0 ∷ 0 ∷ 0 ∷ 0 ∷ 0 ∷ 0 ∷ 1 ∷ 1 ∷ []
+
+abbrev pointsAll : List ℤ
+pointsAll = negsuc 49999 ∷ pos 0 ∷ pos 50000 ∷ negsuc 49999 ∷ pos 50000 ∷ pos 0 ∷ []
+
+abbrev scriptAll : List ℕ
+scriptAll =
+    1 ∷ 1 ∷ 2 ∷ 2 ∷ 1 ∷ 159 ∷ 141 ∷ 6 ∷ 0 ∷ 160 ∷ 141 ∷ 6 ∷ 3 ∷ 2 ∷ 0 ∷ 1 ∷ 2 ∷ 0 ∷ 159 ∷ 141 ∷ 6 ∷ 160 ∷ 141 ∷ 6 ∷ 0 ∷ 7 ∷ 1 ∷ 3 ∷ 5 ∷ 2 ∷ 0 ∷ 0 ∷ 2 ∷ 1 ∷ 1 ∷ 1 ∷ 9 ∷ 2 ∷ 1 ∷ 8 ∷ 2 ∷ 4 ∷ 1 ∷ 3 ∷ 1 ∷ 0 ∷ 5 ∷ 2 ∷ 4 ∷ 4 ∷ 3 ∷ 3 ∷ 1 ∷ 0 ∷ 13 ∷ 3 ∷ 3 ∷ 13 ∷ 3 ∷ 3 ∷ []
+
+-- ---- two solids: rmov 2 1, kef 2, mfkrh 2 2 0, kef 4, mekr 6 0 5 0 1 0, kev 1, kvsf 1; kvsf 2
+
+abbrev linksTwo : List ℕ
+linksTwo =
+    2 ∷ 5 ∷ 6 ∷ 3 ∷ 5 ∷ 1 ∷ 1 ∷ 1 ∷ 6 ∷ 0 ∷ 0 ∷ 1 ∷ 1 ∷ 2 ∷ 4 ∷ 0 ∷ 0 ∷ 3 ∷ 2 ∷ 0 ∷ 3 ∷ 4 ∷ 0 ∷ 0 ∷ 0 ∷ 0 ∷ 4 ∷ 0 ∷ 3 ∷ 1 ∷ 1 ∷ 0 ∷ 1 ∷ 3 ∷ 0 ∷ 5 ∷ 5 ∷ 1 ∷ 1 ∷ 5 ∷ 1 ∷ 2 ∷ 2 ∷ 4 ∷ 6 ∷ 3 ∷ 3 ∷ 4 ∷ 2 ∷ 4 ∷ 4 ∷ 0 ∷ 0 ∷ 0 ∷ 0 ∷ 0 ∷ 0 ∷ 0 ∷ 0 ∷ 0 ∷ 0 ∷ 1 ∷ 1 ∷ 1 ∷ []
+
+abbrev pointsTwo : List ℤ
+pointsTwo = pos 0 ∷ pos 0 ∷ pos 0 ∷ pos 0 ∷ pos 0 ∷ pos 0 ∷ pos 18893 ∷ pos 50000 ∷ pos 29460 ∷ pos 8983 ∷ pos 0 ∷ negsuc 23450 ∷ pos 29636 ∷ pos 50000 ∷ pos 0 ∷ []
+
+abbrev scriptTwo : List ℕ
+scriptTwo =
+    1 ∷ 2 ∷ 4 ∷ 4 ∷ 3 ∷ 154 ∷ 167 ∷ 2 ∷ 160 ∷ 141 ∷ 6 ∷ 168 ∷ 204 ∷ 3 ∷ 1 ∷ 1 ∷ 1 ∷ 6 ∷ 4 ∷ 174 ∷ 140 ∷ 1 ∷ 0 ∷ 181 ∷ 238 ∷ 2 ∷ 3 ∷ 6 ∷ 0 ∷ 1 ∷ 5 ∷ 0 ∷ 136 ∷ 207 ∷ 3 ∷ 160 ∷ 141 ∷ 6 ∷ 0 ∷ 7 ∷ 1 ∷ 5 ∷ 5 ∷ 6 ∷ 0 ∷ 0 ∷ 2 ∷ 2 ∷ 2 ∷ 0 ∷ 9 ∷ 1 ∷ 2 ∷ 5 ∷ 5 ∷ 0 ∷ 0 ∷ 1 ∷ 3 ∷ 1 ∷ 0 ∷ 13 ∷ 2 ∷ 3 ∷ []
+
+-- ---- a torus of two edges that fills its table: one loop 1 3 2 4 along next
+
+abbrev linksFull : List ℕ
+linksFull = 1 ∷ 1 ∷ 1 ∷ 2 ∷ 1 ∷ 1 ∷ 1 ∷ 1 ∷ 1 ∷ 1 ∷ 0 ∷ 1 ∷ 1 ∷ 3 ∷ 4 ∷ 1 ∷ 1 ∷ 4 ∷ 3 ∷ 1 ∷ 1 ∷ 2 ∷ 1 ∷ 1 ∷ 1 ∷ 1 ∷ 2 ∷ 1 ∷ []
+
+-- ---- the rows: a state, and all that is left
+
+abbrev pub asked : List Inverted
+asked =
+    invertOf (state linksE (replicate 6 (pos 0)) (replicate 114 238) 114)
+    ∷ invertOf (state linksE2 (replicate 6 (pos 0)) (replicate 114 238) 114)
+    ∷ invertOf (state linksE (replicate 6 (pos 0)) (replicate 114 238) 113)
+    ∷ invertOf (state linksE (replicate 6 (pos 0)) (replicate 114 238) 115)
+    ∷ invertOf (state linksBridge pointsBridge (replicate 152 238) 152) ∷ invertOf (state linksAll pointsAll (replicate 171 238) 171)
+    ∷ invertOf (state linksTwo pointsTwo (replicate 228 238) 228) ∷ invertOf (state linksFull (replicate 3 (pos 0)) (replicate 114 238) 114) ∷ []
+
+abbrev pub wanted : List Inverted
+wanted =
+    leaves 0 3 95 (1 ∷ 2 ∷ 3 ∷ 2 ∷ 2 ∷ replicate 32 0) (replicate 6 (pos 0)) (replicate 95 238 ++ scriptE)
+    ∷ leaves 10 0 114 linksE2 (replicate 6 (pos 0)) (replicate 114 238)
+    ∷ leaves 9 0 113 linksE (replicate 6 (pos 0)) (replicate 114 238)
+    ∷ leaves 1 0 115 linksE (replicate 6 (pos 0)) (replicate 114 238)
+    ∷ leaves 0 8 99 (1 ∷ 2 ∷ 2 ∷ 6 ∷ 2 ∷ replicate 61 0) (replicate 6 (pos 0)) (replicate 99 238 ++ scriptBridge)
+    ∷ leaves 0 9 111 (3 ∷ 4 ∷ 4 ∷ 4 ∷ 2 ∷ replicate 57 0) (replicate 6 (pos 0)) (replicate 111 238 ++ scriptAll)
+    ∷ leaves 0 8 164 (2 ∷ 5 ∷ 6 ∷ 3 ∷ 5 ∷ replicate 59 0) (replicate 15 (pos 0)) (replicate 164 238 ++ scriptTwo)
+    ∷ leaves 10 0 114 linksFull (replicate 3 (pos 0)) (replicate 114 238) ∷ []
+
+pub rows-hold : asked ≡ wanted
+unfolding invertOf invertBy turned turnB moveRings makeOuter act crossed onRun entry checkOf sizesFit tallyOf itemUsed brokenRule rule1 rule2 rule3 rule4 rule5 rule6 solidRange faceRange loopRange halfRange vertexRange solidNames faceNames loopNames halfNames loopEither halfLinks firstNames halfInLoop vertexEither halfAtVertex halfSides faceLinked allTo anyTo leastFrom sumTo meets linkedb rounds pass across mate within joins linkedBy third second first readNumber groups pattern rows inRanges inRange zig zag wire unwire operandBytes operandsBytes operatorBytes putBytes inverseBytes stepped linksAfter pointsAfter killedVertex inverse corner edgeIn edgeOut relabel seek renew sweep kvsfLinks kevLinks kefEdge kefLinks kemrLinks mekrEdge mekrLinks mfkrhLinks rmovLinks
+rows-hold = refl
+
+-- the full one counted: one solid, face, loop and vertex, two edges, no ring, one hole
+pub full-counted : countOf linksFull (replicate 3 (pos 0)) ≡ counts 0 0 1 1 1 2 1 0 1
+unfolding checkOf sizesFit brokenRule rule1 rule2 rule3 rule4 rule5 rule6 solidRange faceRange loopRange halfRange vertexRange solidNames faceNames loopNames halfNames loopEither halfLinks firstNames halfInLoop vertexEither halfAtVertex halfSides faceLinked allTo leastFrom sumTo meets linkedb rounds pass across mate countOf tallyOf itemUsed
+full-counted = refl

@@ -1,0 +1,88 @@
+-- kev: accepted where k is followed by its mate; one edge and one vertex fewer, all else counted the same.
+-- PROVED: all.
+use mathlib.Core.Path.{_≡_, refl, sym, ap, _∙_}
+use mathlib.Core.Logic.{_≢_, inl, inr}
+use mathlib.Core.List.{List, [], _∷_}
+use Prim.Native.Nat.{ℕ, suc, _*_}
+use native.Mathlib.Omega.{arith}
+use lib.IntN.{ℤ}
+use borrow.Author.Tests.{le-leb}
+use Rattle.laws.specs.Bools.{split, eqb-same}
+use Rattle.laws.specs.Update.{upd-same, upd-off}
+use Rattle.script.specs.Operands.{pattern, rows}
+use Rattle.layout.specs.declared.shape.Shape.{Shape}
+use Rattle.layout.specs.Mate.{mate}
+use Rattle.euler.specs.Operators.{kevTest}
+use Rattle.euler.specs.Exec.{useWord, condition, refusalOf, inverse}
+use Rattle.validity.specs.Fields.{SolidUsed, Solid, Face, Start, Next, VertexUsed}
+use Rattle.validity.specs.Sound.{In, HalfUsed}
+use Rattle.validity.specs.OneOperand.{one-accepted}
+use Rattle.validity.specs.Cells.{Shows}
+use Rattle.validity.specs.Good.{Good, own}
+use Rattle.spurs.specs.Spur.{in-k, in-b, used-b, far-in, far-used}
+use Rattle.spurs.specs.KevSound.{Left, kevColumns, out-start-k, out-start-b}
+use Rattle.spurs.specs.KevOperator.{kevList, kev-shows}
+use Rattle.takedown.specs.Inversion.{kev}
+use Rattle.inversion.specs.Path.{joinsIn}
+use Rattle.inversion.specs.Counts.{solids, faces, loops, edges, vertices, strays}
+use Rattle.inversion.specs.Same.{words-same, words-fewer, solids-is, faces-is, vertices-is, loops-same, strays-same}
+use Rattle.inversion.specs.EdgeOut.{edge-fewer}
+
+-- the table afterwards, as it is counted
+pub record KevLaw (sh : Shape) (x y : List ℕ) (k : ℕ) : Type 0 where
+  pub mark : (n : ℕ) → In (sh .solids) n → own sh y SolidUsed n ≡ own sh x SolidUsed n
+  pub solid : (n : ℕ) → In (sh .faces) n → own sh y Solid n ≡ own sh x Solid n
+  pub face : (n : ℕ) → In (sh .loops) n → own sh y Face n ≡ own sh x Face n
+  pub gone-k : own sh y Start k ≡ 0
+  pub gone-b : own sh y Start (mate k) ≡ 0
+  pub start-kept : (i : ℕ) → In (2 * sh .edges) i → own sh x Start i ≡ 0 → own sh y Start i ≡ 0
+  pub same-solids : solids sh y ≡ solids sh x
+  pub same-faces : faces sh y ≡ faces sh x
+  pub same-loops : loops sh y ≡ loops sh x
+  pub same-strays : strays sh y ≡ strays sh x
+  pub fewer-edges : suc (edges sh y) ≡ edges sh x
+  pub fewer-vertices : suc (vertices sh y) ≡ vertices sh x
+
+-- kev is undone by mev, which joins no faces
+pub kev-joins : (sh : Shape) (x : List ℕ) (p : List ℤ) (k : ℕ) → joinsIn sh x p (kev k ∷ []) ≡ 0
+unfolding inverse
+kev-joins sh x p k = refl
+
+module _ {sh : Shape} {x : List ℕ} {p : List ℤ} (g : Good sh x p) {k : ℕ} (uk : HalfUsed sh (own sh x) k) (nk : own sh x Next k ≡ mate k) where
+  pub kev-accepted : refusalOf sh x (kev k) ≡ 0
+  unfolding pattern rows useWord condition kevTest
+  kev-accepted = one-accepted sh x 4 9 refl refl refl refl (omega (arith, g .capacities .edges)) refl k (uk .0, uk .1) (uk .2)
+      (rw (le-leb k 8192 (omega (arith, uk .1, g .capacities .edges))) (eqb-same nk))
+
+  module _ {I : ℕ} (left : Left (own sh x) k I) where
+    v : Shows sh (kevList sh x k) (kevColumns sh (own sh x) k I)
+    v = kev-shows g uk nk left
+
+    law-at : KevLaw sh x (kevList sh x k) k
+    law-at =
+        let a = g .sound in
+        let mark : (n : ℕ) → In (sh .solids) n → own sh (kevList sh x k) SolidUsed n ≡ own sh x SolidUsed n = λ n i. v .at SolidUsed n (i .1) in
+        let solid : (n : ℕ) → In (sh .faces) n → own sh (kevList sh x k) Solid n ≡ own sh x Solid n = λ n i. v .at Solid n (i .1) in
+        let face : (n : ℕ) → In (sh .loops) n → own sh (kevList sh x k) Face n ≡ own sh x Face n = λ n i. v .at Face n (i .1) in
+        let other : (i : ℕ) → In (2 * sh .edges) i → i ≢ k → i ≢ mate k → own sh (kevList sh x k) Start i ≡ own sh x Start i = λ i j d e. v .at Start i (j .1) ∙ upd-off _ 0 e ∙ upd-off _ 0 d in
+        record {
+          mark = mark;
+          solid = solid;
+          face = face;
+          gone-k = v .at Start k (uk .1) ∙ out-start-k a uk nk left;
+          gone-b = v .at Start (mate k) (in-b a uk nk .1) ∙ out-start-b a uk nk left;
+          start-kept = λ i j z. other i j (λ e. uk .2 (ap (own sh x Start) (sym e) ∙ z)) (λ e. used-b a uk nk .2 (ap (own sh x Start) (sym e) ∙ z)) ∙ z;
+          same-solids = solids-is sh _ ∙ words-same (sh .solids) _ _ mark ∙ sym (solids-is sh x);
+          same-faces = faces-is sh _ ∙ words-same (sh .faces) _ _ solid ∙ sym (faces-is sh x);
+          same-loops = loops-same sh x _ face;
+          same-strays = strays-same sh x _ face g solid;
+          fewer-edges = edge-fewer sh x _ k (in-k a uk nk) (uk .2) (used-b a uk nk .2) (v .at Start k (uk .1) ∙ out-start-k a uk nk left) (v .at Start (mate k) (in-b a uk nk .1) ∙ out-start-b a uk nk left) other;
+          fewer-vertices = ap suc (vertices-is sh _)
+              ∙ words-fewer (sh .vertices) _ _ (own sh x Start (mate k)) (far-in a uk nk) (v .at VertexUsed (own sh x Start (mate k)) (far-in a uk nk .1) ∙ upd-same _ (own sh x Start (mate k)) 0) (far-used a uk nk)
+              (λ n i d. v .at VertexUsed n (i .1) ∙ upd-off _ 0 d)
+              ∙ sym (vertices-is sh x);
+        }
+
+  -- whichever way the loop is left
+  pub kev-law : KevLaw sh x (kevList sh x k) k
+  kev-law = split (own sh x Next (mate k)) k (λ e. law-at {I = own sh x Start k} (inl (e, refl))) (λ d. law-at {I = 0} (inr (d, refl)))
