@@ -30,7 +30,6 @@ pub mod LoopCounts
 pub mod Theorem
 pub mod Uncrossed
 pub mod Gone
-pub mod Swift
 pub mod SwiftKept
 pub mod TurnsB
 pub mod Spans

@@ -33,7 +33,8 @@ use Rattle.inversion.specs.Root.{root-is}
 use Rattle.inversion.specs.KefLaws.{kef-accepted, kef-law, kef-shown, kef-points-same}
 use Rattle.inversion.specs.Border.{moves-none, Alike, alike-then, Cleared, clear-rings}
 use Rattle.inversion.specs.TurnAcross.{found, Opened, opens-not, open-face, place}
-use Rattle.inversion.specs.Swift.{lesser, Ends, leastMate, strayRing, loopFrom, orPast, seek, movedFrom, acrossEnds}
+use Rattle.takedown.specs.declared.ends.Ends.{Ends}
+use Rattle.takedown.specs.Swift.{lesser, leastMate, strayRing, loopFrom, orPast, seek, movedFrom, acrossEnds}
 use Rattle.inversion.specs.SwiftKept.{seek-least, lesser-left, lesser-right, lesser-low, Keeps, Kept, keeps-none}
 use Rattle.inversion.specs.TurnsB.{least-before, fails}
 
@@ -329,8 +330,8 @@ module _ {sh : Shape} {x : List ℕ} {p : List ℤ} (g : Good sh x p) (sn : soli
   loop-before : (e : Ends) → Kept sh x e → (1 ≤ loopFrom sh x e) × (loopFrom sh x e ≤ sh .loops + 1) × ((n : ℕ) → In (sh .loops) n → n < loopFrom sh x e → strayRing sh x (solidAt sh x) r n ≡ false)
   loop-before e K =
       let m = least (sh .loops) (strayRing sh x (solidAt sh x) r) in
-      let q : loopFrom sh x e ≡ orPast (sh .loops) m = ap (orPast (sh .loops)) (ap (λ s. seek (sh .loops) (e .loop) (strayRing sh x s (e .root))) (K .solid)
-      ∙ ap (λ t. seek (sh .loops) (e .loop) (strayRing sh x (solidAt sh x) t)) (K .root) ∙ seek-least (sh .loops) (e .loop) (strayRing sh x (solidAt sh x) r) (K .keeps .loop-low) (K .keeps .loop)) in
+      let q : loopFrom sh x e ≡ orPast (sh .loops) m = ap (orPast (sh .loops)) (ap (λ s. seek (sh .loops) (e .stray) (strayRing sh x s (e .root))) (K .solid)
+      ∙ ap (λ t. seek (sh .loops) (e .stray) (strayRing sh x (solidAt sh x) t)) (K .root) ∙ seek-least (sh .loops) (e .stray) (strayRing sh x (solidAt sh x) r) (K .keeps .loop-low) (K .keeps .loop)) in
       let b : m ≤ sh .loops = split m 0 (λ z. omega (arith, z)) (λ d. least-some (sh .loops) (strayRing sh x (solidAt sh x) r) d .0 .1) in
       let p = past (sh .loops) m b in (
         omega (arith, q, p .0),

@@ -22,7 +22,8 @@ use Rattle.inversion.specs.Root.{root-is, no-half}
 use Rattle.inversion.specs.Turn.{Ready}
 use Rattle.inversion.specs.TurnBridge.{Bare, turn-bare, found}
 use Rattle.inversion.specs.TurnsB.{least-before, fails}
-use Rattle.inversion.specs.Swift.{Ends, bareEnds}
+use Rattle.takedown.specs.declared.ends.Ends.{Ends}
+use Rattle.takedown.specs.Swift.{bareEnds}
 use Rattle.inversion.specs.SwiftKept.{Keeps, Kept}
 
 module _ {sh : Shape} {x : List ℕ} {p : List ℤ} (g : Good sh x p) (ready : Ready sh x) (sn : solidAt sh x ≢ 0) (one : facesIn sh x (solidAt sh x) ≡ 1)

@@ -23,7 +23,8 @@ use Rattle.inversion.specs.Same.{face-in-same, faces-in-same, solid-at-s
 use Rattle.inversion.specs.OfSolid.{both, joint, of-solid}
 use Rattle.inversion.specs.Uncrossed.{Parted, parted-kept}
 use Rattle.inversion.specs.Gone.{Goes}
-use Rattle.inversion.specs.Swift.{strayRing, seek, lesser, greater, Ends, endsAt, enter, solidFrom, tipped, leastTip, spurFrom}
+use Rattle.takedown.specs.declared.ends.Ends.{Ends}
+use Rattle.takedown.specs.Swift.{strayRing, seek, lesser, greater, endsAt, enter, solidFrom, tipped, leastTip, spurFrom}
 
 -- ---- searches from a lower end
 
@@ -68,19 +69,19 @@ Spans sh x s a b = (i : ℕ) → HalfUsed sh (own sh x) i → own sh x Solid (si
 -- of solid s with root r: nothing below the ends passes, and what is below the end of the crossing search parts the others
 pub record Keeps (sh : Shape) (x : List ℕ) (s r : ℕ) (e : Ends) : Type 0 where
   pub border-low : 1 ≤ e .border
-  pub loop-low : 1 ≤ e .loop
+  pub loop-low : 1 ≤ e .stray
   pub half-low : 1 ≤ e .half
   pub ring-low : 1 ≤ e .ring
   pub spur-low : 1 ≤ e .spur
   pub cross-low : 1 ≤ e .cross
   pub lone-low : 1 ≤ e .lone
-  pub tips-in : In (2 * sh .edges) (e .tip) × In (2 * sh .edges) (e .tip₂) × In (2 * sh .edges) (e .tip₃) × In (2 * sh .edges) (e .tip₄)
+  pub tips-in : In (2 * sh .edges) (e .tip) × In (2 * sh .edges) (e .tip2) × In (2 * sh .edges) (e .tip3) × In (2 * sh .edges) (e .tip4)
   pub border : (k : ℕ) → In (2 * sh .edges) k → k < e .border → outside sh x r k ≡ false
-  pub loop : (l : ℕ) → In (sh .loops) l → l < e .loop → strayRing sh x s r l ≡ false
+  pub loop : (l : ℕ) → In (sh .loops) l → l < e .stray → strayRing sh x s r l ≡ false
   pub half : (k : ℕ) → In (2 * sh .edges) k → k < e .half → ofSolid sh x s k ≡ false
   pub ring : (k : ℕ) → In (2 * sh .edges) k → k < e .ring → inRing sh x s k ≡ false
-  pub pair : e .pair ≡ 1 → ((a : ℕ) × (b : ℕ) × Spans sh x s a b) × (e .tip₃ ≡ e .tip) × (e .tip₄ ≡ e .tip₂)
-  pub spur : (k : ℕ) → In (2 * sh .edges) k → k < e .spur → k ≢ e .tip → k ≢ e .tip₂ → k ≢ e .tip₃ → k ≢ e .tip₄ → isSpur sh x s k ≡ false
+  pub pair : e .pair ≡ 1 → ((a : ℕ) × (b : ℕ) × Spans sh x s a b) × (e .tip3 ≡ e .tip) × (e .tip4 ≡ e .tip2)
+  pub spur : (k : ℕ) → In (2 * sh .edges) k → k < e .spur → k ≢ e .tip → k ≢ e .tip2 → k ≢ e .tip3 → k ≢ e .tip4 → isSpur sh x s k ≡ false
   pub cross : (k : ℕ) → In (2 * sh .edges) k → k < e .cross → ofSolid sh x s k ≡ true → Parted sh (own sh x) k
   pub lone : (l : ℕ) → In (sh .loops) l → l < e .lone → isRingOf sh x r l ≡ false
 
@@ -157,28 +158,28 @@ module _ (sh : Shape) (x : List ℕ) (s r : ℕ) (e : Ends) (es : e .solid ≡ s
 
   -- the four in turn
   abbrev b₄ : ℕ
-  b₄ = tipped sh x e (e .tip₄) (2 * sh .edges + 1)
+  b₄ = tipped sh x e (e .tip4) (2 * sh .edges + 1)
 
   abbrev b₃ : ℕ
-  b₃ = tipped sh x e (e .tip₃) b₄
+  b₃ = tipped sh x e (e .tip3) b₄
 
   abbrev b₂ : ℕ
-  b₂ = tipped sh x e (e .tip₂) b₃
+  b₂ = tipped sh x e (e .tip2) b₃
 
   found-range : PastOr (leastTip sh x e)
-  found-range = tip-range (e .tip) b₂ (K .tips-in .0) (tip-range (e .tip₂) b₃ (K .tips-in .1) (tip-range (e .tip₃) b₄ (K .tips-in .2) (tip-range (e .tip₄) (2 * sh .edges + 1) (K .tips-in .3) (inl refl))))
+  found-range = tip-range (e .tip) b₂ (K .tips-in .0) (tip-range (e .tip2) b₃ (K .tips-in .1) (tip-range (e .tip3) b₄ (K .tips-in .2) (tip-range (e .tip4) (2 * sh .edges + 1) (K .tips-in .3) (inl refl))))
 
   -- a spur below the end is a tip, and not below what is found
   found-least : (j : ℕ) → In (2 * sh .edges) j → j < e .spur → isSpur sh x s j ≡ true → leastTip sh x e ≤ j
   found-least j i h q =
       let r₁ = tip-right (e .tip) b₂ in
-      let r₂ = tip-right (e .tip₂) b₃ in
-      let r₃ = tip-right (e .tip₃) b₄ in
+      let r₂ = tip-right (e .tip2) b₃ in
+      let r₃ = tip-right (e .tip3) b₄ in
       let at : (t b : ℕ) → j ≡ t → tipped sh x e t b ≤ j = λ t b z. omega (arith, z, tip-left t b (omega (arith, h, z)) (ap (isSpur sh x s) (sym z) ∙ q)) in
       split j (e .tip) (λ z. at (e .tip) b₂ z) (λ d₁.
-      split j (e .tip₂) (λ z. omega (arith, r₁, at (e .tip₂) b₃ z)) (λ d₂.
-      split j (e .tip₃) (λ z. omega (arith, r₁, r₂, at (e .tip₃) b₄ z)) (λ d₃.
-      split j (e .tip₄) (λ z. omega (arith, r₁, r₂, r₃, at (e .tip₄) (2 * sh .edges + 1) z)) (λ d₄.
+      split j (e .tip2) (λ z. omega (arith, r₁, at (e .tip2) b₃ z)) (λ d₂.
+      split j (e .tip3) (λ z. omega (arith, r₁, r₂, at (e .tip3) b₄ z)) (λ d₃.
+      split j (e .tip4) (λ z. omega (arith, r₁, r₂, r₃, at (e .tip4) (2 * sh .edges + 1) z)) (λ d₄.
       absurd (false≢true (sym (K .spur j i h d₁ d₂ d₃ d₄) ∙ q))))))
 
   not-spur : (j : ℕ) → In (2 * sh .edges) j → j < e .spur → j < leastTip sh x e → isSpur sh x s j ≡ false

@@ -33,7 +33,8 @@ use Rattle.inversion.specs.Root.{solid-in}
 use Rattle.inversion.specs.Main.{free-all}
 use Rattle.inversion.specs.AllTurns.{turns-made}
 use Rattle.inversion.specs.Gone.{Goes}
-use Rattle.inversion.specs.Swift.{seek, Ends, Swift, withHalf, spurFrom, ringEnds, spurEnds, crossEnds, loopFrom, acrossEnds, acrossTurn, acrossFrom, bareEnds, enter, entered, swiftTurn, swiftBy, swiftOf}
+use Rattle.takedown.specs.declared.ends.Ends.{Ends}
+use Rattle.takedown.specs.Swift.{seek, Swift, withHalf, spurFrom, ringEnds, spurEnds, crossEnds, loopFrom, acrossEnds, acrossTurn, acrossFrom, bareEnds, enter, entered, swiftTurn, swiftBy, swiftOf}
 use Rattle.inversion.specs.SwiftKept.{seek-least, Keeps, Kept, kept-enter, spur-from, solid-kept, root-kept, faces-kept}
 use Rattle.inversion.specs.TurnsB.{least-before, kev-good, kev-goes-on, kemr-good, kemr-goes-on, uncrossed-of, ring-good, ring-goes-on}
 use Rattle.inversion.specs.SwiftTurns.{kept-spur, kept-cross, kept-ring}

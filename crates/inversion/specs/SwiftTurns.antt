@@ -29,7 +29,8 @@ use Rattle.inversion.specs.OfSolid.{least-some, least-no, both, joint, o
 use Rattle.inversion.specs.Gone.{Goes}
 use Rattle.inversion.specs.TurnsB.{ringLeft, least-before, fails, InRing, in-ring, kev-half, kev-next, kev-good, kev-goes-on, kev-ring, parted-of, kemr-half, kemr-good, kemr-goes-on, ring-half, ring-good, ring-goes-on, ring-keeps}
 use Rattle.inversion.specs.Spans.{kemr-spans, kemr-from, spans-none}
-use Rattle.inversion.specs.Swift.{lesser, greater, Ends, withHalf, leastRun, ringEnds, spurEnds, crossEnds}
+use Rattle.takedown.specs.declared.ends.Ends.{Ends}
+use Rattle.takedown.specs.Swift.{lesser, greater, withHalf, leastRun, ringEnds, spurEnds, crossEnds}
 use Rattle.inversion.specs.SwiftKept.{lesser-left, lesser-right, lesser-low, greater-one, Keeps, half-kept, spur-kept, cross-kept}
 
 -- ---- kev
@@ -65,7 +66,7 @@ module _ {sh : Shape} {x : List ℕ} {p : List ℤ} (g : Good sh x p) (ready : R
     tips-in =
         let u = prev-in (g .sound .rules) (spurHalf sh x (solidAt sh x)) uk in
         let T = K .tips-in in
-        ((u .0, u .1), pick-ind (In (2 * sh .edges)) (eqb (e .tip₂) (spurHalf sh x (solidAt sh x))) (e .tip) (e .tip₂) (T .0) (T .1), pick-ind (In (2 * sh .edges)) (eqb (e .tip₃) (spurHalf sh x (solidAt sh x))) (e .tip) (e .tip₃) (T .0) (T .2), pick-ind (In (2 * sh .edges)) (eqb (e .tip₄) (spurHalf sh x (solidAt sh x))) (e .tip) (e .tip₄) (T .0) (T .3));
+        ((u .0, u .1), pick-ind (In (2 * sh .edges)) (eqb (e .tip2) (spurHalf sh x (solidAt sh x))) (e .tip) (e .tip2) (T .0) (T .1), pick-ind (In (2 * sh .edges)) (eqb (e .tip3) (spurHalf sh x (solidAt sh x))) (e .tip) (e .tip3) (T .0) (T .2), pick-ind (In (2 * sh .edges)) (eqb (e .tip4) (spurHalf sh x (solidAt sh x))) (e .tip) (e .tip4) (T .0) (T .3));
     border = λ i j h. absurd (omega (arith, j .0, h));
     half = λ i j h. half-kept g g₁ sn G₁ i j (h₀ i j h);
     ring = λ i j h. kev-ring g ready sn one left none spur i j (least-no (2 * sh .edges) (inRing sh x (solidAt sh x)) none i j);
@@ -87,8 +88,8 @@ module _ {sh : Shape} {x : List ℕ} {p : List ℤ} (g : Good sh x p) (ready : R
 
       -- none but k was a spur
       old : (i : ℕ) → In (2 * sh .edges) i → i < greater (e .spur) (spurHalf sh x (solidAt sh x)) → i ≢ spurHalf sh x (solidAt sh x)
-          → i ≢ pick (eqb (e .tip₂) (spurHalf sh x (solidAt sh x))) (e .tip) (e .tip₂) → i ≢ pick (eqb (e .tip₃) (spurHalf sh x (solidAt sh x))) (e .tip) (e .tip₃)
-          → i ≢ pick (eqb (e .tip₄) (spurHalf sh x (solidAt sh x))) (e .tip) (e .tip₄) → isSpur sh x (solidAt sh x) i ≡ false
+          → i ≢ pick (eqb (e .tip2) (spurHalf sh x (solidAt sh x))) (e .tip) (e .tip2) → i ≢ pick (eqb (e .tip3) (spurHalf sh x (solidAt sh x))) (e .tip) (e .tip3)
+          → i ≢ pick (eqb (e .tip4) (spurHalf sh x (solidAt sh x))) (e .tip) (e .tip4) → isSpur sh x (solidAt sh x) i ≡ false
       old i j h d d₂ d₃ d₄ = ⊎-elim (λ q. least-before (2 * sh .edges) (isSpur sh x (solidAt sh x)) i j (omega arith))
           (λ q. ⊎-elim
           (λ z.
@@ -97,18 +98,18 @@ module _ {sh : Shape} {x : List ℕ} {p : List ℤ} (g : Good sh x p) (ready : R
           let ks : k < e .spur = omega (arith, q, hs) in
           K .spur i j hs
           (split k (e .tip) (λ m c. d (c ∙ sym m)) (λ m₁.
-          split k (e .tip₂) (λ m. first i (e .tip₂) m d₂) (λ m₂.
-          split k (e .tip₃) (λ m. first i (e .tip₃) m d₃) (λ m₃.
-          split k (e .tip₄) (λ m. first i (e .tip₄) m d₄) (λ m₄.
+          split k (e .tip2) (λ m. first i (e .tip2) m d₂) (λ m₂.
+          split k (e .tip3) (λ m. first i (e .tip3) m d₃) (λ m₃.
+          split k (e .tip4) (λ m. first i (e .tip4) m d₄) (λ m₄.
           absurd (false≢true (sym (K .spur k (uk .0, uk .1) ks m₁ m₂ m₃ m₄) ∙ least-some (2 * sh .edges) (isSpur sh x (solidAt sh x)) spur .1)))))))
-          (kept i (e .tip₂) d d₂) (kept i (e .tip₃) d d₃) (kept i (e .tip₄) d d₄))
+          (kept i (e .tip2) d d₂) (kept i (e .tip3) d d₃) (kept i (e .tip4) d d₄))
           (λ z. absurd (omega (arith, h, z .1, q)))
           (greater-one (e .spur) (spurHalf sh x (solidAt sh x))))
           (le? (suc i) (spurHalf sh x (solidAt sh x)))
 
       new : (i : ℕ) → In (2 * sh .edges) i → i < greater (e .spur) (spurHalf sh x (solidAt sh x)) → i ≢ own sh x Prev (spurHalf sh x (solidAt sh x))
-          → i ≢ pick (eqb (e .tip₂) (spurHalf sh x (solidAt sh x))) (e .tip) (e .tip₂) → i ≢ pick (eqb (e .tip₃) (spurHalf sh x (solidAt sh x))) (e .tip) (e .tip₃)
-          → i ≢ pick (eqb (e .tip₄) (spurHalf sh x (solidAt sh x))) (e .tip) (e .tip₄)
+          → i ≢ pick (eqb (e .tip2) (spurHalf sh x (solidAt sh x))) (e .tip) (e .tip2) → i ≢ pick (eqb (e .tip3) (spurHalf sh x (solidAt sh x))) (e .tip) (e .tip3)
+          → i ≢ pick (eqb (e .tip4) (spurHalf sh x (solidAt sh x))) (e .tip) (e .tip4)
           → isSpur sh (linksAfter sh x (kev (spurHalf sh x (solidAt sh x)))) (solidAt sh x) i ≡ true → ⊥
       new i j h d d₂ d₃ d₄ t =
           let b = both (ofSolid sh (linksAfter sh x (kev (spurHalf sh x (solidAt sh x)))) (solidAt sh x) i) _ t in
@@ -245,7 +246,7 @@ module _ {sh : Shape} {x : List ℕ} {p : List ℤ} (g : Good sh x p) (ready : R
   Q₃ = own sh x Prev (mate (ringHalf sh x (solidAt sh x)))
 
   spur₃ : (e : Ends) (r : ℕ) → Keeps sh x (solidAt sh x) r e → (b : Bool) → eqb (e .pair) 1 ≡ b → (i : ℕ) → In (2 * sh .edges) i → i < pick b (e .spur) (lesser (e .spur) (lesser P₃ Q₃))
-      → i ≢ e .tip → i ≢ e .tip₂ → i ≢ pick b P₃ (e .tip₃) → i ≢ pick b Q₃ (e .tip₄) → isSpur sh (ringLeft sh x) (solidAt sh x) i ≡ true → ⊥
+      → i ≢ e .tip → i ≢ e .tip2 → i ≢ pick b P₃ (e .tip3) → i ≢ pick b Q₃ (e .tip4) → isSpur sh (ringLeft sh x) (solidAt sh x) i ≡ true → ⊥
   spur₃ e r K true q i j h d d₂ d₃ d₄ t =
       let c = K .pair (eqb→eq _ _ (true-T q)) in
       ⊎-elim d₃ d₄ (spur-kept g g₃ sn G₃ i j (K .spur i j h d d₂ (λ z. d (z ∙ c .1)) (λ z. d₂ (z ∙ c .2))) t)
@@ -272,7 +273,7 @@ module _ {sh : Shape} {x : List ℕ} {p : List ℤ} (g : Good sh x p) (ready : R
         ring-low = ring-low₃ (eqb (e .pair) 1);
         spur-low = pick-ind (λ n. 1 ≤ n) (eqb (e .pair) 1) (e .spur) (lesser (e .spur) (lesser P Q)) (K .spur-low) (lesser-low _ _ (K .spur-low) (lesser-low _ _ (uP .0) (uQ .0)));
         cross-low = K .cross-low;
-        tips-in = (K .tips-in .0, K .tips-in .1, pick-ind (In (2 * sh .edges)) (eqb (e .pair) 1) P (e .tip₃) uP (K .tips-in .2), pick-ind (In (2 * sh .edges)) (eqb (e .pair) 1) Q (e .tip₄) uQ (K .tips-in .3));
+        tips-in = (K .tips-in .0, K .tips-in .1, pick-ind (In (2 * sh .edges)) (eqb (e .pair) 1) P (e .tip3) uP (K .tips-in .2), pick-ind (In (2 * sh .edges)) (eqb (e .pair) 1) Q (e .tip4) uQ (K .tips-in .3));
         border = λ i j h. absurd (omega (arith, j .0, h));
         half = λ i j h. half-kept g g₃ sn G₃ i j (h₀ i j h);
         ring = ring₃ e r K (eqb (e .pair) 1) refl;

@@ -18,7 +18,7 @@ use script::WriteAnswer;
 use table::check::CheckAnswer;
 use table::clear::ClearAnswer;
 use table::count::CountAnswer;
-use takedown::invert::InvertAnswer;
+use takedown::answer::InvertAnswer;
 
 // Makes an empty table of five capacities: solids, faces, loops, edges, vertices. Refusal 1, or 0 and the start of the empty log,
 // of which only the length is handed in.
@@ -123,5 +123,5 @@ pub extern "C" fn zoghvari_invert(
 ) -> InvertAnswer
     ensures { λ r. ⌜ inverts r (now (links .exit)) (now (points .exit)) (now (log .exit)) ≡ invertOf (state (now (links .entry)) (now (points .entry)) (now (log .entry)) start) ⌝ }
 {
-    takedown::invert::invert(links, points, log, start)
+    takedown_entry::invert::invert(links, points, log, start)
 }

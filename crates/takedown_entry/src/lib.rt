@@ -1,0 +1,2 @@
+// The take-down of a table that may be any.
+pub mod invert;

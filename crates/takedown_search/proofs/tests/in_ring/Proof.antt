@@ -1,0 +1,44 @@
+use borrow.Author.Needs.{needs}
+use Rattle.takedown_search.proofs.tests.in_ring.Statement.{statement}
+use Rattle.takedown_search.proofs.tests.in_ring.Tie as tie
+use Rattle.takedown_search.proofs.tests.in_ring.Reads as reads
+use Rattle.takedown_search.proofs.tests.in_ring.Lts as lts
+use Rattle.euler.proofs.faces.is_ring.Reads as is-ring-reads
+use Rattle.layout.proofs.columns.loop_of.Reads as loop-of-reads
+use Rattle.layout.proofs.mates.mate_of.Reads as mate-of-reads
+use Rattle.takedown_search.proofs.tests.of_solid.Reads as of-solid-reads
+
+-- src/search.rt:137:9
+of-solid-requires : tie.Need-of-solid-requires
+of-solid-requires c κs = search needs
+
+-- src/search.rt:138:9
+loop-of-requires : tie.Need-loop-of-requires
+loop-of-requires c κs = search needs
+
+-- src/search.rt:139:9
+is-ring-requires : tie.Need-is-ring-requires
+is-ring-requires c κs = search needs
+
+-- src/search.rt:140:36
+mate-of-requires : tie.Need-mate-of-requires
+mate-of-requires c κs = search needs
+
+-- src/search.rt:140:9
+loop-of-requires-2 : tie.Need-loop-of-requires-2
+loop-of-requires-2 c κs = search needs
+
+-- src/search.rt:133:1
+returns : tie.Need-returns
+returns c = cc
+
+pub in-ring-spec : {M : Type 1} → statement M
+in-ring-spec =
+    tie.close
+    (tie.spec
+    of-solid-requires
+    loop-of-requires
+    is-ring-requires
+    mate-of-requires
+    loop-of-requires-2
+    returns)

@@ -1,0 +1,52 @@
+// The least free number of each kind, 0 where none is free. Nothing has to be known of the table.
+ghost use mathlib.Core.Path.{_≡_};
+ghost use Prim.Native.Nat.{ℕ, _<_, _≤_};
+ghost use Rattle.layout.specs.Small.{Small};
+ghost use Rattle.takedown.specs.Inversion.{freeFace, freeLoop, freeEdge, noneFree};
+use euler::scans::least_naming_one;
+use layout::columns::start_of;
+use layout::shape::Shape;
+
+// The least free face.
+pub fn free_face(links: &[u16], sh: Shape) -> usize
+    requires { ⌜ Small sh ⌝ }
+    ensures { λ r. ⌜ (r ≡ freeFace sh (now (links .entry))) × (r < 65536) ⌝ }
+{
+    least_naming_one(links, sh.face0, 2, sh.faces as usize, 0)
+}
+
+// The least free loop.
+pub fn free_loop(links: &[u16], sh: Shape) -> usize
+    requires { ⌜ Small sh ⌝ }
+    ensures { λ r. ⌜ (r ≡ freeLoop sh (now (links .entry))) × (r < 65536) ⌝ }
+{
+    least_naming_one(links, sh.loop0, 3, sh.loops as usize, 0)
+}
+
+// The least free edge.
+pub fn free_edge(links: &[u16], sh: Shape) -> usize
+    requires { ⌜ Small sh ⌝ }
+    ensures { λ r. ⌜ (r ≡ freeEdge sh (now (links .entry))) × (r ≤ 4096) ⌝ }
+{
+    let n = sh.edges as usize;
+    let mut e: usize = 1;
+    while e <= n {
+        let free = start_of(links, sh, 2 * e) == 0;
+        if free {
+            return e;
+        }
+        e += 1;
+    }
+    0
+}
+
+// No free face, loop or edge number.
+pub fn none_free(links: &[u16], sh: Shape) -> bool
+    requires { ⌜ Small sh ⌝ }
+    ensures { λ r. ⌜ r ≡ noneFree sh (now (links .entry)) ⌝ }
+{
+    let f = free_face(links, sh);
+    let l = free_loop(links, sh);
+    let e = free_edge(links, sh);
+    (f == 0) | (l == 0) | (e == 0)
+}
