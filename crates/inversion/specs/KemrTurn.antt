@@ -32,7 +32,8 @@ use Rattle.takedown.specs.Inversion.{inRing, ringHalf}
 use Rattle.inversion.specs.Counts.{solids, faces, loops, edges, vertices, isStray, strays, count-same}
 use Rattle.inversion.specs.Same.{words-same, words-fewer, solids-is, faces-is, loops-is, vertices-is, face-in-same, stray-same, face-or-none}
 use Rattle.inversion.specs.EdgeOut.{edge-fewer}
-use Rattle.inversion.specs.Runs.{run-at, at-run, Crossing}
+use Rattle.takedown.specs.Crossed.{Crossing}
+use Rattle.inversion.specs.Runs.{run-at, at-run}
 use Rattle.inversion.specs.OfSolid.{least-there}
 
 module _ {sh : Shape} {x : List ℕ} {p : List ℤ} (g : Good sh x p) {k l2 : ℕ} (o : Span sh (own sh x) k l2) where

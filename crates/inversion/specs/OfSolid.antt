@@ -29,7 +29,8 @@ use Rattle.validity.specs.Good.{Good, own}
 use Rattle.fuel.specs.Walks.{near}
 use Rattle.takedown.specs.Inversion.{ofSolid, edgesLeft, inRing, ringHalf, isSpur, spurHalf, between, isCrossed, crossedHalf}
 use Rattle.inversion.specs.Crossing.{crossed as crossing}
-use Rattle.inversion.specs.Runs.{run-at, at-run, at-crossed}
+use Rattle.takedown.specs.Crossed.{at-crossed}
+use Rattle.inversion.specs.Runs.{run-at, at-run}
 
 -- ---- the least that passes a test
 

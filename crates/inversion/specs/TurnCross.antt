@@ -23,7 +23,7 @@ use Rattle.takedown.specs.Inversion.{solidAt, freeLoop, edgesLeft, isCrossed, c
 use Rattle.inversion.specs.Path.{there, first, acted, joinsIn}
 use Rattle.inversion.specs.Counts.{solids, faces, loops, edges}
 use Rattle.inversion.specs.Same.{faces-in-same, free-face-same, solid-at-same, free-edge-kept}
-use Rattle.inversion.specs.Runs.{crossed-at}
+use Rattle.takedown.specs.Crossed.{crossed-at}
 use Rattle.inversion.specs.OfSolid.{least-some, both, Of, of-solid, one-loop, crossed-there}
 use Rattle.inversion.specs.Turn.{RingAt, Ready, TurnMade}
 use Rattle.inversion.specs.TurnShape.{turned-cross}

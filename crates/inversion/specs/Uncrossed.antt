@@ -21,7 +21,8 @@ use Rattle.validity.specs.Walking.{Steps, iter-keeps, way-round, on-the-way}
 use Rattle.validity.specs.Good.{Good, own}
 use Rattle.fuel.specs.Walks.{near}
 use Rattle.takedown.specs.Inversion.{between, crossed}
-use Rattle.inversion.specs.Runs.{run-at, at-run, Crossing, crossed-at, at-crossed}
+use Rattle.takedown.specs.Crossed.{Crossing, crossed-at, at-crossed}
+use Rattle.inversion.specs.Runs.{run-at, at-run}
 
 -- S is a set between k and its mate
 pub record Parts (sh : Shape) (c : Columns) (k : ℕ) (S : ℕ → Bool) : Type 0 where

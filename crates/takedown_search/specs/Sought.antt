@@ -1,12 +1,14 @@
 -- What each search of the take-down asks, and the last number that it asks it of.
-use Prim.Native.Nat.{ℕ, _*_}
+use mathlib.Core.Path.{_≡_}
+use Prim.Native.Nat.{ℕ, _+_, _-_, _*_}
 use mathlib.Core.Bool.{Bool}
 use mathlib.Core.List.{List}
+use Rattle.laws.specs.Search.{leastFrom}
 use Rattle.layout.specs.declared.shape.Shape.{Shape}
 use Rattle.layout.specs.Layout.{solidUsed}
 use Rattle.euler.specs.Surgery.{some}
 use Rattle.takedown.specs.Inversion.{outside, ofSolid, inRing, isSpur, isCrossed, isRingOf}
-use Rattle.takedown.specs.Swift.{strayRing}
+use Rattle.takedown.specs.Swift.{seek, strayRing}
 use Rattle.takedown_search.specs.declared.seek.Sought.{Sought}
 use Rattle.takedown_search.specs.declared.seek.Sought.the-variants.{Solid, Border, Half, Ring, Spur, Crossed, Lone, Stray}
 
@@ -31,3 +33,14 @@ lastOf Spur sh = 2 * sh .edges
 lastOf Crossed sh = 2 * sh .edges
 lastOf Lone sh = sh .loops
 lastOf Stray sh = sh .loops
+
+-- the arm that was taken is the one of what is looked for
+pub by-sought : (what t : Sought) → what ≡ t → (sh : Shape) (x : List ℕ) (s root k : ℕ) (r : Bool) → r ≡ passing t sh x s root k → r ≡ passing what sh x s root k
+by-sought what t e sh x s root k r h = rw e h
+
+pub by-last : (what t : Sought) → what ≡ t → (sh : Shape) (r : ℕ) → r ≡ lastOf t sh → r ≡ lastOf what sh
+by-last what t e sh r h = rw e h
+
+-- a search begins at its lower end
+pub seek-begins : (p : ℕ → Bool) (low n m : ℕ) → n ≡ m → leastFrom (n + 1 - low) low p ≡ seek m low p
+seek-begins p low n m e = rw e

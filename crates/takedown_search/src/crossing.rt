@@ -13,18 +13,18 @@ use layout::mates::mate_of;
 use layout::shape::Shape;
 
 // Half-edge k marked; past the end nothing changes.
-fn put_mark(marks: &mut [u8; 8193], k: usize)
-    requires { ⌜ length (now marks) ≡ 8193 ⌝ }
+fn put_mark(marks: &mut [u8; 8194], k: usize)
+    requires { ⌜ length (now marks) ≡ 8194 ⌝ }
     ensures { λ _. ⌜ now (marks .exit) ≡ set (now (marks .entry)) k 1 ⌝ }
 {
-    if k < 8193 {
+    if k < 8194 {
         marks[k] = 1;
     }
 }
 
 // The half-edges from `from` up to before stop marked; `fuel` bounds the steps in a table that is not sound.
-fn mark_run(links: &[u16], sh: Shape, fuel: usize, from: usize, stop: usize, marks: &mut [u8; 8193])
-    requires { ⌜ (from < 65536) × (length (now marks) ≡ 8193) ⌝ }
+fn mark_run(links: &[u16], sh: Shape, fuel: usize, from: usize, stop: usize, marks: &mut [u8; 8194])
+    requires { ⌜ (from < 65536) × (length (now marks) ≡ 8194) ⌝ }
     ensures { λ _. ⌜ now (marks .exit) ≡ markRun sh fuel (now (links .entry)) from stop (now (marks .entry)) ⌝ }
 {
     let mut k = from;
@@ -40,14 +40,14 @@ fn mark_run(links: &[u16], sh: Shape, fuel: usize, from: usize, stop: usize, mar
 }
 
 // Half-edge k is one of 1 to n, and its mate is not marked.
-fn is_unpaired(n: usize, marks: &[u8; 8193], k: usize) -> bool
+fn is_unpaired(n: usize, marks: &[u8; 8194], k: usize) -> bool
     requires { ⌜ (n ≤ 8192) × (k < 65536) ⌝ }
     ensures { λ r. ⌜ r ≡ unpaired n (now (marks .entry)) k ⌝ }
 {
-    let m = mate_of(k);
-    if (k < 1) | (k > n) | (m > 8192) {
+    if (k < 1) | (k > n) {
         return false;
     }
+    let m = mate_of(k);
     marks[m] == 0
 }
 
@@ -58,7 +58,7 @@ fn any_unpaired(
     n: usize,
     from: usize,
     stop: usize,
-    marks: &[u8; 8193],
+    marks: &[u8; 8194],
 ) -> bool
     requires { ⌜ (from < 65536) × (n ≤ 8192) ⌝ }
     ensures { λ r. ⌜ r ≡ anyUnpaired sh n n (now (links .entry)) from stop (now (marks .entry)) ⌝ }
@@ -84,7 +84,7 @@ fn crossed(links: &[u16], sh: Shape, k: usize) -> bool
     requires { ⌜ (Small sh) × (k < 65536) ⌝ }
     ensures { λ r. ⌜ r ≡ inversion.crossed sh (now (links .entry)) k ⌝ }
 {
-    let mut marks = [0u8; 8193];
+    let mut marks = [0u8; 8194];
     let from = next_of(links, sh, k);
     let stop = mate_of(k);
     let n = 2 * sh.edges as usize;

@@ -51,8 +51,13 @@ fn last_of(sh: Shape, what: Sought) -> usize
 {
     match what {
         Sought::Solid => sh.solids as usize,
-        Sought::Lone | Sought::Stray => sh.loops as usize,
-        _ => 2 * sh.edges as usize,
+        Sought::Border => 2 * sh.edges as usize,
+        Sought::Half => 2 * sh.edges as usize,
+        Sought::Ring => 2 * sh.edges as usize,
+        Sought::Spur => 2 * sh.edges as usize,
+        Sought::Crossed => 2 * sh.edges as usize,
+        Sought::Lone => sh.loops as usize,
+        Sought::Stray => sh.loops as usize,
     }
 }
 

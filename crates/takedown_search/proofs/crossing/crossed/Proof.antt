@@ -1,3 +1,4 @@
+use mathlib.Core.Path.{refl}
 use Rattle.takedown_search.specs.Marking.{crossed-steps}
 use borrow.Author.Needs.{needs}
 use Rattle.takedown_search.proofs.crossing.crossed.Statement.{statement}
@@ -6,36 +7,36 @@ use Rattle.takedown_search.proofs.crossing.crossed.Reads as reads
 use Rattle.takedown_search.proofs.crossing.crossed.Lts as lts
 use Rattle.layout.proofs.columns.next_of.Reads as next-of-reads
 use Rattle.layout.proofs.mates.mate_of.Reads as mate-of-reads
-use Rattle.takedown_search.proofs.crossing.any_halved.Reads as any-halved-reads
+use Rattle.takedown_search.proofs.crossing.any_unpaired.Reads as any-unpaired-reads
 use Rattle.takedown_search.proofs.crossing.mark_run.Reads as mark-run-reads
 
--- src/crossing.rt:82:9
+-- src/crossing.rt:88:9
 next-of-requires : tie.Need-next-of-requires
 next-of-requires c κs = search needs
 
--- src/crossing.rt:83:9
+-- src/crossing.rt:89:9
 mate-of-requires : tie.Need-mate-of-requires
 mate-of-requires c κs = search needs
 
--- src/crossing.rt:84:20
-cast-fuel : tie.Need-cast-fuel
-cast-fuel c = search needs
+-- src/crossing.rt:90:17
+cast-n : tie.Need-cast-n
+cast-n c = search needs
 
--- src/crossing.rt:84:16
-mul-fuel : tie.Need-mul-fuel
-mul-fuel c = search needs
+-- src/crossing.rt:90:13
+mul-n : tie.Need-mul-n
+mul-n c = search needs
 
--- src/crossing.rt:85:5
+-- src/crossing.rt:91:5
 mark-run-requires : tie.Need-mark-run-requires
 mark-run-requires c κs = search needs
 
--- src/crossing.rt:86:5
-any-halved-requires : tie.Need-any-halved-requires
-any-halved-requires c κs = search needs
+-- src/crossing.rt:92:5
+any-unpaired-requires : tie.Need-any-unpaired-requires
+any-unpaired-requires c κs = search needs
 
--- src/crossing.rt:77:1
+-- src/crossing.rt:83:1
 returns : tie.Need-returns
-returns c = crossed-steps _ _ _ (c .before .before .before .before .before .before .before .before .pre .0 .edges) _ _ (c .before .before .before .before .before .before .next-of .ensures .0) (c .before .before .before .before .before .mate-of .ensures .0) _ (c .before .before .mark-run .ensures) _ (c .any-halved .ensures)
+returns c = crossed-steps _ _ _ (c .before .before .before .before .before .before .before .before .pre .0 .edges) _ _ _ (c .before .before .before .before .before .before .next-of .ensures .0) (c .before .before .before .before .before .mate-of .ensures .0) refl _ (c .before .before .mark-run .ensures) _ (c .any-unpaired .ensures)
 
 pub crossed-spec : {M : Type 1} → statement M
 crossed-spec =
@@ -43,8 +44,8 @@ crossed-spec =
     (tie.spec
     next-of-requires
     mate-of-requires
-    cast-fuel
-    mul-fuel
+    cast-n
+    mul-n
     mark-run-requires
-    any-halved-requires
+    any-unpaired-requires
     returns)

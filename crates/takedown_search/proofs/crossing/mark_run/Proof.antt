@@ -12,7 +12,7 @@ use Rattle.layout.proofs.columns.next_of.Reads as next-of-reads
 use Rattle.takedown_search.proofs.crossing.put_mark.Reads as put-mark-reads
 
 abbrev Inv-loop : tie.InvT-loop
-Inv-loop links sh fuel from stop marks₀ k₀ left₀ marks k left = (k < 65536) × (length marks ≡ 8193) × (markRun sh left links k stop marks ≡ markRun sh fuel links from stop marks₀)
+Inv-loop links sh fuel from stop marks₀ k₀ left₀ marks k left = (k < 65536) × (length marks ≡ 8194) × (markRun sh left links k stop marks ≡ markRun sh fuel links from stop marks₀)
 
 abbrev μ-loop : tie.MeasureT-loop
 μ-loop links sh fuel from stop marks₀ k₀ left₀ marks k left = left

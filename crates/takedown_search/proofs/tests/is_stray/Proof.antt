@@ -1,0 +1,28 @@
+use borrow.Author.Needs.{needs}
+use Rattle.takedown_search.proofs.tests.is_stray.Statement.{statement}
+use Rattle.takedown_search.proofs.tests.is_stray.Tie as tie
+use Rattle.takedown_search.proofs.tests.is_stray.Reads as reads
+use Rattle.takedown_search.proofs.tests.is_stray.Lts as lts
+use Rattle.euler.proofs.faces.is_ring.Reads as is-ring-reads
+use Rattle.layout.proofs.columns.face_solid.Reads as face-solid-reads
+use Rattle.layout.proofs.columns.loop_face.Reads as loop-face-reads
+
+-- src/tests.rt:72:9
+loop-face-requires : tie.Need-loop-face-requires
+loop-face-requires c κs = search needs
+
+-- src/tests.rt:73:9
+face-solid-requires : tie.Need-face-solid-requires
+face-solid-requires c κs = search needs
+
+-- src/tests.rt:74:9
+is-ring-requires : tie.Need-is-ring-requires
+is-ring-requires c κs = search needs
+
+-- src/tests.rt:68:1
+returns : tie.Need-returns
+returns c = cc
+
+pub is-stray-spec : {M : Type 1} → statement M
+is-stray-spec =
+    tie.close (tie.spec loop-face-requires face-solid-requires is-ring-requires returns)
