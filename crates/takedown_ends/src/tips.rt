@@ -14,7 +14,7 @@ use takedown_search::tests::is_spur;
 // The lesser of `best` and the tip, if the tip is a spur below the lower end.
 fn with_tip(links: &[u16], sh: Shape, e: Ends, tip: usize, best: usize) -> usize
     requires { ⌜ tip < 65536 ⌝ }
-    ensures { λ r. ⌜ r ≡ tipped sh (now (links .entry)) e tip best ⌝ }
+    ensures { λ r. ⌜ (r ≡ tipped sh (now (links .entry)) e tip best) × (r ≤ best) ⌝ }
 {
     let spur = is_spur(links, sh, e.solid, tip);
     if (tip < e.spur) & spur {
@@ -26,7 +26,7 @@ fn with_tip(links: &[u16], sh: Shape, e: Ends, tip: usize, best: usize) -> usize
 // The least tip that is one, or the number behind the last half-edge.
 fn least_tip(links: &[u16], sh: Shape, e: Ends) -> usize
     requires { ⌜ (Small sh) × (InWords e) ⌝ }
-    ensures { λ r. ⌜ r ≡ leastTip sh (now (links .entry)) e ⌝ }
+    ensures { λ r. ⌜ (r ≡ leastTip sh (now (links .entry)) e) × (r < 65536) ⌝ }
 {
     let past = 2 * sh.edges as usize + 1;
     let a = with_tip(links, sh, e, e.tip4, past);
