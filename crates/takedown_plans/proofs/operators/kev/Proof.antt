@@ -1,0 +1,22 @@
+use borrow.Author.Needs.{needs}
+use Rattle.takedown_plans.proofs.operators.kev.Statement.{statement}
+use Rattle.takedown_plans.proofs.operators.kev.Tie as tie
+use Rattle.takedown_plans.proofs.operators.kev.Reads as reads
+use Rattle.takedown_plans.proofs.operators.kev.Lts as lts
+use Rattle.script.proofs.blank.Reads as blank-reads
+use Rattle.script.proofs.with_number.Reads as with-number-reads
+
+-- src/operators.rt:20:17
+blank-requires : tie.Need-blank-requires
+blank-requires c κs = search needs
+
+-- src/operators.rt:20:5
+with-number-requires : tie.Need-with-number-requires
+with-number-requires c κs = search needs
+
+-- src/operators.rt:16:1
+returns : tie.Need-returns
+returns c = cc
+
+pub kev-spec : {M : Type 1} → statement M
+kev-spec = tie.close (tie.spec blank-requires with-number-requires returns)

@@ -1,0 +1,29 @@
+use borrow.Author.Needs.{needs}
+use Rattle.takedown_turns.proofs.across.stray_from.Statement.{statement}
+use Rattle.takedown_turns.proofs.across.stray_from.Tie as tie
+use Rattle.takedown_turns.proofs.across.stray_from.Reads as reads
+use Rattle.takedown_turns.proofs.across.stray_from.Lts as lts
+use Rattle.takedown_search.proofs.seek.seek.Reads as seek-reads
+
+-- src/across.rt:45:9
+seek-requires : tie.Need-seek-requires
+seek-requires c κs = search needs
+
+-- src/across.rt:47:9
+returns : tie.Need-returns
+returns c = ?
+
+-- src/across.rt:49:5
+cast-result : tie.Need-cast-result
+cast-result c = search needs
+
+-- src/across.rt:49:5
+add-result : tie.Need-add-result
+add-result c = search needs
+
+-- src/across.rt:41:1
+returns-2 : tie.Need-returns-2
+returns-2 c = ?
+
+pub stray-from-spec : {M : Type 1} → statement M
+stray-from-spec = tie.close (tie.spec seek-requires returns cast-result add-result returns-2)

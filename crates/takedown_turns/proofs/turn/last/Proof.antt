@@ -1,0 +1,48 @@
+use borrow.Author.Needs.{needs}
+use Rattle.takedown_turns.proofs.turn.last.Statement.{statement}
+use Rattle.takedown_turns.proofs.turn.last.Tie as tie
+use Rattle.takedown_turns.proofs.turn.last.Reads as reads
+use Rattle.takedown_turns.proofs.turn.last.Lts as lts
+use Rattle.takedown_ends.proofs.moves.enter.Reads as enter-reads
+use Rattle.takedown_turns.proofs.acts.act.Reads as act-reads
+use Rattle.takedown_turns.proofs.operators.kvsf.Reads as kvsf-reads
+
+-- src/turn.rt:58:45
+kvsf-requires : tie.Need-kvsf-requires
+kvsf-requires c κs = search needs
+
+-- src/turn.rt:58:9
+act-requires : tie.Need-act-requires
+act-requires c κs = search needs
+
+-- src/turn.rt:59:9
+enter-requires : tie.Need-enter-requires
+enter-requires c κs = search needs
+
+-- src/turn.rt:47:1
+same-length : tie.Need-same-length
+same-length c = search needs
+
+-- src/turn.rt:47:1
+same-length-2 : tie.Need-same-length-2
+same-length-2 c = search needs
+
+-- src/turn.rt:47:1
+same-length-3 : tie.Need-same-length-3
+same-length-3 c = search needs
+
+-- src/turn.rt:47:1
+returns : tie.Need-returns
+returns c = ?
+
+pub last-spec : {M : Type 1} → statement M
+last-spec =
+    tie.close
+    (tie.spec
+    kvsf-requires
+    act-requires
+    enter-requires
+    same-length
+    same-length-2
+    same-length-3
+    returns)
