@@ -2,13 +2,15 @@
 // of its face move to the root; kef k.
 ghost use mathlib.Core.Path.{_≡_};
 ghost use Prim.Native.Nat.{ℕ, _+_, _-_, _*_, _<_, _≤_};
+ghost use lib.Dec.{eqb};
 ghost use Rattle.layout.specs.Small.{Small};
-ghost use Rattle.takedown.specs.Inversion.{outside};
+ghost use Rattle.takedown.specs.Inversion as inversion;
+ghost use Rattle.takedown.specs.Inversion.{act, outside};
 ghost use Rattle.takedown.specs.Swift as swift;
 ghost use Rattle.takedown.specs.Swift.{seek};
 ghost use Rattle.takedown_ends.specs.InWords.{InWords};
 ghost use Rattle.takedown_acts.specs.Held.{held};
-ghost use Rattle.takedown_turns.specs.Turns.{staged, Planned};
+ghost use Rattle.takedown_turns.specs.Turns.{staged, movedBy, Words, Planned};
 use euler::faces::is_ring;
 use euler::records::choose;
 use layout::columns::loop_of;
@@ -43,6 +45,12 @@ pub struct Passage {
     pub near: usize,
 }
 
+// How far it has come, and whether no ring had to move.
+pub struct Passed {
+    pub progress: Progress,
+    pub still: bool,
+}
+
 // The least ring of another face of the solid than the root, or the number behind the last loop.
 fn stray_from(links: &[u16], sh: Shape, e: Ends) -> usize
     requires { ⌜ Small sh ⌝ }
@@ -57,7 +65,7 @@ fn stray_from(links: &[u16], sh: Shape, e: Ends) -> usize
 
 fn passage_of(links: &[u16], sh: Shape, e: Ends) -> Passage
     requires { ⌜ Small sh ⌝ }
-    ensures { λ r. ⌜ Planned sh (now (links .entry)) e r ⌝ }
+    ensures { λ r. ⌜ (Planned sh (now (links .entry)) e r) × (Words r) ⌝ }
 {
     let half = seek(links, sh, Sought::Border, e.solid, e.root, e.border);
     let own = loop_of(links, sh, half);
@@ -75,6 +83,28 @@ fn passage_of(links: &[u16], sh: Shape, e: Ends) -> Passage
     }
 }
 
+// The rings of k's face moved to the root, and kef k.
+fn pass(
+    links: &mut [u16],
+    points: &mut [i32],
+    log: &mut [u8],
+    sh: Shape,
+    at: Progress,
+    p: Passage,
+    root: usize,
+) -> Passed
+    requires { ⌜ (Small sh) × (at .done < 800000000) × (root < 65536) × (Words p) ⌝ }
+    ensures { λ r. ⌜ (held (r .progress) (now (links .exit)) (now (points .exit)) (now (log .exit)) ≡ act sh (movedBy sh p root (held at (now (links .entry)) (now (points .entry)) (now (log .entry)))) (inversion.kef (p .half))) × (r .still ≡ eqb (movedBy sh p root (held at (now (links .entry)) (now (points .entry)) (now (log .entry))) .done) (at .done)) × (r .progress .done ≤ at .done + 4099) ⌝ }
+{
+    let a = make_outer(links, points, log, sh, at, p.own, p.face);
+    let b = move_rings(links, points, log, sh, a, p.low, p.face, root);
+    let c = act(links, points, log, sh, b, kef(p.half));
+    Passed {
+        progress: c,
+        still: b.done == at.done,
+    }
+}
+
 // A turn of A.
 pub fn across(
     links: &mut [u16],
@@ -88,12 +118,8 @@ pub fn across(
     ensures { λ r. ⌜ (staged r (now (links .exit)) (now (points .exit)) (now (log .exit)) ≡ swift.across sh e (now (links .entry)) (seek (2 * sh .edges) (e .border) (outside sh (now (links .entry)) (e .root))) (held at (now (links .entry)) (now (points .entry)) (now (log .entry)))) × (r .progress .done ≤ at .done + 4099) × (InWords (r .ends)) ⌝ }
 {
     let p = passage_of(links, sh, e);
-    let a = make_outer(links, points, log, sh, at, p.own, p.face);
-    let b = move_rings(links, points, log, sh, a, p.low, p.face, e.root);
-    let c = act(links, points, log, sh, b, kef(p.half));
-    let still = b.done == at.done;
-    Stage {
-        progress: c,
-        ends: across_ends(e, still, p.near, p.stray),
-    }
+    let q = pass(links, points, log, sh, at, p, e.root);
+    let progress = q.progress;
+    let ends = across_ends(e, q.still, p.near, p.stray);
+    Stage { progress, ends }
 }

@@ -1,3 +1,6 @@
+use native.Mathlib.Omega.{arith}
+use Rattle.takedown_search.specs.Sought.{passing, lastOf}
+use Rattle.takedown_turns.specs.TurnLaws.{stray-found, stray-past}
 use borrow.Author.Needs.{needs}
 use Rattle.takedown_turns.proofs.across.stray_from.Statement.{statement}
 use Rattle.takedown_turns.proofs.across.stray_from.Tie as tie
@@ -11,7 +14,8 @@ seek-requires c κs = search needs
 
 -- src/across.rt:47:9
 returns : tie.Need-returns
-returns c = ?
+unfolding passing lastOf
+returns c = (stray-found (c .before .before .before .args .sh) _ (c .before .before .before .args .e) _ (c .before .seek .ensures .0) (c .if1 .taken), omega (arith, c .before .seek .ensures .1))
 
 -- src/across.rt:49:5
 cast-result : tie.Need-cast-result
@@ -23,7 +27,8 @@ add-result c = search needs
 
 -- src/across.rt:41:1
 returns-2 : tie.Need-returns-2
-returns-2 c = ?
+unfolding passing lastOf
+returns-2 c = (stray-past (c .before .before .before .before .args .sh) _ (c .before .before .before .before .args .e) _ (c .before .before .seek .ensures .0) (c .before .if1 .left), omega arith)
 
 pub stray-from-spec : {M : Type 1} → statement M
 stray-from-spec = tie.close (tie.spec seek-requires returns cast-result add-result returns-2)

@@ -1,9 +1,12 @@
+use native.Mathlib.Omega.{arith}
+use mathlib.Core.Path.{refl}
+use Rattle.takedown_turns.specs.TurnLaws.{carried-two, carried-one}
 use borrow.Author.Needs.{needs}
 use Rattle.takedown_turns.proofs.turn.carry.Statement.{statement}
 use Rattle.takedown_turns.proofs.turn.carry.Tie as tie
 use Rattle.takedown_turns.proofs.turn.carry.Reads as reads
 use Rattle.takedown_turns.proofs.turn.carry.Lts as lts
-use Rattle.takedown_turns.proofs.acts.act.Reads as act-reads
+use Rattle.takedown_acts.proofs.acts.act.Reads as act-reads
 
 -- src/turn.rt:38:9
 act-requires : tie.Need-act-requires
@@ -27,7 +30,7 @@ same-length-3 c = search needs
 
 -- src/turn.rt:41:9
 returns : tie.Need-returns
-returns c = ?
+returns c = (carried-two _ _ _ _ (c .before .before .before .before .before .before .before .before .before .before .before .before .before .before .before .act .ensures .0) (c .before .before .before .before .before .before .before .before .before .if1 .taken) _ (c .before .before .before .before .before .act2 .ensures .0), omega (arith, c .before .before .before .before .before .before .before .before .before .before .before .before .before .before .before .act .ensures .1, c .before .before .before .before .before .act2 .ensures .1), refl)
 
 -- src/turn.rt:24:1
 same-length-4 : tie.Need-same-length-4
@@ -43,7 +46,7 @@ same-length-6 c = search needs
 
 -- src/turn.rt:24:1
 returns-2 : tie.Need-returns-2
-returns-2 c = ?
+returns-2 c = (carried-one _ _ _ _ (c .before .before .before .before .before .before .act .ensures .0) (c .if1 .left), omega (arith, c .before .before .before .before .before .before .act .ensures .1), refl)
 
 pub carry-spec : {M : Type 1} → statement M
 carry-spec =

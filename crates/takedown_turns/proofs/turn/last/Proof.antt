@@ -1,11 +1,13 @@
+use native.Mathlib.Omega.{arith}
+use Rattle.takedown_turns.specs.TurnLaws.{last-is}
 use borrow.Author.Needs.{needs}
 use Rattle.takedown_turns.proofs.turn.last.Statement.{statement}
 use Rattle.takedown_turns.proofs.turn.last.Tie as tie
 use Rattle.takedown_turns.proofs.turn.last.Reads as reads
 use Rattle.takedown_turns.proofs.turn.last.Lts as lts
 use Rattle.takedown_ends.proofs.moves.enter.Reads as enter-reads
-use Rattle.takedown_turns.proofs.acts.act.Reads as act-reads
-use Rattle.takedown_turns.proofs.operators.kvsf.Reads as kvsf-reads
+use Rattle.takedown_acts.proofs.acts.act.Reads as act-reads
+use Rattle.takedown_plans.proofs.operators.kvsf.Reads as kvsf-reads
 
 -- src/turn.rt:58:45
 kvsf-requires : tie.Need-kvsf-requires
@@ -33,7 +35,7 @@ same-length-3 c = search needs
 
 -- src/turn.rt:47:1
 returns : tie.Need-returns
-returns c = ?
+returns c = (last-is _ _ _ _ _ _ (c .before .before .before .before .before .before .before .before .kvsf .ensures) (c .before .before .before .before .before .before .before .act .ensures .0) (c .enter .ensures .0), omega (arith, c .before .before .before .before .before .before .before .act .ensures .1), c .enter .ensures .1)
 
 pub last-spec : {M : Type 1} → statement M
 last-spec =
