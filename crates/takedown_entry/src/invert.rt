@@ -7,17 +7,17 @@ ghost use Rattle.runs.specs.Run.{state};
 ghost use Rattle.takedown.specs.Inversion as inversion;
 ghost use Rattle.takedown.specs.Inversion.{turns, begin, inverts, invertOf};
 ghost use Rattle.takedown.specs.Swift.{swiftBy, entered};
-ghost use Rattle.takedown_turns.specs.Held.{held};
+ghost use Rattle.takedown_acts.specs.Held.{held};
 ghost use Rattle.takedown_entry.specs.Entry.{Counted};
 use layout::shape::Shape;
 use layout::shape::shape_of;
 use table::count::CountAnswer;
 use table::count::count;
 use takedown::answer::InvertAnswer;
+use takedown_acts::acts::Progress;
 use takedown_ends::moves::enter;
 use takedown_ends::numbers::less;
 use takedown_search::free::none_free;
-use takedown_turns::acts::Progress;
 use takedown_turns::turn::turn;
 
 // Turns until no solid is in use, at most E + V.
