@@ -16,14 +16,17 @@ use Rattle.table.specs.Count.{countOf}
 use Rattle.runs.specs.declared.run.RunAnswer.{RunAnswer}
 use Rattle.runs.specs.declared.undo.UndoAnswer.{UndoAnswer}
 use Rattle.runs.specs.Run.{State, state, Ran, runOf, Undid, undoOf}
+use Rattle.takedown.specs.declared.answer.InvertAnswer.{InvertAnswer}
+use Rattle.takedown.specs.Inversion.{Inverted, invertOf}
 
--- what is asked: clearing with five capacities, a script run, undo by a number, counting; reading the operator at a script's front and
--- writing one into a destination, without a table
+-- what is asked: clearing with five capacities, a script run, undo by a number, counting, the take-down of the table at
+-- hand with its log; reading the operator at a script's front and writing one into a destination, without a table
 pub data Act : Type 0 where
   Clear : ℕ → ℕ → ℕ → ℕ → ℕ → Act
   Run : List ℕ → Act
   Undo : ℕ → Act
   Count : Act
+  Invert : Act
   Read : List ℕ → Act
   Write : Operator → List ℕ → Act
 
@@ -33,6 +36,7 @@ pub data Answer : Type 0 where
   ToRun : RunAnswer → Answer
   ToUndo : UndoAnswer → Answer
   ToCount : CountAnswer → Answer
+  ToInvert : InvertAnswer → Answer
   ToRead : ReadAnswer → Answer
   ToWrite : WriteAnswer → List ℕ → Answer
 
@@ -55,6 +59,9 @@ afterRun r = left (ToRun (r .answer)) (state (r .links) (r .points) (r .log) (r 
 abbrev pub afterUndo : State → Undid → Left
 afterUndo t u = left (ToUndo (u .answer)) (state (u .links) (u .points) (t .log) (u .answer .start))
 
+abbrev pub afterInvert : Inverted → Left
+afterInvert i = left (ToInvert (i .answer)) (state (i .links) (i .points) (i .log) (i .answer .start))
+
 abbrev pub afterWrite : State → Written → Left
 afterWrite t w = left (ToWrite (w .answer) (w .out)) t
 
@@ -64,6 +71,7 @@ does t (Clear s f l e v) = afterClear t (clearOf (t .links) (t .points) (length 
 does t (Run s) = afterRun (runOf t s)
 does t (Undo n) = afterUndo t (undoOf t n)
 does t Count = left (ToCount (countOf (t .links) (t .points))) t
+does t Invert = afterInvert (invertOf t)
 does t (Read s) = left (ToRead (readOperator widest s 0)) t
 does t (Write o out) = afterWrite t (writeOperator o out)
 
@@ -107,3 +115,8 @@ runs s refusal done used t = step (Run s) (ToRun (record { refusal = refusal; ru
 -- undo by n answers refusal and operators undone, and leaves t
 abbrev pub undoes : ℕ → ℕ → ℕ → State → Step
 undoes n refusal undone t = step (Undo n) (ToUndo (record { refusal = refusal; rule = 0; undone = undone; start = t .start })) t
+
+-- the take-down answers refusal and operators done, and leaves t
+abbrev pub inverts : ℕ → ℕ → State → Step
+inverts refusal done t =
+    step Invert (ToInvert (record { refusal = refusal; rule = 0; done = done; start = t .start })) t

@@ -1,5 +1,5 @@
--- The checked examples of document 01, one list under one theorem, by computation: what the definitions that the contracts cite leave is
--- what the rows say, to the word, the coordinate and the byte. (Of e the take-down is not here.)
+-- The checked examples a to h of document 01, one list under one theorem, by computation: what the definitions that
+-- the contracts cite leave is what the rows say, to the word, the coordinate and the byte.
 use mathlib.Core.Path.{refl}
 use mathlib.Core.List.{List, _++_}
 use Rattle.laws.specs.Search.{allTo, leastFrom}
@@ -21,16 +21,26 @@ use Rattle.euler.specs.Surgery.{corner, edgeIn, edgeOut, relabel, seek, renew}
 use Rattle.euler.specs.Operators.{mvsfLinks, kvsfTest, kvsfLinks, mevLinks, kevTest, kevLinks, mefTest, mefEdge, mefLinks, kefTest, kefEdge, kefLinks, kfmrhTest, kfmrhLinks, linkedAfter, mfkrhTest, mfkrhLinks}
 use Rattle.euler.specs.Exec.{admitOf, useRefusals, useRefusal, useWord, condition, linksAfter, pointsAfter, killedVertex, inverse}
 use Rattle.runs.specs.Run.{admitRead, inverseBytes, runRefusal, stepped, runFrom, entry, runOf, undoFrom, undoOf}
+use Rattle.takedown.specs.Inversion.{act, turnB, turned, invertBy, invertOf}
 use Rattle.cases.specs.Case.{Row, found, Hold}
 use Rattle.cases.specs.RowsRuns.{runRows}
+use Rattle.cases.specs.RowsTakedown.{takedownRows}
 use Rattle.cases.specs.RowsRefused.{refusedRows}
 use Rattle.cases.specs.RowsSizes.{sizeRows}
 
 -- all rows
 abbrev pub cases : List Row
-cases = runRows ++ (refusedRows ++ sizeRows)
+cases = runRows ++ (takedownRows ++ (refusedRows ++ sizeRows))
 
 -- what the definitions leave, step for step, is what the rows say
 pub cases-hold : Hold cases
-unfolding found clearOf runOf undoOf countOf readOperator writeOperator entry checkOf sizesFit tallyOf itemUsed brokenRule rule1 rule2 rule3 rule4 rule5 rule6 solidRange faceRange loopRange halfRange vertexRange solidNames faceNames loopNames halfNames loopEither halfLinks firstNames halfInLoop vertexEither halfAtVertex halfSides faceLinked allTo leastFrom sumTo meets linkedb rounds pass across mate within joins linkedBy third second first readNumber groups pattern rows inRanges inRange zig zag wire unwire readOperand readOperands readBehind operandBytes operandsBytes operatorBytes operatorRefusal putBytes admitRead inverseBytes runRefusal stepped runFrom undoFrom admitOf useRefusals useRefusal useWord condition linksAfter pointsAfter killedVertex inverse corner edgeIn edgeOut relabel seek renew sweep mvsfLinks kvsfTest kvsfLinks mevLinks kevTest kevLinks mefTest mefEdge mefLinks kefTest kefEdge kefLinks kfmrhTest kfmrhLinks linkedAfter mfkrhTest mfkrhLinks
+unfolding found clearOf runOf undoOf countOf invertOf invertBy turned turnB act readOperator writeOperator entry
+    checkOf sizesFit tallyOf itemUsed brokenRule rule1 rule2 rule3 rule4 rule5 rule6 solidRange faceRange loopRange
+    halfRange vertexRange solidNames faceNames loopNames halfNames loopEither halfLinks firstNames halfInLoop
+    vertexEither halfAtVertex halfSides faceLinked allTo leastFrom sumTo meets linkedb rounds pass across mate within
+    joins linkedBy third second first readNumber groups pattern rows inRanges inRange zig zag wire unwire readOperand
+    readOperands readBehind operandBytes operandsBytes operatorBytes operatorRefusal putBytes admitRead inverseBytes
+    runRefusal stepped runFrom undoFrom admitOf useRefusals useRefusal useWord condition linksAfter pointsAfter
+    killedVertex inverse corner edgeIn edgeOut relabel seek renew sweep mvsfLinks kvsfTest kvsfLinks mevLinks kevTest
+    kevLinks mefTest mefEdge mefLinks kefTest kefEdge kefLinks kfmrhTest kfmrhLinks linkedAfter mfkrhTest mfkrhLinks
 cases-hold = refl

@@ -1,6 +1,7 @@
 pub mod Case
 pub mod Tables
 pub mod RowsRuns
+pub mod RowsTakedown
 pub mod RowsRefused
 pub mod RowsSizes
 pub mod Cases

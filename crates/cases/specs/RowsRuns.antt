@@ -1,11 +1,10 @@
--- Examples a to d of document 01, and of e what is run and counted: scripts run one after the other from a cleared table, then undone.
+-- Examples a to d of document 01: scripts run one after the other from a cleared table, then undone.
 use Prim.Native.Nat.{ℕ}
 use mathlib.Core.List.{List, [], _∷_, _++_}
 use lib.IntN.{pos}
-use Rattle.table.specs.Count.{counts}
 use Rattle.runs.specs.Run.{state}
-use Rattle.cases.specs.Case.{Step, Row, Count, ToCount, row, step, clears, runs, undoes}
-use Rattle.cases.specs.Tables.{lent, linksB, linksC, pointsZero, pointsAt, logC, logD, empty, tableB, tableC, tableD, tableE, logB, logE, undoneWith}
+use Rattle.cases.specs.Case.{Step, Row, row, clears, runs, undoes}
+use Rattle.cases.specs.Tables.{lent, linksB, linksC, pointsZero, pointsAt, logC, logD, empty, tableB, tableC, tableD, logB, undoneWith}
 
 -- ---- the scripts
 
@@ -20,10 +19,6 @@ scriptC = 3 ∷ 1 ∷ 0 ∷ 1 ∷ 2 ∷ 0 ∷ 200 ∷ 1 ∷ 0 ∷ 0 ∷ []
 -- mef 1 1 2 2 2 2 0
 abbrev pub scriptD : List ℕ
 scriptD = 5 ∷ 1 ∷ 1 ∷ 2 ∷ 2 ∷ 2 ∷ 2 ∷ 0 ∷ []
-
--- mef 1 0 0 1 2 2 0, kfmrh 1 2
-abbrev pub scriptE : List ℕ
-scriptE = 5 ∷ 1 ∷ 0 ∷ 0 ∷ 1 ∷ 2 ∷ 2 ∷ 0 ∷ 9 ∷ 1 ∷ 2 ∷ []
 
 -- ---- the steps that lead to the tables
 
@@ -54,8 +49,4 @@ runRows =
     ∷ undoes 1 0 1 (state linksB pointsZero logD 6) ∷ undoes 1 0 1 (undoneWith logD) ∷ undoes 1 11 0 (undoneWith logD) ∷ [])
     -- b, c and d as one script; all undone
     ∷ row lent (clearing ∷ runs (scriptB ++ (scriptC ++ scriptD)) 0 3 26 tableD ∷ undoes 3 0 3 (undoneWith logD) ∷ [])
-    -- e after b, counted; all undone
-    ∷ row lent
-    (clearing ∷ runningB ∷ runs scriptE 0 2 11 tableE ∷ step Count (ToCount (counts 0 0 1 1 2 1 1 1 1)) tableE
-    ∷ undoes 3 0 3 (undoneWith logE) ∷ [])
     ∷ []

@@ -1,5 +1,5 @@
--- The tables and logs that the rows speak of: capacities 1, 2, 2, 2, 2 and a log of eight bytes. What document 01 does not print of them
--- comes from the model in tests/model.
+-- The tables and logs that the rows speak of: capacities 1, 2, 2, 2, 2 and a log of eight bytes; for e the links with a
+-- third loop too. What document 01 does not print of them comes from the model in tests/model.
 use Prim.Native.Nat.{ℕ}
 use mathlib.Core.List.{List, [], _∷_}
 use lib.IntN.{ℤ, pos}
@@ -35,6 +35,23 @@ linksD =
 abbrev pub linksE : List ℕ
 linksE =
     1 ∷ 2 ∷ 2 ∷ 2 ∷ 2 ∷ 1 ∷ 1 ∷ 1 ∷ 0 ∷ 0 ∷ 1 ∷ 1 ∷ 0 ∷ 1 ∷ 2 ∷ 0 ∷ 1 ∷ 1 ∷ 1 ∷ 1 ∷ 1 ∷ 2 ∷ 2 ∷ 2 ∷ 0 ∷ 0 ∷ 0 ∷ 0 ∷ 0 ∷ 0 ∷ 0 ∷ 0 ∷ 1 ∷ 0 ∷ []
+
+-- ---- links with three loops; half-edges and vertices on a line of their own
+
+abbrev pub linksEmpty3 : List ℕ
+linksEmpty3 =
+    1 ∷ 2 ∷ 3 ∷ 2 ∷ 2 ∷ 0 ∷ 0 ∷ 0 ∷ 0 ∷ 0 ∷ 0 ∷ 0 ∷ 0 ∷ 0 ∷ 0 ∷ 0 ∷ 0 ∷ 0 ∷ 0
+    ∷ 0 ∷ 0 ∷ 0 ∷ 0 ∷ 0 ∷ 0 ∷ 0 ∷ 0 ∷ 0 ∷ 0 ∷ 0 ∷ 0 ∷ 0 ∷ 0 ∷ 0 ∷ 0 ∷ 0 ∷ 0 ∷ []
+
+abbrev pub linksB3 : List ℕ
+linksB3 =
+    1 ∷ 2 ∷ 3 ∷ 2 ∷ 2 ∷ 1 ∷ 1 ∷ 1 ∷ 0 ∷ 0 ∷ 1 ∷ 0 ∷ 1 ∷ 0 ∷ 0 ∷ 0 ∷ 0 ∷ 0 ∷ 0
+    ∷ 0 ∷ 0 ∷ 0 ∷ 0 ∷ 0 ∷ 0 ∷ 0 ∷ 0 ∷ 0 ∷ 0 ∷ 0 ∷ 0 ∷ 0 ∷ 0 ∷ 0 ∷ 0 ∷ 1 ∷ 0 ∷ []
+
+abbrev pub linksE3 : List ℕ
+linksE3 =
+    1 ∷ 2 ∷ 3 ∷ 2 ∷ 2 ∷ 1 ∷ 1 ∷ 1 ∷ 0 ∷ 0 ∷ 1 ∷ 1 ∷ 0 ∷ 1 ∷ 2 ∷ 0 ∷ 0 ∷ 0 ∷ 0
+    ∷ 1 ∷ 1 ∷ 1 ∷ 1 ∷ 1 ∷ 2 ∷ 2 ∷ 2 ∷ 0 ∷ 0 ∷ 0 ∷ 0 ∷ 0 ∷ 0 ∷ 0 ∷ 0 ∷ 1 ∷ 0 ∷ []
 
 -- ---- points of two vertices, the first at 0 0 0 and the second at c 0 0
 
@@ -82,9 +99,6 @@ tableC = tableCAt (pos 100)
 
 abbrev pub tableD : State
 tableD = state linksD (pointsAt (pos 100)) logD 2
-
-abbrev pub tableE : State
-tableE = state linksE pointsZero logE 0
 
 -- all undone: the cleared table, a log of which no byte has changed, its live part empty
 abbrev pub undoneWith : List ℕ → State

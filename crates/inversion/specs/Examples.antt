@@ -1,6 +1,6 @@
--- The take-down computed: example e of document 01 (with L = 3: mfkrh 2 2 0, kef 2, kvsf 1; with L = 2: refusal 10; with a byte too few in
--- front of the start: 9), and a table whose edge 1 is a bridge between two handles, so that the least crossed k is not the least k; a table that takes every kind of turn; two solids;
--- and a full table, a torus of two edges with no number free: 10, and its holes are counted.
+-- The take-down computed beyond example e of document 01 (which crate cases has): a table whose edge 1 is a bridge
+-- between two handles, so that the least crossed k is not the least k; a table that takes every kind of turn; two
+-- solids; a full table, a torus of two edges with no number free: 10, with a start beyond the log 1; its holes counted.
 -- PROVED: all, by computation.
 use Prim.Native.Nat.{ℕ}
 use mathlib.Core.Path.{_≡_, refl}
@@ -31,21 +31,6 @@ use Rattle.takedown.specs.Inversion.{Inverted, onRun, crossed, act, makeOuter, 
 abbrev pub leaves : ℕ → ℕ → ℕ → List ℕ → List ℤ → List ℕ → Inverted
 leaves refusal done start x p log =
     record { answer = record { refusal = refusal; rule = 0; done = done; start = start }; links = x; points = p; log = log }
-
--- ---- example e
-
-abbrev linksE : List ℕ
-linksE =
-    1 ∷ 2 ∷ 3 ∷ 2 ∷ 2 ∷ 1 ∷ 1 ∷ 1 ∷ 0 ∷ 0 ∷ 1 ∷ 1 ∷ 0 ∷ 1 ∷ 2 ∷ 0 ∷ 0 ∷ 0 ∷ 0 ∷ 1 ∷ 1 ∷ 1 ∷ 1 ∷ 1 ∷ 2 ∷ 2 ∷ 2 ∷ 0 ∷ 0 ∷ 0 ∷ 0 ∷ 0 ∷ 0 ∷ 0 ∷ 0 ∷ 1 ∷ 0 ∷ []
-
--- the same with two loops
-abbrev linksE2 : List ℕ
-linksE2 =
-    1 ∷ 2 ∷ 2 ∷ 2 ∷ 2 ∷ 1 ∷ 1 ∷ 1 ∷ 0 ∷ 0 ∷ 1 ∷ 1 ∷ 0 ∷ 1 ∷ 2 ∷ 0 ∷ 1 ∷ 1 ∷ 1 ∷ 1 ∷ 1 ∷ 2 ∷ 2 ∷ 2 ∷ 0 ∷ 0 ∷ 0 ∷ 0 ∷ 0 ∷ 0 ∷ 0 ∷ 0 ∷ 1 ∷ 0 ∷ []
-
--- the script that builds it: mvsf 1 1 1 1 0 0 0, mef 1 0 0 1 2 2 0, kfmrh 1 2
-abbrev scriptE : List ℕ
-scriptE = 1 ∷ 1 ∷ 1 ∷ 1 ∷ 1 ∷ 0 ∷ 0 ∷ 0 ∷ 5 ∷ 1 ∷ 0 ∷ 0 ∷ 1 ∷ 2 ∷ 2 ∷ 0 ∷ 9 ∷ 1 ∷ 2 ∷ []
 
 -- ---- a bridge: one face, one loop 7 9 8 10 1 3 5 4 6 2 along next
 
@@ -97,23 +82,19 @@ linksFull = 1 ∷ 1 ∷ 1 ∷ 2 ∷ 1 ∷ 1 ∷ 1 ∷ 1 ∷ 1 ∷ 1 ∷ 0 ∷ 1 
 
 abbrev pub asked : List Inverted
 asked =
-    invertOf (state linksE (replicate 6 (pos 0)) (replicate 114 238) 114)
-    ∷ invertOf (state linksE2 (replicate 6 (pos 0)) (replicate 114 238) 114)
-    ∷ invertOf (state linksE (replicate 6 (pos 0)) (replicate 114 238) 113)
-    ∷ invertOf (state linksE (replicate 6 (pos 0)) (replicate 114 238) 115)
-    ∷ invertOf (state linksBridge pointsBridge (replicate 152 238) 152) ∷ invertOf (state linksAll pointsAll (replicate 171 238) 171)
-    ∷ invertOf (state linksTwo pointsTwo (replicate 228 238) 228) ∷ invertOf (state linksFull (replicate 3 (pos 0)) (replicate 114 238) 114) ∷ []
+    invertOf (state linksBridge pointsBridge (replicate 152 238) 152)
+    ∷ invertOf (state linksAll pointsAll (replicate 171 238) 171)
+    ∷ invertOf (state linksTwo pointsTwo (replicate 228 238) 228)
+    ∷ invertOf (state linksFull (replicate 3 (pos 0)) (replicate 114 238) 114)
+    ∷ invertOf (state linksFull (replicate 3 (pos 0)) (replicate 114 238) 115) ∷ []
 
 abbrev pub wanted : List Inverted
 wanted =
-    leaves 0 3 95 (1 ∷ 2 ∷ 3 ∷ 2 ∷ 2 ∷ replicate 32 0) (replicate 6 (pos 0)) (replicate 95 238 ++ scriptE)
-    ∷ leaves 10 0 114 linksE2 (replicate 6 (pos 0)) (replicate 114 238)
-    ∷ leaves 9 0 113 linksE (replicate 6 (pos 0)) (replicate 114 238)
-    ∷ leaves 1 0 115 linksE (replicate 6 (pos 0)) (replicate 114 238)
-    ∷ leaves 0 8 99 (1 ∷ 2 ∷ 2 ∷ 6 ∷ 2 ∷ replicate 61 0) (replicate 6 (pos 0)) (replicate 99 238 ++ scriptBridge)
+    leaves 0 8 99 (1 ∷ 2 ∷ 2 ∷ 6 ∷ 2 ∷ replicate 61 0) (replicate 6 (pos 0)) (replicate 99 238 ++ scriptBridge)
     ∷ leaves 0 9 111 (3 ∷ 4 ∷ 4 ∷ 4 ∷ 2 ∷ replicate 57 0) (replicate 6 (pos 0)) (replicate 111 238 ++ scriptAll)
     ∷ leaves 0 8 164 (2 ∷ 5 ∷ 6 ∷ 3 ∷ 5 ∷ replicate 59 0) (replicate 15 (pos 0)) (replicate 164 238 ++ scriptTwo)
-    ∷ leaves 10 0 114 linksFull (replicate 3 (pos 0)) (replicate 114 238) ∷ []
+    ∷ leaves 10 0 114 linksFull (replicate 3 (pos 0)) (replicate 114 238)
+    ∷ leaves 1 0 115 linksFull (replicate 3 (pos 0)) (replicate 114 238) ∷ []
 
 pub rows-hold : asked ≡ wanted
 unfolding invertOf invertBy turned turnB moveRings makeOuter act crossed onRun entry checkOf sizesFit tallyOf itemUsed brokenRule rule1 rule2 rule3 rule4 rule5 rule6 solidRange faceRange loopRange halfRange vertexRange solidNames faceNames loopNames halfNames loopEither halfLinks firstNames halfInLoop vertexEither halfAtVertex halfSides faceLinked allTo anyTo leastFrom sumTo meets linkedb rounds pass across mate within joins linkedBy third second first readNumber groups pattern rows inRanges inRange zig zag wire unwire operandBytes operandsBytes operatorBytes putBytes inverseBytes stepped linksAfter pointsAfter killedVertex inverse corner edgeIn edgeOut relabel seek renew sweep kvsfLinks kevLinks kefEdge kefLinks kemrLinks mekrEdge mekrLinks mfkrhLinks rmovLinks
