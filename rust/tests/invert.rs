@@ -54,13 +54,15 @@ fn its_operators_are_within_the_bound_and_as_many_joins_as_holes() {
 }
 
 #[test]
-fn undo_by_the_count_gives_the_table_back_and_the_log_below_it() {
+fn undo_by_the_count_gives_the_table_back_and_the_runs_before_can_be_undone() {
     let first = pocket();
     let mut table = first.clone();
     let saved = table.invert().unwrap();
     assert_eq!(table.undo(saved.done), Undone { refusal: None, undone: saved.done });
     assert_eq!((table.links(), table.points()), (first.links(), first.points()));
     assert_eq!((table.start(), live(&table)), (first.start(), live(&first)));
+    assert_eq!(table.undo(operators(POCKET).len()).refusal, None);
+    assert_eq!(table.links(), Table::new(CAPACITIES, 0).unwrap().links());
 }
 
 #[test]
