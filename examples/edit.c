@@ -5,6 +5,7 @@
  * The digests before the first edit and after the undo are equal: every byte of links and points is back. */
 #include <stdio.h>
 
+#include "digest.h"
 #include "zoghvari.h"
 
 enum { N = 8, LINKS = 5 + N + 2 * N + 3 * N + 8 * N + N, POINTS = 3 * N, LOG = 256, SCRIPT = 128 };
@@ -65,11 +66,10 @@ static size_t run(const Edit *edit, size_t *start) {
     return r.done;
 }
 
-/* FNV-1a, 64 bits, over the bytes of links and points with the low byte first. */
-static uint64_t digest(void) {
-    uint64_t d = 0xCBF29CE484222325u;
-    for (size_t i = 0; i < 2 * LINKS; i++) d = (d ^ ((links[i / 2] >> (8 * (i % 2))) & 0xFF)) * 0x100000001B3u;
-    for (size_t i = 0; i < 4 * POINTS; i++) d = (d ^ (((uint32_t)points[i / 4] >> (8 * (i % 4))) & 0xFF)) * 0x100000001B3u;
+/* Tells the table's digest under a name, and answers it. */
+static uint64_t tell(const char *name) {
+    uint64_t d = digest(links, LINKS, points, POINTS);
+    printf("%-8s %016llx\n", name, (unsigned long long)d);
     return d;
 }
 
@@ -77,12 +77,10 @@ int main(void) {
     ZoghvariCleared c = zoghvari_clear(links, LINKS, points, POINTS, LOG, N, N, N, N, N);
     size_t start = c.start, done = 0;
     run(&triangle, &start);
-    uint64_t before = digest();
-    printf("before   %016llx\n", (unsigned long long)before);
+    uint64_t before = tell("before");
     for (size_t i = 0; i < sizeof edits / sizeof *edits; i++) done += run(&edits[i], &start);
-    printf("edited   %016llx\n", (unsigned long long)digest());
+    tell("edited");
     ZoghvariUndone u = zoghvari_undo(links, LINKS, points, POINTS, log_bytes, LOG, start, done);
     printf("undo %zu: refusal %u undone %zu\n", done, u.refusal, u.undone);
-    printf("undone   %016llx\n", (unsigned long long)digest());
-    return digest() == before && u.refusal == 0 ? 0 : 1;
+    return tell("undone") == before && u.refusal == 0 ? 0 : 1;
 }

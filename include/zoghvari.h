@@ -57,8 +57,8 @@ typedef struct {
 typedef struct {
     uint8_t refusal; /* 0, 1, 2, 9 or 10 */
     uint8_t rule;    /* with 2: the lowest broken rule, 1 to 6 */
-    size_t done;     /* operators carried out; 0 with a refusal */
-    size_t start;    /* where the log's live part starts now; with a refusal the start handed in */
+    size_t done;     /* operators carried out, as many as the logged script holds; 0 with a refusal */
+    size_t start;    /* where the script in the log, and so the live part, starts; with a refusal the start handed in */
 } ZoghvariInverted;
 
 /* Makes an empty table of the capacities s, f, l, e, v (solids, faces, loops, edges, vertices), each 1 to 4,096.
@@ -90,10 +90,13 @@ ZoghvariRan zoghvari_run(uint16_t *links, size_t links_n, int32_t *points, size_
 ZoghvariUndone zoghvari_undo(uint16_t *links, size_t links_n, int32_t *points, size_t points_n, const uint8_t *log,
                              size_t log_n, size_t start, size_t n);
 
-/* Takes a sound table down to nothing; links and points are then as clearing leaves them. Each operator's inverse is put into
- * the log just before `start`, which moves down: what lies between the new start and the old one is a script that builds the
- * table again. Refusals: 1 and 2 of the table and the start, 10 where no face, loop or edge number is free, 9 where fewer than
- * 19 (v + 2f + 2r + 3h - 2s) bytes lie in front of the start. A refusal changes nothing. */
+/* Takes a sound table down to nothing; links and points are then as clearing leaves them. Each operator's inverse is
+ * put into the log just before `start`, which moves down; no other log byte changes. The bytes from the start answered
+ * up to the one handed in are a script of `done` operators: run from a cleared table of the same capacities, it builds
+ * the table again, every byte of links and points.
+ * Refusals, in this order: 1 and 2 of the table and the start, 10 unless a face, a loop and an edge number are free, 9
+ * where fewer than 19 (v + 2f + 2r + 3h - 2s) bytes lie in front of the start, by the numbers that zoghvari_count
+ * answers. There is no half-way: a refusal changes no byte. */
 ZoghvariInverted zoghvari_invert(uint16_t *links, size_t links_n, int32_t *points, size_t points_n, uint8_t *log,
                                  size_t log_n, size_t start);
 

@@ -1,4 +1,5 @@
-//! Half-edge tables and the thirteen Euler operators, with undo to the byte: the proved kernel's archive behind safe types.
+//! Half-edge tables and the thirteen Euler operators, with undo to the byte and a take-down that turns a table into a
+//! script: the proved kernel's archive behind safe types.
 //!
 //! What is proved is the archive, not this wrapper, which does no more than hand slices over and give numbers names.
 //! docs/GUIDE.md says what each call promises.
@@ -24,4 +25,4 @@ mod table;
 
 pub use refusal::{Cause, Refusal};
 pub use script::{read, script_bytes, write, Operator};
-pub use table::{Capacities, Counts, Ran, Table, Undone};
+pub use table::{Capacities, Counts, Inverted, Ran, Table, Undone};

@@ -32,9 +32,10 @@ pub enum Refusal {
     InUse,
     /// 8: the operator's condition fails.
     Condition,
-    /// 9: the log, or the destination of a write, is too short.
+    /// 9: the log, or the destination of a write, is too short; for the take-down, shorter than
+    /// [`Counts::invert_log_length`](crate::Counts::invert_log_length) in front of its start.
     NoRoom,
-    /// 10: a take-down finds no free face, loop or edge number. None of the functions here gives it.
+    /// 10: the take-down finds no free face, no free loop or no free edge number.
     NoNumber,
     /// 11: undo finds the log ended where its next operator should begin; what it undid stands.
     LogEnded,

@@ -60,8 +60,16 @@ pub struct Undone {
     pub start: usize,
 }
 
+#[repr(C)]
+pub struct Inverted {
+    pub refusal: u8,
+    pub rule: u8,
+    pub done: usize,
+    pub start: usize,
+}
+
 mod c {
-    use super::{Checked, Cleared, Counted, Ran, Read, Undone, Written};
+    use super::{Checked, Cleared, Counted, Inverted, Ran, Read, Undone, Written};
 
     extern "C" {
         #[rustfmt::skip]
@@ -104,6 +112,16 @@ mod c {
             start: usize,
             n: usize,
         ) -> Undone;
+        #[rustfmt::skip]
+        pub fn zoghvari_invert(
+            links: *mut u16,
+            links_n: usize,
+            points: *mut i32,
+            points_n: usize,
+            log: *mut u8,
+            log_n: usize,
+            start: usize,
+        ) -> Inverted;
     }
 }
 
@@ -139,4 +157,9 @@ pub fn run(links: &mut [u16], points: &mut [i32], log: &mut [u8], start: usize, 
 pub fn undo(links: &mut [u16], points: &mut [i32], log: &[u8], start: usize, n: usize) -> Undone {
     let (lp, ln, pp, pn) = (links.as_mut_ptr(), links.len(), points.as_mut_ptr(), points.len());
     unsafe { c::zoghvari_undo(lp, ln, pp, pn, log.as_ptr(), log.len(), start, n) }
+}
+
+pub fn invert(links: &mut [u16], points: &mut [i32], log: &mut [u8], start: usize) -> Inverted {
+    let (lp, ln, pp, pn) = (links.as_mut_ptr(), links.len(), points.as_mut_ptr(), points.len());
+    unsafe { c::zoghvari_invert(lp, ln, pp, pn, log.as_mut_ptr(), log.len(), start) }
 }

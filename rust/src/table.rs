@@ -44,6 +44,16 @@ pub struct Counts {
     pub holes: usize,
 }
 
+impl Counts {
+    /// The log bytes that [`Table::invert`] asks for in front of the log's start, for a table of these counts: 19 for
+    /// each of the v + 2f + 2r + 3h − 2s operators that it may take. Most often it uses fewer.
+    pub const fn invert_log_length(self) -> usize {
+        let made = self.vertices + 2 * self.faces + 2 * self.rings + 3 * self.holes;
+        // A solid has a face, so that nothing is cut off of what `Table::count` answers.
+        19 * made.saturating_sub(2 * self.solids)
+    }
+}
+
 /// What a run did; the operators done stand also where the next one was refused.
 #[derive(Clone, Copy, Debug, PartialEq, Eq)]
 pub struct Ran {
@@ -61,7 +71,17 @@ pub struct Undone {
     pub undone: usize,
 }
 
-/// A table with its log. Nobody else can write into either, so undo by the sum of the `done` counts gives back every byte.
+/// What a take-down did. It is whole or refused, so that there is no refusal in here.
+#[derive(Clone, Debug, PartialEq, Eq)]
+pub struct Inverted {
+    /// Operators carried out, and as many in the script.
+    pub done: usize,
+    /// What the take-down logged: run on an empty table of the same capacities, it builds the table again.
+    pub script: Vec<u8>,
+}
+
+/// A table with its log. Nobody else can write into either, so undo by the sum of the runs' `done` counts gives back every
+/// byte, where no clearing, undo or take-down came between.
 #[derive(Clone, Debug, PartialEq, Eq)]
 pub struct Table {
     links: Vec<u16>,
@@ -128,6 +148,44 @@ impl Table {
         let answer = sys::undo(&mut self.links, &mut self.points, &self.log, self.start, n);
         self.start = answer.start;
         Undone { refusal: Refusal::of(answer.refusal, answer.rule), undone: answer.undone }
+    }
+
+    /// Takes the table down to nothing and answers the script that builds it again. Links and points are then as
+    /// [`Table::clear`] leaves them; in the log the script stands in front of what was live before, which stays.
+    ///
+    /// Refusals 1 and 2; 10 unless a face, a loop and an edge number are free; 9 where fewer bytes than
+    /// [`Counts::invert_log_length`] lie in front of the log's start. Table, log and start are then as they were.
+    ///
+    /// To save a table and go on working with it, take down a copy, with a log of its own:
+    ///
+    /// ```
+    /// # fn main() -> Result<(), zoghvari::Refusal> {
+    /// use zoghvari::{script_bytes, Capacities, Operator, Table};
+    ///
+    /// let capacities = Capacities::all(8);
+    /// let mut table = Table::new(capacities, 256)?;
+    /// let solid = [Operator::new(1, &[1, 1, 1, 1, 0, 0, 0]), Operator::new(3, &[1, 0, 1, 2, 0, 100, 0, 0])];
+    /// assert_eq!(table.run(&script_bytes(&solid)?).refusal, None);
+    ///
+    /// let room = table.count()?.invert_log_length();
+    /// let mut copy = Table::from_parts(table.links().to_vec(), table.points().to_vec(), vec![0; room], room);
+    /// let saved = copy.invert()?;
+    ///
+    /// let mut built = Table::new(capacities, 19 * saved.done)?;
+    /// let ran = built.run(&saved.script);
+    /// assert_eq!((ran.refusal, ran.done, ran.used), (None, saved.done, saved.script.len()));
+    /// assert_eq!((built.links(), built.points()), (table.links(), table.points()));
+    /// # Ok(())
+    /// # }
+    /// ```
+    pub fn invert(&mut self) -> Result<Inverted, Refusal> {
+        let end = self.start;
+        let answer = sys::invert(&mut self.links, &mut self.points, &mut self.log, end);
+        if let Some(refusal) = Refusal::of(answer.refusal, answer.rule) {
+            return Err(refusal);
+        }
+        self.start = answer.start;
+        Ok(Inverted { done: answer.done, script: self.log[answer.start..end].to_vec() })
     }
 
     pub fn links(&self) -> &[u16] {

@@ -1,9 +1,9 @@
-//! Examples a to d, g and h of the specification, word by word.
+//! Examples a to e, g and h of the specification, word by word.
 
 mod common;
 
-use common::{after, empty, live, B, C, D, LOG, SMALL};
-use zoghvari::{Capacities, Counts, Ran, Refusal, Table};
+use common::{after, after_on, empty, live, operators, B, C, D, E, LOG, SMALL};
+use zoghvari::{Capacities, Counts, Operator, Ran, Refusal, Table};
 
 #[test]
 fn a_the_empty_script_does_nothing() {
@@ -45,6 +45,21 @@ fn d_a_second_face() {
     assert_eq!(loops, [2, 1, 1, 2]);
     assert_eq!(live(&table), [0x06, 0x04, 0x04, 0x01, 0x02, 0x01]);
     assert_eq!(table.check(), Ok(()));
+}
+
+#[test]
+fn e_the_take_down() {
+    let cleared = |loops| Table::new(Capacities { loops, ..SMALL }, 2 * LOG).unwrap();
+    let table = |loops| after_on(cleared(loops), &[&B, &E]);
+    let counts = Counts { solids: 1, faces: 1, loops: 2, edges: 1, vertices: 1, rings: 1, holes: 1 };
+    assert_eq!((table(2).count(), table(2).invert()), (Ok(counts), Err(Refusal::NoNumber)));
+    let saved = table(3).invert().expect("a loop is free");
+    assert_eq!(saved.done, 3);
+    // An inverse's inverse is the operator itself: what building logs is the take-down, operator by operator.
+    let built = after_on(cleared(3), &[&saved.script]);
+    let steps = [Operator::new(10, &[2, 2, 0]), Operator::new(6, &[2]), Operator::new(2, &[1])];
+    assert_eq!(operators(live(&built)), steps);
+    assert_eq!((built.links(), built.points()), (table(3).links(), table(3).points()));
 }
 
 #[test]

@@ -1,11 +1,13 @@
 """Runs what examples/ and docs/GUIDE.md show: python3 tests/examples/run_examples.py [ARCHIVE]
 
-The C example and the guide's C program are built with the kernel's archive and run; the pocket's script is held to its source,
-to the model, to the solid that it is meant to be, and to the program where that is built. The last line is 'N passed, M failed'.
+The C examples and the guide's C programs are built with the kernel's archive and run; what the take-down of the pocket
+logs is held to the model; the pocket's script is held to its source, to the model, to the solid that it is meant to be,
+and to the program where that is built. The last line is 'N passed, M failed'.
 """
 
 import os
 import re
+import struct
 import subprocess
 import sys
 import tempfile
@@ -14,10 +16,11 @@ ROOT = os.path.dirname(os.path.dirname(os.path.dirname(os.path.abspath(__file__)
 sys.path[:0] = [os.path.join(ROOT, "tests", "model"), os.path.join(ROOT, "examples")]
 import library
 import pocket
-from kernel import program
+from kernel import program, run
+from layout import cleared_table
 from rules import check
 from generate import table_of
-from script import script_bytes
+from script import operator, script_bytes
 from tally import Tally
 
 PROGRAM = os.path.join(ROOT, "target", "bin", "zoghvari")
@@ -36,12 +39,47 @@ def output_of(command, data=b""):
     return done.returncode, done.stdout.decode()
 
 
-def c_example(tally, folder, kernel):
+def digests(text):
+    """The lines of an example that are a name and a digest."""
+    return dict(re.findall(r"^(\w+) +([0-9a-f]{16})$", text, re.MULTILINE))
+
+
+def edit_example(tally, folder, kernel):
     edit = library.compile_c(["examples/edit.c"], os.path.join(folder, "edit"), kernel)
-    tally.equal("examples/edit.c", output_of([edit]), (0, read("examples/edit.expected")))
-    lines = dict(line.split(None, 1) for line in read("examples/edit.expected").splitlines())
-    tally.equal("before the edits and after the undo", lines["before"], lines["undone"])
-    tally.holds("the edits change something", lines["before"] != lines["edited"])
+    wanted = read("examples/edit.expected")
+    tally.equal("examples/edit.c", output_of([edit]), (0, wanted))
+    told = digests(wanted)
+    tally.equal("before the edits and after the undo", told["before"], told["undone"])
+    tally.holds("the edits change something", told["before"] != told["edited"])
+
+
+def rebuild_example(tally, folder, kernel):
+    """The take-down of the pocket. What it is expected to log is run by the model, which has to find the pocket again."""
+    rebuild = library.compile_c(["examples/rebuild.c"], os.path.join(folder, "rebuild"), kernel)
+    data, wanted = read("examples/pocket.script", "rb"), read("examples/rebuild.expected")
+    tally.equal("examples/rebuild.c", output_of([rebuild], data), (0, wanted))
+    refused = "build: refusal 4 done 0 used 0 of 1\n"
+    tally.equal("examples/rebuild.c, a script that is refused", output_of([rebuild], b"\x0E"), (1, refused))
+    told, part = digests(wanted), table_of(pocket.pocket().table)
+    tally.equal("before the take-down and after the rebuilding", told["before"], told["rebuilt"])
+    tally.equal("the digest of the pocket", told["before"], digest_of(part))
+    tally.equal("the digest of nothing", told["emptied"], digest_of(cleared_table(pocket.CAPACITIES)))
+    words = [line.split() for line in re.findall(r"^  (.*)$", wanted, re.MULTILINE)]
+    script = script_bytes([operator(name, *map(int, operands)) for name, *operands in words])
+    table, log = cleared_table(pocket.CAPACITIES), bytearray(19 * len(words))
+    ran = run(table.links, table.points, log, len(log), script)
+    tally.equal("the script in words, run by the model: refusal", ran.refusal, 0)
+    tally.equal("the script in words, run by the model: table", (table.links, table.points), (part.links, part.points))
+    last = f"rebuild: refusal 0 done {len(words)} used {len(script)} of {len(script)}\n"
+    tally.holds("the script's length and how many operators it has", last in wanted)
+
+
+def digest_of(table):
+    """What examples/digest.h computes: FNV-1a, 64 bits, over links and points with the low byte first."""
+    digest = 0xCBF29CE484222325
+    for byte in struct.pack(f"<{len(table.links)}H{len(table.points)}i", *table.links, *table.points):
+        digest = (digest ^ byte) * 0x100000001B3 % 2 ** 64
+    return f"{digest:016x}"
 
 
 def guide(tally, folder, kernel):
@@ -49,11 +87,13 @@ def guide(tally, folder, kernel):
     text = read("docs/GUIDE.md")
     programs = re.findall(r"```c\n(.*?)```\s+prints\s+```\n(.*?)```", text, re.DOTALL)
     tally.holds("the guide has a C program", programs)
+    tally.equal("each C block of the guide is a program", len(programs), text.count("```c\n"))
     for number, (source, wanted) in enumerate(programs):
         path = os.path.join(folder, f"guide{number}")
         with open(path + ".c", "w", encoding="utf-8") as file:
             file.write(source)
-        tally.equal(f"program {number + 1} of the guide", output_of([library.compile_c([path + ".c"], path, kernel)]), (0, wanted))
+        built = library.compile_c([path + ".c"], path, kernel)
+        tally.equal(f"program {number + 1} of the guide", output_of([built]), (0, wanted))
 
 
 def pocket_script(tally):
@@ -94,7 +134,8 @@ def flat(b, face):
 def main(arguments):
     tally, kernel = Tally(), arguments[0] if arguments else None
     with tempfile.TemporaryDirectory() as folder:
-        c_example(tally, folder, kernel)
+        edit_example(tally, folder, kernel)
+        rebuild_example(tally, folder, kernel)
         guide(tally, folder, kernel)
     pocket_script(tally)
     print(f"{tally.passed} passed, {tally.failed} failed")

@@ -1,0 +1,132 @@
+//! The take-down by way of the wrapper: a table as a script, and refusals that lose nothing.
+
+mod common;
+
+use common::{after_on, live, operators, B, C, E, SMALL};
+use zoghvari::{Capacities, Inverted, Ran, Refusal, Table, Undone};
+
+const POCKET: &[u8] = include_bytes!("../../examples/pocket.script");
+const CAPACITIES: Capacities = Capacities::all(64);
+
+/// A block with a pocket and a through hole. Its log holds bytes that no run wrote, before the start and behind it.
+fn pocket() -> Table {
+    let (links, points, _, _) = Table::new(CAPACITIES, 0).unwrap().into_parts();
+    after_on(Table::from_parts(links, points, vec![0xEE; 4_096], 4_000), &[POCKET])
+}
+
+/// The take-down's example: one face with a ring, and a hole; so many log bytes are free.
+fn ring(loops: u16, free: usize) -> Table {
+    let built = after_on(Table::new(Capacities { loops, ..SMALL }, 64).unwrap(), &[&B, &E]);
+    let (links, points, _, _) = built.into_parts();
+    Table::from_parts(links, points, vec![0xEE; free + 5], free)
+}
+
+#[test]
+fn a_saved_table_is_built_again_to_the_byte() {
+    let first = pocket();
+    let mut table = first.clone();
+    let saved = table.invert().expect("numbers and room are free");
+    let mut built = Table::new(CAPACITIES, 19 * saved.done).unwrap();
+    assert_eq!((table.links(), table.points()), (built.links(), built.points()));
+    assert_eq!(built.run(&saved.script), Ran { refusal: None, done: saved.done, used: saved.script.len() });
+    assert_eq!((built.links(), built.points()), (first.links(), first.points()));
+}
+
+#[test]
+fn the_script_is_the_log_between_the_starts() {
+    let first = pocket();
+    let mut table = first.clone();
+    let saved = table.invert().unwrap();
+    let (from, to) = (table.start(), first.start());
+    assert_eq!(table.log()[from..to], saved.script);
+    assert_eq!((&table.log()[..from], &table.log()[to..]), (&first.log()[..from], live(&first)));
+}
+
+#[test]
+fn its_operators_are_within_the_bound_and_as_many_joins_as_holes() {
+    let counts = pocket().count().unwrap();
+    let saved = pocket().invert().unwrap();
+    let script = operators(&saved.script);
+    assert_eq!(script.len(), saved.done);
+    assert!(19 * saved.done <= counts.invert_log_length());
+    // kfmrh (9): the take-down makes no second solid of one, so each of them joins two faces of one solid.
+    assert_eq!((script.iter().filter(|op| op.code == 9).count(), counts.holes), (1, 1));
+}
+
+#[test]
+fn undo_by_the_count_gives_the_table_back_and_the_runs_before_can_be_undone() {
+    let first = pocket();
+    let mut table = first.clone();
+    let saved = table.invert().unwrap();
+    assert_eq!(table.undo(saved.done), Undone { refusal: None, undone: saved.done });
+    assert_eq!((table.links(), table.points()), (first.links(), first.points()));
+    assert_eq!((table.start(), live(&table)), (first.start(), live(&first)));
+    assert_eq!(table.undo(operators(POCKET).len()).refusal, None);
+    assert_eq!(table.links(), Table::new(CAPACITIES, 0).unwrap().links());
+}
+
+#[test]
+fn the_room_asked_for_is_enough_and_one_byte_less_is_not() {
+    let room = ring(3, 0).count().unwrap().invert_log_length();
+    assert_eq!(room, 19 * (1 + 2 + 2 + 3 - 2));
+    assert_eq!(ring(3, room).invert().map(|saved| saved.done), Ok(3));
+    let (mut table, held) = (ring(3, room - 1), ring(3, room - 1));
+    assert_eq!((table.invert(), table), (Err(Refusal::NoRoom), held));
+}
+
+#[test]
+fn a_face_a_loop_and_an_edge_number_must_be_free() {
+    let spur = |capacities| after_on(Table::new(capacities, 128).unwrap(), &[&B, &C]);
+    assert_eq!(spur(SMALL).invert().map(|saved| saved.done), Ok(2));
+    for full in [Capacities { faces: 1, ..SMALL }, Capacities { loops: 1, ..SMALL }, Capacities { edges: 1, ..SMALL }] {
+        let (mut table, held) = (spur(full), spur(full));
+        assert_eq!((table.invert(), table), (Err(Refusal::NoNumber), held));
+    }
+    // The numbers are looked at before the log.
+    assert_eq!(ring(2, 0).invert(), Err(Refusal::NoNumber));
+}
+
+/// The same records in a table of other capacities, none smaller: the numbers that it has more are free.
+fn moved(table: &Table, capacities: Capacities, log_length: usize) -> Table {
+    let Capacities { solids, faces, loops, edges, vertices } = capacities;
+    let (mut links, mut points, log, start) = Table::new(capacities, log_length).unwrap().into_parts();
+    let (mut from, mut to) = (5, 5);
+    for (kind, new) in [solids, faces, loops, edges, vertices].into_iter().enumerate() {
+        let width = [1, 2, 3, 8, 1][kind];
+        let (old, new) = (width * table.links()[kind] as usize, width * new as usize);
+        links[to..to + old].copy_from_slice(&table.links()[from..from + old]);
+        (from, to) = (from + old, to + new);
+    }
+    points[..table.points().len()].copy_from_slice(table.points());
+    Table::from_parts(links, points, log, start)
+}
+
+#[test]
+fn a_full_table_is_taken_down_where_there_are_more_numbers() {
+    let larger = Capacities { solids: 2, faces: 4, loops: 3, edges: 5, vertices: 6 };
+    let first = moved(&ring(2, 0), larger, 256);
+    assert_eq!((ring(2, 256).invert(), first.check()), (Err(Refusal::NoNumber), Ok(())));
+    let saved = first.clone().invert().unwrap();
+    let built = after_on(Table::new(larger, 256).unwrap(), &[&saved.script]);
+    assert_eq!((built.links(), built.points()), (first.links(), first.points()));
+}
+
+#[test]
+fn an_empty_table_needs_no_room() {
+    let mut table = Table::new(SMALL, 0).unwrap();
+    let held = table.clone();
+    assert_eq!((table.invert(), table), (Ok(Inverted { done: 0, script: vec![] }), held));
+}
+
+#[test]
+fn memory_that_is_wrong_is_refused() {
+    let (links, points, log, start) = ring(3, 128).into_parts();
+    let beyond = Table::from_parts(links.clone(), points.clone(), log.clone(), log.len() + 1);
+    let mut bent = links;
+    bent[5] = 0; // the solid is free, and its face still names it
+    let bent = Table::from_parts(bent, points, log, start);
+    for (mut table, refusal) in [(beyond, Refusal::Lengths), (bent, Refusal::Unsound { rule: 2 })] {
+        let held = table.clone();
+        assert_eq!((table.invert(), table), (Err(refusal), held));
+    }
+}
