@@ -34,6 +34,15 @@ static const Row rows[] = {
 };
 static const uint16_t caps[3] = {64, 512, 4096};
 
+enum { ROUNDS = 6 };
+static const double ROUND_SECONDS = 0.05; /* for one size; a pass at least */
+
+typedef struct {
+    double invert, run; /* seconds, the shortest pass; infinite before the first */
+    double total;       /* of all passes */
+    size_t done;
+} Figures;
+
 /* A shape, the table that the calls work on, the take-down's log and the log of its script, both of the length that the
  * take-down asks for: its operators are as many as their inverses. */
 typedef struct {
@@ -43,12 +52,8 @@ typedef struct {
     Table work;
     uint8_t *log, *other;
     size_t log_n;
+    Figures best;
 } Bench;
-
-typedef struct {
-    double invert, run; /* seconds, the shortest of several passes */
-    size_t done;
-} Figures;
 
 static void must(int ok, const char *name, unsigned n, const char *otherwise) {
     if (ok) return;
@@ -63,7 +68,7 @@ static Bench open_bench(const char *name, unsigned n, Shape s) {
     must(c.solids == s.solids && c.edges == s.edges && c.rings == s.rings && c.holes == s.holes, name, n,
          "the table is not the shape that it should be");
     size_t log_n = 19 * (c.vertices + 2 * c.faces + 2 * c.rings + 3 * c.holes - 2 * c.solids);
-    Bench b = {name, n, s, empty_table(t->cap), malloc(log_n), malloc(log_n), log_n};
+    Bench b = {name, n, s, empty_table(t->cap), malloc(log_n), malloc(log_n), log_n, {INFINITY, INFINITY, 0, 0}};
     must(b.log && b.other, name, n, "no memory");
     memset(b.log, 1, log_n); /* so that the first pass does not pay for the pages */
     memset(b.other, 1, log_n);
@@ -120,23 +125,31 @@ static int verify(Bench *b, unsigned limit) {
 }
 
 /* The take-down and its script in turn: the one leaves the empty table that the other begins with. */
-static Figures measure(Bench *b, unsigned limit) {
-    Figures best = {INFINITY, INFINITY, 0};
-    double total = 0;
-    for (int pass = 0; (pass < 3 || total < 0.3) && total < limit; pass++) {
-        copy_table(&b->work, &b->shape.table);
-        double t0 = seconds();
-        ZoghvariInverted r = invert(b);
-        double t1 = seconds();
-        ZoghvariRan q = run_script(b, r.start);
-        double t2 = seconds();
-        must(r.refusal == 0 && q.refusal == 0, b->name, b->n, "refused while it is timed");
-        best.invert = fmin(best.invert, t1 - t0);
-        best.run = fmin(best.run, t2 - t1);
-        best.done = r.done;
-        total += t2 - t0;
-    }
-    return best;
+static void pass(Bench *b) {
+    copy_table(&b->work, &b->shape.table);
+    double t0 = seconds();
+    ZoghvariInverted r = invert(b);
+    double t1 = seconds();
+    ZoghvariRan q = run_script(b, r.start);
+    double t2 = seconds();
+    must(r.refusal == 0 && q.refusal == 0, b->name, b->n, "refused while it is timed");
+    b->best.invert = fmin(b->best.invert, t1 - t0);
+    b->best.run = fmin(b->best.run, t2 - t1);
+    b->best.total += t2 - t0;
+    b->best.done = r.done;
+}
+
+/* Of n sizes, the smallest first, those up to the first that lasts longer than the limit: how many they are. They are
+ * timed in turn, round by round, so that a slow moment of the machine falls on all of them. */
+static int measure(Bench *b, int n, unsigned limit) {
+    int m = 0;
+    while (m < n && verify(&b[m], limit)) m++;
+    for (int round = 0; round < ROUNDS; round++)
+        for (int i = 0; i < m; i++) {
+            double until = fmin(b[i].best.total + ROUND_SECONDS, limit);
+            while (b[i].best.total < until) pass(&b[i]);
+        }
+    return m;
 }
 
 typedef struct {
@@ -147,35 +160,37 @@ typedef struct {
 /* Growth is taken against edges, and against solids only where there is no edge. */
 static double extent(const Shape *s) { return s->edges ? s->edges : s->solids; }
 
-static void print_figures(const Figures *f, double growth) {
-    printf("%6zu %12.3f ", f->done, 1e3 * f->invert);
-    if (isnan(growth)) printf("%7s ", "-");
-    else printf("%7.2f ", growth);
-    printf("%10.3f %8.1f\n", 1e3 * f->run, f->invert / f->run);
+static double growth(const Bench *from, const Bench *to) {
+    return log(to->best.invert / from->best.invert) / log(extent(&to->shape) / extent(&from->shape));
 }
 
-/* The sizes of a row from the smallest on, as far as the options let them. */
-static void print_row(const Row *row, const Options *o) {
-    double extent_before = NAN, time_before = NAN;
-    int on = 1;
-    for (int i = 0; i < 3 && on; i++) {
-        Bench b = open_bench(row->name, row->n[i], row->make(row->n[i], caps[i]));
-        double size = extent(&b.shape);
-        on = size <= o->edges;
-        if (on) {
-            printf("%-26s %5u %6u ", b.name, b.n, b.shape.edges);
-            fflush(stdout);
-            on = verify(&b, o->limit);
-            if (!on) printf("%6s more than %u s\n", "-", o->limit);
+/* The first m of n sizes have figures. */
+static void print_sizes(const Bench *b, int n, int m, unsigned limit) {
+    for (int i = 0; i < n; i++) {
+        const Figures *f = &b[i].best;
+        printf("%-26s %5u %6u ", b[i].name, b[i].n, b[i].shape.edges);
+        if (i >= m) {
+            printf("%6s more than %u s\n", "-", limit);
+            continue;
         }
-        if (on) {
-            Figures f = measure(&b, o->limit);
-            print_figures(&f, log(f.invert / time_before) / log(size / extent_before));
-            extent_before = size;
-            time_before = f.invert;
-        }
-        close_bench(&b);
+        printf("%6zu %12.3f ", f->done, 1e3 * f->invert);
+        if (i == 0) printf("%7s ", "-");
+        else printf("%7.2f ", growth(&b[i - 1], &b[i]));
+        printf("%10.3f %8.1f\n", 1e3 * f->run, f->invert / f->run);
     }
+    fflush(stdout);
+}
+
+static void bench_row(const Row *row, const Options *o) {
+    Bench b[3];
+    int n = 0;
+    for (int i = 0; i < 3; i++) {
+        b[n] = open_bench(row->name, row->n[i], row->make(row->n[i], caps[i]));
+        if (extent(&b[n].shape) <= o->edges) n++;
+        else close_bench(&b[n]);
+    }
+    print_sizes(b, n, measure(b, n, o->limit), o->limit);
+    for (int i = 0; i < n; i++) close_bench(&b[i]);
 }
 
 static Options options(int argc, char **argv) {
@@ -201,6 +216,6 @@ int main(int argc, char **argv) {
            "%-26s %5s %6s %6s %12s %7s %10s %8s\n", "shape", "size", "edges", "done", "take-down", "growth", "script",
            "ratio");
     for (size_t i = 0; i < sizeof rows / sizeof *rows; i++)
-        if (strstr(rows[i].name, o.shape)) print_row(&rows[i], &o);
+        if (strstr(rows[i].name, o.shape)) bench_row(&rows[i], &o);
     return 0;
 }

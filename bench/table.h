@@ -13,6 +13,7 @@ typedef struct {
     int32_t *points;
 } Table;
 
+/* The processor's time: the library never waits, and while others have the processor nothing is counted. */
 double seconds(void);
 
 Table empty_table(uint16_t cap);
