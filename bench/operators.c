@@ -1,21 +1,20 @@
 /* What an operator costs in a run and in undo, on tables of capacities 64, 512 and 4,096, all measured in one run.
  *
- * The script makes and kills an edge at an isolated loop, over and over, so the loops touched are always the same two half-edges: the time an
- * operator should not depend on the capacity. The one check at the head of each call is measured beside it and taken off. */
+ * The script makes and kills an edge at an isolated loop, over and over, so the loops touched are always the same two
+ * half-edges: the time an operator should not depend on the capacity. The one check at the head of each call is
+ * measured beside it and taken off. */
 #include <stdio.h>
 #include <stdlib.h>
 #include <string.h>
-#include <time.h>
 
+#include "table.h"
 #include "zoghvari.h"
 
-enum { PAIRS = 20000 };
+enum { PAIRS = 20000, LOG = PAIRS * 20 + 64 };
 
-static double seconds(void) {
-    struct timespec now;
-    clock_gettime(CLOCK_MONOTONIC, &now);
-    return (double)now.tv_sec + 1e-9 * (double)now.tv_nsec;
-}
+typedef struct {
+    double call, run, undo; /* seconds: a call with no operator, an operator run, an operator undone */
+} Cost;
 
 /* mev 1 0 1 2 0 100 0 0 and kev 1, PAIRS times. */
 static size_t pairs_script(uint8_t *out) {
@@ -24,38 +23,38 @@ static size_t pairs_script(uint8_t *out) {
     return PAIRS * sizeof pair;
 }
 
+static Cost cost(uint16_t cap, const uint8_t *script, size_t script_n, uint8_t *log) {
+    const uint8_t seed[] = {1, 1, 1, 1, 1, 0, 0, 0};
+    Table t = empty_table(cap);
+    size_t start = zoghvari_run(t.links, t.links_n, t.points, t.points_n, log, LOG, LOG, seed, sizeof seed).start;
+    double t0 = seconds();
+    zoghvari_run(t.links, t.links_n, t.points, t.points_n, log, LOG, start, script, 0);
+    double t1 = seconds();
+    ZoghvariRan r = zoghvari_run(t.links, t.links_n, t.points, t.points_n, log, LOG, start, script, script_n);
+    double t2 = seconds();
+    ZoghvariUndone u = zoghvari_undo(t.links, t.links_n, t.points, t.points_n, log, LOG, r.start, r.done);
+    double t3 = seconds();
+    if (r.refusal || r.done != 2 * PAIRS || u.refusal || u.undone != r.done) {
+        fprintf(stderr, "capacity %u: run refused %u, undo refused %u\n", cap, r.refusal, u.refusal);
+        exit(1);
+    }
+    free_table(t);
+    double call = t1 - t0;
+    return (Cost){call, (t2 - t1 - call) / (2 * PAIRS), (t3 - t2 - call) / (2 * PAIRS)};
+}
+
 int main(void) {
     const uint16_t caps[3] = {64, 512, 4096};
-    const uint8_t seed[] = {1, 1, 1, 1, 1, 0, 0, 0};
-    const size_t log_n = (size_t)PAIRS * 20 + 64;
-    uint8_t *script = malloc((size_t)PAIRS * 12), *log = malloc(log_n);
+    static uint8_t script[PAIRS * 12], log[LOG];
     size_t script_n = pairs_script(script);
-    memset(log, 0, log_n); /* so that the first run does not pay for the pages */
-    double each[3], back[3];
+    memset(log, 1, LOG); /* so that the first run does not pay for the pages */
+    Cost c[3];
     for (int i = 0; i < 3; i++) {
-        uint16_t c = caps[i];
-        size_t words = 5 + 15 * (size_t)c;
-        uint16_t *links = malloc(words * sizeof *links);
-        int32_t *points = malloc(3 * (size_t)c * sizeof *points);
-        size_t start = zoghvari_clear(links, words, points, 3 * c, log_n, c, c, c, c, c).start;
-        start = zoghvari_run(links, words, points, 3 * c, log, log_n, start, seed, sizeof seed).start;
-        double t0 = seconds();
-        zoghvari_run(links, words, points, 3 * c, log, log_n, start, script, 0);
-        double t1 = seconds();
-        ZoghvariRan r = zoghvari_run(links, words, points, 3 * c, log, log_n, start, script, script_n);
-        double t2 = seconds();
-        ZoghvariUndone u = zoghvari_undo(links, words, points, 3 * c, log, log_n, r.start, r.done);
-        double t3 = seconds();
-        if (r.refusal || r.done != 2 * PAIRS || u.refusal || u.undone != r.done) return 1;
-        each[i] = (t2 - t1 - (t1 - t0)) / (2 * PAIRS);
-        back[i] = (t3 - t2 - (t1 - t0)) / (2 * PAIRS);
-        printf("capacity %4u: call with no operator %8.1f us, operator run %.3f us, undone %.3f us\n", c, 1e6 * (t1 - t0), 1e6 * each[i],
-               1e6 * back[i]);
-        free(links);
-        free(points);
+        c[i] = cost(caps[i], script, script_n, log);
+        printf("capacity %4u: call with no operator %8.1f us, operator run %.3f us, undone %.3f us\n", caps[i],
+               1e6 * c[i].call, 1e6 * c[i].run, 1e6 * c[i].undo);
     }
-    printf("time an operator, capacity 4096 against 64: run %.2f, undo %.2f\n", each[2] / each[0], back[2] / back[0]);
-    free(script);
-    free(log);
+    printf("time an operator, capacity 4096 against 64: run %.2f, undo %.2f\n", c[2].run / c[0].run,
+           c[2].undo / c[0].undo);
     return 0;
 }
