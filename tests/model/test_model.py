@@ -12,6 +12,7 @@ from exhaustive import EXHAUSTIVE
 from generate import seeded
 from operator_examples import OPERATOR_EXAMPLES
 from properties import PROPERTIES
+from takedown_examples import TAKEDOWN_EXAMPLES
 from tally import Tally
 
 
@@ -19,7 +20,7 @@ def main(arguments):
     scale = float(arguments[0]) if arguments else 1.0
     seed = int(arguments[1]) if len(arguments) > 1 else 1
     tally = Tally()
-    for example in EXAMPLES + OPERATOR_EXAMPLES:
+    for example in EXAMPLES + OPERATOR_EXAMPLES + TAKEDOWN_EXAMPLES:
         example(tally)
     print(f"examples: {tally.passed} checks")
     for number, prop in enumerate(PROPERTIES + EXHAUSTIVE):
