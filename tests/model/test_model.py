@@ -13,6 +13,7 @@ from generate import seeded
 from operator_examples import OPERATOR_EXAMPLES
 from properties import PROPERTIES
 from takedown_examples import TAKEDOWN_EXAMPLES
+from takedown_properties import TAKEDOWN_PROPERTIES
 from tally import Tally
 
 
@@ -23,7 +24,7 @@ def main(arguments):
     for example in EXAMPLES + OPERATOR_EXAMPLES + TAKEDOWN_EXAMPLES:
         example(tally)
     print(f"examples: {tally.passed} checks")
-    for number, prop in enumerate(PROPERTIES + EXHAUSTIVE):
+    for number, prop in enumerate(PROPERTIES + EXHAUSTIVE + TAKEDOWN_PROPERTIES):
         before, began = tally.passed, time.process_time()
         # A seed of its own, so that one property's cases do not hang on another's.
         prop(tally, seeded(1000 * seed + number), scale)
