@@ -27,7 +27,7 @@ from promise import tell
 from rules import check
 from takedown_cases import LISTED, LISTED_TOO, listed_trials, takedown_trial
 from takedown_met import WANTED, case_situations
-from takedown_promise import keep_promise
+from takedown_promise import keep_promise, model_answer
 from tally import Tally
 
 ENTRIES = (wire.CLEAR, wire.CHECK, wire.COUNT, wire.READ, wire.WRITE)
@@ -99,15 +99,12 @@ def compare_takedowns(driver, tally, met, trials):
     """The answers to the cases, and then the promise, with what the kernel has left."""
     taken = []
     for (case, sound), answer in zip(trials, ask(driver, [trial.case for trial in trials])):
-        wanted = wire.answer_case(case)
         if sound:
             tally.equal(f"made sound: {case}", check(case.links, case.points), (0, 0))
-        if tally.equal(f"takedown: {case}", answer, wanted):
-            met.add(case, wanted)
-            met.situations.update(case_situations(case, wanted))
-        # One that should have been refused is reported; it has no script that could be asked for.
-        if answer is not None and answer.numbers[0] == wanted.numbers[0] == 0:
-            taken.append((case, answer))
+        if tally.equal(f"takedown: {case}", answer, model_answer(case)):
+            met.add(case, answer)
+            met.situations.update(case_situations(case, answer))
+            taken += [(case, answer)] if answer.numbers[0] == 0 else []
     keep_promise(lambda cases: ask(driver, cases), tally, met, taken)
 
 

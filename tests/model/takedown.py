@@ -40,6 +40,7 @@ def take_down(links, points, log, start):
 
 def carry_out_step(body, op):
     """Carries out an operator of the steps and answers its inverse; a refused one is a finding about the steps."""
+    assert None not in op.args, f"the take-down's own {op} lacks a number"
     refusal, inverse, effect = plan(body, op)
     assert refusal == 0, f"the take-down's own {op} is refused by {refusal}"
     effect()

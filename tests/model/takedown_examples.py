@@ -10,7 +10,8 @@ from takedown import bytes_needed, carry_out_step, has_spares, most_operators, s
 from takedown_tables import body_of, table_with
 
 HANDLE = script_bytes([operator("mef", 1, 0, 0, 1, 2, 2, 0), operator("kfmrh", 1, 2)])
-SPARES = (0, 1, 1, 1, 0)
+# Two free numbers of each kind at least: the least of them has to be taken.
+SPARES = (1, 2, 2, 2, 1)
 
 
 def operators_of(table):
@@ -62,6 +63,8 @@ STEPS = [
      ["rmov 2 2", "rmov 1 1", "kef 1", "mekr 3 0 1 0 1 0", "kev 1", "kvsf 1"]),
     ("A: rings by number", {1: [2], 2: [], 3: [], 4: [1]}, {1: 1, 2: 2, 3: 2, 4: 2}, {1: 1, 2: 4},
      ["rmov 2 1", "rmov 3 1", "kef 1", "mekr 1 0 2 0 1 0", "kev 1", "mekr 1 0 3 0 1 0", "kev 1", "kvsf 1"]),
+    ("A: rings to the root, not to another neighbour", {1: [2], 2: [1, 3], 3: [4], 4: []}, {1: 1, 2: 2, 3: 3, 4: 2},
+     {1: 1, 2: 2, 3: 3}, ["rmov 4 1", "kef 1", "kef 4", "mekr 1 0 4 0 1 0", "kev 1", "kvsf 1"]),
     ("B: the least spur", {1: [1, 3, 4, 2]}, {1: 1}, {1: 1}, ["kev 2", "kev 3", "kvsf 1"]),
     ("B: rings before spurs", {1: [1, 2, 3], 2: [4]}, {1: 1, 2: 1}, {1: 1},
      ["mfkrh 2 2 0", "kef 4", "kev 1", "kvsf 1"]),

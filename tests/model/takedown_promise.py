@@ -44,6 +44,14 @@ def is_join(b, op):
     return one is not None and one == two
 
 
+def model_answer(case):
+    """The model's answer, or in words what stopped it, so that such a case is told and counted like any difference."""
+    try:
+        return wire.answer_case(case)
+    except AssertionError as finding:
+        return f"no answer: {finding}"
+
+
 def keep_promise(asked, tally, met, taken):
     """Holds the promise against take-downs not refused, pairs of case and answer; asked answers further cases."""
     rebuilds = [rebuild(tally, met, case, answer) for case, answer in taken]

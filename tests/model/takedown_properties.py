@@ -5,7 +5,7 @@ from met import Met
 from rules import check
 from takedown_cases import LISTED, LISTED_TOO, listed_trials, takedown_trial
 from takedown_met import WANTED, case_situations
-from takedown_promise import keep_promise
+from takedown_promise import keep_promise, model_answer
 
 
 def answers_of(cases):
@@ -16,9 +16,11 @@ def take_down(tally, met, trials):
     """Each case by the model: a refusal changes nothing, a take-down keeps the promise; answers the latter."""
     taken = []
     for case, sound in trials:
-        answer = wire.answer_case(case)
+        answer = model_answer(case)
         if sound:
             tally.equal(f"made tables are sound: {case}", check(case.links, case.points), (0, 0))
+        if not tally.holds(f"{answer}: {case}", isinstance(answer, wire.Frame)):
+            continue
         met.situations.update(case_situations(case, answer))
         if answer.numbers[0] == 0:
             taken.append((case, answer))
