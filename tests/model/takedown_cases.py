@@ -47,7 +47,7 @@ def listed_trials(sizes):
 def damaged_case(rng):
     """A table that is most often not sound, now and then with a start beyond the log: 1 comes before 2."""
     (links, points), (log, start) = damaged_table(rng), random_log(rng)
-    if rng.random() < 0.1:
+    if rng.random() < 0.25:
         start = rng.choice(BEYOND)(len(log))
     return wire.case(wire.TAKEDOWN, (start,), links, points, log)
 
