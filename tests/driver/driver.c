@@ -3,7 +3,7 @@
 #include "frames.h"
 #include "zoghvari.h"
 
-enum { CLEAR = 1, CHECK, COUNT, READ, WRITE, RUN, UNDO };
+enum { CLEAR = 1, CHECK, COUNT, READ, WRITE, RUN, UNDO, TAKEDOWN };
 
 static uint32_t answer_clear(const Frame *f, uint64_t *out) {
     const uint64_t *a = f->numbers.data;
@@ -68,6 +68,15 @@ static uint32_t answer_undo(const Frame *f, uint64_t *out) {
     return 4;
 }
 
+static uint32_t answer_takedown(const Frame *f, uint64_t *out) {
+    const uint64_t *a = f->numbers.data;
+    ZoghvariInverted r = zoghvari_invert(f->links.data, f->links.n, f->points.data, f->points.n, f->log.data, f->log.n,
+                                         a[0]);
+    const uint64_t all[4] = {r.refusal, r.rule, r.done, r.start};
+    for (int i = 0; i < 4; i++) out[i] = all[i];
+    return 4;
+}
+
 typedef struct {
     uint32_t numbers; /* how many numbers the case has to hold */
     uint32_t (*answer)(const Frame *f, uint64_t *out);
@@ -75,13 +84,13 @@ typedef struct {
 
 static const Kind KINDS[] = {[CLEAR] = {5, answer_clear}, [CHECK] = {0, answer_check}, [COUNT] = {0, answer_count},
                              [READ] = {1, answer_read},   [WRITE] = {11, answer_write}, [RUN] = {1, answer_run},
-                             [UNDO] = {2, answer_undo}};
+                             [UNDO] = {2, answer_undo},   [TAKEDOWN] = {1, answer_takedown}};
 
 int main(void) {
     Frame f;
     while (read_frame(&f)) {
         uint64_t out[16];
-        if (f.kind < CLEAR || f.kind > UNDO) fail("a kind that the kernel does not have");
+        if (f.kind < CLEAR || f.kind > TAKEDOWN) fail("a kind that the kernel does not have");
         if (f.numbers.n < KINDS[f.kind].numbers) fail("a case with too few numbers");
         uint32_t n = KINDS[f.kind].answer(&f, out);
         write_frame(&f, out, n);

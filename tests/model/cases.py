@@ -11,6 +11,7 @@ from kernel import run
 from layout import cleared_table
 from operators import plan
 from script import number_bytes, operator, operator_bytes, script_bytes
+from takedown_cases import takedown_case
 
 # Counts for undo that no log holds, up to the largest number a caller can hand in.
 TOO_MANY = (1_000, 1 << 32, (1 << 64) - 1)
@@ -18,7 +19,7 @@ TOO_MANY = (1_000, 1 << 32, (1 << 64) - 1)
 
 def random_case(rng):
     kind = rng.choice((wire.CLEAR, wire.CHECK, wire.COUNT, wire.READ, wire.WRITE,
-                       wire.RUN, wire.RUN, wire.RUN, wire.UNDO, wire.UNDO))
+                       wire.RUN, wire.RUN, wire.RUN, wire.UNDO, wire.UNDO, wire.TAKEDOWN))
     return CASES[kind](rng)
 
 
@@ -180,7 +181,8 @@ def log_of_bytes(rng, table):
 
 
 CASES = {wire.CLEAR: clear_case, wire.CHECK: table_case(wire.CHECK), wire.COUNT: table_case(wire.COUNT),
-         wire.READ: read_case, wire.WRITE: write_case, wire.RUN: run_case, wire.UNDO: undo_case}
+         wire.READ: read_case, wire.WRITE: write_case, wire.RUN: run_case, wire.UNDO: undo_case,
+         wire.TAKEDOWN: takedown_case}
 
 
 # The program

@@ -6,6 +6,8 @@ MODE  entries    COUNT cases each of clearing, checking, counting, reading and w
       operators  COUNT scripts of one operator on sound tables
       runs       COUNT runs and undos of whole scripts on any tables, logs and starts
       promise    COUNT lists of scripts, run one after the other and undone together
+      takedown   COUNT tables taken down and built again by what was logged, besides every table of two edges at most,
+                 from 10,000 on of three
       all        every mode, with a count of its own (the default)
 
 Every answer and every byte of links, points, log and script afterwards must be equal; a crash or a hang is a failure. Prints
@@ -22,6 +24,10 @@ from generate import seeded
 from library import ask, build_driver
 from met import Met
 from promise import tell
+from rules import check
+from takedown_cases import LISTED, LISTED_TOO, listed_trials, takedown_trial
+from takedown_met import WANTED, case_situations
+from takedown_promise import keep_promise, model_answer
 from tally import Tally
 
 ENTRIES = (wire.CLEAR, wire.CHECK, wire.COUNT, wire.READ, wire.WRITE)
@@ -66,7 +72,7 @@ def runs(driver, tally, met, rng, count):
         met.want_codes(tally, {"run": range(10), "undo": list(range(9)) + [11]})
     # Few damaged tables come as far as rule 6, so a short comparison need not meet it.
     for kind in ("run", "undo") if count >= PLENTY else ():
-        tally.equal(f"rules named by {kind}", sorted(rule for of, rule in met.rules if of == kind), [1, 2, 3, 4, 5, 6])
+        met.want_rules(tally, kind)
 
 
 def promise(driver, tally, met, rng, count):
@@ -76,8 +82,35 @@ def promise(driver, tally, met, rng, count):
         met.want_codes(tally, {"run": [0, 1] + list(range(3, 10)), "undo": [0, 1]})
 
 
+def takedown(driver, tally, met, rng, count):
+    listed = listed_trials(LISTED + (LISTED_TOO if count >= PLENTY else ()))
+    for place in range(0, len(listed), PORTION):
+        compare_takedowns(driver, tally, met, listed[place:place + PORTION])
+    for size in portions(count):
+        compare_takedowns(driver, tally, met, [takedown_trial(rng) for _ in range(size)])
+    if count >= ENOUGH:
+        met.want_answers(tally, {"takedown": (0, 1, 2, 9, 10)})
+        met.want_situations(tally, WANTED)
+    if count >= PLENTY:
+        met.want_rules(tally, "takedown")
+
+
+def compare_takedowns(driver, tally, met, trials):
+    """The answers to the cases, and then the promise, with what the kernel has left."""
+    taken = []
+    for (case, sound), answer in zip(trials, ask(driver, [trial.case for trial in trials])):
+        if sound:
+            tally.equal(f"made sound: {case}", check(case.links, case.points), (0, 0))
+        if tally.equal(f"takedown: {case}", answer, model_answer(case)):
+            met.add(case, answer)
+            met.situations.update(case_situations(case, answer))
+            taken += [(case, answer)] if answer.numbers[0] == 0 else []
+    keep_promise(lambda cases: ask(driver, cases), tally, met, taken)
+
+
 # Name, comparison, and the count with which the gate runs it.
-MODES = {"entries": (entries, 500), "operators": (operators, 3_000), "runs": (runs, 3_000), "promise": (promise, 2_000)}
+MODES = {"entries": (entries, 500), "operators": (operators, 3_000), "runs": (runs, 3_000), "promise": (promise, 2_000),
+         "takedown": (takedown, 5_000)}
 
 
 def run_mode(driver, name, count, seed):

@@ -144,11 +144,11 @@ def random_operator(rng, b):
 
 # Tables
 
-def grown(rng, capacities, steps):
+def grown(rng, capacities, steps, weights=GROWTH):
     """A Boundary made by operators from a cleared table of these capacities."""
     b = Boundary(cleared_table(capacities))
     for _ in range(steps):
-        op = valid_operator(rng, b)
+        op = valid_operator(rng, b, weights)
         if op is None:
             break
         carry_out(b, op)

@@ -13,7 +13,7 @@ NAMES = {code: name for code, (name, _) in PATTERNS.items()}
 
 class Met:
     def __init__(self):
-        self.answers, self.codes, self.rules = Counter(), Counter(), Counter()
+        self.answers, self.codes, self.rules, self.situations = Counter(), Counter(), Counter(), Counter()
 
     def add(self, case, answer):
         """Counts an answer, and for run and undo each operator carried out and the one refused."""
@@ -40,14 +40,23 @@ class Met:
         """A line for each entry point, each code and the rules."""
         for kind in wire.KIND_NAMES.values():
             self.line(f"answers of {kind}", {refusal: n for (of, refusal), n in self.answers.items() if of == kind})
-        for kind in ("check", "count", "run", "undo"):
+        for kind in ("check", "count", "run", "undo", "takedown"):
             self.line(f"rules named by {kind}", {rule: n for (of, rule), n in self.rules.items() if of == kind})
         for code in sorted({code for code, _ in self.codes}):
             self.line(NAMES.get(code, "no code"), {refusal: n for (of, refusal), n in self.codes.items() if of == code})
+        for name in sorted(self.situations):
+            print(f"  {name}: {self.situations[name]}")
 
     def line(self, name, counts):
         if counts:
             print(f"  {name}: " + ", ".join(f"{number}: {counts[number]}" for number in sorted(counts)))
+
+    def want_rules(self, tally, kind):
+        tally.equal(f"rules named by {kind}", sorted(rule for of, rule in self.rules if of == kind), [1, 2, 3, 4, 5, 6])
+
+    def want_situations(self, tally, names):
+        for name in names:
+            tally.holds(f"met: {name}", self.situations[name] > 0)
 
     def want_conditions(self, tally):
         """Each operator that has a condition refused by it."""
@@ -59,6 +68,9 @@ class Met:
         """Each code accepted, and each of these refusals answered, by entry point."""
         for code, name in NAMES.items():
             tally.holds(f"met: {name} accepted", self.codes[code, 0] > 0)
+        self.want_answers(tally, refusals)
+
+    def want_answers(self, tally, refusals):
         for kind, numbers in refusals.items():
             for number in numbers:
                 tally.holds(f"met: {kind} answers {number}", self.answers[kind, number] > 0)

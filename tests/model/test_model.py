@@ -12,6 +12,8 @@ from exhaustive import EXHAUSTIVE
 from generate import seeded
 from operator_examples import OPERATOR_EXAMPLES
 from properties import PROPERTIES
+from takedown_examples import TAKEDOWN_EXAMPLES
+from takedown_properties import TAKEDOWN_PROPERTIES
 from tally import Tally
 
 
@@ -19,10 +21,10 @@ def main(arguments):
     scale = float(arguments[0]) if arguments else 1.0
     seed = int(arguments[1]) if len(arguments) > 1 else 1
     tally = Tally()
-    for example in EXAMPLES + OPERATOR_EXAMPLES:
+    for example in EXAMPLES + OPERATOR_EXAMPLES + TAKEDOWN_EXAMPLES:
         example(tally)
     print(f"examples: {tally.passed} checks")
-    for number, prop in enumerate(PROPERTIES + EXHAUSTIVE):
+    for number, prop in enumerate(PROPERTIES + EXHAUSTIVE + TAKEDOWN_PROPERTIES):
         before, began = tally.passed, time.process_time()
         # A seed of its own, so that one property's cases do not hang on another's.
         prop(tally, seeded(1000 * seed + number), scale)

@@ -13,16 +13,17 @@ A stream is frames one after the other up to its end. The answer to a case has t
 case's kind, the numbers below, and links, points, log and script as the call left
 them (a call that is not handed one of them passes it on unchanged).
 
-    kind      numbers of the case             numbers of the answer
-    1 clear   S F L E V                       refusal start
-    2 check   -                               refusal rule
-    3 count   -                               refusal rule s f l e v r h
-    4 read    place, then nothing             refusal length code count arg1 .. arg8
-              or place S F L E V                (script: the bytes to read from; with
-                                                capacities: read for such a table)
-    5 write   code count arg1 .. arg8 place   refusal length (script: the destination)
-    6 run     start                           refusal rule done used start
-    7 undo    start n                         refusal rule undone start
+    kind        numbers of the case             numbers of the answer
+    1 clear     S F L E V                       refusal start
+    2 check     -                               refusal rule
+    3 count     -                               refusal rule s f l e v r h
+    4 read      place, then nothing             refusal length code count arg1 .. arg8
+                or place S F L E V                (script: the bytes to read from; with
+                                                  capacities: read for such a table)
+    5 write     code count arg1 .. arg8 place   refusal length (script: the destination)
+    6 run       start                           refusal rule done used start
+    7 undo      start n                         refusal rule undone start
+    8 takedown  start                           refusal rule done start
 
 rule is 0 unless the refusal is 2. What document 01 leaves free is 0 in the model's
 answers, and mask_free sets it to 0 in any answer before two are compared.
@@ -35,11 +36,12 @@ from kernel import run, undo
 from layout import clear
 from rules import check, count
 from script import Operator, read_operator, write_operator
+from takedown import take_down
 
-CLEAR, CHECK, COUNT, READ, WRITE, RUN, UNDO = range(1, 8)
+CLEAR, CHECK, COUNT, READ, WRITE, RUN, UNDO, TAKEDOWN = range(1, 9)
 WORD = 1 << 64
 KIND_NAMES = {CLEAR: "clear", CHECK: "check", COUNT: "count", READ: "read",
-              WRITE: "write", RUN: "run", UNDO: "undo"}
+              WRITE: "write", RUN: "run", UNDO: "undo", TAKEDOWN: "takedown"}
 
 Frame = namedtuple("Frame", "kind numbers links points log script")
 
@@ -131,4 +133,5 @@ ANSWERS = {
     WRITE: lambda numbers, links, points, log, script: answer_write(numbers, script),
     RUN: lambda numbers, links, points, log, script: run(links, points, log, numbers[0], script),
     UNDO: lambda numbers, links, points, log, script: undo(links, points, log, *numbers),
+    TAKEDOWN: lambda numbers, links, points, log, script: take_down(links, points, log, numbers[0]),
 }

@@ -1,0 +1,59 @@
+"""Wire cases for the take-down: sound tables with room, without room or without a spare number; tables not sound."""
+
+from collections import namedtuple
+
+import wire
+from generate import damaged_table, random_log
+from takedown import bytes_needed
+from takedown_tables import every_body, spared_table, table_with
+
+# Places among the capacities: faces, loops, edges, of each of which a number has to be free.
+SPARED_PLACES = (1, 2, 3)
+# Starts beyond a log, by its length.
+BEYOND = (lambda length: length + 1, lambda length: length + 1_000, lambda length: 1 << 32,
+          lambda length: (1 << 64) - 1)
+# Edges and lone loops of the tables that are listed; three edges by themselves make ten thousand.
+LISTED, LISTED_TOO = ((0, 0), (0, 1), (1, 0), (1, 1), (2, 0), (2, 1)), ((3, 0),)
+
+# A case, and whether its table was made to be sound.
+Trial = namedtuple("Trial", "case sound")
+
+
+def takedown_trial(rng):
+    dice = rng.random()
+    if dice < 0.08:
+        return Trial(damaged_case(rng), False)
+    table = spared_table(rng, lacking=rng.choice(SPARED_PLACES) if dice < 0.18 else None)
+    log, start = log_for(rng, table)
+    if dice > 0.98:
+        start = rng.choice(BEYOND)(len(log))
+    return Trial(wire.case(wire.TAKEDOWN, (start,), table.links, table.points, log), True)
+
+
+def takedown_case(rng):
+    return takedown_trial(rng).case
+
+
+def listed_trials(sizes):
+    """Every table of these sizes, with one number of each kind to spare and just the room that is asked for."""
+    trials = []
+    for table in [table_with(body, (0, 1, 1, 1, 0)) for size in sizes for body in every_body(*size)]:
+        need = bytes_needed(table.links, table.points)
+        case = wire.case(wire.TAKEDOWN, (need,), table.links, table.points, b"\xEE" * need)
+        trials.append(Trial(case, True))
+    return trials
+
+
+def damaged_case(rng):
+    """A table that is most often not sound, now and then with a start beyond the log: 1 comes before 2."""
+    (links, points), (log, start) = damaged_table(rng), random_log(rng)
+    if rng.random() < 0.25:
+        start = rng.choice(BEYOND)(len(log))
+    return wire.case(wire.TAKEDOWN, (start,), links, points, log)
+
+
+def log_for(rng, table):
+    """Any bytes for a log, and a start with just the room that is asked for, a byte less, or more."""
+    need = bytes_needed(table.links, table.points)
+    room = rng.choice((need, need, need, max(0, need - 1), need + rng.choice((1, 5, 300))))
+    return rng.randbytes(room + rng.choice((0, 0, 1, 7, 40))), room
