@@ -20,7 +20,8 @@ use Rattle.table.specs.Count.{itemUsed, tallyOf, countOf}
 use Rattle.euler.specs.Surgery.{corner, edgeIn, edgeOut, relabel, seek, renew}
 use Rattle.euler.specs.Operators.{mvsfLinks, kvsfTest, kvsfLinks, mevLinks, kevTest, kevLinks, mefTest, mefEdge, mefLinks, kefTest, kefEdge, kefLinks, kfmrhTest, kfmrhLinks, linkedAfter, mfkrhTest, mfkrhLinks}
 use Rattle.euler.specs.Exec.{admitOf, useRefusals, useRefusal, useWord, condition, linksAfter, pointsAfter, killedVertex, inverse}
-use Rattle.runs.specs.Run.{admitRead, inverseBytes, runRefusal, stepped, runFrom, entry, runOf, undoFrom, undoOf}
+use Rattle.runs.specs.Run.{admitRead, inverseBytes, carryRefusal, stepped, runRefusal}
+use Rattle.runs.specs.Run.{runFrom, entry, runOf, undoFrom, undoOf}
 use Rattle.cases.specs.Case.{Row, found, Hold}
 use Rattle.cases.specs.RowsRuns.{runRows}
 use Rattle.cases.specs.RowsRefused.{refusedRows}
@@ -32,5 +33,5 @@ cases = runRows ++ (refusedRows ++ sizeRows)
 
 -- what the definitions leave, step for step, is what the rows say
 pub cases-hold : Hold cases
-unfolding found clearOf runOf undoOf countOf readOperator writeOperator entry checkOf sizesFit tallyOf itemUsed brokenRule rule1 rule2 rule3 rule4 rule5 rule6 solidRange faceRange loopRange halfRange vertexRange solidNames faceNames loopNames halfNames loopEither halfLinks firstNames halfInLoop vertexEither halfAtVertex halfSides faceLinked allTo leastFrom sumTo meets linkedb rounds pass across mate within joins linkedBy third second first readNumber groups pattern rows inRanges inRange zig zag wire unwire readOperand readOperands readBehind operandBytes operandsBytes operatorBytes operatorRefusal putBytes admitRead inverseBytes runRefusal stepped runFrom undoFrom admitOf useRefusals useRefusal useWord condition linksAfter pointsAfter killedVertex inverse corner edgeIn edgeOut relabel seek renew sweep mvsfLinks kvsfTest kvsfLinks mevLinks kevTest kevLinks mefTest mefEdge mefLinks kefTest kefEdge kefLinks kfmrhTest kfmrhLinks linkedAfter mfkrhTest mfkrhLinks
+unfolding found clearOf runOf undoOf countOf readOperator writeOperator entry checkOf sizesFit tallyOf itemUsed brokenRule rule1 rule2 rule3 rule4 rule5 rule6 solidRange faceRange loopRange halfRange vertexRange solidNames faceNames loopNames halfNames loopEither halfLinks firstNames halfInLoop vertexEither halfAtVertex halfSides faceLinked allTo leastFrom sumTo meets linkedb rounds pass across mate within joins linkedBy third second first readNumber groups pattern rows inRanges inRange zig zag wire unwire readOperand readOperands readBehind operandBytes operandsBytes operatorBytes operatorRefusal putBytes admitRead inverseBytes carryRefusal stepped runRefusal runFrom undoFrom admitOf useRefusals useRefusal useWord condition linksAfter pointsAfter killedVertex inverse corner edgeIn edgeOut relabel seek renew sweep mvsfLinks kvsfTest kvsfLinks mevLinks kevTest kevLinks mefTest mefEdge mefLinks kefTest kefEdge kefLinks kfmrhTest kfmrhLinks linkedAfter mfkrhTest mfkrhLinks
 cases-hold = refl
