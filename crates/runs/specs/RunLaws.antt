@@ -56,7 +56,17 @@ module _ (sh : Shape) (x : List ℕ) (p : List ℤ) (log : List ℕ) (start : �
     unfolding carryOf carryRefusal stepped inverseBytes
     carry-done h y ey q eq m em = rw (← ea, eq-eqb a 0 z, ← eo, ← en, le-leb n start h, ey, eq, em)
 
--- one step: what stands there is not an operator, or it is carried out
+-- what was not refused is carried out, and what was leaves the state as it is
+module _ (sh : Shape) (t : State) (o : Operator) where
+  pub carry-taken : carryRefusal sh t o ≡ 0 → carryOf sh t o ≡ carriedIs 0 (stepped sh t o)
+  unfolding carryOf
+  carry-taken z = rw (eqb-same z)
+
+  pub carry-kept : carryRefusal sh t o ≢ 0 → carryOf sh t o ≡ carriedIs (carryRefusal sh t o) t
+  unfolding carryOf
+  carry-kept z = rw (eqb-other z)
+
+-- one step: what stands there is refused, or its operator is carried out
 module _ (sh : Shape) (t : State) (s : List ℕ) (at : ℕ) (lim : Limits) (el : lim ≡ limits sh) (rd : ReadAnswer)
     (er : rd ≡ readOperator lim s at) where
   read-is : rd ≡ readAt sh s at
@@ -80,13 +90,13 @@ module _ (sh : Shape) (t : State) (s : List ℕ) (at : ℕ) where
 
   step-taken : runRefusal sh t s at ≡ 0
       → stepOf sh t s at ≡ stepIs 0 (readAt sh s at .next) (stepped sh t (readAt sh s at .op))
-  unfolding stepOf runRefusal carryOf
-  step-taken h = let z = eqb-same (run-read h) in rw (z, eqb-same (rw z at h))
+  unfolding stepOf runRefusal
+  step-taken h = let e = eqb-same (run-read h) in rw (e, carry-taken sh t (readAt sh s at .op) (rw e at h))
 
   step-kept : runRefusal sh t s at ≢ 0 → stepOf sh t s at ≡ stepIs (runRefusal sh t s at) (readAt sh s at .next) t
-  unfolding stepOf runRefusal carryOf
+  unfolding stepOf runRefusal
   step-kept h = split (readAt sh s at .refusal) 0
-      (λ z. let e = eqb-same z in rw (e, eqb-other (rw e at h)))
+      (λ z. let e = eqb-same z in rw (e, carry-kept sh t (readAt sh s at .op) (rw e at h)))
       (λ z. rw (eqb-other z))
 
   module _ (q : Stepped) (e : q ≡ stepOf sh t s at) where

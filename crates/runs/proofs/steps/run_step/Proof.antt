@@ -8,37 +8,37 @@ use Rattle.runs.proofs.steps.carry_out.Reads as carry-out-reads
 use Rattle.runs.proofs.steps.limits_of.Reads as limits-of-reads
 use Rattle.script.proofs.read_within.Reads as read-within-reads
 
--- src/steps.rt:101:40
+-- src/steps.rt:106:40
 limits-of-requires : tie.Need-limits-of-requires
 limits-of-requires c κs = search needs
 
--- src/steps.rt:101:9
+-- src/steps.rt:106:9
 read-within-requires : tie.Need-read-within-requires
 read-within-requires c κs = search needs
 
--- src/steps.rt:104:9
+-- src/steps.rt:109:9
 returns : tie.Need-returns
 returns c =
     step-unread _ _ _ _ _ (c .before .before .before .limits-of .ensures) _
     (c .before .before .read-within .ensures) (c .if1 .taken)
 
--- src/steps.rt:110:9
+-- src/steps.rt:115:9
 carry-out-requires : tie.Need-carry-out-requires
 carry-out-requires c κs = search needs
 
--- src/steps.rt:88:1
+-- src/steps.rt:91:1
 same-length : tie.Need-same-length
 same-length c = search needs
 
--- src/steps.rt:88:1
+-- src/steps.rt:91:1
 same-length-2 : tie.Need-same-length-2
 same-length-2 c = search needs
 
--- src/steps.rt:88:1
+-- src/steps.rt:91:1
 same-length-3 : tie.Need-same-length-3
 same-length-3 c = search needs
 
--- src/steps.rt:88:1
+-- src/steps.rt:91:1
 returns-2 : tie.Need-returns-2
 returns-2 c =
     let d = c .before .before .before .before .before .before .before .before .before in
