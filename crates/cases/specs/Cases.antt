@@ -20,7 +20,7 @@ use Rattle.table.specs.Count.{itemUsed, tallyOf, countOf}
 use Rattle.euler.specs.Surgery.{corner, edgeIn, edgeOut, relabel, seek, renew}
 use Rattle.euler.specs.Operators.{mvsfLinks, kvsfTest, kvsfLinks, mevLinks, kevTest, kevLinks, mefTest, mefEdge, mefLinks, kefTest, kefEdge, kefLinks, kfmrhTest, kfmrhLinks, linkedAfter, mfkrhTest, mfkrhLinks}
 use Rattle.euler.specs.Exec.{admitOf, useRefusals, useRefusal, useWord, condition, linksAfter, pointsAfter, killedVertex, inverse}
-use Rattle.runs.specs.Run.{admitRead, inverseBytes, runRefusal, stepped, runFrom, entry, runOf, undoFrom, undoOf}
+use Rattle.runs.specs.Run.{admitRead, inverseBytes, carryRefusal, runRefusal, stepped, runFrom, entry, runOf, undoFrom, undoOf}
 use Rattle.takedown.specs.Inversion.{act, turnB, turned, invertBy, invertOf}
 use Rattle.cases.specs.Case.{Row, found, Hold}
 use Rattle.cases.specs.RowsRuns.{runRows}
@@ -40,7 +40,7 @@ unfolding found clearOf runOf undoOf countOf invertOf invertBy turned turnB act 
     vertexEither halfAtVertex halfSides faceLinked allTo leastFrom sumTo meets linkedb rounds pass across mate within
     joins linkedBy third second first readNumber groups pattern rows inRanges inRange zig zag wire unwire readOperand
     readOperands readBehind operandBytes operandsBytes operatorBytes operatorRefusal putBytes admitRead inverseBytes
-    runRefusal stepped runFrom undoFrom admitOf useRefusals useRefusal useWord condition linksAfter pointsAfter
+    carryRefusal runRefusal stepped runFrom undoFrom admitOf useRefusals useRefusal useWord condition linksAfter pointsAfter
     killedVertex inverse corner edgeIn edgeOut relabel seek renew sweep mvsfLinks kvsfTest kvsfLinks mevLinks kevTest
     kevLinks mefTest mefEdge mefLinks kefTest kefEdge kefLinks kfmrhTest kfmrhLinks linkedAfter mfkrhTest mfkrhLinks
 cases-hold = refl

@@ -12,7 +12,7 @@ use Rattle.script.specs.RoundTrip.{read-next}
 use Rattle.layout.specs.declared.shape.Shape.{Shape}
 use Rattle.euler.specs.Exec.{limits}
 use Rattle.runs.specs.Run.{State, readAt, runRefusal, stepped, ran, runFrom}
-use Rattle.runs.specs.RunLaws.{admitted-read, run-admitted, run-ended}
+use Rattle.runs.specs.RunLaws.{run-read, run-ended}
 
 -- as many steps as bytes are left are as good as more
 run-enough : (sh : Shape) (s : List ℕ) (m n at done : ℕ) (t : State) → length s ≤ at + m → runFrom (m + n) sh s at done t ≡ runFrom m sh s at done t
@@ -22,7 +22,7 @@ run-enough sh s (suc m) n at done t h = ⊎-elim
     (λ e. run-ended sh s (suc m + n) at done t e ∙ sym (run-ended sh s (suc m) at done t e))
     (λ l. split (runRefusal sh t s at) 0
     (λ z.
-    let r = read-next (limits sh) s at (admitted-read sh (t .links) (readAt sh s at) (run-admitted sh t s at z)) in
+    let r = read-next (limits sh) s at (run-read sh t s at z) in
     rw (suc-add m n, lt-ltb at (length s) l, eqb-same z) (run-enough sh s m n (readAt sh s at .next) (done + 1) (stepped sh t (readAt sh s at .op)) (omega (arith, h, r .0))))
     (λ z. rw (suc-add m n, lt-ltb at (length s) l, eqb-other z) refl))
     (le? (length s) at)

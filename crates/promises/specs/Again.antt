@@ -13,7 +13,8 @@ use Rattle.script.specs.declared.Operator.{Operator}
 use Rattle.script.specs.Operator.{putBytes}
 use Rattle.layout.specs.declared.shape.Shape.{Shape}
 use Rattle.layout.specs.Layout.{shapeOf}
-use Rattle.runs.specs.Run.{State, state, Ran, readAt, inverseBytes, runRefusal, stepped, ran, runFrom, entry, runOf}
+use Rattle.runs.specs.Run.{State, state, readAt, inverseBytes, carryRefusal, stepped, runRefusal}
+use Rattle.runs.specs.Run.{Ran, ran, runFrom, entry, runOf}
 use Rattle.runs.specs.Clauses.{run-none, run-some, run-in, run-out, entry-passed}
 use Rattle.promises.specs.Logging.{put-length, put-live}
 use Rattle.promises.specs.Back.{steps}
@@ -40,7 +41,7 @@ pick-both R false u u′ w w′ f g = g refl
 
 -- no refusal looks at the log
 refusal-log : (sh : Shape) (t : State) (l s : List ℕ) (at : ℕ) → runRefusal sh (withLog t l) s at ≡ runRefusal sh t s at
-unfolding runRefusal inverseBytes
+unfolding runRefusal carryRefusal inverseBytes
 refusal-log sh t l s at = refl
 
 -- a log after a step

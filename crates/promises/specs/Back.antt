@@ -13,11 +13,13 @@ use Rattle.laws.specs.Bools.{pick}
 use Rattle.script.specs.declared.Operator.{Operator}
 use Rattle.script.specs.Operator.{operatorBytes}
 use Rattle.layout.specs.declared.shape.Shape.{Shape}
-use Rattle.euler.specs.Exec.{refusalOf, pointsAfter, inverse}
+use Rattle.euler.specs.Exec.{admitOf, refusalOf, pointsAfter, inverse}
 use Rattle.validity.specs.Good.{Good}
-use Rattle.runs.specs.Run.{State, Ran, readAt, refusalAt, inverseBytes, runRefusal, stepped, runFrom, runOf, undid, undoFrom}
+use Rattle.runs.specs.Run.{State, readAt, refusalAt, inverseBytes, carryRefusal, stepped, runRefusal}
+use Rattle.runs.specs.Run.{Ran, runFrom, runOf, undid, undoFrom}
 use Rattle.promises.specs.RunAll.{leftBy, runAll}
 use Rattle.runs.specs.Clauses.{pick-by, run-none, run-some}
+use Rattle.runs.specs.RunLaws.{read-admitted}
 use Rattle.validity.specs.Accepted.{first-zero}
 use Rattle.promises.specs.Reading.{taken}
 use Rattle.promises.specs.Inverses.{inverse-eight}
@@ -47,17 +49,26 @@ back-undo {n} t₀ t b =
     let e : length (t .log) - length (drop (t₀ .start) (t₀ .log)) ≡ t₀ .start = omega (arith, l, b .fits, b .same-length) in
     leads-undo (good-within (b .good)) (b .leads) (t .log) (t .start) 0 (omega (arith, b .below, b .fits, b .same-length)) refl ∙ rw (e, zero-add n)
 
--- a step that is not refused: its operator is not, and the inverse has room
-pub steps : (sh : Shape) (t : State) (s : List ℕ) (at : ℕ) → runRefusal sh t s at ≡ 0
-    → (refusalAt sh (t .links) s at ≡ 0) × (length (inverseBytes sh t (readAt sh s at .op)) ≤ t .start)
-unfolding runRefusal
-steps sh t s at h =
-    let n = first-zero (refusalAt sh (t .links) s at) _ h in
-    (n .0, leb-true _ _ (yes (leb (length (inverseBytes sh t (readAt sh s at .op))) (t .start)) (n .1)))
+-- an operator that is carried out is admitted, and its inverse has room
+pub carries : (sh : Shape) (t : State) (o : Operator) → carryRefusal sh t o ≡ 0
+    → (admitOf sh (t .links) o ≡ 0) × (length (inverseBytes sh t o) ≤ t .start)
+unfolding carryRefusal
+carries sh t o h =
+    let n = first-zero (admitOf sh (t .links) o) _ h in
+    (n .0, leb-true _ _ (yes (leb (length (inverseBytes sh t o)) (t .start)) (n .1)))
   where
     yes : (b : Bool) → _≡_ {A = ℕ} (pick b 0 9) 0 → b ≡ true
     yes true e = refl
     yes false e = absurd (omega arith)
+
+-- a step that is not refused: its operator is read and admitted, and the inverse has room
+pub steps : (sh : Shape) (t : State) (s : List ℕ) (at : ℕ) → runRefusal sh t s at ≡ 0
+    → (refusalAt sh (t .links) s at ≡ 0) × (length (inverseBytes sh t (readAt sh s at .op)) ≤ t .start)
+unfolding runRefusal
+steps sh t s at h =
+    let r = first-zero (readAt sh s at .refusal) _ h in
+    let c = carries sh t (readAt sh s at .op) (r .1) in
+    (sym (read-admitted sh (t .links) (readAt sh s at) (r .0) 0 (sym (c .0))), c .1)
 
 -- what a run left leads back, c operators having been done before it
 abbrev After : Shape → ℕ → State → Ran → Type 0

@@ -20,7 +20,8 @@ use Rattle.table.specs.Check.{checkOf}
 use Rattle.euler.specs.Surgery.{corner, edgeIn, edgeOut, relabel, seek, renew}
 use Rattle.euler.specs.Operators.{mvsfLinks, kvsfTest, kvsfLinks, mevLinks, kevTest, kevLinks, mefTest, mefEdge, mefLinks, kefTest, kefEdge, kefLinks}
 use Rattle.euler.specs.Exec.{admitOf, useRefusals, useRefusal, useWord, condition, linksAfter, pointsAfter, killedVertex, inverse}
-use Rattle.runs.specs.Run.{State, state, admitRead, inverseBytes, runRefusal, stepped, runFrom, entry, runOf, undid, undoFrom, undoOf}
+use Rattle.runs.specs.Run.{State, state, admitRead, inverseBytes, carryRefusal, stepped, runRefusal}
+use Rattle.runs.specs.Run.{runFrom, entry, runOf, undid, undoFrom, undoOf}
 use Rattle.promises.specs.RunAll.{runAll}
 use Rattle.promises.specs.Promises.{undoAll}
 
@@ -42,5 +43,5 @@ scripts =
 -- three operators are done, their inverses stand in the log, newest first; undo by three gives back what there was
 pub begin-undone : (runAll begin scripts .done ≡ 3) × (runAll begin scripts .last .log ≡ 6 ∷ 4 ∷ 4 ∷ 1 ∷ 2 ∷ 1 ∷ 17 ∷ 18 ∷ [])
     × (undoAll begin scripts ≡ undid 0 3 6 (begin .links) (begin .points))
-unfolding checkOf sizesFit brokenRule rule1 rule2 rule3 rule4 rule5 rule6 solidRange faceRange loopRange halfRange vertexRange solidNames faceNames loopNames halfNames loopEither halfLinks firstNames halfInLoop vertexEither halfAtVertex halfSides faceLinked allTo leastFrom sumTo meets linkedb rounds pass across mate third second first readNumber groups pattern rows inRanges inRange zig zag wire unwire readOperand readOperands readBehind readOperator operandBytes operandsBytes operatorBytes putBytes corner edgeIn edgeOut relabel seek renew mvsfLinks kvsfTest kvsfLinks mevLinks kevTest kevLinks mefTest mefEdge mefLinks kefTest kefEdge kefLinks admitOf useRefusals useRefusal useWord condition linksAfter pointsAfter killedVertex inverse sweep admitRead inverseBytes runRefusal stepped runFrom entry runOf undoFrom undoOf runAll
+unfolding checkOf sizesFit brokenRule rule1 rule2 rule3 rule4 rule5 rule6 solidRange faceRange loopRange halfRange vertexRange solidNames faceNames loopNames halfNames loopEither halfLinks firstNames halfInLoop vertexEither halfAtVertex halfSides faceLinked allTo leastFrom sumTo meets linkedb rounds pass across mate third second first readNumber groups pattern rows inRanges inRange zig zag wire unwire readOperand readOperands readBehind readOperator operandBytes operandsBytes operatorBytes putBytes corner edgeIn edgeOut relabel seek renew mvsfLinks kvsfTest kvsfLinks mevLinks kevTest kevLinks mefTest mefEdge mefLinks kefTest kefEdge kefLinks admitOf useRefusals useRefusal useWord condition linksAfter pointsAfter killedVertex inverse sweep admitRead inverseBytes carryRefusal stepped runRefusal runFrom entry runOf undoFrom undoOf runAll
 begin-undone = (refl, refl, refl)

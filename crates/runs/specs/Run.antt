@@ -31,7 +31,7 @@ admitRead sh x r = pick (eqb (r .refusal) 0) (admitOf sh x (r .op)) (r .refusal)
 abbrev pub refusalAt : Shape → List ℕ → List ℕ → ℕ → ℕ
 refusalAt sh x s at = admitRead sh x (readAt sh s at)
 
--- ---- one step of a run
+-- ---- an operator carried out
 
 -- a table and its log, whose live part begins at `start`
 pub record State : Type 0 where
@@ -47,12 +47,11 @@ state x p log start = record { links = x; points = p; log = log; start = start }
 unfoldable pub inverseBytes : Shape → State → Operator → List ℕ
 inverseBytes sh t o = operatorBytes (inverse sh (t .links) (t .points) o)
 
--- 3 to 8, then 9 where these bytes do not fit in front of the start
-unfoldable pub runRefusal : Shape → State → List ℕ → ℕ → ℕ
-runRefusal sh t s at =
-    pick (eqb (refusalAt sh (t .links) s at) 0)
-    (pick (leb (length (inverseBytes sh t (readAt sh s at .op))) (t .start)) 0 9)
-    (refusalAt sh (t .links) s at)
+-- 6 to 8 of the operator, then 9 where the bytes of its inverse do not fit in front of the start
+unfoldable pub carryRefusal : Shape → State → Operator → ℕ
+carryRefusal sh t o =
+    pick (eqb (admitOf sh (t .links) o) 0) (pick (leb (length (inverseBytes sh t o)) (t .start)) 0 9)
+    (admitOf sh (t .links) o)
 
 -- operator o carried out, its inverse just below the start
 unfoldable pub stepped : Shape → State → Operator → State
@@ -63,7 +62,27 @@ stepped sh t o = record {
   start = t .start - length (inverseBytes sh t o);
 }
 
--- what a step leaves: its refusal, the place where the script goes on, and the state
+-- what carrying out an operator leaves: its refusal and the state
+pub record Carried : Type 0 where
+  pub refusal : ℕ
+  pub state : State
+
+abbrev pub carriedIs : ℕ → State → Carried
+carriedIs refusal t = record { refusal = refusal; state = t }
+
+-- operator o carried out with its inverse logged, or refused with nothing changed
+unfoldable pub carryOf : Shape → State → Operator → Carried
+carryOf sh t o =
+    pick (eqb (carryRefusal sh t o) 0) (carriedIs 0 (stepped sh t o)) (carriedIs (carryRefusal sh t o) t)
+
+-- ---- one step of a run
+
+-- 3 to 5 of what was read, else 6 to 9 of its operator
+unfoldable pub runRefusal : Shape → State → List ℕ → ℕ → ℕ
+runRefusal sh t s at =
+    pick (eqb (readAt sh s at .refusal) 0) (carryRefusal sh t (readAt sh s at .op)) (readAt sh s at .refusal)
+
+-- what a step leaves: its refusal, the place behind the operator that was read, and the state
 pub record Stepped : Type 0 where
   pub refusal : ℕ
   pub next : ℕ
@@ -72,11 +91,13 @@ pub record Stepped : Type 0 where
 abbrev pub stepIs : ℕ → ℕ → State → Stepped
 stepIs refusal next t = record { refusal = refusal; next = next; state = t }
 
--- the operator at a place of the script: carried out, or refused with nothing changed
+-- the operator at a place of the script: read, then carried out
 unfoldable pub stepOf : Shape → State → List ℕ → ℕ → Stepped
 stepOf sh t s at =
-    pick (eqb (runRefusal sh t s at) 0) (stepIs 0 (readAt sh s at .next) (stepped sh t (readAt sh s at .op)))
-    (stepIs (runRefusal sh t s at) at t)
+    pick (eqb (readAt sh s at .refusal) 0)
+    (stepIs (carryOf sh t (readAt sh s at .op) .refusal) (readAt sh s at .next)
+    (carryOf sh t (readAt sh s at .op) .state))
+    (stepIs (readAt sh s at .refusal) (readAt sh s at .next) t)
 
 -- ---- run
 

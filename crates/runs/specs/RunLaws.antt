@@ -1,4 +1,4 @@
--- The ways through a step, a run and an undo, one law each, over plain variables.
+-- The ways through an operator carried out, a step, a run and an undo, one law each, over plain variables.
 use mathlib.Core.Path.{_≡_, refl, sym, ap, _∙_, subst}
 use mathlib.Core.Logic.{_≢_, ⊎-elim}
 use mathlib.Core.Bool.{Bool, true, false}
@@ -9,7 +9,7 @@ use lib.Dec.{eqb, leb, ltb}
 use lib.IntN.{ℤ}
 use lib.ListN.{length}
 use borrow.Author.Tests.{lt-ltb, le-ltb, le-leb, lt-leb, eq-eqb, ne-eqb}
-use Rattle.laws.specs.Bools.{pick, ask, same?}
+use Rattle.laws.specs.Bools.{pick, same?, split, eqb-same, eqb-other}
 use Rattle.script.specs.declared.Limits.{Limits}
 use Rattle.script.specs.declared.Operator.{Operator}
 use Rattle.script.specs.declared.ReadAnswer.{ReadAnswer}
@@ -24,7 +24,9 @@ use Rattle.table.specs.Check.{checkOf}
 use Rattle.table.specs.CheckLaws.{checked-fits}
 use Rattle.table.specs.SizesLaws.{fits-small}
 use Rattle.runs.specs.Clauses.{run-in, run-out, undo-in, undo-out, entry-beyond, entry-passed}
-use Rattle.runs.specs.Run.{State, state, admitRead, readAt, refusalAt, inverseBytes, runRefusal, stepped, Stepped, stepIs, stepOf, Ran, leaves, ran, runFrom, notRun, entry, runOf, Undid, restores, undid, undoFrom, notUndone, undoOf}
+use Rattle.runs.specs.Run.{State, state, readAt, admitRead, refusalAt, inverseBytes, stepped}
+use Rattle.runs.specs.Run.{carryRefusal, Carried, carriedIs, carryOf, runRefusal, Stepped, stepIs, stepOf}
+use Rattle.runs.specs.Run.{Ran, ran, runFrom, notRun, entry, runOf, Undid, undid, undoFrom, notUndone, undoOf}
 
 -- what was read is refused, or its operator is
 module _ (sh : Shape) (x : List ℕ) (r : ReadAnswer) where
@@ -36,46 +38,66 @@ module _ (sh : Shape) (x : List ℕ) (r : ReadAnswer) where
   unfolding admitRead
   read-admitted z a e = rw (eq-eqb (r .refusal) 0 z) e
 
--- an operator that is accepted was read whole
-pub admitted-read : (sh : Shape) (x : List ℕ) (r : ReadAnswer) → admitRead sh x r ≡ 0 → r .refusal ≡ 0
-unfolding admitRead
-admitted-read sh x r h = ⊎-elim (λ z. z) (λ z. absurd (z (rw (ne-eqb (r .refusal) 0 z) at h))) (same? (r .refusal) 0)
+-- an operator carried out: a refusal 6 to 8, no room, done
+module _ (sh : Shape) (x : List ℕ) (p : List ℤ) (log : List ℕ) (start : ℕ) (op : Operator) (a : ℕ)
+    (ea : a ≡ admitOf sh x op) where
+  pub carry-refused : a ≢ 0 → carriedIs a (state x p log start) ≡ carryOf sh (state x p log start) op
+  unfolding carryOf carryRefusal
+  carry-refused z = rw (← ea, ne-eqb a 0 z, ne-eqb a 0 z)
 
--- one step: a refusal 3 to 8, no room, done
-module _ (sh : Shape) (x : List ℕ) (p : List ℤ) (log : List ℕ) (start : ℕ) (s : List ℕ) (at : ℕ) (lim : Limits) (el : lim ≡ limits sh)
-    (rd : ReadAnswer) (er : rd ≡ readOperator lim s at) (a : ℕ) (ea : a ≡ admitRead sh x rd) where
+  module _ (z : a ≡ 0) (o : Operator) (eo : o ≡ inverse sh x p op) (n : ℕ) (en : n ≡ length (operatorBytes o)) where
+    pub carry-full : start < n → carriedIs 9 (state x p log start) ≡ carryOf sh (state x p log start) op
+    unfolding carryOf carryRefusal inverseBytes
+    carry-full h = rw (← ea, eq-eqb a 0 z, ← eo, ← en, lt-leb n start h)
+
+    pub carry-done : n ≤ start → (y : List ℕ) → y ≡ linksAfter sh x op → (q : List ℤ) → q ≡ pointsAfter sh x p op
+        → (m : List ℕ) → m ≡ putBytes log (start - n) (operatorBytes o)
+        → carriedIs 0 (state y q m (start - n)) ≡ carryOf sh (state x p log start) op
+    unfolding carryOf carryRefusal stepped inverseBytes
+    carry-done h y ey q eq m em = rw (← ea, eq-eqb a 0 z, ← eo, ← en, le-leb n start h, ey, eq, em)
+
+-- what was not refused is carried out, and what was leaves the state as it is
+module _ (sh : Shape) (t : State) (o : Operator) where
+  pub carry-taken : carryRefusal sh t o ≡ 0 → carryOf sh t o ≡ carriedIs 0 (stepped sh t o)
+  unfolding carryOf
+  carry-taken z = rw (eqb-same z)
+
+  pub carry-kept : carryRefusal sh t o ≢ 0 → carryOf sh t o ≡ carriedIs (carryRefusal sh t o) t
+  unfolding carryOf
+  carry-kept z = rw (eqb-other z)
+
+-- one step: what stands there is refused, or its operator is carried out
+module _ (sh : Shape) (t : State) (s : List ℕ) (at : ℕ) (lim : Limits) (el : lim ≡ limits sh) (rd : ReadAnswer)
+    (er : rd ≡ readOperator lim s at) where
   read-is : rd ≡ readAt sh s at
   read-is = er ∙ ap (λ l. readOperator l s at) el
 
-  pub step-refused : a ≢ 0 → stepIs a at (state x p log start) ≡ stepOf sh (state x p log start) s at
-  unfolding stepOf runRefusal
-  step-refused z = rw (← read-is, ← ea, ne-eqb a 0 z, ne-eqb a 0 z)
+  pub step-unread : rd .refusal ≢ 0 → stepIs (rd .refusal) (rd .next) t ≡ stepOf sh t s at
+  unfolding stepOf
+  step-unread z = rw (← read-is, ne-eqb (rd .refusal) 0 z)
 
-  module _ (z : a ≡ 0) (o : Operator) (eo : o ≡ inverse sh x p (rd .op)) (n : ℕ) (en : n ≡ length (operatorBytes o)) where
-    pub step-full : start < n → stepIs 9 at (state x p log start) ≡ stepOf sh (state x p log start) s at
-    unfolding stepOf runRefusal inverseBytes
-    step-full h = rw (← read-is, ← ea, eq-eqb a 0 z, ← eo, ← en, lt-leb n start h)
-
-    pub step-done : n ≤ start → (y : List ℕ) → y ≡ linksAfter sh x (rd .op) → (q : List ℤ) → q ≡ pointsAfter sh x p (rd .op)
-        → (m : List ℕ) → m ≡ putBytes log (start - n) (operatorBytes o)
-        → stepIs 0 (rd .next) (state y q m (start - n)) ≡ stepOf sh (state x p log start) s at
-    unfolding stepOf runRefusal stepped inverseBytes
-    step-done h y ey q eq m em = rw (← read-is, ← ea, eq-eqb a 0 z, ← eo, ← en, le-leb n start h, ey, eq, em)
+  pub step-carried : rd .refusal ≡ 0 → (c : Carried) → c ≡ carryOf sh t (rd .op)
+      → stepIs (c .refusal) (rd .next) (c .state) ≡ stepOf sh t s at
+  unfolding stepOf
+  step-carried z c e = rw (← read-is, eq-eqb (rd .refusal) 0 z, e)
 
 -- a step carried out, and one refused
 module _ (sh : Shape) (t : State) (s : List ℕ) (at : ℕ) where
-  step-taken : runRefusal sh t s at ≡ 0 → stepOf sh t s at ≡ stepIs 0 (readAt sh s at .next) (stepped sh t (readAt sh s at .op))
-  unfolding stepOf
-  step-taken z = rw (eq-eqb (runRefusal sh t s at) 0 z)
-
-  step-kept : runRefusal sh t s at ≢ 0 → stepOf sh t s at ≡ stepIs (runRefusal sh t s at) at t
-  unfolding stepOf
-  step-kept z = rw (ne-eqb (runRefusal sh t s at) 0 z)
-
-  -- where it is not refused, its operator was read and admitted
-  pub run-admitted : runRefusal sh t s at ≡ 0 → refusalAt sh (t .links) s at ≡ 0
+  -- where it is not refused, its operator was read
+  pub run-read : runRefusal sh t s at ≡ 0 → readAt sh s at .refusal ≡ 0
   unfolding runRefusal
-  run-admitted z = ⊎-elim (λ r. r) (λ r. absurd (r (rw (ne-eqb (refusalAt sh (t .links) s at) 0 r) at z))) (same? (refusalAt sh (t .links) s at) 0)
+  run-read h = split (readAt sh s at .refusal) 0 (λ z. z) (λ z. absurd (z (rw (eqb-other z) at h)))
+
+  step-taken : runRefusal sh t s at ≡ 0
+      → stepOf sh t s at ≡ stepIs 0 (readAt sh s at .next) (stepped sh t (readAt sh s at .op))
+  unfolding stepOf runRefusal
+  step-taken h = let e = eqb-same (run-read h) in rw (e, carry-taken sh t (readAt sh s at .op) (rw e at h))
+
+  step-kept : runRefusal sh t s at ≢ 0 → stepOf sh t s at ≡ stepIs (runRefusal sh t s at) (readAt sh s at .next) t
+  unfolding stepOf runRefusal
+  step-kept h = split (readAt sh s at .refusal) 0
+      (λ z. let e = eqb-same z in rw (e, carry-kept sh t (readAt sh s at .op) (rw e at h)))
+      (λ z. rw (eqb-other z))
 
   module _ (q : Stepped) (e : q ≡ stepOf sh t s at) where
     -- a step answers 0 just where it is not refused
@@ -89,7 +111,7 @@ module _ (sh : Shape) (t : State) (s : List ℕ) (at : ℕ) where
     pub step-next : q .refusal ≡ 0 → (at < q .next) × (q .next ≤ length s)
     step-next z =
         let r = step-zero z in
-        let g = read-next (limits sh) s at (admitted-read sh (t .links) (readAt sh s at) (run-admitted r)) in
+        let g = read-next (limits sh) s at (run-read r) in
         subst (λ n. (at < n) × (n ≤ length s)) (sym (ap (λ u. u .next) (e ∙ step-taken r))) g
 
 -- past the script's end nothing is done

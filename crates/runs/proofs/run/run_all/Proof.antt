@@ -17,39 +17,39 @@ Inv-loop links₀ points₀ log₀ sh start script at₀ done₀ from₀ links p
 abbrev μ-loop : tie.MeasureT-loop
 μ-loop links₀ points₀ log₀ sh start script at₀ done₀ from₀ links points log at done from = length script - at
 
--- src/run.rt:55:5
+-- src/run.rt:52:5
 loop-holds : tie.Need-loop-holds Inv-loop μ-loop
 loop-holds c = (refl, refl, refl, omega arith, omega arith, run-begins (c .before .before .before .args .sh) (c .before .before .before .args .script .now) (state (c .before .before .before .args .links .now) (c .before .before .before .args .points .now) (c .before .before .before .args .log .now) (c .before .before .before .args .start)))
 
--- src/run.rt:56:13
+-- src/run.rt:53:13
 run-step-requires : tie.Need-run-step-requires Inv-loop μ-loop
 run-step-requires c κs = search needs
 
--- src/run.rt:58:13
+-- src/run.rt:55:13
 same-length : tie.Need-same-length Inv-loop μ-loop
 same-length c = search needs
 
--- src/run.rt:58:13
+-- src/run.rt:55:13
 same-length-2 : tie.Need-same-length-2 Inv-loop μ-loop
 same-length-2 c = search needs
 
--- src/run.rt:58:13
+-- src/run.rt:55:13
 same-length-3 : tie.Need-same-length-3 Inv-loop μ-loop
 same-length-3 c = search needs
 
--- src/run.rt:58:13
+-- src/run.rt:55:13
 returns : tie.Need-returns Inv-loop μ-loop
 returns c = run-stop _ _ _ _ _ _ _ (c .before .before .before .before .before .before .before .before .before .before .before .before .loop .inv .5) (omega arith) (omega arith) _ (c .before .before .before .before .before .before .before .run-step .ensures) (c .if1 .taken)
 
--- src/run.rt:68:9
+-- src/run.rt:65:9
 add-done : tie.Need-add-done Inv-loop μ-loop
 add-done c = search needs
 
--- src/run.rt:55:5
+-- src/run.rt:52:5
 loop-less : tie.Need-loop-less Inv-loop μ-loop
 loop-less c = let n = step-next _ _ _ _ _ (c .before .before .before .before .before .before .before .run-step .ensures) (c .if1 .left) in omega (arith, n .0, n .1)
 
--- src/run.rt:55:5
+-- src/run.rt:52:5
 loop-again : tie.Need-loop-again Inv-loop μ-loop
 loop-again c = let n = step-next _ _ _ _ _ (c .before .before .before .before .before .before .before .run-step .ensures) (c .if1 .left) in (omega arith, omega arith, omega arith, omega (arith, n .0), n .1, run-turn _ _ _ _ _ _ _ (c .before .before .before .before .before .before .before .before .before .before .before .before .loop .inv .5) (omega arith) (omega arith) _ (c .before .before .before .before .before .before .before .run-step .ensures) (c .if1 .left) _ (omega arith))
 

@@ -6,15 +6,15 @@ use Rattle.runs.proofs.steps.admit_read.Reads as reads
 use Rattle.runs.proofs.steps.admit_read.Lts as lts
 use Rattle.exec.proofs.admit.admit.Reads as admit-reads
 
--- src/steps.rt:45:9
+-- src/steps.rt:53:9
 returns : tie.Need-returns
 returns c = read-refused _ _ _ (c .if1 .taken)
 
--- src/steps.rt:47:5
+-- src/steps.rt:55:5
 admit-requires : tie.Need-admit-requires
 admit-requires c κs = search needs
 
--- src/steps.rt:40:1
+-- src/steps.rt:48:1
 returns-2 : tie.Need-returns-2
 returns-2 c = read-admitted _ _ _ (c .before .if1 .left) _ (c .admit .ensures)
 

@@ -20,59 +20,59 @@ Inv-loop links₀ points₀ sh log start n limits at₀ undone₀ links points a
 abbrev μ-loop : tie.MeasureT-loop
 μ-loop links₀ points₀ sh log start n limits at₀ undone₀ links points at undone = n - undone
 
--- src/undo.rt:37:9
+-- src/undo.rt:35:9
 limits-of-requires : tie.Need-limits-of-requires Inv-loop μ-loop
 limits-of-requires c κs = search needs
 
--- src/undo.rt:40:5
+-- src/undo.rt:38:5
 loop-holds : tie.Need-loop-holds Inv-loop μ-loop
 loop-holds c = (refl, refl, omega arith, undo-begins _ _ _ _ _ _)
 
--- src/undo.rt:42:13
+-- src/undo.rt:40:13
 same-length : tie.Need-same-length Inv-loop μ-loop
 same-length c = search needs
 
--- src/undo.rt:42:13
+-- src/undo.rt:40:13
 same-length-2 : tie.Need-same-length-2 Inv-loop μ-loop
 same-length-2 c = search needs
 
--- src/undo.rt:42:13
+-- src/undo.rt:40:13
 returns : tie.Need-returns Inv-loop μ-loop
 returns c = undo-past _ _ _ _ _ _ _ _ (c .before .before .loop .inv .3) (omega arith) (omega arith)
 
--- src/undo.rt:49:13
+-- src/undo.rt:47:13
 read-within-requires : tie.Need-read-within-requires Inv-loop μ-loop
 read-within-requires c κs = search needs
 
--- src/undo.rt:52:13
+-- src/undo.rt:50:13
 admit-read-requires : tie.Need-admit-read-requires Inv-loop μ-loop
 admit-read-requires c κs = search needs
 
--- src/undo.rt:54:13
+-- src/undo.rt:52:13
 same-length-3 : tie.Need-same-length-3 Inv-loop μ-loop
 same-length-3 c = search needs
 
--- src/undo.rt:54:13
+-- src/undo.rt:52:13
 same-length-4 : tie.Need-same-length-4 Inv-loop μ-loop
 same-length-4 c = search needs
 
--- src/undo.rt:54:13
+-- src/undo.rt:52:13
 returns-2 : tie.Need-returns-2 Inv-loop μ-loop
 returns-2 c = undo-stop _ _ _ _ _ _ _ _ (c .before .before .before .before .before .before .before .loop .inv .3) (omega arith) (omega arith) _ (c .before .before .before .before .before .before .before .before .limits-of .ensures) _ (c .before .before .before .before .read-within .ensures) _ (c .before .admit-read .ensures) (c .if2 .taken)
 
--- src/undo.rt:61:9
+-- src/undo.rt:59:9
 perform-requires : tie.Need-perform-requires Inv-loop μ-loop
 perform-requires c κs = search needs
 
--- src/undo.rt:63:9
+-- src/undo.rt:61:9
 add-undone : tie.Need-add-undone Inv-loop μ-loop
 add-undone c = search needs
 
--- src/undo.rt:40:5
+-- src/undo.rt:38:5
 loop-less : tie.Need-loop-less Inv-loop μ-loop
 loop-less c = omega arith
 
--- src/undo.rt:40:5
+-- src/undo.rt:38:5
 loop-again : tie.Need-loop-again Inv-loop μ-loop
 loop-again c = (omega arith, omega arith, omega arith, undo-turn _ _ _ _ _ _ _ _ (c .before .before .before .before .before .before .before .before .before .before .before .before .before .loop .inv .3) (omega arith) (omega arith) _ (c .before .before .before .before .before .before .before .before .before .before .before .before .before .before .limits-of .ensures) _ (c .before .before .before .before .before .before .before .before .before .before .read-within .ensures) _ (c .before .before .before .before .before .before .before .admit-read .ensures) (c .before .before .before .before .before .before .if2 .left) _ (c .before .before .before .perform .ensures .0) _ (c .before .before .before .perform .ensures .1) _ (omega arith))
 
