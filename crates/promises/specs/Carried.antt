@@ -112,8 +112,8 @@ refusal-alike : (sh : Shape) (t : State) (s q : List ℕ) (at : ℕ) → readAt 
 unfolding runRefusal
 refusal-alike sh t s q at e = rw e
 
--- the bytes used are a front of the script, and a run of them, from the same place on and with steps enough, does n more
--- than the c before, is not refused, and ends with the same state
+-- the bytes used are a front of the script, and a run of them, from the same place on and with steps enough, does n
+-- more than the c before, is not refused, and ends with the same state
 abbrev Alone : Shape → List ℕ → ℕ → State → ℕ → ℕ → State → Type 0
 Alone sh s used last n at t =
     (at ≤ used) × (used ≤ length s)
