@@ -1,4 +1,5 @@
-"""The gate refuses what it must refuse: an unlisted crate, a failed step, a step that tested nothing or was cut short."""
+"""The gate refuses what it must refuse: an unlisted crate, a theorem that is not where the table says, a failed step, a
+step that tested nothing or was cut short."""
 import os
 import sys
 import tempfile
@@ -6,6 +7,7 @@ import tempfile
 sys.path.insert(0, os.path.dirname(os.path.abspath(__file__)))
 import gate
 import listed
+import theorems
 
 
 def tree(folder, names, lines):
@@ -22,6 +24,21 @@ def faults(names, lines):
         return listed.faults(tree(folder, names, lines))[1]
 
 
+# a file with a theorem, a private one, and a word in a comment
+SPEC = "-- pub spoken : Type 0\npub proved : Type 0\nproved = one\nhidden : Type 0\nhidden = two\n"
+
+
+def table_faults(name, path):
+    """What is wrong with a table of one row that names this theorem and this file."""
+    with tempfile.TemporaryDirectory() as folder:
+        os.makedirs(os.path.join(folder, "docs"))
+        with open(os.path.join(folder, "A.antt"), "w", encoding="utf-8") as f:
+            f.write(SPEC)
+        with open(os.path.join(folder, theorems.TABLE), "w", encoding="utf-8") as f:
+            f.write(f"| sentence | met by | file |\n|---|---|---|\n| it is so | {name} | {path} |\n")
+        return theorems.faults(folder)[1]
+
+
 ROOT = os.path.dirname(os.path.dirname(os.path.dirname(os.path.abspath(__file__))))
 
 CASES = [
@@ -33,6 +50,13 @@ CASES = [
     ("an unlisted crate is named", lambda: faults(["a", "b"], ["a:"]) == ["crates/b: not listed in crates.txt"]),
     ("a commented crate is not listed", lambda: len(faults(["a"], ["# a:"])) == 1),
     ("a listed crate without a folder is named", lambda: len(faults(["a"], ["a:", "b:"])) == 1),
+    ("a theorem that is there passes", lambda: table_faults("`proved`", "`A.antt`") == []),
+    ("a missing name fails", lambda: table_faults("`proven`", "`A.antt`")
+     == ["docs/THEOREMS.md:3: proven is not defined in A.antt"]),
+    ("a word in a comment is no theorem", lambda: len(table_faults("`spoken`", "`A.antt`")) == 1),
+    ("a private helper is no theorem", lambda: len(table_faults("`hidden`", "`A.antt`")) == 1),
+    ("a missing file fails", lambda: len(table_faults("an edit", "`B.edit`")) == 1),
+    ("a row without a file fails", lambda: len(table_faults("`proved`", "A.antt")) == 1),
     ("a good step counts", lambda: gate.judge(0, "ok\n3 passed, 0 failed\n") == (3, 0)),
     ("a failed test fails the step", lambda: gate.judge(1, "2 passed, 1 failed\n") == (2, 1)),
     ("a bad exit status fails the step", lambda: gate.judge(1, "3 passed, 0 failed\n") == (3, 1)),

@@ -16,36 +16,13 @@ use Rattle.validity.specs.Fields.{Field, groups, capOf, Capacity, SolidUsed, So
 use Rattle.validity.specs.Sound.{In, VertexSound, alone, joined}
 use Rattle.validity.specs.Cells.{shows-own, shows-ext}
 use Rattle.validity.specs.PointLists.{points-ext}
+use Rattle.validity.specs.ClearSound.{past-head, zero-coordinate}
 use Rattle.validity.specs.Good.{Good, own, good-shows}
 use Rattle.takedown.specs.Inversion.{solidAt}
 use Rattle.inversion.specs.Counts.{count-none}
 use Rattle.inversion.specs.Same.{words, solids-is, faces-is, loops-is, edges-is, vertices-is}
 use Rattle.inversion.specs.OfSolid.{least-no, not-some}
 use Rattle.inversion.specs.Turn.{Empty, EmptyTable}
-
--- zeros
-zero-at : (n j : ℕ) → _≡_ {A = ℕ} (getD (replicate n 0) j 0) 0
-zero-at zero j = refl
-zero-at (suc n) zero = refl
-zero-at (suc n) (suc j) = zero-at n j
-
--- behind the capacities an empty table holds zeros
-past-head : (a b c d e n i : ℕ) → 5 ≤ i → getD (a ∷ b ∷ c ∷ d ∷ e ∷ replicate n 0) i 0 ≡ 0
-past-head a b c d e n (suc (suc (suc (suc (suc i))))) h = zero-at n i
-past-head a b c d e n zero h = absurd (omega arith)
-past-head a b c d e n (suc zero) h = absurd (omega arith)
-past-head a b c d e n (suc (suc zero)) h = absurd (omega arith)
-past-head a b c d e n (suc (suc (suc zero))) h = absurd (omega arith)
-past-head a b c d e n (suc (suc (suc (suc zero)))) h = absurd (omega arith)
-
-zero-point : (n j : ℕ) → getD (replicate n (pos 0)) j (pos 0) ≡ pos 0
-zero-point zero j = refl
-zero-point (suc n) zero = refl
-zero-point (suc n) (suc j) = zero-point n j
-
-zero-coordinate : (n v i : ℕ) → coordinate (replicate n (pos 0)) v i ≡ pos 0
-zero-coordinate n zero i = refl
-zero-coordinate n (suc v) i = zero-point n (3 * v + i)
 
 -- words that are all 0
 pub words-none : (n : ℕ) (f : ℕ → ℕ) → ((k : ℕ) → In n k → f k ≡ 0) → words n f ≡ 0

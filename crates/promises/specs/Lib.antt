@@ -5,6 +5,7 @@ pub mod Logging
 pub mod Leads
 pub mod Checked
 pub mod Back
+pub mod Carried
 pub mod Again
 pub mod UndoParts
 pub mod Promises

@@ -14,4 +14,6 @@ pub mod Accepted
 pub mod Bounds
 pub mod RoundTrip
 pub mod Scripts
+pub mod EntryTrips
+pub mod Front
 pub mod Examples

@@ -52,7 +52,8 @@ written-operand k n s at next w e =
     (same? k unused)
 
 -- reading goes forward
-operand-next : (k n : ℕ) (s : List ℕ) (at next : ℕ) → at ≤ length s → readOperand k s at ≡ Got n next → (at ≤ next) × (next ≤ length s)
+pub operand-next : (k n : ℕ) (s : List ℕ) (at next : ℕ) → at ≤ length s → readOperand k s at ≡ Got n next
+    → (at ≤ next) × (next ≤ length s)
 operand-next k n s at next h e =
     ⊎-elim
     (λ z.
@@ -64,18 +65,19 @@ operand-next k n s at next h e =
 
 -- ALL OPERANDS
 -- the first of several that were read, and the others
-record Step (k : ℕ) (ks s : List ℕ) (at : ℕ) (ns : List ℕ) (next : ℕ) : Type 0 where
-  n : ℕ
-  mid : ℕ
-  rest : List ℕ
-  first : readOperand k s at ≡ Got n mid
-  others : readOperands ks s mid ≡ Read rest next
-  all : ns ≡ n ∷ rest
+pub record Step (k : ℕ) (ks s : List ℕ) (at : ℕ) (ns : List ℕ) (next : ℕ) : Type 0 where
+  pub n : ℕ
+  pub mid : ℕ
+  pub rest : List ℕ
+  pub first : readOperand k s at ≡ Got n mid
+  pub others : readOperands ks s mid ≡ Read rest next
+  pub all : ns ≡ n ∷ rest
 
 cut : {X : Type 0} (ns : List ℕ) (next : ℕ) → Cut ≡ Read ns next → X
 cut ns next e = absurd (let z : _≡_ {A = ℕ} 0 1 = cc in omega arith)
 
-step : (k : ℕ) (ks s : List ℕ) (at : ℕ) (ns : List ℕ) (next : ℕ) → readOperands (k ∷ ks) s at ≡ Read ns next → Step k ks s at ns next
+pub step : (k : ℕ) (ks s : List ℕ) (at : ℕ) (ns : List ℕ) (next : ℕ) → readOperands (k ∷ ks) s at ≡ Read ns next
+    → Step k ks s at ns next
 unfolding readOperands
 step k ks s at ns next e = one (readOperand k s at) refl e
   where

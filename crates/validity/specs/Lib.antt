@@ -27,6 +27,7 @@ pub mod EdgesAcross
 pub mod FromRules
 pub mod ToRules
 pub mod ValidGood
+pub mod ClearSound
 pub mod RmovSound
 pub mod RingMove
 pub mod MevOperator

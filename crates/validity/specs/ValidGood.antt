@@ -8,15 +8,25 @@ use lib.IntN.{ℤ}
 use lib.ListN.{length}
 use Rattle.laws.specs.Bools.{true-T, T-true, T-and, eqb-same}
 use Rattle.laws.specs.Every.{T-every}
-use Rattle.layout.specs.Layout.{shapeOf}
+use Rattle.layout.specs.Layout.{shapeFrom, shapeOf}
 use Rattle.table.specs.Sizes.{capacity, linksLength, sizeTests, sizesFit}
-use Rattle.table.specs.SizesLaws.{sizes-are}
+use Rattle.table.specs.SizesLaws.{Sizes, sizes-are}
 use Rattle.table.specs.Valid.{Valid, valid-parts, parts-valid}
 use Rattle.rules.specs.RulesSay.{says-rule1, says-rule2, says-rule3}
 use Rattle.rules.specs.CyclesSay.{says-rule4, says-rule5, says-rule6}
-use Rattle.validity.specs.Good.{Good}
+use Rattle.validity.specs.Good.{Capacities, Good}
 use Rattle.validity.specs.FromRules.{rules-sound}
 use Rattle.validity.specs.ToRules.{to-rule1, to-rule2, to-rule3, to-rule4, to-rule5, to-rule6}
+
+-- sizes that fit are capacities
+pub sizes-capacities : {m n s f l e v : ℕ} → Sizes m n s f l e v → Capacities (shapeFrom s f l e v)
+sizes-capacities z = record {
+  solids = (z .solids .low, z .solids .high);
+  faces = (z .faces .low, z .faces .high);
+  loops = (z .loops .low, z .loops .high);
+  edges = (z .edges .low, z .edges .high);
+  vertices = (z .vertices .low, z .vertices .high);
+}
 
 -- what the check passes is good
 pub valid-good : (x : List ℕ) (p : List ℤ) → Valid x p → Good (shapeOf x) x p
@@ -32,13 +42,7 @@ valid-good x p v =
     let r6 = says-rule6 sh x p r1 r2 .out (true-T (h .sixth)) in
     record {
       shape = refl;
-      capacities = record {
-        solids = (z .solids .low, z .solids .high);
-        faces = (z .faces .low, z .faces .high);
-        loops = (z .loops .low, z .loops .high);
-        edges = (z .edges .low, z .edges .high);
-        vertices = (z .vertices .low, z .vertices .high);
-      };
+      capacities = sizes-capacities z;
       fit = (omega arith, omega arith, (omega arith, omega arith, (omega arith, omega arith, (omega arith, omega arith, (omega arith, omega arith, (omega arith, omega arith, omega (arith, z .links)))))));
       points = z .points;
       sound = rules-sound r1 r2 r3 r4 r5 r6;

@@ -1,0 +1,4 @@
+pub mod Refusals
+pub mod TakeDown
+pub mod Mission
+pub mod Proved

@@ -1,0 +1,161 @@
+-- THE MISSION, in statements: types only. `Proved` has a proof of each, by the theorem of the field's name.
+-- They speak of the definitions that the contracts of crate `kernel` cite:
+--     clearOf  zoghvari_clear       readOperator widest  zoghvari_read        runOf     zoghvari_run
+--     checkOf  zoghvari_check       writeOperator        zoghvari_write       undoOf    zoghvari_undo
+--     countOf  zoghvari_count                                                 invertOf  zoghvari_invert
+-- A contract says: for every input the answer, and every word, coordinate and byte that the call leaves, are the
+-- definition's. So what is said here of a definition is said of the call. In quotes: documents 00 and 01.
+use mathlib.Core.Path.{_≡_}
+use mathlib.Core.Logic.{_≢_}
+use mathlib.Core.List.{List, [], _∷_}
+use Prim.Native.Nat.{ℕ, _≤_}
+use lib.IntN.{ℤ}
+use lib.ListN.{length, getD, take}
+use Rattle.script.specs.declared.Operator.{Operator}
+use Rattle.script.specs.Operands.{widest}
+use Rattle.script.specs.Operator.{readOperator, notWritten, writeOperator, readScript}
+use Rattle.script.specs.NumberTrip.{Bytes}
+use Rattle.script.specs.EntryTrips.{Copied, writtenAll}
+use Rattle.layout.specs.declared.shape.Shape.{Shape}
+use Rattle.layout.specs.Layout.{shapeOf}
+use Rattle.table.specs.Clear.{cleared, clearOf}
+use Rattle.table.specs.Check.{checkOf}
+use Rattle.table.specs.Count.{countOf}
+use Rattle.euler.specs.Exec.{Table, exec, admitOf, refusalOf, linksAfter, pointsAfter}
+use Rattle.runs.specs.Run.{State, readAt, refusalAt, inverseBytes, runRefusal, entry}
+use Rattle.runs.specs.Run.{notRun, runOf, notUndone, undoOf}
+use Rattle.takedown.specs.Inversion.{inverted, begin, invertOf}
+use Rattle.promises.specs.RunAll.{leftBy, runAll}
+use Rattle.promises.specs.Reading.{Taken}
+use Rattle.promises.specs.Carried.{Refusing, Carried, apart, undoneApart}
+use Rattle.promises.specs.Promises.{Restored}
+use Rattle.inversion.specs.Promise.{clearLinks, clearPoints, Asked, InversionExact, HolesOne, CountHoles}
+use Rattle.mission.specs.Refusals.{OneOf, Named}
+
+-- a table passes the check
+abbrev pub Passes : List ℕ → List ℤ → Type 0
+Passes x p = checkOf x p .refusal ≡ 0
+
+-- ---- DEMAND 1. "Whoever hands over bytes, be they a script, a log or a table of their own making, gets a result
+-- from every entry point, and each entry point checks for itself." The contracts say so: none asks anything of its
+-- caller, and each function is proved to end.
+
+-- "A refusal carries one of eleven numbers." Each entry point answers 0 or one of those that document 01 gives it
+pub record RefusalsNumbered : Type 0 where
+  pub clear : (x : List ℕ) (p : List ℤ) (log s f l e v : ℕ)
+      → OneOf (0 ∷ 1 ∷ []) (clearOf x p log s f l e v .answer .refusal)
+  pub check : (x : List ℕ) (p : List ℤ) → OneOf (0 ∷ 1 ∷ 2 ∷ []) (checkOf x p .refusal)
+  pub count : (x : List ℕ) (p : List ℤ) → OneOf (0 ∷ 1 ∷ 2 ∷ []) (countOf x p .refusal)
+  pub read : (s : List ℕ) (at : ℕ) → OneOf (0 ∷ 3 ∷ 4 ∷ 5 ∷ []) (readOperator widest s at .refusal)
+  pub write : (o : Operator) (out : List ℕ) → OneOf (0 ∷ 4 ∷ 5 ∷ 9 ∷ []) (writeOperator o out .answer .refusal)
+  pub run : (t : State) (s : List ℕ)
+      → OneOf (0 ∷ 1 ∷ 2 ∷ 3 ∷ 4 ∷ 5 ∷ 6 ∷ 7 ∷ 8 ∷ 9 ∷ []) (runOf t s .answer .refusal)
+  pub undo : (t : State) (n : ℕ)
+      → OneOf (0 ∷ 1 ∷ 2 ∷ 3 ∷ 4 ∷ 5 ∷ 6 ∷ 7 ∷ 8 ∷ 11 ∷ []) (undoOf t n .answer .refusal)
+  pub invert : (t : State) → OneOf (0 ∷ 1 ∷ 2 ∷ 9 ∷ 10 ∷ []) (invertOf t .answer .refusal)
+
+-- the first demand
+pub record Demand1 : Type 0 where
+  pub refusals-numbered : RefusalsNumbered
+  -- "2 table not sound; the rule is named": with 2 one of the six, else 0
+  pub rule-named : (x : List ℕ) (p : List ℤ) → Named (checkOf x p .refusal) (checkOf x p .rule)
+  -- "The refused operator changes neither table nor log; operators before it in the script stand." The bytes used, run
+  -- alone, do as many operators and leave the same table, log and start; only the entry refuses them
+  pub refused-apart : (t : State) (s : List ℕ)
+      → runOf t (take (runOf t s .answer .used) s) ≡ apart (entry t) (runOf t s)
+  -- and undo of as many as it answers: "what it undid stands"
+  pub undo-apart : (t : State) (n : ℕ)
+      → undoOf t (undoOf t n .answer .undone) ≡ undoneApart (entry t) (undoOf t n)
+  -- "A refusal writes no byte of its own." Where the entry refuses (1 for a start beyond the log, else what the check
+  -- answers), none is done and all is as before; so too where clearing, writing or the take-down refuses
+  pub entry-numbered : (t : State) → OneOf (0 ∷ 1 ∷ 2 ∷ []) (entry t .refusal)
+  pub run-out : (t : State) (s : List ℕ) → entry t .refusal ≢ 0
+      → runOf t s ≡ notRun (entry t .refusal) (entry t .rule) t
+  pub undo-out : (t : State) (n : ℕ) → entry t .refusal ≢ 0
+      → undoOf t n ≡ notUndone (entry t .refusal) (entry t .rule) t
+  pub clear-out : (x : List ℕ) (p : List ℤ) (log s f l e v : ℕ) → clearOf x p log s f l e v .answer .refusal ≢ 0
+      → clearOf x p log s f l e v ≡ cleared 1 log x p
+  pub write-out : (o : Operator) (out : List ℕ) → writeOperator o out .answer .refusal ≢ 0
+      → writeOperator o out ≡ notWritten (writeOperator o out .answer .refusal) out
+  pub invert-out : (t : State) → invertOf t .answer .refusal ≢ 0
+      → invertOf t ≡ inverted (invertOf t .answer .refusal) (invertOf t .answer .rule) (begin t)
+
+-- ---- DEMAND 2. What document 01 says of each operator stands beside its sentences in crates/euler/specs: condition
+-- (`conditions`), table after it (`linksAfter`, `pointsAfter`), inverse. The contract of a run cites them by way of
+-- `runOf`. That they leave what the examples and an independent model say: `cases-hold` and `rows-hold`.
+
+-- the second
+pub record Demand2 : Type 0 where
+  -- "Each operator does to the table what document 01 says of it …": a run that is let in carries out as many of its
+  -- script's first operators as it answers done, each on the state that the one before left, up to the script's end or
+  -- the first refusal. The bytes used, the refusal, the table, the log and the start are those at that place
+  pub run-carried : (t : State) (s : List ℕ) → entry t .refusal ≡ 0
+      → Carried (shapeOf (t .links)) s (runOf t s .answer .refusal) (runOf t s .answer .used) (leftBy (runOf t s))
+      (runOf t s .answer .done) 0 t
+  -- "… and is refused when a condition written there fails and never otherwise": by reading it (3, 4, 5), by the table
+  -- (6, 7, 8), for want of room for its inverse (9), in this order, and by nothing else
+  pub step-refusal : (sh : Shape) (t : State) (s : List ℕ) (at : ℕ)
+      → Refusing (readAt sh s at .refusal) (admitOf sh (t .links) (readAt sh s at .op))
+      (length (inverseBytes sh t (readAt sh s at .op))) (t .start) (runRefusal sh t s at)
+  -- what a run or undo reads and admits, its table accepts in the sense of `refusalOf`, of which the theorems about one
+  -- operator speak
+  pub taken : (sh : Shape) (x s : List ℕ) (at : ℕ) → refusalAt sh x s at ≡ 0 → Taken sh x s at
+  -- "Operators written and read come back the same; …": what is written is read back, with the length answered behind
+  -- it (the record of an operator has eight operands)
+  pub write-read : (o : Operator) (out : List ℕ) → length (o .args) ≡ 8 → writeOperator o out .answer .refusal ≡ 0
+      → readOperator widest (writeOperator o out .out) 0
+      ≡ record { refusal = 0; next = writeOperator o out .answer .length; op = o }
+  -- and what is read is written back as the bytes that it was read from (`Copied`; `Bytes`: each is below 256)
+  pub read-write : (s : List ℕ) (at : ℕ) → Bytes s → readOperator widest s at .refusal ≡ 0
+      → Copied s at (readOperator widest s at)
+  -- "… a script read and written comes back byte for byte": read to its end, each operator written by way of any
+  -- destination of 19 bytes or more
+  pub script-copied : (s : List ℕ) → Bytes s → readScript s .refusal ≡ 0 → (out : List ℕ) → 19 ≤ length out
+      → writtenAll out (readScript s .operators) ≡ s
+  -- "A sound table stays sound": under each accepted operator, under any list of runs, undone by any log, taken down or
+  -- refused; and a cleared one is sound
+  pub valid-kept : (x : List ℕ) (p : List ℤ) (o : Operator) → Passes x p → length (o .args) ≡ 8
+      → refusalOf (shapeOf x) x o ≡ 0 → Passes (linksAfter (shapeOf x) x o) (pointsAfter (shapeOf x) x p o)
+  pub clear-valid : (x : List ℕ) (p : List ℤ) (log s f l e v : ℕ) → clearOf x p log s f l e v .answer .refusal ≡ 0
+      → Passes (clearOf x p log s f l e v .links) (clearOf x p log s f l e v .points)
+  pub runs-sound : (t : State) (ss : List (List ℕ)) → Passes (t .links) (t .points)
+      → Passes (runAll t ss .last .links) (runAll t ss .last .points)
+  pub undo-sound : (t : State) (n : ℕ) → Passes (t .links) (t .points) → Passes (undoOf t n .links) (undoOf t n .points)
+  pub invert-sound : (t : State) → Passes (t .links) (t .points) → Passes (invertOf t .links) (invertOf t .points)
+
+-- ---- DEMAND 3. "This is one statement about the whole list, not one per run."
+
+-- the third
+pub record Demand3 : Type 0 where
+  -- "Suppose a table passes the check, whoever made it. Run any list of scripts from it, whatever they hold, refused
+  -- runs included: … Undoing as many operators as were done in all, by document 01's meaning of done, then gives the
+  -- earlier table, to the byte." (`Restored`: also the log from the first start on, and undo's answer)
+  pub undo-exact : (t : State) (ss : List (List ℕ)) → Passes (t .links) (t .points) → Restored t ss
+  -- It rests on the inverses, which a run logs: on what an accepted operator left its inverse is accepted, gives back
+  -- every word and coordinate, and has that operator for its own inverse
+  pub inverse-exact : (t : Table) (o : Operator) → Passes (t .links) (t .points) → length (o .args) ≡ 8
+      → refusalOf (shapeOf (t .links)) (t .links) o ≡ 0
+      → exec (shapeOf (t .links)) (exec (shapeOf (t .links)) o t .inverse) (exec (shapeOf (t .links)) o t .table)
+      ≡ record { refusal = 0; inverse = o; table = t }
+  -- "Suppose also that one face, one loop and one edge number are free and the log has the space document 01 names."
+  -- (`Asked`) "Then the take-down, by document 01's steps in their order, empties the table in at most
+  -- v + 2f + 2r + 3h − 2s operators, by the count it answers. What it logs is a script that rebuilds the same table, to
+  -- the byte, from an empty one of the same capacities, log space given. Exactly h of that script's operators join two
+  -- faces of one solid, …" (`Exact`; the steps are `invertOf`'s, each beside document 01's words)
+  pub inversion-exact : InversionExact
+  -- and it answers 0 only where all that is so
+  pub invert-asked : (t : State) → invertOf t .answer .refusal ≡ 0 → (h : ℕ) × Asked t h
+  -- "an empty one of the same capacities": what clearing leaves
+  pub clear-own : (x : List ℕ) (p : List ℤ) (log : ℕ) → Passes x p
+      → clearOf x p log (getD x 0 0) (getD x 1 0) (getD x 2 0) (getD x 3 0) (getD x 4 0)
+      ≡ cleared 0 log (clearLinks x) (clearPoints x)
+  -- "… where v − e + f = 2(s − h) + r": one such h and no other, whole and not negative, for every sound table
+  pub holes-one : HolesOne
+  -- and counting answers it
+  pub count-holes : CountHoles
+
+-- the whole
+pub record Mission : Type 0 where
+  pub first : Demand1
+  pub second : Demand2
+  pub third : Demand3

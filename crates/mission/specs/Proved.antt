@@ -1,0 +1,79 @@
+-- THE MISSION IS PROVED: each statement by its theorem.
+use mathlib.Core.Path.{ap}
+use Rattle.script.specs.Operands.{widest}
+use Rattle.script.specs.EntryTrips.{write-read, read-write, script-copied}
+use Rattle.table.specs.declared.check.CheckAnswer.{CheckAnswer}
+use Rattle.validity.specs.ClearSound.{clear-valid}
+use Rattle.soundness.specs.Theorems.{valid-kept, inverse-exact}
+use Rattle.runs.specs.Clauses.{run-out, undo-out}
+use Rattle.promises.specs.Checked.{checked-valid}
+use Rattle.promises.specs.Reading.{taken}
+use Rattle.promises.specs.Carried.{step-refusal, run-carried, refused-apart, undo-apart}
+use Rattle.promises.specs.Promises.{undo-exact, runs-sound, undo-sound}
+use Rattle.inversion.specs.Theorem.{inversion-exact, holes-one, count-holes}
+use Rattle.mission.specs.Refusals.{clear-numbered, check-numbered, count-numbered, read-numbered, write-numbered}
+use Rattle.mission.specs.Refusals.{run-numbered, undo-numbered, invert-numbered, rule-named}
+use Rattle.mission.specs.Refusals.{entry-numbered, clear-out, write-out, invert-out}
+use Rattle.mission.specs.TakeDown.{clear-own, invert-asked, invert-sound}
+use Rattle.mission.specs.Mission.{RefusalsNumbered, Demand1, Demand2, Demand3, Mission}
+
+-- a refusal's number
+pub refusals-numbered : RefusalsNumbered
+refusals-numbered = record {
+  clear = clear-numbered;
+  check = check-numbered;
+  count = count-numbered;
+  read = read-numbered widest;
+  write = write-numbered;
+  run = run-numbered;
+  undo = undo-numbered;
+  invert = invert-numbered;
+}
+
+-- a result for whoever hands over bytes
+pub demand-1 : Demand1
+demand-1 = record {
+  refusals-numbered = refusals-numbered;
+  rule-named = rule-named;
+  refused-apart = refused-apart;
+  undo-apart = undo-apart;
+  entry-numbered = entry-numbered;
+  run-out = run-out;
+  undo-out = undo-out;
+  clear-out = clear-out;
+  write-out = write-out;
+  invert-out = invert-out;
+}
+
+-- the operators
+pub demand-2 : Demand2
+demand-2 = record {
+  run-carried = run-carried;
+  step-refusal = step-refusal;
+  taken = taken;
+  write-read = write-read;
+  read-write = read-write;
+  script-copied = script-copied;
+  valid-kept = λ x p o h len a.
+      ap (λ (c : CheckAnswer). c .refusal) (valid-kept x p o (checked-valid x p h) len a);
+  clear-valid = λ x p log s f l e v h. ap (λ (a : CheckAnswer). a .refusal) (clear-valid x p log s f l e v h);
+  runs-sound = runs-sound;
+  undo-sound = undo-sound;
+  invert-sound = invert-sound;
+}
+
+-- undo, and the take-down
+pub demand-3 : Demand3
+demand-3 = record {
+  undo-exact = undo-exact;
+  inverse-exact = λ t o h. inverse-exact t o (checked-valid (t .links) (t .points) h);
+  inversion-exact = inversion-exact;
+  invert-asked = invert-asked;
+  clear-own = clear-own;
+  holes-one = holes-one;
+  count-holes = count-holes;
+}
+
+-- all of it
+pub mission : Mission
+mission = record { first = demand-1; second = demand-2; third = demand-3 }
