@@ -1,5 +1,4 @@
 -- B's searches never have to go back: what the lower ends of Swift rest on, said of the tables alone.
--- PROVED: all five. A ring turn makes no new half-edge of a ring with its mate in another loop; where there is none, there is none after kev, nor after kemr and the
 -- ring turn behind it; a half-edge that is uncrossed stays so by kev, and by kemr with the ring turn behind it.
 use mathlib.Core.Path.{_≡_, refl, sym, ap, _∙_, subst}
 use mathlib.Core.Logic.{_≢_}

@@ -1,5 +1,4 @@
 -- Every kind of turn, put together.
--- PROVED: `turns-made`.
 use mathlib.Core.Logic.{⊎-elim}
 use Rattle.laws.specs.Bools.{split, ask}
 use Rattle.euler.specs.Operators.{faceIn, facesIn}

@@ -1,5 +1,4 @@
 -- A's work on the face of k, which lies across an edge from the root: its rings move to the root, by number.
--- PROVED: `clear-rings` (all its rings have moved, each move accepted, one stray loop fewer for each).
 use mathlib.Core.Path.{_≡_, refl, sym, ap, _∙_, subst}
 use mathlib.Core.Logic.{_≢_, ⊎-elim}
 use mathlib.Core.Bool.{Bool, true, false, not, _&&_, false≢true}

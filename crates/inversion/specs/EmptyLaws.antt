@@ -1,5 +1,4 @@
 -- Where no solid is in use, nothing is: the table is as clearing leaves it.
--- PROVED: `empty-table`.
 use mathlib.Core.Path.{_≡_, refl, sym, ap, _∙_}
 use mathlib.Core.List.{List, _∷_}
 use Prim.Native.Nat.{ℕ, zero, suc, _+_, _*_, _≤_}

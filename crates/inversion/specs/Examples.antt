@@ -1,12 +1,12 @@
 -- The take-down computed beyond example e of document 01 (which crate cases has): a table whose edge 1 is a bridge
 -- between two handles, so that the least crossed k is not the least k; a table that takes every kind of turn; two
 -- solids; a full table, a torus of two edges with no number free: 10, with a start beyond the log 1; its holes counted.
--- PROVED: all, by computation.
 use Prim.Native.Nat.{ℕ}
 use mathlib.Core.Path.{_≡_, refl}
 use mathlib.Core.List.{List, [], _∷_, _++_}
 use lib.IntN.{ℤ, pos, negsuc}
 use lib.ListN.{replicate}
+use native.Mathlib.Omega.{arith}
 use Rattle.laws.specs.Search.{allTo, anyTo, leastFrom}
 use Rattle.laws.specs.Sums.{sumTo}
 use Rattle.laws.specs.Walks.{meets}
@@ -15,6 +15,7 @@ use Rattle.laws.specs.Closure.{across, pass, rounds, linkedb}
 use Rattle.script.specs.Number.{third, second, first, readNumber, groups}
 use Rattle.script.specs.Operands.{pattern, rows, inRanges, inRange, zig, zag, wire, unwire}
 use Rattle.script.specs.Operator.{operandBytes, operandsBytes, operatorBytes, putBytes}
+use Rattle.layout.specs.Layout.{shapeOf}
 use Rattle.layout.specs.Mate.{mate}
 use Rattle.shells.specs.Shells.{within, joins, linkedBy}
 use Rattle.items.specs.Rules.{solidRange, faceRange, loopRange, halfRange, vertexRange, rule1, solidNames, faceNames, loopNames, halfNames, rule2, loopEither, rule3, halfLinks, firstNames, halfInLoop, rule4, vertexEither, halfAtVertex, rule5, halfSides, faceLinked, rule6, brokenRule}
@@ -25,6 +26,7 @@ use Rattle.euler.specs.Surgery.{corner, edgeIn, edgeOut, relabel, seek, renew}
 use Rattle.euler.specs.Operators.{kvsfLinks, kevLinks, kefEdge, kefLinks, kemrLinks, mekrEdge, mekrLinks, mfkrhLinks, rmovLinks}
 use Rattle.euler.specs.Exec.{linksAfter, pointsAfter, killedVertex, inverse}
 use Rattle.runs.specs.Run.{state, inverseBytes, stepped, entry}
+use Rattle.inversion.specs.Promise.{Euler}
 use Rattle.takedown.specs.Inversion.{Inverted, onRun, crossed, act, makeOuter, moveRings, turnB, turned, invertBy, invertOf}
 
 -- what is left
@@ -104,3 +106,14 @@ rows-hold = refl
 pub full-counted : countOf linksFull (replicate 3 (pos 0)) ≡ counts 0 0 1 1 1 2 1 0 1
 unfolding checkOf sizesFit brokenRule rule1 rule2 rule3 rule4 rule5 rule6 solidRange faceRange loopRange halfRange vertexRange solidNames faceNames loopNames halfNames loopEither halfLinks firstNames halfInLoop vertexEither halfAtVertex halfSides faceLinked allTo leastFrom sumTo meets linkedb rounds pass across mate countOf tallyOf itemUsed
 full-counted = refl
+
+-- ---- holes are not just the rest: a table that is not sound may have none
+
+-- capacities 1, one vertex in use and nothing else
+abbrev linksStray : List ℕ
+linksStray = 1 ∷ 1 ∷ 1 ∷ 1 ∷ 1 ∷ replicate 14 0 ++ (1 ∷ [])
+
+-- it breaks a rule, and no number of holes fits the formula
+pub stray-none : (h : ℕ) → Euler (shapeOf linksStray) linksStray h → ⊥
+unfolding itemUsed sumTo
+stray-none h e = omega (arith, e)

@@ -1,5 +1,4 @@
 -- B's turns, each of which takes an edge out of the solid at hand: which half-edges are left, what they are followed by, and that they stay in their solid.
--- PROVED: `kev-goes`, `kemr-goes`, `ring-goes`.
 use mathlib.Core.Path.{_≡_, refl, sym, ap, _∙_}
 use mathlib.Core.Logic.{_≢_, _⊎_, inl, inr, ⊎-elim}
 use mathlib.Core.Bool.{Bool, true, false}

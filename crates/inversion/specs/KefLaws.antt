@@ -1,5 +1,4 @@
 -- kef: accepted where k's loop is the only one of its face and the mate's face is another; one edge, face and loop fewer, all else counted the same.
--- PROVED: all.
 use mathlib.Core.Path.{_≡_, refl, sym, ap, _∙_, subst}
 use mathlib.Core.Logic.{_≢_}
 use mathlib.Core.Bool.{true, not}

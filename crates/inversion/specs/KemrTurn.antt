@@ -1,5 +1,4 @@
 -- B's last step, kemr of a crossed k: it is accepted, one edge fewer, one loop more, and then some half-edge of a ring has its mate in another loop.
--- PROVED: all (`turn-cross` is the whole turn).
 use mathlib.Core.Path.{_≡_, refl, sym, ap, _∙_, subst}
 use mathlib.Core.Logic.{_≢_}
 use mathlib.Core.Bool.{Bool, true, false, not, _&&_, false≢true}

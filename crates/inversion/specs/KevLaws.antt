@@ -1,5 +1,4 @@
 -- kev: accepted where k is followed by its mate; one edge and one vertex fewer, all else counted the same.
--- PROVED: all.
 use mathlib.Core.Path.{_≡_, refl, sym, ap, _∙_}
 use mathlib.Core.Logic.{_≢_, inl, inr}
 use mathlib.Core.List.{List, [], _∷_}

@@ -1,5 +1,4 @@
 -- The take-down's promise from what is known of its turns.
--- PROVED: `inversion-from`: the promise from the four statements TurnsMade, EmptyTable (Turn), RingsLoops, StrayFew (Counts), which AllTurns, EmptyLaws and
 -- LoopCounts prove.
 use mathlib.Core.Path.{_≡_, refl, sym, ap, _∙_, subst}
 use mathlib.Core.Logic.{_≢_, inl}

@@ -1,5 +1,4 @@
 -- The half-edges of the solid at hand, and the searches among them.
--- PROVED: all. `crossed-there` is the existence of B's last step: where edges are left, no ring has a half-edge with its mate in another
 -- loop and none is followed by its mate, some edge is crossed.
 use mathlib.Core.Path.{_≡_, refl, sym, ap, _∙_, subst}
 use mathlib.Core.Logic.{_≢_, ⊎-elim}

@@ -1,7 +1,6 @@
 -- Operators carried out one after the other, each accepted on the table that the one before left. What is known of a chain of accepted
 -- operators on a good table, whatever chose them: the table stays good, the log leads back, the logged part read forward builds the first
 -- table again and holds as many joins as the chain has mfkrh.
--- PROVED: all.
 use mathlib.Core.Path.{_≡_, refl, sym, _∙_, subst}
 use mathlib.Core.List.{List, [], _∷_, _++_}
 use Prim.Native.Nat.{ℕ, suc, _+_, _*_, _≤_}

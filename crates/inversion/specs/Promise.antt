@@ -1,4 +1,4 @@
--- THE TAKE-DOWN'S PROMISE (document 01, "Demand 3 in detail"), about `invertOf`, the definition that the contract of the entry point is to cite.
+-- THE TAKE-DOWN'S PROMISE (document 01, "Demand 3 in detail"), about `invertOf`, the definition that the contract of the entry point cites.
 -- And the number of holes. Statements only: `InversionExact`, `HolesOne` and `CountHoles` are proved in Theorem.
 use mathlib.Core.Path.{_≡_}
 use mathlib.Core.Bool.{false}
@@ -77,7 +77,7 @@ InversionExact = (t : State) (h : ℕ) → Asked t h → Exact t (invertOf t) h
 abbrev pub HolesOne : Type 0
 HolesOne = (x : List ℕ) (p : List ℤ) → checkOf x p .refusal ≡ 0 → OneHoles x
 
--- THE COUNT'S HOLES ARE THAT NUMBER: what counting answers for a sound table keeps the formula
+-- THE COUNT'S HOLES ARE THAT NUMBER: what counting answers with refusal 0 keeps the formula
 abbrev pub CountHoles : Type 0
-CountHoles = (x : List ℕ) (p : List ℤ) → checkOf x p .refusal ≡ 0
+CountHoles = (x : List ℕ) (p : List ℤ) → countOf x p .refusal ≡ 0
     → countOf x p .vertices + countOf x p .faces + 2 * countOf x p .holes ≡ countOf x p .edges + countOf x p .rings + 2 * countOf x p .solids

@@ -1,5 +1,4 @@
 -- rmov as the take-down uses it: a ring becomes the outer loop of its face; a ring moves to a face across an edge of the outer loop.
--- PROVED: all.
 use mathlib.Core.Path.{_≡_, refl, subst}
 use mathlib.Core.Logic.{_≢_}
 use mathlib.Core.Bool.{Bool, true, false, _||_}

@@ -1,5 +1,4 @@
 -- The solid at hand and its root.
--- PROVED: all.
 use mathlib.Core.Path.{_≡_, sym, ap, _∙_}
 use mathlib.Core.Logic.{_≢_, ⊎-elim}
 use mathlib.Core.Bool.{true, false, _&&_, false≢true}

@@ -1,5 +1,4 @@
 -- Tables with the same columns, or columns that differ in one place, and what is counted and found in them.
--- PROVED: all. With these a count law for an operator is what its columns say.
 use mathlib.Core.Path.{_≡_, refl, sym, ap, _∙_}
 use mathlib.Core.Logic.{_≢_, _⊎_, inl, inr}
 use mathlib.Core.Bool.{Bool, true, false}

@@ -1,5 +1,4 @@
 -- After kemr the edges lie in one loop each, but those that lead from the new ring to the rest of the old loop; the ring turn joins the two again.
--- PROVED: `kemr-spans`, `kemr-from` (where the half-edges of the new ring are), `spans-none` (after the ring turn no ring has a half-edge with its mate in another loop).
 use mathlib.Core.Path.{_≡_, sym, ap, _∙_, subst}
 use mathlib.Core.Logic.{_≢_, _⊎_, inl, inr, ⊎-elim}
 use mathlib.Core.Bool.{true, false}

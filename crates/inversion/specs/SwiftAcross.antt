@@ -1,5 +1,4 @@
 -- A's turn keeps the lower ends: where no ring was moved, a new candidate is the mate of a half-edge of the face that goes.
--- PROVED: `across-ends`.
 use mathlib.Core.Path.{_≡_, refl, sym, ap, _∙_, subst}
 use mathlib.Core.Logic.{_≢_, ⊎-elim}
 use mathlib.Core.Bool.{Bool, true, false, not, _&&_, false≢true}

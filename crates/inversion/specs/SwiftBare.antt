@@ -1,5 +1,4 @@
 -- C's turn keeps the lower ends: no half-edge is left, and no loop becomes a ring of the root.
--- PROVED: `kept-bare`.
 use mathlib.Core.Path.{_≡_, refl, sym, ap, _∙_, subst}
 use mathlib.Core.Logic.{_≢_, ⊎-elim}
 use mathlib.Core.Bool.{false}

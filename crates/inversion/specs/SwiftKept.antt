@@ -1,5 +1,4 @@
 -- What the lower ends of Swift keep, and that B's turns keep it.
--- PROVED: all.
 use mathlib.Core.Path.{_≡_, refl, sym, ap, _∙_, subst}
 use mathlib.Core.Logic.{_≢_, _⊎_, inl, inr, ⊎-elim}
 use mathlib.Core.Bool.{Bool, true, false, _&&_, false≢true}

@@ -1,5 +1,4 @@
 -- On a good table the quick take-down does what the take-down does.
--- PROVED: `swift-by` (turn by turn, on a good table), `swift-same` (the entry point, whatever the words: what does not pass the check is refused by both).
 use mathlib.Core.Path.{_≡_, refl, sym, ap, _∙_, subst}
 use mathlib.Core.Logic.{_≢_, inl, ⊎-elim}
 use mathlib.Core.Bool.{Bool, true, false}

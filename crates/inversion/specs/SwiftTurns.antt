@@ -1,5 +1,4 @@
 -- B's turns keep the lower ends.
--- PROVED: `kept-spur`, `kept-ring`, `kept-cross`.
 use mathlib.Core.Path.{_≡_, refl, sym, ap, _∙_}
 use mathlib.Core.Logic.{_≢_, ⊎-elim}
 use mathlib.Core.Bool.{Bool, true, false, false≢true}

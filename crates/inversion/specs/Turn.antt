@@ -1,6 +1,5 @@
 -- What is to be shown of each turn, and that it is enough: turn by turn the table is emptied, in no more turns than it has edges and vertices;
 -- the operators are accepted, as many of them as there are holes are mfkrh, and no more than the bound are done.
--- PROVED: `down` (the whole from its turns). Stated here, proved in AllTurns and EmptyLaws: `TurnsMade` (a turn for each good table that is ready),
 -- `EmptyTable`.
 use mathlib.Core.Path.{_≡_, refl, sym, ap, _∙_}
 use mathlib.Core.Logic.{_≢_, _⊎_, ⊎-elim}

@@ -1,5 +1,4 @@
 -- A's turn, whole: a face across an edge from the root goes, its rings having moved to the root.
--- PROVED: `border-there` (while another face is left there is such an edge), `turn-across`.
 use mathlib.Core.Path.{_≡_, refl, sym, ap, _∙_, subst}
 use mathlib.Core.Logic.{_≢_, inl, ⊎-elim}
 use mathlib.Core.Bool.{Bool, true, false, not, _&&_, false≢true}

@@ -1,5 +1,4 @@
 -- C's turn by mekr and kev, whole: two lone loops of the root become one.
--- PROVED: `turn-bridge`.
 use mathlib.Core.Path.{_≡_, refl, sym, ap, _∙_, subst}
 use mathlib.Core.Logic.{_≢_, _⊎_, inl, inr}
 use mathlib.Core.Bool.{true, false, false≢true}

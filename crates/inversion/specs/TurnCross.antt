@@ -1,5 +1,4 @@
 -- The turn by kemr, whole.
--- PROVED: `turn-cross`.
 use mathlib.Core.Path.{_≡_, refl, sym, _∙_, subst}
 use mathlib.Core.Logic.{_≢_, inr, ⊎-elim}
 use mathlib.Core.Bool.{true}

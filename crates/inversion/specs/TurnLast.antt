@@ -1,5 +1,4 @@
 -- The turn by kvsf, whole.
--- PROVED: `turn-last`.
 use mathlib.Core.Path.{_≡_, refl, sym, ap, _∙_}
 use mathlib.Core.Logic.{_≢_, inl}
 use mathlib.Core.Bool.{true, false, false≢true}

@@ -1,5 +1,4 @@
 -- The turn by mfkrh and kef, whole: a ring that shares an edge with another loop of the face goes.
--- PROVED: `turn-ring`.
 use mathlib.Core.Path.{_≡_, refl, sym, ap, _∙_, subst}
 use mathlib.Core.Logic.{_≢_, inl}
 use mathlib.Core.Bool.{true, false, not, _&&_, false≢true}

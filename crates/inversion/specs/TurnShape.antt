@@ -1,5 +1,4 @@
 -- The six kinds of turn as equations, and the joins of their operators.
--- PROVED: all.
 use mathlib.Core.Path.{_≡_, subst}
 use mathlib.Core.Logic.{_≢_}
 use mathlib.Core.Bool.{true, false}

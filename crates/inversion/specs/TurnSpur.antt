@@ -1,5 +1,4 @@
 -- The turn by kev, whole.
--- PROVED: `turn-spur`.
 use mathlib.Core.Path.{_≡_, refl, sym, _∙_}
 use mathlib.Core.Logic.{_≢_, inl, ⊎-elim}
 use mathlib.Core.Bool.{true}

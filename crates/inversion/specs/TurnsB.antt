@@ -1,5 +1,4 @@
 -- The tables that B's turns leave: they are good, an edge is gone, and what is known of their rings.
--- PROVED: all; `kev-ring` and `ring-keeps` are facts of Ahead, and so is what `parted-of` and `uncrossed-of` give with Uncrossed.
 use mathlib.Core.Path.{_≡_, refl, sym, ap, _∙_, subst}
 use mathlib.Core.Logic.{_≢_, _⊎_, ⊎-elim}
 use mathlib.Core.Bool.{Bool, true, false, not, _&&_, false≢true}

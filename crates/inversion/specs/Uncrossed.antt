@@ -1,6 +1,5 @@
 -- An uncrossed half-edge k stays uncrossed while other edges go, by whatever operator: said by a set, that of the half-edges between k and its mate.
 -- It holds with each half-edge its mate, and the half-edges of it and k are followed by those of it and the mate of k, and no others are.
--- PROVED: `uncrossed-parts` and `parts-uncrossed` (the set and the test `crossed`, where each edge lies in one loop), `parts-kept` (an edge goes out).
 use mathlib.Core.Path.{_≡_, refl, sym, ap, _∙_, subst}
 use mathlib.Core.Logic.{_≢_, _⊎_, inl, inr, ⊎-elim}
 use mathlib.Core.Bool.{Bool, true, false, _||_, false≢true}

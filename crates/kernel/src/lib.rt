@@ -9,7 +9,7 @@ ghost use Rattle.table.specs.Clear.{cleared, clearOf};
 ghost use Rattle.table.specs.Count.{countOf};
 ghost use Rattle.runs.specs.Run.{state, leaves, runOf, restores, undoOf};
 ghost use Rattle.takedown.specs.Inversion.{inverts, invertOf};
-ghost use Rattle.kernel.specs.Kernel.{operatorOf};
+ghost use Rattle.kernel.specs.Kernel.{operatorOf, KeepsFormula};
 use runs::run::RunAnswer;
 use runs::undo::UndoAnswer;
 use script::Operator;
@@ -46,10 +46,11 @@ pub extern "C" fn zoghvari_check(links: &[u16], points: &[i32]) -> CheckAnswer
     table::check::check(links, points)
 }
 
-// How many items a sound table has in use, its rings and its holes; refusal 1 or 2 as in the check.
+// How many items a sound table has in use, its rings and its holes; refusal 1 or 2 as in the check. The counts of a sound table keep
+// Euler's formula, v − e + f = 2 (s − h) + r.
 #[no_mangle]
 pub extern "C" fn zoghvari_count(links: &[u16], points: &[i32]) -> CountAnswer
-    ensures { λ r. ⌜ r ≡ countOf (now (links .entry)) (now (points .entry)) ⌝ }
+    ensures { λ r. ⌜ (r ≡ countOf (now (links .entry)) (now (points .entry))) × (KeepsFormula r) ⌝ }
 {
     table::count::count(links, points)
 }

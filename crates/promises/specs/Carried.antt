@@ -21,9 +21,9 @@ use Rattle.layout.specs.Layout.{shapeOf}
 use Rattle.euler.specs.Exec.{limits, admitOf, linksAfter, pointsAfter}
 use Rattle.table.specs.declared.check.CheckAnswer.{CheckAnswer}
 use Rattle.table.specs.Check.{answer}
-use Rattle.runs.specs.Run.{State, readAt, admitRead, refusalAt, inverseBytes, runRefusal, stepped, entry}
+use Rattle.runs.specs.Run.{State, readAt, refusalAt, inverseBytes, carryRefusal, runRefusal, stepped, entry}
 use Rattle.runs.specs.Run.{Ran, leaves, ran, runFrom, runOf, Undid, restores, undid, undoFrom, undoOf}
-use Rattle.runs.specs.RunLaws.{admitted-read, run-admitted, run-ended}
+use Rattle.runs.specs.RunLaws.{run-read, run-ended}
 use Rattle.runs.specs.Clauses.{pick-by, run-none, run-some, run-in, run-out, entry-passed}
 use Rattle.runs.specs.Clauses.{undo-none, undo-some, undo-in, undo-out}
 use Rattle.promises.specs.RunAll.{leftBy}
@@ -43,9 +43,9 @@ pub record Refusing (read admitted size start refusal : ℕ) : Type 0 where
 pub step-refusal : (sh : Shape) (t : State) (s : List ℕ) (at : ℕ)
     → Refusing (readAt sh s at .refusal) (admitOf sh (t .links) (readAt sh s at .op))
     (length (inverseBytes sh t (readAt sh s at .op))) (t .start) (runRefusal sh t s at)
-unfolding runRefusal admitRead
+unfolding runRefusal carryRefusal
 step-refusal sh t s at = record {
-  not-read = λ d. rw (eqb-other d, eqb-other d);
+  not-read = λ d. rw (eqb-other d);
   not-admitted = λ z d. rw (eqb-same z, eqb-other d);
   no-room = λ z y h. rw (eqb-same z, eqb-same y, lt-leb _ _ h);
   taken = λ z y h. rw (eqb-same z, eqb-same y, le-leb _ _ h);
@@ -55,7 +55,7 @@ step-refusal sh t s at = record {
 step-ahead : (sh : Shape) (t : State) (s : List ℕ) (at : ℕ) → runRefusal sh t s at ≡ 0
     → (readAt sh s at .refusal ≡ 0) × (at < readAt sh s at .next) × (readAt sh s at .next ≤ length s)
 step-ahead sh t s at z =
-    let r = admitted-read sh (t .links) (readAt sh s at) (run-admitted sh t s at z) in
+    let r = run-read sh t s at z in
     let n = read-next (limits sh) s at r in
     (r, n .0, n .1)
 
@@ -109,7 +109,7 @@ run-carried t s h =
 -- an operator that is read alike is refused alike
 refusal-alike : (sh : Shape) (t : State) (s q : List ℕ) (at : ℕ) → readAt sh q at ≡ readAt sh s at
     → runRefusal sh t q at ≡ runRefusal sh t s at
-unfolding runRefusal
+unfolding runRefusal carryRefusal
 refusal-alike sh t s q at e = rw e
 
 -- the bytes used are a front of the script, and a run of them, from the same place on and with steps enough, does n

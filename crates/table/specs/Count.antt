@@ -32,8 +32,8 @@ itemUsed Ring sh x n = isRing sh x n
 abbrev pub usedTo : Item → Shape → List ℕ → ℕ → ℕ
 usedTo item sh x n = countTo n (itemUsed item sh x)
 
--- the holes by Euler's formula, v − e + f = 2 (s − h) + r. Until that number is shown to be whole and not negative in a sound table, it
--- is the truncated half of a truncated difference.
+-- the holes by Euler's formula, v − e + f = 2 (s − h) + r. Of a sound table that number is whole and not negative, so that nothing is cut
+-- off here: theorem `count-holes` of crate inversion.
 abbrev pub holesOf : ℕ → ℕ → ℕ → ℕ → ℕ → ℕ
 holesOf s f e v r = (e + r + 2 * s - (v + f)) / 2
 

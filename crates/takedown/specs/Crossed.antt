@@ -58,9 +58,11 @@ at-crossed sh x k c = T-true (by (c .j % 2) refl)
   where
     pick-e : (e : ℕ) → 1 ≤ e → e ≤ sh .edges → either (between sh x k (2 * e - 1)) (between sh x k (2 * e)) ≡ true
         → T (anyTo (sh .edges) (λ e. either (between sh x k (2 * e - 1)) (between sh x k (2 * e))))
-    pick-e e l u t = any-of (sh .edges) (λ e. either (between sh x k (2 * e - 1)) (between sh x k (2 * e))) e l u (true-T t)
+    pick-e e l u t =
+        any-of (sh .edges) (λ e. either (between sh x k (2 * e - 1)) (between sh x k (2 * e))) e l u (true-T t)
 
-    by : (m : ℕ) → c .j % 2 ≡ m → T (anyTo (sh .edges) (λ e. either (between sh x k (2 * e - 1)) (between sh x k (2 * e))))
+    by : (m : ℕ) → c .j % 2 ≡ m
+        → T (anyTo (sh .edges) (λ e. either (between sh x k (2 * e - 1)) (between sh x k (2 * e))))
     by m q = split (c .j % 2) 1
         (λ o.
         let e : ℕ = (c .j + 1) / 2 in

@@ -1,6 +1,7 @@
--- The take-down as the code does it: the same turns, but what a turn finds out is carried on, so that searches do not begin anew at 1.
--- Carried are the solid at hand, its root, the number of its faces, and lower ends (`Ends`): numbers below which a search finds nothing.
--- Nobody has to believe this file: `swift-same` of crate inversion proves `swiftOf` to be `invertOf`, whatever the words.
+-- The take-down as the code does it: the same turns, but what a turn finds out is carried on, so that searches do not
+-- begin anew at 1. Carried are the solid at hand, its root, the number of its faces, and lower ends (`Ends`): numbers
+-- below which a search finds nothing. Nobody has to believe this file: `swift-same` of crate inversion proves
+-- `swiftOf` to be `invertOf`, whatever the words.
 use Prim.Native.Nat.{ℕ, zero, suc, _+_, _-_, _*_}
 use mathlib.Core.Bool.{Bool, not, _&&_}
 use mathlib.Core.List.{List}
@@ -14,7 +15,9 @@ use Rattle.euler.specs.Surgery.{some}
 use Rattle.euler.specs.Operators.{faceIn, facesIn, isRing}
 use Rattle.runs.specs.Run.{State, entry}
 use Rattle.takedown.specs.declared.ends.Ends.{Ends}
-use Rattle.takedown.specs.Inversion.{Work, act, linksIn, freeFace, freeLoop, freeEdge, outside, ofSolid, inRing, isSpur, isCrossed, isRingOf, makeOuter, moveRings, turnRing, turnC, kvsf, kev, kef, kemr, turns, noneFree, shortLog, Inverted, inverted, begin}
+use Rattle.takedown.specs.Inversion.{Work, act, linksIn, freeFace, freeLoop, freeEdge, outside, ofSolid, inRing}
+use Rattle.takedown.specs.Inversion.{isSpur, isCrossed, isRingOf, makeOuter, moveRings, turnRing, turnC, kvsf}
+use Rattle.takedown.specs.Inversion.{kev, kef, kemr, turns, noneFree, shortLog, Inverted, inverted, begin}
 
 -- the least of low..n that passes, or 0
 abbrev pub seek : ℕ → ℕ → (ℕ → Bool) → ℕ
@@ -29,7 +32,24 @@ greater a b = pick (ltb a b) b a
 
 -- a solid is entered: nothing is known but its root and the number of its faces
 abbrev pub endsAt : ℕ → ℕ → ℕ → ℕ → ℕ → Ends
-endsAt s r n border stray = record { solid = s; root = r; faces = n; border = border; stray = stray; half = 1; ring = 1; pair = 0; spur = 1; tip = 1; tip2 = 1; tip3 = 1; tip4 = 1; cross = 1; lone = 1 }
+endsAt s r n border stray =
+    record {
+      solid = s;
+      root = r;
+      faces = n;
+      border = border;
+      stray = stray;
+      half = 1;
+      ring = 1;
+      pair = 0;
+      spur = 1;
+      tip = 1;
+      tip2 = 1;
+      tip3 = 1;
+      tip4 = 1;
+      cross = 1;
+      lone = 1;
+    }
 
 -- the least solid in use, none below low is
 abbrev pub solidFrom : Shape → List ℕ → ℕ → ℕ
@@ -64,18 +84,23 @@ loopFrom sh x e = orPast (sh .loops) (seek (sh .loops) (e .stray) (strayRing sh 
 
 -- the rings of k's face are moved: from the least ring on, or from 1 where the outer loop has become one
 abbrev pub movedFrom : Shape → Ends → List ℕ → ℕ → ℕ → Work → Work
-movedFrom sh e x k low w = moveRings sh (sh .loops + 1 - low) low (side sh x k) (e .root) (makeOuter sh (loopOf sh x k) (side sh x k) w)
+movedFrom sh e x k low w =
+    moveRings sh (sh .loops + 1 - low) low (side sh x k) (e .root) (makeOuter sh (loopOf sh x k) (side sh x k) w)
 
 -- a face goes. If no ring was moved, only the mates of its half-edges can be new candidates, and no loop becomes a ring
 abbrev pub acrossEnds : Shape → List ℕ → Ends → ℕ → ℕ → Bool → Ends
-acrossEnds sh x e k loop still = endsAt (e .solid) (e .root) (e .faces - 1) (pick still (leastMate sh (2 * sh .edges) x (nextOf sh x k) k k) 1) (pick still loop 1)
+acrossEnds sh x e k loop still =
+    endsAt (e .solid) (e .root) (e .faces - 1) (pick still (leastMate sh (2 * sh .edges) x (nextOf sh x k) k k) 1)
+    (pick still loop 1)
 
 -- v: the rings are moved
 abbrev pub acrossTurn : Shape → Ends → List ℕ → ℕ → ℕ → Work → Work → Swift
-acrossTurn sh e x k loop w v = record { work = act sh v (kef k); ends = acrossEnds sh x e k loop (eqb (v .done) (w .done)) }
+acrossTurn sh e x k loop w v =
+    record { work = act sh v (kef k); ends = acrossEnds sh x e k loop (eqb (v .done) (w .done)) }
 
 abbrev pub acrossFrom : Shape → Ends → List ℕ → ℕ → ℕ → Work → Swift
-acrossFrom sh e x k loop w = acrossTurn sh e x k loop w (movedFrom sh e x k (pick (isRing sh x (loopOf sh x k)) 1 loop) w)
+acrossFrom sh e x k loop w =
+    acrossTurn sh e x k loop w (movedFrom sh e x k (pick (isRing sh x (loopOf sh x k)) 1 loop) w)
 
 abbrev pub across : Shape → Ends → List ℕ → ℕ → Work → Swift
 across sh e x k w = acrossFrom sh e x k (loopFrom sh x e) w
@@ -85,7 +110,8 @@ across sh e x k w = acrossFrom sh e x k (loopFrom sh x e) w
 -- the least of b, the half-edges from j up to before stop, and their mates
 unfoldable pub leastRun : Shape → ℕ → List ℕ → ℕ → ℕ → ℕ → ℕ
 leastRun sh zero x j stop b = b
-leastRun sh (suc n) x j stop b = pick (eqb j stop) b (leastRun sh n x (nextOf sh x j) stop (lesser (lesser j (mate j)) b))
+leastRun sh (suc n) x j stop b =
+    pick (eqb j stop) b (leastRun sh n x (nextOf sh x j) stop (lesser (lesser j (mate j)) b))
 
 -- after mfkrh and kef k: only what came before k or its mate can be a new spur; behind kemr two more tips
 abbrev pub ringEnds : Shape → List ℕ → Ends → ℕ → Ends
@@ -127,8 +153,8 @@ spurEnds sh x e k = record {
   lone = 1;
 }
 
--- after kemr k: there was no spur, and only what came before k or its mate can be one. The new ring holds what was between k and its mate; only its half-edges
--- and their mates can lie in another loop than their mates
+-- after kemr k: there was no spur, and only what came before k or its mate can be one. The new ring holds what was
+-- between k and its mate; only its half-edges and their mates can lie in another loop than their mates
 abbrev pub crossEnds : Shape → List ℕ → Ends → ℕ → Ends
 crossEnds sh x e k = record {
   solid = e .solid;
@@ -154,7 +180,9 @@ tipped sh x e t b = pick (ltb t (e .spur) && isSpur sh x (e .solid) t) (lesser t
 
 -- the least tip that is one, or the number behind the last half-edge
 abbrev pub leastTip : Shape → List ℕ → Ends → ℕ
-leastTip sh x e = tipped sh x e (e .tip) (tipped sh x e (e .tip2) (tipped sh x e (e .tip3) (tipped sh x e (e .tip4) (2 * sh .edges + 1))))
+leastTip sh x e =
+    tipped sh x e (e .tip)
+    (tipped sh x e (e .tip2) (tipped sh x e (e .tip3) (tipped sh x e (e .tip4) (2 * sh .edges + 1))))
 
 -- the least spur
 abbrev pub spurOr : Shape → List ℕ → Ends → ℕ → ℕ
@@ -187,10 +215,15 @@ abbrev pub crossTurn : Shape → Ends → List ℕ → ℕ → ℕ → Work → 
 crossTurn sh e x h k w = record { work = act sh w (kemr k (freeLoop sh x)); ends = crossEnds sh x (withHalf e h) k }
 
 abbrev pub spurTurn : Shape → Ends → List ℕ → ℕ → ℕ → Work → Swift
-spurTurn sh e x h k w = pick (some k) (record { work = act sh w (kev k); ends = spurEnds sh x (withHalf e h) k }) (crossTurn sh e x h (seek (2 * sh .edges) (e .cross) (isCrossed sh x (e .solid))) w)
+spurTurn sh e x h k w =
+    pick (some k) (record { work = act sh w (kev k); ends = spurEnds sh x (withHalf e h) k })
+    (crossTurn sh e x h (seek (2 * sh .edges) (e .cross) (isCrossed sh x (e .solid))) w)
 
 abbrev pub ringTurn : Shape → Ends → List ℕ → ℕ → ℕ → Work → Swift
-ringTurn sh e x h k w = pick (some k) (record { work = turnRing sh k (loopOf sh x k) (freeFace sh x) w; ends = ringEnds sh x (withHalf e h) k }) (spurTurn sh e x h (spurFrom sh x e) w)
+ringTurn sh e x h k w =
+    pick (some k)
+    (record { work = turnRing sh k (loopOf sh x k) (freeFace sh x) w; ends = ringEnds sh x (withHalf e h) k })
+    (spurTurn sh e x h (spurFrom sh x e) w)
 
 -- ---- C, and the end of a solid
 
@@ -219,12 +252,16 @@ bareEnds sh e l = record {
 }
 
 abbrev pub lastTurn : Shape → Ends → List ℕ → ℕ → Work → Swift
-lastTurn sh e x l w = pick (some l) (record { work = turnC sh (faceOuter sh x (e .root)) l (freeEdge sh x) w; ends = bareEnds sh e l }) (entered sh (e .solid) (act sh w (kvsf (e .solid))))
+lastTurn sh e x l w =
+    pick (some l) (record { work = turnC sh (faceOuter sh x (e .root)) l (freeEdge sh x) w; ends = bareEnds sh e l })
+    (entered sh (e .solid) (act sh w (kvsf (e .solid))))
 
 -- ---- the whole
 
 abbrev pub halfTurn : Shape → Ends → List ℕ → ℕ → Work → Swift
-halfTurn sh e x h w = pick (some h) (ringTurn sh e x h (seek (2 * sh .edges) (e .ring) (inRing sh x (e .solid))) w) (lastTurn sh e x (seek (sh .loops) (e .lone) (isRingOf sh x (e .root))) w)
+halfTurn sh e x h w =
+    pick (some h) (ringTurn sh e x h (seek (2 * sh .edges) (e .ring) (inRing sh x (e .solid))) w)
+    (lastTurn sh e x (seek (sh .loops) (e .lone) (isRingOf sh x (e .root))) w)
 
 -- a turn of the table x of w
 unfoldable pub swiftTurn : Shape → Ends → List ℕ → Work → Swift
@@ -236,7 +273,8 @@ swiftTurn sh e x w =
 -- turns until no solid is in use, at most n
 unfoldable pub swiftBy : ℕ → Shape → Swift → Work
 swiftBy zero sh t = t .work
-swiftBy (suc n) sh t = pick (eqb (t .ends .solid) 0) (t .work) (swiftBy n sh (swiftTurn sh (t .ends) (linksIn (t .work)) (t .work)))
+swiftBy (suc n) sh t =
+    pick (eqb (t .ends .solid) 0) (t .work) (swiftBy n sh (swiftTurn sh (t .ends) (linksIn (t .work)) (t .work)))
 
 -- the entry point: as invertOf
 unfoldable pub swiftOf : State → Inverted

@@ -1,11 +1,12 @@
-// What is carried from turn to turn, so that no search begins anew at 1. A lower end is a number below which a search finds nothing.
+// What is carried from turn to turn, so that no search begins anew at 1. A lower end is a number below which a search
+// finds nothing.
 pub struct Ends {
     // The solid at hand, 0 where none is left; its root; how many faces it has.
     pub solid: usize,
     pub root: usize,
     pub faces: usize,
-    // A: lower ends of the half-edges outside the root with their mate in it, and of the loops that are rings of another face of the
-    // solid than the root.
+    // A: lower ends of the half-edges outside the root with their mate in it, and of the loops that are rings of
+    // another face of the solid than the root.
     pub border: usize,
     pub stray: usize,
     // B: lower ends of the half-edges of the solid, and of those in a ring with their mate in another loop.
@@ -13,7 +14,8 @@ pub struct Ends {
     pub ring: usize,
     // 1 after kemr: the ring turn to come leaves no half-edge in a ring with its mate in another loop.
     pub pair: usize,
-    // No half-edge below `spur` is followed by its mate, but perhaps the four tips: the places at which edges were taken out.
+    // No half-edge below `spur` is followed by its mate, but perhaps the four tips: the places at which edges were
+    // taken out.
     pub spur: usize,
     pub tip: usize,
     pub tip2: usize,

@@ -16,7 +16,8 @@ use Rattle.takedown.specs.Inversion.{rmov, isRingOf, Work, work, linksIn, act, 
 
 -- ---- one operator
 
-pub act-is : (sh : Shape) (x : List ℕ) (p : List ℤ) (log : List ℕ) (done start : ℕ) (o v : Operator) (n from : ℕ) (y : List ℕ) (q : List ℤ) (m : List ℕ)
+pub act-is : (sh : Shape) (x : List ℕ) (p : List ℤ) (log : List ℕ) (done start : ℕ) (o v : Operator) (n from : ℕ)
+    (y : List ℕ) (q : List ℤ) (m : List ℕ)
     → v ≡ inverse sh x p o → n ≡ length (operatorBytes v) → from ≡ start - n
     → y ≡ linksAfter sh x o → q ≡ pointsAfter sh x p o → m ≡ putBytes log from (operatorBytes v)
     → work (done + 1) (state y q m from) ≡ act sh (work done (state x p log start)) o
@@ -45,7 +46,8 @@ module _ (sh : Shape) (i g r : ℕ) (w : Work) (b : Bool) (e : b ≡ isRingOf sh
 
 -- ring after ring
 module _ (sh : Shape) (left i g r : ℕ) (w whole : Work) (rest : moveRings sh left i g r w ≡ whole) where
-  pub rings-turn : 0 < left → (v : Work) → v ≡ movedRing sh i g r w → (m : ℕ) → m ≡ left - 1 → moveRings sh m (i + 1) g r v ≡ whole
+  pub rings-turn : 0 < left → (v : Work) → v ≡ movedRing sh i g r w → (m : ℕ) → m ≡ left - 1
+      → moveRings sh m (i + 1) g r v ≡ whole
   unfolding moveRings
   rings-turn h v ev m em = let n : left ≡ suc (left - 1) = omega arith in rw (em, ev) (rw n at rest)
 

@@ -12,8 +12,8 @@ use script::operator_size;
 use script::put_operator;
 use takedown_ends::numbers::less;
 
-// How far it has come: the operators done, and the log's start. There are at most 8,192 turns of at most 4,098 operators each; the bounds on
-// `done` in the contracts below say no more than that counting does not wrap.
+// How far it has come: the operators done, and the log's start. There are at most 8,192 turns of at most 4,098
+// operators each; the bounds on `done` in the contracts below say no more than that counting does not wrap.
 pub struct Progress {
     pub done: usize,
     pub start: usize,
@@ -29,7 +29,10 @@ pub fn act(
     op: Operator,
 ) -> Progress
     requires { ⌜ (Small sh) × (at .done < 1000000000) ⌝ }
-    ensures { λ r. ⌜ (held r (now (links .exit)) (now (points .exit)) (now (log .exit)) ≡ inversion.act sh (held at (now (links .entry)) (now (points .entry)) (now (log .entry))) op) × (r .done ≡ at .done + 1) ⌝ }
+    ensures { λ r. ⌜
+        (held r (now (links .exit)) (now (points .exit)) (now (log .exit))
+        ≡ inversion.act sh (held at (now (links .entry)) (now (points .entry)) (now (log .entry))) op)
+        × (r .done ≡ at .done + 1) ⌝ }
 {
     let inverse = inverse_of(links, points, sh, op);
     let size = operator_size(inverse);

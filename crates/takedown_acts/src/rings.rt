@@ -22,7 +22,10 @@ pub fn make_outer(
     f: usize,
 ) -> Progress
     requires { ⌜ (Small sh) × (at .done < 1000000000) × (l < 65536) × (f < 65536) ⌝ }
-    ensures { λ r. ⌜ (held r (now (links .exit)) (now (points .exit)) (now (log .exit)) ≡ makeOuter sh l f (held at (now (links .entry)) (now (points .entry)) (now (log .entry)))) × (r .done ≤ at .done + 1) ⌝ }
+    ensures { λ r. ⌜
+        (held r (now (links .exit)) (now (points .exit)) (now (log .exit))
+        ≡ makeOuter sh l f (held at (now (links .entry)) (now (points .entry)) (now (log .entry))))
+        × (r .done ≤ at .done + 1) ⌝ }
 {
     let ring = is_ring(links, sh, l);
     if ring {
@@ -43,7 +46,10 @@ fn move_ring(
     r: usize,
 ) -> Progress
     requires { ⌜ (Small sh) × (at .done < 1000000000) × (i < 65536) × (r < 65536) ⌝ }
-    ensures { λ p. ⌜ (held p (now (links .exit)) (now (points .exit)) (now (log .exit)) ≡ movedRing sh i g r (held at (now (links .entry)) (now (points .entry)) (now (log .entry)))) × (p .done ≤ at .done + 1) ⌝ }
+    ensures { λ p. ⌜
+        (held p (now (links .exit)) (now (points .exit)) (now (log .exit))
+        ≡ movedRing sh i g r (held at (now (links .entry)) (now (points .entry)) (now (log .entry))))
+        × (p .done ≤ at .done + 1) ⌝ }
 {
     let ring = is_ring_of(links, sh, g, i);
     if ring {
@@ -64,7 +70,10 @@ pub fn move_rings(
     r: usize,
 ) -> Progress
     requires { ⌜ (Small sh) × (at .done < 900000000) × (r < 65536) ⌝ }
-    ensures { λ p. ⌜ (held p (now (links .exit)) (now (points .exit)) (now (log .exit)) ≡ moveRings sh (sh .loops + 1 - low) low g r (held at (now (links .entry)) (now (points .entry)) (now (log .entry)))) × (p .done ≤ at .done + 4097) ⌝ }
+    ensures { λ p. ⌜
+        (held p (now (links .exit)) (now (points .exit)) (now (log .exit))
+        ≡ moveRings sh (sh .loops + 1 - low) low g r
+        (held at (now (links .entry)) (now (points .entry)) (now (log .entry)))) × (p .done ≤ at .done + 4097) ⌝ }
 {
     let n = sh.loops as usize;
     let mut i = low;

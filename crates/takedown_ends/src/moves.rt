@@ -56,11 +56,12 @@ pub fn enter(links: &[u16], sh: Shape, low: usize) -> Ends
     ends_at(s, root, faces, 1, 1)
 }
 
-// After A. If no ring was moved, only the mates of the half-edges that went can be new candidates (`near` is the least of them), and no
-// loop has become a ring.
+// After A. If no ring was moved, only the mates of the half-edges that went can be new candidates (`near` is the
+// least of them), and no loop has become a ring.
 pub fn across_ends(e: Ends, still: bool, near: usize, stray: usize) -> Ends
     requires { ⌜ InWords e ⌝ }
-    ensures { λ r. ⌜ (r ≡ endsAt (e .solid) (e .root) (e .faces - 1) (pick still near 1) (pick still stray 1)) × (InWords r) ⌝ }
+    ensures { λ r. ⌜
+        (r ≡ endsAt (e .solid) (e .root) (e .faces - 1) (pick still near 1) (pick still stray 1)) × (InWords r) ⌝ }
 {
     let faces = less(e.faces, 1);
     if still {
@@ -122,7 +123,8 @@ pub fn ring_ends(links: &[u16], sh: Shape, e: Ends, k: usize) -> Ends
     }
 }
 
-// After kev k: only what came before k can be a new spur; it is the first tip, and the old one takes k's place among the others.
+// After kev k: only what came before k can be a new spur; it is the first tip, and the old one takes k's place among
+// the others.
 pub fn spur_ends(links: &[u16], sh: Shape, e: Ends, k: usize) -> Ends
     requires { ⌜ (Small sh) × (InWords e) × (k < 65536) ⌝ }
     ensures { λ r. ⌜ (r ≡ spurEnds sh (now (links .entry)) e k) × (InWords r) ⌝ }
@@ -148,8 +150,8 @@ pub fn spur_ends(links: &[u16], sh: Shape, e: Ends, k: usize) -> Ends
     }
 }
 
-// After kemr k: there was no spur, and only what came before k or its mate can be one. Only what was between k and its mate, and the
-// mates of that, can lie in another loop than their mates.
+// After kemr k: there was no spur, and only what came before k or its mate can be one. Only what was between k and
+// its mate, and the mates of that, can lie in another loop than their mates.
 pub fn cross_ends(links: &[u16], sh: Shape, e: Ends, k: usize) -> Ends
     requires { ⌜ (Small sh) × (InWords e) × (k < 65536) ⌝ }
     ensures { λ r. ⌜ (r ≡ crossEnds sh (now (links .entry)) e k) × (InWords r) ⌝ }

@@ -1,4 +1,5 @@
-// The least half-edge that is followed by its mate: one of the tips, where edges were taken out, or else from the lower end on.
+// The least half-edge that is followed by its mate: one of the tips, where edges were taken out, or else from the
+// lower end on.
 ghost use mathlib.Core.Path.{_≡_};
 ghost use Prim.Native.Nat.{ℕ, _<_, _≤_};
 ghost use Rattle.layout.specs.Small.{Small};

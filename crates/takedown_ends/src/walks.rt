@@ -7,7 +7,8 @@ use layout::columns::next_of;
 use layout::mates::mate_of;
 use layout::shape::Shape;
 
-// The least of `best` and the mates of the half-edges from `from` up to before stop; `fuel` bounds the steps in a table that is not sound.
+// The least of `best` and the mates of the half-edges from `from` up to before stop; `fuel` bounds the steps in a
+// table that is not sound.
 pub fn least_mate(
     links: &[u16],
     sh: Shape,

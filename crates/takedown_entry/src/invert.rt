@@ -29,7 +29,10 @@ fn invert_all(
     start: usize,
 ) -> Progress
     requires { ⌜ Small sh ⌝ }
-    ensures { λ r. ⌜ held r (now (links .exit)) (now (points .exit)) (now (log .exit)) ≡ swiftBy (turns sh) sh (entered sh 1 (begin (state (now (links .entry)) (now (points .entry)) (now (log .entry)) start))) ⌝ }
+    ensures { λ r. ⌜
+        held r (now (links .exit)) (now (points .exit)) (now (log .exit))
+        ≡ swiftBy (turns sh) sh
+        (entered sh 1 (begin (state (now (links .entry)) (now (points .entry)) (now (log .entry)) start))) ⌝ }
 {
     let mut left = sh.edges as usize + sh.vertices as usize;
     let mut at = Progress { done: 0, start };
@@ -78,7 +81,9 @@ fn refused(refusal: u8, rule: u8, start: usize) -> InvertAnswer
 
 // A sound table taken down to nothing, each operator with its inverse in the log.
 pub fn invert(links: &mut [u16], points: &mut [i32], log: &mut [u8], start: usize) -> InvertAnswer
-    ensures { λ r. ⌜ inverts r (now (links .exit)) (now (points .exit)) (now (log .exit)) ≡ invertOf (state (now (links .entry)) (now (points .entry)) (now (log .entry)) start) ⌝ }
+    ensures { λ r. ⌜
+        inverts r (now (links .exit)) (now (points .exit)) (now (log .exit))
+        ≡ invertOf (state (now (links .entry)) (now (points .entry)) (now (log .entry)) start) ⌝ }
 {
     if start > log.len() {
         return refused(1, 0, start);

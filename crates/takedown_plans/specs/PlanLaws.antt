@@ -9,31 +9,39 @@ use Rattle.script.specs.declared.Operator.{Operator}
 use Rattle.layout.specs.declared.shape.Shape.{Shape}
 use Rattle.layout.specs.Layout.{faceOuter, loopOf}
 use Rattle.takedown.specs.declared.ends.Ends.{Ends}
-use Rattle.takedown.specs.Inversion.{kev, kef, kemr, mekr, mfkrh, freeFace, freeLoop, freeEdge, inRing, isCrossed, Work, act, turnRing, turnC}
+use Rattle.takedown.specs.Inversion.{kev, kef, kemr, mekr, mfkrh, freeFace, freeLoop, freeEdge, inRing, isCrossed}
+use Rattle.takedown.specs.Inversion.{Work, act, turnRing, turnC}
 use Rattle.takedown.specs.Swift.{Swift, seek, withHalf, ringEnds, spurEnds, crossEnds, bareEnds, spurFrom, ringTurn}
 use Rattle.takedown_plans.specs.Plans.{swiftIs, carried}
 
 -- ---- plans
 
 module _ (sh : Shape) (x : List ℕ) (e r : Ends) (k : ℕ) (o q : Operator) (w : Work) where
-  pub ring-planned : (l f : ℕ) → l ≡ loopOf sh x k → f ≡ freeFace sh x → o ≡ mfkrh l f → q ≡ kef k → r ≡ ringEnds sh x e k
-      → carried sh (record { first = o; second = q; two = true; ends = r }) w ≡ swiftIs (turnRing sh k (loopOf sh x k) (freeFace sh x) w) (ringEnds sh x e k)
+  pub ring-planned : (l f : ℕ) → l ≡ loopOf sh x k → f ≡ freeFace sh x → o ≡ mfkrh l f → q ≡ kef k
+      → r ≡ ringEnds sh x e k
+      → carried sh (record { first = o; second = q; two = true; ends = r }) w
+      ≡ swiftIs (turnRing sh k (loopOf sh x k) (freeFace sh x) w) (ringEnds sh x e k)
   ring-planned l f el ef eo eq er = rw (er, eq, eo, ef, el)
 
   pub spur-planned : o ≡ kev k → r ≡ spurEnds sh x e k
-      → carried sh (record { first = o; second = q; two = false; ends = r }) w ≡ swiftIs (act sh w (kev k)) (spurEnds sh x e k)
+      → carried sh (record { first = o; second = q; two = false; ends = r }) w
+      ≡ swiftIs (act sh w (kev k)) (spurEnds sh x e k)
   spur-planned eo er = rw (er, eo)
 
   pub cross-planned : (l : ℕ) → l ≡ freeLoop sh x → o ≡ kemr k l → r ≡ crossEnds sh x e k
-      → carried sh (record { first = o; second = q; two = false; ends = r }) w ≡ swiftIs (act sh w (kemr k (freeLoop sh x))) (crossEnds sh x e k)
+      → carried sh (record { first = o; second = q; two = false; ends = r }) w
+      ≡ swiftIs (act sh w (kemr k (freeLoop sh x))) (crossEnds sh x e k)
   cross-planned l el eo er = rw (er, eo, el)
 
-  pub bridge-planned : (u d j : ℕ) → u ≡ faceOuter sh x (e .root) → d ≡ freeEdge sh x → o ≡ mekr u k d → j ≡ 2 * d - 1 → q ≡ kev j → r ≡ bareEnds sh e k
-      → carried sh (record { first = o; second = q; two = true; ends = r }) w ≡ swiftIs (turnC sh (faceOuter sh x (e .root)) k (freeEdge sh x) w) (bareEnds sh e k)
+  pub bridge-planned : (u d j : ℕ) → u ≡ faceOuter sh x (e .root) → d ≡ freeEdge sh x → o ≡ mekr u k d → j ≡ 2 * d - 1
+      → q ≡ kev j → r ≡ bareEnds sh e k
+      → carried sh (record { first = o; second = q; two = true; ends = r }) w
+      ≡ swiftIs (turnC sh (faceOuter sh x (e .root)) k (freeEdge sh x) w) (bareEnds sh e k)
   bridge-planned u d j eu ed eo ej eq er = rw (er, eq, ej, eo, ed, eu)
 
 -- B: a ring's half-edge, a spur, a crossed edge
-module _ (sh : Shape) (x : List ℕ) (e on : Ends) (h k : ℕ) (eon : on ≡ withHalf e h) (ek : k ≡ seek (2 * sh .edges) (e .ring) (inRing sh x (e .solid))) (w : Work) (v : Swift) where
+module _ (sh : Shape) (x : List ℕ) (e on : Ends) (h k : ℕ) (eon : on ≡ withHalf e h)
+    (ek : k ≡ seek (2 * sh .edges) (e .ring) (inRing sh x (e .solid))) (w : Work) (v : Swift) where
   pub edges-ring : k ≢ 0 → v ≡ swiftIs (turnRing sh k (loopOf sh x k) (freeFace sh x) w) (ringEnds sh x on k)
       → v ≡ ringTurn sh e x h (seek (2 * sh .edges) (e .ring) (inRing sh x (e .solid))) w
   edges-ring z ev = rw (← ek, ne-eqb k 0 z) (rw eon at ev)

@@ -42,7 +42,10 @@ pub struct Plan {
 // The ring of half-edge k becomes the least free face, then kef k.
 fn ring_plan(links: &[u16], sh: Shape, e: Ends, k: usize) -> Plan
     requires { ⌜ (Small sh) × (InWords e) × (k < 65536) ⌝ }
-    ensures { λ r. ⌜ ((w : Work) → carried sh r w ≡ swiftIs (turnRing sh k (loopOf sh (now (links .entry)) k) (freeFace sh (now (links .entry))) w) (ringEnds sh (now (links .entry)) e k)) × (InWords (r .ends)) ⌝ }
+    ensures { λ r. ⌜
+        ((w : Work) → carried sh r w
+        ≡ swiftIs (turnRing sh k (loopOf sh (now (links .entry)) k) (freeFace sh (now (links .entry))) w)
+        (ringEnds sh (now (links .entry)) e k)) × (InWords (r .ends)) ⌝ }
 {
     let l = loop_of(links, sh, k);
     let f = free_face(links, sh);
@@ -57,7 +60,9 @@ fn ring_plan(links: &[u16], sh: Shape, e: Ends, k: usize) -> Plan
 // The spur k goes.
 fn spur_plan(links: &[u16], sh: Shape, e: Ends, k: usize) -> Plan
     requires { ⌜ (Small sh) × (InWords e) × (k < 65536) ⌝ }
-    ensures { λ r. ⌜ ((w : Work) → carried sh r w ≡ swiftIs (act sh w (inversion.kev k)) (spurEnds sh (now (links .entry)) e k)) × (InWords (r .ends)) ⌝ }
+    ensures { λ r. ⌜
+        ((w : Work) → carried sh r w ≡ swiftIs (act sh w (inversion.kev k)) (spurEnds sh (now (links .entry)) e k))
+        × (InWords (r .ends)) ⌝ }
 {
     Plan {
         first: kev(k),
@@ -70,7 +75,10 @@ fn spur_plan(links: &[u16], sh: Shape, e: Ends, k: usize) -> Plan
 // The crossed edge of k goes, and what lies between k and its mate becomes the least free loop.
 fn cross_plan(links: &[u16], sh: Shape, e: Ends, k: usize) -> Plan
     requires { ⌜ (Small sh) × (InWords e) × (k < 65536) ⌝ }
-    ensures { λ r. ⌜ ((w : Work) → carried sh r w ≡ swiftIs (act sh w (inversion.kemr k (freeLoop sh (now (links .entry))))) (crossEnds sh (now (links .entry)) e k)) × (InWords (r .ends)) ⌝ }
+    ensures { λ r. ⌜
+        ((w : Work) → carried sh r w
+        ≡ swiftIs (act sh w (inversion.kemr k (freeLoop sh (now (links .entry)))))
+        (crossEnds sh (now (links .entry)) e k)) × (InWords (r .ends)) ⌝ }
 {
     let l = free_loop(links, sh);
     Plan {
@@ -81,10 +89,14 @@ fn cross_plan(links: &[u16], sh: Shape, e: Ends, k: usize) -> Plan
     }
 }
 
-// B, `half` the first half-edge of the solid: a ring's half-edge with its mate in another loop; if none, a spur; if none, a crossed edge.
+// B, `half` the first half-edge of the solid: a ring's half-edge with its mate in another loop; if none, a spur; if
+// none, a crossed edge.
 pub fn edges_plan(links: &[u16], sh: Shape, e: Ends, half: usize) -> Plan
     requires { ⌜ (Small sh) × (InWords e) ⌝ }
-    ensures { λ r. ⌜ ((w : Work) → carried sh r w ≡ ringTurn sh e (now (links .entry)) half (seek (2 * sh .edges) (e .ring) (inRing sh (now (links .entry)) (e .solid))) w) × (InWords (r .ends)) ⌝ }
+    ensures { λ r. ⌜
+        ((w : Work) → carried sh r w
+        ≡ ringTurn sh e (now (links .entry)) half
+        (seek (2 * sh .edges) (e .ring) (inRing sh (now (links .entry)) (e .solid))) w) × (InWords (r .ends)) ⌝ }
 {
     let on = with_half(e, half);
     let ring = seek(links, sh, Sought::Ring, e.solid, e.root, e.ring);
@@ -102,7 +114,10 @@ pub fn edges_plan(links: &[u16], sh: Shape, e: Ends, half: usize) -> Plan
 // C: mekr from the outer loop of the root to its ring l by the least free edge, then kev of that edge's first half.
 pub fn bridge_plan(links: &[u16], sh: Shape, e: Ends, l: usize) -> Plan
     requires { ⌜ (Small sh) × (InWords e) × (l < 65536) ⌝ }
-    ensures { λ r. ⌜ ((w : Work) → carried sh r w ≡ swiftIs (turnC sh (faceOuter sh (now (links .entry)) (e .root)) l (freeEdge sh (now (links .entry))) w) (bareEnds sh e l)) × (InWords (r .ends)) ⌝ }
+    ensures { λ r. ⌜
+        ((w : Work) → carried sh r w
+        ≡ swiftIs (turnC sh (faceOuter sh (now (links .entry)) (e .root)) l (freeEdge sh (now (links .entry))) w)
+        (bareEnds sh e l)) × (InWords (r .ends)) ⌝ }
 {
     let outer = face_outer(links, sh, e.root);
     let edge = free_edge(links, sh);

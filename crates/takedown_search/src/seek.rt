@@ -4,8 +4,8 @@ ghost use Prim.Native.Nat.{ℕ, _<_, _≤_};
 ghost use Rattle.layout.specs.Small.{Small};
 ghost use Rattle.takedown.specs.Swift as swift;
 ghost use Rattle.takedown_search.specs.Sought.{passing, lastOf};
-use crate::crossing::is_crossed;
 use crate::tests::in_ring;
+use crate::tests::is_crossed;
 use crate::tests::is_outside;
 use crate::tests::is_ring_of;
 use crate::tests::is_spur;
@@ -14,8 +14,9 @@ use crate::tests::of_solid;
 use layout::columns::solid_used;
 use layout::shape::Shape;
 
-// What is looked for: a solid in use; half-edges outside the root with their mate in it, of the solid, in a ring with their mate in another
-// loop, followed by their mate, crossed by another edge; loops that are rings of the root, rings of another face of the solid.
+// What is looked for: a solid in use; half-edges outside the root with their mate in it, of the solid, in a ring with
+// their mate in another loop, followed by their mate, crossed by another edge; loops that are rings of the root,
+// rings of another face of the solid.
 pub enum Sought {
     Solid,
     Border,
@@ -64,7 +65,8 @@ fn last_of(sh: Shape, what: Sought) -> usize
 // The least item from `low` on that passes.
 pub fn seek(links: &[u16], sh: Shape, what: Sought, s: usize, root: usize, low: usize) -> usize
     requires { ⌜ Small sh ⌝ }
-    ensures { λ r. ⌜ (r ≡ swift.seek (lastOf what sh) low (passing what sh (now (links .entry)) s root)) × (r ≤ 8192) ⌝ }
+    ensures { λ r. ⌜
+        (r ≡ swift.seek (lastOf what sh) low (passing what sh (now (links .entry)) s root)) × (r ≤ 8192) ⌝ }
 {
     let n = last_of(sh, what);
     let mut k = low;

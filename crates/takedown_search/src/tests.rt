@@ -1,7 +1,8 @@
 // What a half-edge or a loop is asked during the take-down. Nothing has to be known of the table.
 ghost use mathlib.Core.Path.{_≡_};
 ghost use Prim.Native.Nat.{ℕ, _<_, _≤_};
-ghost use Rattle.takedown.specs.Inversion.{outside, ofSolid, inRing, isSpur, isRingOf};
+ghost use Rattle.layout.specs.Small.{Small};
+ghost use Rattle.takedown.specs.Inversion.{outside, ofSolid, inRing, isSpur, isCrossed, isRingOf};
 ghost use Rattle.takedown.specs.Swift.{strayRing};
 use euler::faces::is_ring;
 use layout::columns::face_solid;
@@ -11,6 +12,7 @@ use layout::columns::next_of;
 use layout::columns::side_of;
 use layout::mates::mate_of;
 use layout::shape::Shape;
+use takedown_crossing::marks::crossed;
 
 // Half-edge k lies outside the root, its mate in it.
 pub fn is_outside(links: &[u16], sh: Shape, root: usize, k: usize) -> bool
@@ -73,4 +75,16 @@ pub fn is_stray(links: &[u16], sh: Shape, s: usize, root: usize, l: usize) -> bo
     let own = face_solid(links, sh, f);
     let ring = is_ring(links, sh, l);
     (own == s) & (f != root) & ring
+}
+
+// Half-edge k is of solid s and crossed.
+pub fn is_crossed(links: &[u16], sh: Shape, s: usize, k: usize) -> bool
+    requires { ⌜ (Small sh) × (k < 65536) ⌝ }
+    ensures { λ r. ⌜ r ≡ isCrossed sh (now (links .entry)) s k ⌝ }
+{
+    let here = of_solid(links, sh, s, k);
+    if here {
+        return crossed(links, sh, k);
+    }
+    false
 }

@@ -1,3 +1,2 @@
-// The turns of the take-down, each one round of a "while" of document 01: planned by reading, then carried out.
-pub mod across;
+// The turns of the take-down, each one round of a "while" of document 01.
 pub mod turn;

@@ -7,11 +7,11 @@ ghost use Rattle.takedown.specs.Swift.{swiftTurn, entered};
 ghost use Rattle.takedown_ends.specs.InWords.{InWords};
 ghost use Rattle.takedown_acts.specs.Held.{held};
 ghost use Rattle.takedown_plans.specs.Plans.{carried};
-ghost use Rattle.takedown_turns.specs.Turns.{staged};
-use crate::across::Stage;
-use crate::across::across;
+ghost use Rattle.takedown_across.specs.Passing.{staged};
 use layout::shape::Shape;
 use takedown::ends::Ends;
+use takedown_across::across::Stage;
+use takedown_across::across::across;
 use takedown_acts::acts::Progress;
 use takedown_acts::acts::act;
 use takedown_ends::moves::enter;
@@ -32,7 +32,10 @@ fn carry(
     plan: Plan,
 ) -> Stage
     requires { ⌜ (Small sh) × (at .done < 900000000) ⌝ }
-    ensures { λ r. ⌜ (staged r (now (links .exit)) (now (points .exit)) (now (log .exit)) ≡ carried sh plan (held at (now (links .entry)) (now (points .entry)) (now (log .entry)))) × (r .progress .done ≤ at .done + 2) × (r .ends ≡ plan .ends) ⌝ }
+    ensures { λ r. ⌜
+        (staged r (now (links .exit)) (now (points .exit)) (now (log .exit))
+        ≡ carried sh plan (held at (now (links .entry)) (now (points .entry)) (now (log .entry))))
+        × (r .progress .done ≤ at .done + 2) × (r .ends ≡ plan .ends) ⌝ }
 {
     let first = plan.first;
     let second = plan.second;
@@ -55,7 +58,11 @@ fn last(
     s: usize,
 ) -> Stage
     requires { ⌜ (Small sh) × (at .done < 900000000) × (s < 65536) ⌝ }
-    ensures { λ r. ⌜ (staged r (now (links .exit)) (now (points .exit)) (now (log .exit)) ≡ entered sh s (inversion.act sh (held at (now (links .entry)) (now (points .entry)) (now (log .entry))) (inversion.kvsf s))) × (r .progress .done ≤ at .done + 1) × (InWords (r .ends)) ⌝ }
+    ensures { λ r. ⌜
+        (staged r (now (links .exit)) (now (points .exit)) (now (log .exit))
+        ≡ entered sh s
+        (inversion.act sh (held at (now (links .entry)) (now (points .entry)) (now (log .entry))) (inversion.kvsf s)))
+        × (r .progress .done ≤ at .done + 1) × (InWords (r .ends)) ⌝ }
 {
     let a = act(links, points, log, sh, at, kvsf(s));
     let ends = enter(links, sh, s);
@@ -72,7 +79,10 @@ pub fn turn(
     e: Ends,
 ) -> Stage
     requires { ⌜ (Small sh) × (at .done < 800000000) × (InWords e) ⌝ }
-    ensures { λ r. ⌜ (staged r (now (links .exit)) (now (points .exit)) (now (log .exit)) ≡ swiftTurn sh e (now (links .entry)) (held at (now (links .entry)) (now (points .entry)) (now (log .entry)))) × (r .progress .done ≤ at .done + 4099) × (InWords (r .ends)) ⌝ }
+    ensures { λ r. ⌜
+        (staged r (now (links .exit)) (now (points .exit)) (now (log .exit))
+        ≡ swiftTurn sh e (now (links .entry)) (held at (now (links .entry)) (now (points .entry)) (now (log .entry))))
+        × (r .progress .done ≤ at .done + 4099) × (InWords (r .ends)) ⌝ }
 {
     if e.faces != 1 {
         return across(links, points, log, sh, at, e);

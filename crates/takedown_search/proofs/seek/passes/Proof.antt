@@ -7,7 +7,7 @@ use Rattle.takedown_search.proofs.seek.passes.Tie as tie
 use Rattle.takedown_search.proofs.seek.passes.Reads as reads
 use Rattle.takedown_search.proofs.seek.passes.Lts as lts
 use Rattle.layout.proofs.columns.solid_used.Reads as solid-used-reads
-use Rattle.takedown_search.proofs.crossing.is_crossed.Reads as is-crossed-reads
+use Rattle.takedown_search.proofs.tests.is_crossed.Reads as is-crossed-reads
 use Rattle.takedown_search.proofs.tests.in_ring.Reads as in-ring-reads
 use Rattle.takedown_search.proofs.tests.is_outside.Reads as is-outside-reads
 use Rattle.takedown_search.proofs.tests.is_ring_of.Reads as is-ring-of-reads

@@ -11,7 +11,7 @@ use Rattle.takedown_turns.proofs.turn.turn.Lts as lts
 use Rattle.takedown_plans.proofs.plans.bridge_plan.Reads as bridge-plan-reads
 use Rattle.takedown_plans.proofs.plans.edges_plan.Reads as edges-plan-reads
 use Rattle.takedown_search.proofs.seek.seek.Reads as seek-reads
-use Rattle.takedown_turns.proofs.across.across.Reads as across-reads
+use Rattle.takedown_across.proofs.across.across.Reads as across-reads
 use Rattle.takedown_turns.proofs.turn.carry.Reads as carry-reads
 use Rattle.takedown_turns.proofs.turn.last.Reads as last-reads
 

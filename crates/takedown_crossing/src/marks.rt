@@ -1,0 +1,91 @@
+// Crossed edges: some other edge has exactly one half between k and its mate. One walk marks what lies between; a
+// second asks each half-edge there whether its own mate is marked too.
+ghost use mathlib.Core.Path.{_≡_};
+ghost use Prim.Native.Nat.{ℕ, _*_, _<_, _≤_};
+ghost use lib.ListN.{length, set};
+ghost use Rattle.layout.specs.Small.{Small};
+ghost use Rattle.takedown.specs.Inversion as inversion;
+ghost use Rattle.takedown_crossing.specs.Marking.{markRun, unpaired, anyUnpaired};
+use layout::columns::next_of;
+use layout::mates::mate_of;
+use layout::shape::Shape;
+
+// Half-edge k marked; past the end nothing changes.
+fn put_mark(marks: &mut [u8; 8194], k: usize)
+    requires { ⌜ length (now marks) ≡ 8194 ⌝ }
+    ensures { λ _. ⌜ now (marks .exit) ≡ set (now (marks .entry)) k 1 ⌝ }
+{
+    if k < 8194 {
+        marks[k] = 1;
+    }
+}
+
+// The half-edges from `from` up to before stop marked; `fuel` bounds the steps in a table that is not sound.
+fn mark_run(links: &[u16], sh: Shape, fuel: usize, from: usize, stop: usize, marks: &mut [u8; 8194])
+    requires { ⌜ (from < 65536) × (length (now marks) ≡ 8194) ⌝ }
+    ensures { λ _. ⌜ now (marks .exit) ≡ markRun sh fuel (now (links .entry)) from stop (now (marks .entry)) ⌝ }
+{
+    let mut k = from;
+    let mut left = fuel;
+    while left > 0 {
+        if k == stop {
+            return;
+        }
+        put_mark(marks, k);
+        k = next_of(links, sh, k);
+        left -= 1;
+    }
+}
+
+// Half-edge k is one of 1 to n, and its mate is not marked.
+fn is_unpaired(n: usize, marks: &[u8; 8194], k: usize) -> bool
+    requires { ⌜ (n ≤ 8192) × (k < 65536) ⌝ }
+    ensures { λ r. ⌜ r ≡ unpaired n (now (marks .entry)) k ⌝ }
+{
+    if (k < 1) | (k > n) {
+        return false;
+    }
+    let m = mate_of(k);
+    marks[m] == 0
+}
+
+// Some half-edge from `from` up to before stop is so.
+fn any_unpaired(
+    links: &[u16],
+    sh: Shape,
+    n: usize,
+    from: usize,
+    stop: usize,
+    marks: &[u8; 8194],
+) -> bool
+    requires { ⌜ (from < 65536) × (n ≤ 8192) ⌝ }
+    ensures { λ r. ⌜ r ≡ anyUnpaired sh n n (now (links .entry)) from stop (now (marks .entry)) ⌝ }
+{
+    let mut k = from;
+    let mut left = n;
+    while left > 0 {
+        if k == stop {
+            return false;
+        }
+        let found = is_unpaired(n, marks, k);
+        if found {
+            return true;
+        }
+        k = next_of(links, sh, k);
+        left -= 1;
+    }
+    false
+}
+
+// Some edge has exactly one half between k and its mate.
+pub fn crossed(links: &[u16], sh: Shape, k: usize) -> bool
+    requires { ⌜ (Small sh) × (k < 65536) ⌝ }
+    ensures { λ r. ⌜ r ≡ inversion.crossed sh (now (links .entry)) k ⌝ }
+{
+    let mut marks = [0u8; 8194];
+    let from = next_of(links, sh, k);
+    let stop = mate_of(k);
+    let n = 2 * sh.edges as usize;
+    mark_run(links, sh, n, from, stop, &mut marks);
+    any_unpaired(links, sh, n, from, stop, &marks)
+}
