@@ -3,7 +3,7 @@ use Rattle.exec.proofs.effects.join_edges.Statement.{statement}
 use Rattle.exec.proofs.effects.join_edges.Tie as tie
 use Rattle.exec.proofs.effects.join_edges.Reads as reads
 use Rattle.exec.proofs.effects.join_edges.Lts as lts
-use Rattle.edges.proofs.semv_jekv.jekv_links.Reads as jekv-links-reads
+use Rattle.edges_splits.proofs.semv_jekv.jekv_links.Reads as jekv-links-reads
 use Rattle.layout.proofs.columns.next_of.Reads as next-of-reads
 
 -- src/effects.rt:65:9

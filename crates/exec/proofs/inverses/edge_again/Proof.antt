@@ -3,7 +3,7 @@ use Rattle.exec.proofs.inverses.edge_again.Statement.{statement}
 use Rattle.exec.proofs.inverses.edge_again.Tie as tie
 use Rattle.exec.proofs.inverses.edge_again.Reads as reads
 use Rattle.exec.proofs.inverses.edge_again.Lts as lts
-use Rattle.edges.proofs.mef_kef.mef_inverse.Reads as mef-inverse-reads
+use Rattle.edges_cuts.proofs.mef_kef.mef_inverse.Reads as mef-inverse-reads
 use Rattle.euler.proofs.records.half_by.Reads as half-by-reads
 use Rattle.layout.proofs.mates.mate_of.Reads as mate-of-reads
 

@@ -3,7 +3,7 @@ use Rattle.exec.proofs.inverses.vertex_again.Statement.{statement}
 use Rattle.exec.proofs.inverses.vertex_again.Tie as tie
 use Rattle.exec.proofs.inverses.vertex_again.Reads as reads
 use Rattle.exec.proofs.inverses.vertex_again.Lts as lts
-use Rattle.edges.proofs.semv_jekv.jekv_inverse.Reads as jekv-inverse-reads
+use Rattle.edges_splits.proofs.semv_jekv.jekv_inverse.Reads as jekv-inverse-reads
 use Rattle.layout.proofs.columns.next_of.Reads as next-of-reads
 
 -- src/inverses.rt:40:9
