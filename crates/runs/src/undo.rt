@@ -6,7 +6,7 @@ ghost use Rattle.runs.specs.Run.{state, restores, undoFrom, undoOf};
 use crate::run::enter;
 use crate::steps::admit_read;
 use crate::steps::limits_of;
-use exec::effects::perform;
+use exec_effects::effects::perform;
 use layout::shape::Shape;
 use layout::shape::shape_of;
 use script::read_within;

@@ -4,7 +4,7 @@ use Rattle.runs.proofs.steps.admit_read.Statement.{statement}
 use Rattle.runs.proofs.steps.admit_read.Tie as tie
 use Rattle.runs.proofs.steps.admit_read.Reads as reads
 use Rattle.runs.proofs.steps.admit_read.Lts as lts
-use Rattle.exec.proofs.admit.admit.Reads as admit-reads
+use Rattle.exec_admit.proofs.admit.admit.Reads as admit-reads
 
 -- src/steps.rt:53:9
 returns : tie.Need-returns

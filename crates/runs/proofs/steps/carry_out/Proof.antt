@@ -4,9 +4,9 @@ use Rattle.runs.proofs.steps.carry_out.Statement.{statement}
 use Rattle.runs.proofs.steps.carry_out.Tie as tie
 use Rattle.runs.proofs.steps.carry_out.Reads as reads
 use Rattle.runs.proofs.steps.carry_out.Lts as lts
-use Rattle.exec.proofs.admit.admit.Reads as admit-reads
-use Rattle.exec.proofs.effects.perform.Reads as perform-reads
-use Rattle.exec.proofs.inverses.inverse_of.Reads as inverse-of-reads
+use Rattle.exec_admit.proofs.admit.admit.Reads as admit-reads
+use Rattle.exec_effects.proofs.effects.perform.Reads as perform-reads
+use Rattle.exec_inverses.proofs.inverses.inverse_of.Reads as inverse-of-reads
 use Rattle.script.proofs.operator_size.Reads as operator-size-reads
 use Rattle.script.proofs.put_operator.Reads as put-operator-reads
 

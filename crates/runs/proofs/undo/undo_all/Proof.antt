@@ -9,7 +9,7 @@ use Rattle.runs.proofs.undo.undo_all.Statement.{statement}
 use Rattle.runs.proofs.undo.undo_all.Tie as tie
 use Rattle.runs.proofs.undo.undo_all.Reads as reads
 use Rattle.runs.proofs.undo.undo_all.Lts as lts
-use Rattle.exec.proofs.effects.perform.Reads as perform-reads
+use Rattle.exec_effects.proofs.effects.perform.Reads as perform-reads
 use Rattle.runs.proofs.steps.admit_read.Reads as admit-read-reads
 use Rattle.runs.proofs.steps.limits_of.Reads as limits-of-reads
 use Rattle.script.proofs.read_within.Reads as read-within-reads

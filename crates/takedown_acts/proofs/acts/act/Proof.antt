@@ -5,8 +5,8 @@ use Rattle.takedown_acts.proofs.acts.act.Statement.{statement}
 use Rattle.takedown_acts.proofs.acts.act.Tie as tie
 use Rattle.takedown_acts.proofs.acts.act.Reads as reads
 use Rattle.takedown_acts.proofs.acts.act.Lts as lts
-use Rattle.exec.proofs.effects.perform.Reads as perform-reads
-use Rattle.exec.proofs.inverses.inverse_of.Reads as inverse-of-reads
+use Rattle.exec_effects.proofs.effects.perform.Reads as perform-reads
+use Rattle.exec_inverses.proofs.inverses.inverse_of.Reads as inverse-of-reads
 use Rattle.script.proofs.operator_size.Reads as operator-size-reads
 use Rattle.script.proofs.put_operator.Reads as put-operator-reads
 use Rattle.takedown_ends.proofs.numbers.less.Reads as less-reads

@@ -1,0 +1,45 @@
+use Rattle.euler.specs.Operators.{mekrTest}
+use borrow.Author.Needs.{needs}
+use Rattle.edges_bridges.proofs.kemr_mekr.mekr_fits.Statement.{statement}
+use Rattle.edges_bridges.proofs.kemr_mekr.mekr_fits.Tie as tie
+use Rattle.edges_bridges.proofs.kemr_mekr.mekr_fits.Reads as reads
+use Rattle.edges_bridges.proofs.kemr_mekr.mekr_fits.Lts as lts
+use Rattle.euler.proofs.faces.is_ring.Reads as is-ring-reads
+use Rattle.euler.proofs.records.is_corner.Reads as is-corner-reads
+use Rattle.layout.proofs.columns.loop_face.Reads as loop-face-reads
+
+-- src/kemr_mekr.rt:85:9
+loop-face-requires : tie.Need-loop-face-requires
+loop-face-requires c κs = search needs
+
+-- src/kemr_mekr.rt:86:9
+loop-face-requires-2 : tie.Need-loop-face-requires-2
+loop-face-requires-2 c κs = search needs
+
+-- src/kemr_mekr.rt:87:9
+is-ring-requires : tie.Need-is-ring-requires
+is-ring-requires c κs = search needs
+
+-- src/kemr_mekr.rt:88:9
+is-corner-requires : tie.Need-is-corner-requires
+is-corner-requires c κs = search needs
+
+-- src/kemr_mekr.rt:89:9
+is-corner-requires-2 : tie.Need-is-corner-requires-2
+is-corner-requires-2 c κs = search needs
+
+-- src/kemr_mekr.rt:81:1
+returns : tie.Need-returns
+unfolding mekrTest
+returns c = cc
+
+pub mekr-fits-spec : {M : Type 1} → statement M
+mekr-fits-spec =
+    tie.close
+    (tie.spec
+    loop-face-requires
+    loop-face-requires-2
+    is-ring-requires
+    is-corner-requires
+    is-corner-requires-2
+    returns)

@@ -1,0 +1,22 @@
+use borrow.Author.Needs.{needs}
+use Rattle.edges_spurs.proofs.mev_kev.mev_inverse.Statement.{statement}
+use Rattle.edges_spurs.proofs.mev_kev.mev_inverse.Tie as tie
+use Rattle.edges_spurs.proofs.mev_kev.mev_inverse.Reads as reads
+use Rattle.edges_spurs.proofs.mev_kev.mev_inverse.Lts as lts
+use Rattle.script.proofs.blank.Reads as blank-reads
+use Rattle.script.proofs.with_number.Reads as with-number-reads
+
+-- src/mev_kev.rt:62:17
+blank-requires : tie.Need-blank-requires
+blank-requires c κs = search needs
+
+-- src/mev_kev.rt:62:5
+with-number-requires : tie.Need-with-number-requires
+with-number-requires c κs = search needs
+
+-- src/mev_kev.rt:58:1
+returns : tie.Need-returns
+returns c = cc
+
+pub mev-inverse-spec : {M : Type 1} → statement M
+mev-inverse-spec = tie.close (tie.spec blank-requires with-number-requires returns)

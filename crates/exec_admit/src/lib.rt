@@ -1,0 +1,3 @@
+// One operator on a table: its refusal. This only reads, so that a refused operator changes nothing.
+pub mod admit;
+pub mod conditions;

@@ -1,0 +1,28 @@
+use borrow.Author.Needs.{needs}
+use Rattle.exec_inverses.proofs.inverses.edge_again.Statement.{statement}
+use Rattle.exec_inverses.proofs.inverses.edge_again.Tie as tie
+use Rattle.exec_inverses.proofs.inverses.edge_again.Reads as reads
+use Rattle.exec_inverses.proofs.inverses.edge_again.Lts as lts
+use Rattle.edges_cuts.proofs.mef_kef.mef_inverse.Reads as mef-inverse-reads
+use Rattle.euler.proofs.records.half_by.Reads as half-by-reads
+use Rattle.layout.proofs.mates.mate_of.Reads as mate-of-reads
+
+-- src/inverses.rt:49:9
+half-by-requires : tie.Need-half-by-requires
+half-by-requires c κs = search needs
+
+-- src/inverses.rt:50:9
+mate-of-requires : tie.Need-mate-of-requires
+mate-of-requires c κs = search needs
+
+-- src/inverses.rt:51:5
+mef-inverse-requires : tie.Need-mef-inverse-requires
+mef-inverse-requires c κs = search needs
+
+-- src/inverses.rt:45:1
+returns : tie.Need-returns
+returns c = cc
+
+pub edge-again-spec : {M : Type 1} → statement M
+edge-again-spec =
+    tie.close (tie.spec half-by-requires mate-of-requires mef-inverse-requires returns)
