@@ -1,6 +1,7 @@
 -- What each function of this crate computes step by step is what the operator's definition says: one premise for each call.
 use mathlib.Core.Path.{_≡_}
 use Prim.Native.Nat.{ℕ}
+use mathlib.Core.Bool.{Bool, not, _&&_}
 use mathlib.Core.List.{List}
 use lib.Dec.{eqb}
 use Rattle.laws.specs.Bools.{pick}
@@ -10,8 +11,8 @@ use Rattle.layout.specs.declared.shape.Shape.{Shape}
 use Rattle.layout.specs.Layout.{loopFace, loopFirst, prevOf}
 use Rattle.layout.specs.Mate.{mate, edgeOf}
 use Rattle.euler.specs.declared.records.Half.{Half}
-use Rattle.euler.specs.Surgery.{wayOf, cornerVertex, putLoop, edgeIn, edgeOut, relabelRun, lower, renew}
-use Rattle.euler.specs.Operators.{kemrLinks, kemrInverse, mekrEdge, mekrLinks}
+use Rattle.euler.specs.Surgery.{wayOf, corner, cornerVertex, putLoop, edgeIn, edgeOut, relabelRun, lower, renew}
+use Rattle.euler.specs.Operators.{isRing, kemrLinks, kemrInverse, mekrTest, mekrEdge, mekrLinks}
 use Rattle.edges.specs.Parts.{IsHalf, withThree}
 
 pub kemr-steps : (sh : Shape) (x : List ℕ) (k l2 : ℕ) {m f ring rest low : ℕ} {a b : Half} {x1 x2 x3 x4 x5 : List ℕ}
@@ -31,6 +32,12 @@ pub kemr-undone : (sh : Shape) (x : List ℕ) (k l2 : ℕ) {m h1 h2 e w : ℕ} {
     → r ≡ kemrInverse sh x k l2
 unfolding withThree
 kemr-undone sh x k l2 em ha hb eh1 eh2 ee ew e1 e2 e3 = rw (e3, e2, e1, eh1, eh2, ee, ew, ha .owner, ha .next, hb .next, em)
+
+pub mekr-tests : (sh : Shape) (x : List ℕ) (l h1 l2 h2 : ℕ) {f g : ℕ} {ring first second : Bool}
+    → f ≡ loopFace sh x l → g ≡ loopFace sh x l2 → ring ≡ isRing sh x l2 → first ≡ corner sh x l h1 → second ≡ corner sh x l2 h2
+    → ((((not (eqb l l2) && eqb f g) && ring) && first) && second) ≡ mekrTest sh x l h1 l2 h2
+unfolding mekrTest
+mekr-tests sh x l h1 l2 h2 ef eg er e1 e2 = rw (e2, e1, er, eg, ef)
 
 pub mekr-edge-steps : (sh : Shape) (x : List ℕ) (l h1 l2 h2 k : ℕ) {m u v p q n1 p1 n2 p2 : ℕ} {x1 : List ℕ}
     → m ≡ mate k → u ≡ cornerVertex sh x l h1 → v ≡ cornerVertex sh x l2 h2 → p ≡ prevOf sh x h1 → q ≡ prevOf sh x h2

@@ -1,15 +1,17 @@
 -- What each function of this crate computes step by step is what the operator's definition says: one premise for each call.
 use mathlib.Core.Path.{_≡_}
 use Prim.Native.Nat.{ℕ}
+use mathlib.Core.Bool.{not, _&&_}
 use mathlib.Core.List.{List}
+use lib.Dec.{eqb}
 use lib.IntN.{ℤ}
 use Rattle.script.specs.declared.Operator.{Operator}
 use Rattle.script.specs.Operator.{blankOf, withNumber}
 use Rattle.layout.specs.declared.shape.Shape.{Shape}
-use Rattle.layout.specs.Layout.{loopFirst, startOf, loopOf, prevOf, setStart, setVertexUsed}
+use Rattle.layout.specs.Layout.{loopFirst, startOf, loopOf, nextOf, prevOf, setStart, setVertexUsed}
 use Rattle.layout.specs.Mate.{mate, edgeOf}
 use Rattle.euler.specs.Surgery.{wayOf, withPoint, lower}
-use Rattle.euler.specs.Operators.{insertAfter, semvLinks, jekvLinks, jekvInverse}
+use Rattle.euler.specs.Operators.{insertAfter, semvLinks, jekvTest, jekvLinks, jekvInverse}
 use Rattle.edges.specs.Parts.{withThree, renewSides, clearEdge}
 use Rattle.edges_splits.specs.Parts.{joinHalves}
 
@@ -21,6 +23,12 @@ pub semv-steps : (sh : Shape) (x : List ℕ) (k n v : ℕ) {m t l o u p f g w lo
     → x5 ≡ semvLinks sh x k n v
 unfolding semvLinks renewSides
 semv-steps sh x k n v em et el eo eu ef eg ew ea eb e1 ep e2 e3 e4 e5 = rw (e5, e4, e3, e2, ep, e1, ea, eb, ef, eg, ew, el, eo, eu, et, em)
+
+pub jekv-tests : (sh : Shape) (x : List ℕ) (k : ℕ) {n km nm back e f : ℕ}
+    → n ≡ nextOf sh x k → km ≡ mate k → nm ≡ mate n → back ≡ nextOf sh x nm → e ≡ edgeOf k → f ≡ edgeOf n
+    → (not (eqb f e) && eqb back km) ≡ jekvTest sh x k
+unfolding jekvTest
+jekv-tests sh x k en ekm enm eb ee ef = rw (ef, ee, eb, enm, ekm, en)
 
 pub jekv-steps : (sh : Shape) (x : List ℕ) (k n : ℕ) {m l o v f g : ℕ} {x1 x2 x3 x4 : List ℕ}
     → m ≡ mate k → l ≡ loopOf sh x k → o ≡ loopOf sh x m → v ≡ startOf sh x n → f ≡ loopFirst sh x l → g ≡ loopFirst sh x o

@@ -9,10 +9,15 @@ use Rattle.script.specs.declared.Operator.{Operator}
 use Rattle.script.specs.Operator.{blankOf}
 use Rattle.script.specs.OperandLaws.{NoneOf}
 use Rattle.layout.specs.declared.shape.Shape.{Shape}
+use Rattle.layout.specs.Mate.{mate}
 use Rattle.euler.specs.ByCode.{by-code, by-none}
-use Rattle.euler.specs.Surgery.{itemOf}
-use Rattle.euler.specs.Operators.{faceIn, kvsfInverse}
+use Rattle.euler.specs.Surgery.{itemOf, halfBy}
+use Rattle.euler.specs.Operators.{faceIn, kvsfInverse, mefInverse}
 use Rattle.euler.specs.Exec.{onlyLoop, onlyVertex, inverses, inverse}
+
+-- mef is undone from the mate of its half-edge
+pub mef-undone : (e w : ℕ) {a b : ℕ} {r : Operator} → a ≡ halfBy e w → b ≡ mate a → r ≡ mefInverse b → r ≡ mefInverse (mate (halfBy e w))
+mef-undone e w ea eb er = rw (er, eb, ea)
 
 module _ (sh : Shape) (x : List ℕ) (o : Operator) where
   pub inverse-at : (p : List ℤ) (k : ℕ) (v r : Operator) → o .code ≡ k → getD (inverses sh x p (itemOf o)) k (blankOf 0 0) ≡ v → r ≡ v → r ≡ inverse sh x p o

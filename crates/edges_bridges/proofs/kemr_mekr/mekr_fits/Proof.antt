@@ -1,4 +1,4 @@
-use Rattle.euler.specs.Operators.{mekrTest}
+use Rattle.edges_bridges.specs.StepLaws.{mekr-tests}
 use borrow.Author.Needs.{needs}
 use Rattle.edges_bridges.proofs.kemr_mekr.mekr_fits.Statement.{statement}
 use Rattle.edges_bridges.proofs.kemr_mekr.mekr_fits.Tie as tie
@@ -30,8 +30,7 @@ is-corner-requires-2 c κs = search needs
 
 -- src/kemr_mekr.rt:81:1
 returns : tie.Need-returns
-unfolding mekrTest
-returns c = cc
+returns c = mekr-tests _ _ _ _ _ _ (c .before .before .before .before .loop-face .ensures .0) (c .before .before .before .loop-face2 .ensures .0) (c .before .before .is-ring .ensures) (c .before .is-corner .ensures) (c .is-corner2 .ensures)
 
 pub mekr-fits-spec : {M : Type 1} → statement M
 mekr-fits-spec =

@@ -1,4 +1,4 @@
-use Rattle.euler.specs.Operators.{jekvTest}
+use Rattle.edges_splits.specs.StepLaws.{jekv-tests}
 use borrow.Author.Needs.{needs}
 use Rattle.edges_splits.proofs.semv_jekv.jekv_fits.Statement.{statement}
 use Rattle.edges_splits.proofs.semv_jekv.jekv_fits.Tie as tie
@@ -34,8 +34,7 @@ edge-of-requires-2 c κs = search needs
 
 -- src/semv_jekv.rt:68:1
 returns : tie.Need-returns
-unfolding jekvTest
-returns c = cc
+returns c = jekv-tests _ _ _ (c .before .before .before .before .before .next-of .ensures .0) (c .before .before .before .before .mate-of .ensures .0) (c .before .before .before .mate-of2 .ensures .0) (c .before .before .next-of2 .ensures .0) (c .before .edge-of .ensures .0) (c .edge-of2 .ensures .0)
 
 pub jekv-fits-spec : {M : Type 1} → statement M
 jekv-fits-spec =

@@ -1,3 +1,4 @@
+use Rattle.exec_inverses.specs.Chosen.{mef-undone}
 use borrow.Author.Needs.{needs}
 use Rattle.exec_inverses.proofs.inverses.edge_again.Statement.{statement}
 use Rattle.exec_inverses.proofs.inverses.edge_again.Tie as tie
@@ -21,7 +22,7 @@ mef-inverse-requires c κs = search needs
 
 -- src/inverses.rt:45:1
 returns : tie.Need-returns
-returns c = cc
+returns c = mef-undone (c .before .before .before .args .e) (c .before .before .before .args .w) (c .before .before .half-by .ensures .0) (c .before .mate-of .ensures .0) (c .mef-inverse .ensures)
 
 pub edge-again-spec : {M : Type 1} → statement M
 edge-again-spec =
