@@ -8,7 +8,8 @@
 #include "digest.h"
 #include "zoghvari.h"
 
-enum { N = 8, LINKS = 5 + N + 2 * N + 3 * N + 8 * N + N, POINTS = 3 * N, LOG = 256, SCRIPT = 128 };
+enum { N = 8, LOG = 256, SCRIPT = 128 };
+enum { LINKS = ZOGHVARI_LINKS_LENGTH(N, N, N, N, N), POINTS = ZOGHVARI_POINTS_LENGTH(N) };
 
 static uint16_t links[LINKS];
 static int32_t points[POINTS];

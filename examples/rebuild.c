@@ -12,7 +12,8 @@
 #include "zoghvari.h"
 
 /* The log has room for the inverses of whatever SCRIPT bytes can hold, 19 for each two of them, and for a take-down. */
-enum { N = 64, LINKS = 5 + N + 2 * N + 3 * N + 8 * N + N, POINTS = 3 * N, LOG = 65536, SCRIPT = 4096 };
+enum { N = 64, LOG = 65536, SCRIPT = 4096 };
+enum { LINKS = ZOGHVARI_LINKS_LENGTH(N, N, N, N, N), POINTS = ZOGHVARI_POINTS_LENGTH(N) };
 
 typedef struct {
     uint16_t links[LINKS];

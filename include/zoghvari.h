@@ -1,12 +1,32 @@
-/* The kernel for C: link libkernel.a (made by `rt staticlib kernel`). A slice is a pointer and a count of elements.
- * Every function takes any bytes whatever: it checks for itself and answers a refusal instead of asking for good input. */
+/* The kernel for C and C++: link libkernel.a (made by `rt staticlib kernel`).
+ * Every function takes any bytes whatever: it checks for itself and answers a refusal instead of asking for good input.
+ *
+ * A slice is a pointer and a count of elements; the pointer may be null where the count is 0. The slices of one call
+ * must not overlap: each function is proved for slices that share no byte; on others it may go wrong without telling.
+ * So a script that lies in a log is copied out before it is run with that log. */
 #ifndef ZOGHVARI_H
 #define ZOGHVARI_H
 
 #include <stddef.h>
 #include <stdint.h>
 
-/* An operator: code 1 to 13, how many operands it has, and the operands; coordinates are signed, unused operands are 0. */
+/* The version of this header, the library and the Rust wrapper, which are always the same (CHANGELOG.md). */
+#define ZOGHVARI_VERSION_MAJOR 0
+#define ZOGHVARI_VERSION_MINOR 2
+#define ZOGHVARI_VERSION_PATCH 0
+#define ZOGHVARI_VERSION "0.2.0"
+
+/* How many words links has, and how many numbers points has, by the capacities s, f, l, e, v (solids, faces, loops,
+ * edges, vertices). Constant where the capacities are, so that an array can be given its length by them. */
+#define ZOGHVARI_LINKS_LENGTH(s, f, l, e, v) \
+    ((size_t)5 + (size_t)(s) + 2 * (size_t)(f) + 3 * (size_t)(l) + 8 * (size_t)(e) + (size_t)(v))
+#define ZOGHVARI_POINTS_LENGTH(v) (3 * (size_t)(v))
+
+#ifdef __cplusplus
+extern "C" {
+#endif
+
+/* An operator: code 1 to 13, how many operands it has, and these; coordinates are signed, unused operands are 0. */
 typedef struct {
     uint8_t code;
     uint8_t count;
@@ -62,7 +82,8 @@ typedef struct {
 } ZoghvariInverted;
 
 /* Makes an empty table of the capacities s, f, l, e, v (solids, faces, loops, edges, vertices), each 1 to 4,096.
- * links has 5 + s + 2f + 3l + 8e + v words, points 3v numbers; of the log only its length is told. */
+ * links has ZOGHVARI_LINKS_LENGTH(s, f, l, e, v) words, points ZOGHVARI_POINTS_LENGTH(v) numbers; of the log only its
+ * length is told. */
 ZoghvariCleared zoghvari_clear(uint16_t *links, size_t links_n, int32_t *points, size_t points_n, size_t log_n,
                                uint16_t s, uint16_t f, uint16_t l, uint16_t e, uint16_t v);
 
@@ -75,18 +96,19 @@ ZoghvariCounted zoghvari_count(const uint16_t *links, size_t links_n, const int3
 /* The operator that stands at `at` in a script. */
 ZoghvariRead zoghvari_read(const uint8_t *script, size_t script_n, size_t at);
 
-/* Writes an operator, in shortest form, at the front of out. */
-ZoghvariWritten zoghvari_write(uint8_t code, uint8_t count, const int32_t *args /* eight */, uint8_t *out, size_t out_n);
+/* Writes an operator, in shortest form, at the front of out. There are always eight args; those behind count are 0. */
+ZoghvariWritten zoghvari_write(uint8_t code, uint8_t count, const int32_t *args, uint8_t *out, size_t out_n);
 
-/* Carries out a script, operator by operator, up to its end or the first refusal; what was done before a refusal stands.
+/* Carries out a script, operator by operator, up to its end or the first refusal; what was done before that stands.
  * Each operator's inverse is put into the log just before `start`, which moves down; no other log byte changes.
  * Refusals: 1 and 2 of the table and the start, 3 to 8 of the operator at script[used], 9 where the log has no room for
  * its inverse. */
 ZoghvariRan zoghvari_run(uint16_t *links, size_t links_n, int32_t *points, size_t points_n, uint8_t *log, size_t log_n,
                          size_t start, const uint8_t *script, size_t script_n);
 
-/* Takes back n operators: carries out the first n of the live log, unlogged, and moves the start up behind them. The log is
- * only read. Handed what the last run left and the sum of the done counts, it gives back every byte of links and points. */
+/* Takes back n operators: carries out the first n of the live log, unlogged, and moves the start up behind them. The
+ * log is only read. Handed what the last run left and the sum of the done counts, it gives back every byte of links and
+ * points. */
 ZoghvariUndone zoghvari_undo(uint16_t *links, size_t links_n, int32_t *points, size_t points_n, const uint8_t *log,
                              size_t log_n, size_t start, size_t n);
 
@@ -99,5 +121,9 @@ ZoghvariUndone zoghvari_undo(uint16_t *links, size_t links_n, int32_t *points, s
  * answers. There is no half-way: a refusal changes no byte. */
 ZoghvariInverted zoghvari_invert(uint16_t *links, size_t links_n, int32_t *points, size_t points_n, uint8_t *log,
                                  size_t log_n, size_t start);
+
+#ifdef __cplusplus
+}
+#endif
 
 #endif

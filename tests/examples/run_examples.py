@@ -1,8 +1,9 @@
-"""Runs what examples/ and docs/GUIDE.md show: python3 tests/examples/run_examples.py [ARCHIVE]
+"""Runs what examples/, docs/GUIDE.md and the header show: python3 tests/examples/run_examples.py [ARCHIVE]
 
 The C examples and the guide's C programs are built with the kernel's archive and run; what the take-down of the pocket
 logs is held to the model; the pocket's script is held to its source, to the model, to the solid that it is meant to be,
-and to the program where that is built. The last line is 'N passed, M failed'.
+and to the program where that is built; the header and the archive are held to what header.py says of them. The last
+line is 'N passed, M failed'.
 """
 
 import os
@@ -14,6 +15,7 @@ import tempfile
 
 ROOT = os.path.dirname(os.path.dirname(os.path.dirname(os.path.abspath(__file__))))
 sys.path[:0] = [os.path.join(ROOT, "tests", "model"), os.path.join(ROOT, "examples")]
+import header
 import library
 import pocket
 from kernel import program, run
@@ -132,8 +134,11 @@ def flat(b, face):
 
 
 def main(arguments):
-    tally, kernel = Tally(), arguments[0] if arguments else None
+    tally, kernel = Tally(), arguments[0] if arguments else library.archive()
+    header.one_version(tally)
+    header.names(tally, kernel)
     with tempfile.TemporaryDirectory() as folder:
+        header.both_languages(tally, folder, kernel)
         edit_example(tally, folder, kernel)
         rebuild_example(tally, folder, kernel)
         guide(tally, folder, kernel)

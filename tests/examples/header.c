@@ -1,0 +1,78 @@
+/* What the header says besides the functions: its macros, and that a slice of no elements may have a null pointer. Each
+ * function is called with null in every place that may have it, and has to answer what the guide says of no elements.
+ *
+ * Built as C and as C++, with the header in front: each of the two must take it by itself, and the archive's functions
+ * must be found from both. */
+#include "zoghvari.h"
+
+#include <stdio.h>
+#include <string.h>
+
+enum { LINKS = ZOGHVARI_LINKS_LENGTH(1, 2, 2, 2, 2), POINTS = ZOGHVARI_POINTS_LENGTH(2), LOG = 64 };
+
+static uint16_t links[LINKS];
+static int32_t points[POINTS];
+static uint8_t log_bytes[LOG];
+static const uint8_t solid[] = {1, 1, 1, 1, 1, 0, 0, 0}; /* mvsf 1 1 1 1 0 0 0 */
+static int wrong;
+
+static void equal(const char *what, size_t got, size_t wanted) {
+    if (got == wanted) return;
+    printf("%s: %lu, not %lu\n", what, (unsigned long)got, (unsigned long)wanted);
+    wrong = 1;
+}
+
+static void ran(const char *what, ZoghvariRan r, unsigned refusal, size_t done, size_t start) {
+    equal(what, r.refusal, refusal);
+    equal(what, r.done, done);
+    equal(what, r.start, start);
+}
+
+static void no_table(void) {
+    equal("clear without links", zoghvari_clear(NULL, 0, points, POINTS, LOG, 1, 2, 2, 2, 2).refusal, 1);
+    equal("clear without points", zoghvari_clear(links, LINKS, NULL, 0, LOG, 1, 2, 2, 2, 2).refusal, 1);
+    equal("check", zoghvari_check(NULL, 0, NULL, 0).refusal, 1);
+    equal("count", zoghvari_count(NULL, 0, NULL, 0).refusal, 1);
+    ran("run", zoghvari_run(NULL, 0, NULL, 0, NULL, 0, 0, solid, sizeof solid), 1, 0, 0);
+    equal("undo", zoghvari_undo(NULL, 0, NULL, 0, NULL, 0, 0, 1).refusal, 1);
+    equal("invert", zoghvari_invert(NULL, 0, NULL, 0, NULL, 0, 0).refusal, 1);
+}
+
+static void no_bytes(void) {
+    const int32_t args[8] = {1, 0, 0, 0, 0, 0, 0, 0};
+    equal("read", zoghvari_read(NULL, 0, 0).refusal, 3);
+    equal("write", zoghvari_write(2, 1, args, NULL, 0).refusal, 9);
+}
+
+/* A table is there; log and script are not. */
+static void no_log(void) {
+    equal("clear", zoghvari_clear(links, LINKS, points, POINTS, LOG, 1, 2, 2, 2, 2).start, LOG);
+    ran("run of nothing", zoghvari_run(links, LINKS, points, POINTS, NULL, 0, 0, NULL, 0), 0, 0, 0);
+    ran("run without a log", zoghvari_run(links, LINKS, points, POINTS, NULL, 0, 0, solid, sizeof solid), 9, 0, 0);
+    equal("invert of an empty table", zoghvari_invert(links, LINKS, points, POINTS, NULL, 0, 0).refusal, 0);
+    ran("run", zoghvari_run(links, LINKS, points, POINTS, log_bytes, LOG, LOG, solid, sizeof solid), 0, 1, LOG - 2);
+    ran("run of no script", zoghvari_run(links, LINKS, points, POINTS, log_bytes, LOG, 62, NULL, 0), 0, 0, 62);
+    equal("undo of none", zoghvari_undo(links, LINKS, points, POINTS, NULL, 0, 0, 0).refusal, 0);
+    equal("undo of one", zoghvari_undo(links, LINKS, points, POINTS, NULL, 0, 0, 1).refusal, 11);
+    equal("invert without a log", zoghvari_invert(links, LINKS, points, POINTS, NULL, 0, 0).refusal, 9);
+    equal("the solid stands", zoghvari_count(links, LINKS, points, POINTS).solids, 1);
+}
+
+/* The version in parts and in whole, and the lengths of a table of the largest capacities, from words too. */
+static void macros(void) {
+    char version[32];
+    const uint16_t most = 4096;
+    sprintf(version, "%d.%d.%d", ZOGHVARI_VERSION_MAJOR, ZOGHVARI_VERSION_MINOR, ZOGHVARI_VERSION_PATCH);
+    equal("the version's parts", strcmp(version, ZOGHVARI_VERSION) == 0, 1);
+    equal("words of links", ZOGHVARI_LINKS_LENGTH(most, most, most, most, most), 61445);
+    equal("words of links, none alike", ZOGHVARI_LINKS_LENGTH(1, 10, 100, 1000, 1 + 1), 8328);
+    equal("numbers of points", ZOGHVARI_POINTS_LENGTH(most - 1), 12285);
+}
+
+int main(void) {
+    no_table();
+    no_bytes();
+    no_log();
+    macros();
+    return wrong;
+}
