@@ -16,7 +16,8 @@ pub enum Cause {
 /// Why a call was refused.
 #[derive(Clone, Copy, Debug, PartialEq, Eq)]
 pub enum Refusal {
-    /// 1: a capacity or length is wrong, or the log's start lies beyond the log.
+    /// 1: a capacity or length is wrong, or the log's start lies beyond the log; of [`Table::new`](crate::Table::new) also
+    /// that there is no memory for so long a log.
     Lengths,
     /// 2: the table is not sound; the lowest broken rule, 1 to 6.
     Unsound { rule: u8 },

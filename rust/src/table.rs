@@ -91,10 +91,14 @@ pub struct Table {
 }
 
 impl Table {
-    /// An empty table with a log of so many bytes. Refusal 1.
+    /// An empty table with a log of so many bytes. Refusal 1, also for a log that there is no memory for: its length comes
+    /// from the caller, and may be any number.
     pub fn new(capacities: Capacities, log_length: usize) -> Result<Table, Refusal> {
         let (links, points) = (vec![0; capacities.links_length()], vec![0; capacities.points_length()]);
-        let mut table = Table { links, points, log: vec![0; log_length], start: log_length };
+        let mut log = Vec::new();
+        log.try_reserve_exact(log_length).map_err(|_| Refusal::Lengths)?;
+        log.resize(log_length, 0);
+        let mut table = Table { links, points, log, start: log_length };
         table.clear(capacities)?;
         Ok(table)
     }

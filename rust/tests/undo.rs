@@ -2,7 +2,7 @@
 
 mod common;
 
-use common::{after, empty, live, B, C, D, LOG};
+use common::{after, empty, live, B, C, D, LOG, SMALL};
 use zoghvari::{Cause, Ran, Refusal, Table, Undone};
 
 /// FF begins a number that goes on, and the script ends there: refusal 3. The operators before it stand.
@@ -81,4 +81,14 @@ fn memory_that_is_wrong_is_refused() {
     let held = bent.clone();
     assert_eq!((bent.run(&C).refusal, bent.undo(1).refusal), (Some(rule_2), Some(rule_2)));
     assert_eq!((bent, rule_2.number(), rule_2.cause()), (held, 2, Cause::Lender));
+}
+
+#[test]
+fn a_log_that_cannot_be_had_is_a_wrong_length() {
+    // The first is more than any vector may have, the second more than a machine has addresses for.
+    for length in [usize::MAX, isize::MAX as usize] {
+        assert_eq!(Table::new(SMALL, length).unwrap_err(), Refusal::Lengths);
+    }
+    let table = Table::new(SMALL, 100_000).unwrap();
+    assert_eq!((table.log(), table.start()), (&[0; 100_000][..], 100_000));
 }
