@@ -19,6 +19,7 @@ def steps():
     found = [
         ("crates are listed", ["tests/gate/listed.py", "."]),
         ("theorems are where the table says", ["tests/gate/theorems.py", "."]),
+        ("names are where the architecture says", ["tests/gate/architecture.py", "."]),
         ("the gate itself", ["tests/gate/test_gate.py"]),
         ("model", ["tests/model/test_model.py"]),
         ("rows of the examples", ["tests/model/rows.py", "--check"]),

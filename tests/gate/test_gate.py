@@ -1,10 +1,11 @@
-"""The gate refuses what it must refuse: an unlisted crate, a theorem that is not where the table says, a failed step, a
-step that tested nothing or was cut short."""
+"""The gate refuses what it must refuse: an unlisted crate, a theorem that is not where the table says, a name that is
+not where the architecture says, a failed step, a step that tested nothing or was cut short."""
 import os
 import sys
 import tempfile
 
 sys.path.insert(0, os.path.dirname(os.path.abspath(__file__)))
+import architecture
 import gate
 import listed
 import theorems
@@ -39,6 +40,16 @@ def table_faults(name, path):
         return theorems.faults(folder)[1]
 
 
+def text_faults(text):
+    """What is wrong with this text as the architecture, by a repository with the file specs/A.antt."""
+    with tempfile.TemporaryDirectory() as folder:
+        for name, content in (("specs/A.antt", SPEC), (architecture.TEXT, text)):
+            os.makedirs(os.path.dirname(os.path.join(folder, name)), exist_ok=True)
+            with open(os.path.join(folder, name), "w", encoding="utf-8") as f:
+                f.write(content)
+        return architecture.faults(folder)[1]
+
+
 ROOT = os.path.dirname(os.path.dirname(os.path.dirname(os.path.abspath(__file__))))
 
 CASES = [
@@ -57,6 +68,17 @@ CASES = [
     ("a private helper is no theorem", lambda: len(table_faults("`hidden`", "`A.antt`")) == 1),
     ("a missing file fails", lambda: len(table_faults("an edit", "`B.edit`")) == 1),
     ("a row without a file fails", lambda: len(table_faults("`proved`", "A.antt")) == 1),
+    ("a name before its file passes", lambda: text_faults("`proved` in\n`specs/A.antt`.\n\nAgain `proved`.\n") == []),
+    ("a name that its file lacks fails", lambda: text_faults("One.\n\n1. `proven` in\n   `specs/A.antt`.\n")
+     == ["docs/ARCHITECTURE.md:3: proven is not defined in specs/A.antt"]),
+    ("a name without a file fails", lambda: text_faults("- `proved`\n- `hidden`, `specs/A.antt`\n")
+     == ["docs/ARCHITECTURE.md:1: proved comes without its file",
+         "docs/ARCHITECTURE.md:2: hidden is not defined in specs/A.antt"]),
+    ("a name beside another file than its own fails", lambda: len(text_faults(
+        "`proved` in `specs/A.antt`.\n\n`proved` in `docs/ARCHITECTURE.md`.\n")) == 1),
+    ("a file that the architecture invents fails", lambda: text_faults("See `specs/B.antt`.\n")
+     == ["docs/ARCHITECTURE.md:1: there is no specs/B.antt"]),
+    ("a picture is not looked at", lambda: text_faults("```text\n`proven`\n```\n") == []),
     ("a good step counts", lambda: gate.judge(0, "ok\n3 passed, 0 failed\n") == (3, 0)),
     ("a failed test fails the step", lambda: gate.judge(1, "2 passed, 1 failed\n") == (2, 1)),
     ("a bad exit status fails the step", lambda: gate.judge(1, "3 passed, 0 failed\n") == (3, 1)),
