@@ -152,20 +152,17 @@ static void round_of_peer(Bench *b, int system) {
     add(&b->seconds[system][UNDO], shortest.undo);
 }
 
-/* All systems in turn, size by size, round by round, so that a slow moment of the machine falls on all of them. */
-static void measure(Bench *b) {
-    for (int i = 0; i < ROUNDS * SIZES; i++) {
-        Bench *one = &b[i % SIZES];
-        round_of(one, RUN, load_before, library_run_pass, twin_run_pass);
-        round_of(one, UNDO, load_after, library_undo_pass, twin_undo_pass);
-        for (int system = CGAL; system < SYSTEMS; system++)
-            if (one->peer[system]) round_of_peer(one, system);
-    }
-    for (int i = 0; i < SIZES * SYSTEMS * 2; i++) {
-        Bench *one = &b[i / (SYSTEMS * 2)];
-        int system = i / 2 % SYSTEMS, direction = i % 2;
-        one->ns[system][direction] = 1e9 * median(&one->seconds[system][direction]);
-    }
+static void round_of_all(Bench *b) {
+    round_of(b, RUN, load_before, library_run_pass, twin_run_pass);
+    round_of(b, UNDO, load_after, library_undo_pass, twin_undo_pass);
+    for (int system = CGAL; system < SYSTEMS; system++)
+        if (b->peer[system]) round_of_peer(b, system);
+}
+
+static void take_medians(Bench *b) {
+    for (int system = LIBRARY; system < SYSTEMS; system++)
+        for (int direction = RUN; direction <= UNDO; direction++)
+            b->ns[system][direction] = 1e9 * median(&b->seconds[system][direction]);
 }
 
 static void print_cell(int wide, int places, double x) {
@@ -186,7 +183,6 @@ static void print_row(const Bench *b, const Bench *above) {
     printf(" |");
     print_direction(b, above, UNDO);
     printf("\n");
-    fflush(stdout);
 }
 
 static void print_head(void) {
@@ -195,6 +191,7 @@ static void print_head(void) {
            "growth: exponent of that time against the size, from the size above; /twin, /CGAL, /OMesh: times theirs\n"
            "%-31s |%-40s |%s\n", "", " run", " undo");
     printf("%-19s %5s %5s |%s |%s\n", "workload", "size", "ops", columns, columns);
+    fflush(stdout);
 }
 
 static void write_figures(FILE *f, const Bench *b) {
@@ -210,15 +207,24 @@ static void write_figures(FILE *f, const Bench *b) {
     }
 }
 
-static void bench_kind(const WorkloadKind *kind, FILE *figures) {
-    Bench b[SIZES];
-    for (int i = 0; i < SIZES; i++) b[i] = open_bench(kind, i);
-    measure(b);
-    for (int i = 0; i < SIZES; i++) {
-        print_row(&b[i], i ? &b[i - 1] : NULL);
+/* Opens the workloads with this word in their name, three sizes each; how many benches that are. */
+static int open_all(Bench *b, const char *word) {
+    int n = 0;
+    for (size_t i = 0; i < workload_kinds_n; i++)
+        for (int size = 0; size < SIZES && strstr(workload_kinds[i].name, word); size++)
+            b[n++] = open_bench(&workload_kinds[i], size);
+    return n;
+}
+
+/* All rows in turn, round by round, so that a slow moment of the machine falls on none of them alone. */
+static void bench_all(Bench *b, int n, FILE *figures) {
+    for (int i = 0; i < ROUNDS * n; i++) round_of_all(&b[i % n]);
+    for (int i = 0; i < n; i++) {
+        take_medians(&b[i]);
+        print_row(&b[i], i % SIZES ? &b[i - 1] : NULL);
         if (figures) write_figures(figures, &b[i]);
-        close_bench(&b[i]);
     }
+    for (int i = 0; i < n; i++) close_bench(&b[i]);
 }
 
 typedef struct {
@@ -246,8 +252,10 @@ int main(int argc, char **argv) {
     const char *columns = "workload,unit,size,operators,direction,library_ns,twin_ns,cgal_ns,openmesh_ns";
     if (o.figures) fprintf(o.figures, "%s\n", columns);
     print_head();
-    for (size_t i = 0; i < workload_kinds_n; i++)
-        if (strstr(workload_kinds[i].name, o.word)) bench_kind(&workload_kinds[i], o.figures);
+    Bench *b = calloc(workload_kinds_n * SIZES, sizeof *b);
+    must(b != NULL, "operators", 0, "no memory");
+    bench_all(b, open_all(b, o.word), o.figures);
+    free(b);
     if (o.figures && fclose(o.figures)) {
         perror("figures");
         return 2;
