@@ -15,22 +15,22 @@ typedef struct {
     Records t;
     OperandKind kinds[KINDS];
     Counts counts;
-} Session;
+} State;
 
-static void open_session(Session *s, Records t) {
+static void open_state(State *s, Records t) {
     s->t = t;
     twin_kinds(&t, s->kinds);
     twin_count(&t, &s->counts);
 }
 
 /* The operator at *at, which moves behind it, where it may be carried out; otherwise the refusal. */
-static inline unsigned admit(const Session *s, const uint8_t **at, const uint8_t *end, Operator *o) {
+static inline unsigned admit(const State *s, const uint8_t **at, const uint8_t *end, Operator *o) {
     unsigned refusal = twin_read(&s->t, s->kinds, at, end, o);
     if (refusal) return refusal;
     return twin_fits(&s->t, &s->counts, o) ? 0 : 8;
 }
 
-static inline void carry_out(Session *s, const Operator *o) {
+static inline void carry_out(State *s, const Operator *o) {
     twin_recount(&s->t, &s->counts, o);
     twin_effect(&s->t, o->code, o->args);
     if (o->code == MFKRH && o->args[2]) twin_count(&s->t, &s->counts); /* a solid was divided */
@@ -52,8 +52,8 @@ static inline void write_inverse(const Inverse *o, uint8_t *at) {
 }
 
 TwinRan twin_run(Records t, uint8_t *log, size_t start, const uint8_t *script, size_t script_n) {
-    Session s;
-    open_session(&s, t);
+    State s;
+    open_state(&s, t);
     TwinRan r = {0, 0, 0, start};
     const uint8_t *end = script + script_n;
     for (const uint8_t *at = script; at < end; r.used = (size_t)(at - script)) {
@@ -74,8 +74,8 @@ TwinRan twin_run(Records t, uint8_t *log, size_t start, const uint8_t *script, s
 }
 
 TwinRan twin_undo(Records t, const uint8_t *log, size_t log_n, size_t start, size_t n) {
-    Session s;
-    open_session(&s, t);
+    State s;
+    open_state(&s, t);
     TwinRan r = {0, 0, 0, start};
     const uint8_t *end = log + log_n;
     for (const uint8_t *at = log + start; r.done < n; r.start = (size_t)(at - log)) {
