@@ -1,9 +1,9 @@
 /* What the take-down costs, on several shapes of about 64, 512 and 4,096 edges, beside running the script that it logs.
  *
- *   invert [-t SECONDS] [-e EDGES] [-s SHAPE]
+ *   invert [-t SECONDS] [-e EDGES] [-w WORD]
  *     -t  how long one take-down may last, 10 unless said; a row where it lasts longer stays empty
  *     -e  only tables of at most so many edges (solids, where there is no edge)
- *     -s  only shapes with this word in their name
+ *     -w  only shapes with this word in their name
  *
  * No row is timed before the take-down has emptied its table and its script has built it again to the byte. */
 #include <math.h>
@@ -16,6 +16,7 @@
 
 #include "shapes.h"
 #include "table.h"
+#include "timing.h"
 #include "zoghvari.h"
 
 typedef struct {
@@ -34,8 +35,7 @@ static const Row rows[] = {
 };
 static const uint16_t caps[3] = {64, 512, 4096};
 
-enum { ROUNDS = 6 };
-static const double ROUND_SECONDS = 0.05; /* for one size; a pass at least */
+static const double ROUND_SECONDS = 0.03; /* for one size; a pass at least */
 
 typedef struct {
     double invert, run; /* seconds, the shortest pass; infinite before the first */
@@ -54,12 +54,6 @@ typedef struct {
     size_t log_n;
     Figures best;
 } Bench;
-
-static void must(int ok, const char *name, unsigned n, const char *otherwise) {
-    if (ok) return;
-    fprintf(stderr, "%s, size %u: %s\n", name, n, otherwise);
-    exit(1);
-}
 
 static Bench open_bench(const char *name, unsigned n, Shape s) {
     const Table *t = &s.table;
@@ -154,15 +148,11 @@ static int measure(Bench *b, int n, unsigned limit) {
 
 typedef struct {
     unsigned limit, edges;
-    const char *shape;
+    const char *word;
 } Options;
 
 /* Growth is taken against edges, and against solids only where there is no edge. */
 static double extent(const Shape *s) { return s->edges ? s->edges : s->solids; }
-
-static double growth(const Bench *from, const Bench *to) {
-    return log(to->best.invert / from->best.invert) / log(extent(&to->shape) / extent(&from->shape));
-}
 
 /* The first m of n sizes have figures. */
 static void print_sizes(const Bench *b, int n, int m, unsigned limit) {
@@ -175,7 +165,7 @@ static void print_sizes(const Bench *b, int n, int m, unsigned limit) {
         }
         printf("%6zu %12.3f ", f->done, 1e3 * f->invert);
         if (i == 0) printf("%7s ", "-");
-        else printf("%7.2f ", growth(&b[i - 1], &b[i]));
+        else printf("%7.2f ", growth(b[i - 1].best.invert, f->invert, extent(&b[i - 1].shape), extent(&b[i].shape)));
         printf("%10.3f %8.1f\n", 1e3 * f->run, f->invert / f->run);
     }
     fflush(stdout);
@@ -195,14 +185,14 @@ static void bench_row(const Row *row, const Options *o) {
 
 static Options options(int argc, char **argv) {
     Options o = {10, 4096, ""};
-    for (int c; (c = getopt(argc, argv, "t:e:s:")) != -1;) {
+    for (int c; (c = getopt(argc, argv, "t:e:w:")) != -1;) {
         if (c == 't') o.limit = (unsigned)strtoul(optarg, NULL, 10);
         else if (c == 'e') o.edges = (unsigned)strtoul(optarg, NULL, 10);
-        else if (c == 's') o.shape = optarg;
+        else if (c == 'w') o.word = optarg;
         else o.limit = 0;
     }
     if (o.limit == 0 || optind < argc) {
-        fprintf(stderr, "usage: invert [-t SECONDS] [-e EDGES] [-s SHAPE]\n");
+        fprintf(stderr, "usage: invert [-t SECONDS] [-e EDGES] [-w WORD]\n");
         exit(2);
     }
     return o;
@@ -216,6 +206,6 @@ int main(int argc, char **argv) {
            "%-26s %5s %6s %6s %12s %7s %10s %8s\n", "shape", "size", "edges", "done", "take-down", "growth", "script",
            "ratio");
     for (size_t i = 0; i < sizeof rows / sizeof *rows; i++)
-        if (strstr(rows[i].name, o.shape)) bench_row(&rows[i], &o);
+        if (strstr(rows[i].name, o.word)) bench_row(&rows[i], &o);
     return 0;
 }

@@ -1,60 +1,264 @@
-/* What an operator costs in a run and in undo, on tables of capacities 64, 512 and 4,096, all measured in one run.
+/* What an operator costs in a run and in undo, by workloads of three sizes, beside the same work by the twin (twin.h)
+ * and by peers where they were installed (peers.h).
  *
- * The script makes and kills an edge at an isolated loop, over and over, so the loops touched are always the same two
- * half-edges: the time an operator should not depend on the capacity. The one check at the head of each call is
- * measured beside it and taken off. */
+ *   operators [-f FILE] [-w WORD]
+ *     -f  writes the figures to FILE too, as CSV
+ *     -w  only workloads with this word in their name
+ *
+ * The check at the head of a call is measured beside and taken off, the twin's counting likewise. No workload is timed
+ * before library and twin have left the same bytes of it. */
+#include <math.h>
 #include <stdio.h>
 #include <stdlib.h>
 #include <string.h>
+#include <unistd.h>
 
-#include "table.h"
+#include "timing.h"
+#include "twin.h"
+#include "workloads.h"
 #include "zoghvari.h"
 
-enum { PAIRS = 20000, LOG = PAIRS * 20 + 64 };
+enum { LIBRARY, TWIN, CGAL, OPENMESH, SYSTEMS };
+enum { RUN, UNDO };
+
+/* A workload, the table that the calls work on, and the log with the place where its live part starts behind a run. */
+typedef struct {
+    Workload w;
+    Peer *peer[SYSTEMS]; /* of CGAL and OpenMesh */
+    Table work;
+    uint8_t *log;
+    size_t log_n, start;
+    Sample seconds[SYSTEMS][2]; /* an operator */
+    double ns[SYSTEMS][2];
+} Bench;
+
+static void must_of(int ok, const Workload *w, const char *otherwise) { must(ok, w->name, w->size, otherwise); }
+
+/* The four calls, each on the table as it stands. */
+static ZoghvariRan library_run(Bench *b, uint8_t *log, const uint8_t *script, size_t script_n) {
+    Table *t = &b->work;
+    return zoghvari_run(t->links, t->links_n, t->points, t->points_n, log, b->log_n, b->log_n, script, script_n);
+}
+static ZoghvariUndone library_undo(Bench *b) {
+    Table *t = &b->work;
+    return zoghvari_undo(t->links, t->links_n, t->points, t->points_n, b->log, b->log_n, b->start, b->w.operators);
+}
+static Records records(Bench *b) { return records_of(b->work.links, b->work.points); }
+static TwinRan run_twin(Bench *b, uint8_t *log, const uint8_t *script, size_t script_n) {
+    return twin_run(records(b), log, b->log_n, script, script_n);
+}
+static TwinRan undo_twin(Bench *b) { return twin_undo(records(b), b->log, b->log_n, b->start, b->w.operators); }
+
+static void load_before(void *b) { copy_table(&((Bench *)b)->work, &((Bench *)b)->w.before); }
+static void load_after(void *b) { copy_table(&((Bench *)b)->work, &((Bench *)b)->w.after); }
+
+/* Library and twin run a script of all the operators: both leave this table, and the same log; its start. */
+static size_t verify_run(Bench *b, Pass *load, const uint8_t *script, size_t n, const Table *left, uint8_t *log) {
+    const Workload *w = &b->w;
+    uint8_t *other = malloc(b->log_n);
+    must_of(other != NULL, w, "no memory");
+    memset(log, 1, b->log_n); /* so that bytes that no run may touch are compared too */
+    memset(other, 1, b->log_n);
+    load(b);
+    ZoghvariRan r = library_run(b, log, script, n);
+    must_of(r.refusal == 0 && r.done == w->operators && r.used == n, w, "the library refuses it");
+    must_of(same_table(&b->work, left), w, "the library's run leaves another table than the twin's effects");
+    load(b);
+    TwinRan q = run_twin(b, other, script, n);
+    must_of(q.refusal == 0 && q.done == r.done && q.used == n, w, "the twin refuses it");
+    must_of(same_table(&b->work, left), w, "the twin's run leaves another table");
+    must_of(q.start == r.start && !memcmp(log, other, b->log_n), w, "the twin's run leaves another log");
+    free(other);
+    return r.start;
+}
+
+static void verify_undo(Bench *b) {
+    const Workload *w = &b->w;
+    load_after(b);
+    ZoghvariUndone u = library_undo(b);
+    must_of(u.refusal == 0 && u.undone == w->operators && u.start == b->log_n, w, "the library refuses to undo it");
+    must_of(same_table(&b->work, &w->before), w, "the library's undo leaves another table");
+    load_after(b);
+    TwinRan q = undo_twin(b);
+    must_of(q.refusal == 0 && q.done == w->operators && q.start == b->log_n, w, "the twin refuses to undo it");
+    must_of(same_table(&b->work, &w->before), w, "the twin's undo leaves another table");
+}
+
+/* The script, its undo, and the log's live part as a script: so the inverses' inverses are compared too. Sets where the
+ * log starts. */
+static void verify(Bench *b) {
+    uint8_t *scratch = malloc(b->log_n);
+    must_of(scratch != NULL, &b->w, "no memory");
+    b->start = verify_run(b, load_before, b->w.script, b->w.script_n, &b->w.after, b->log);
+    verify_undo(b);
+    verify_run(b, load_after, b->log + b->start, b->log_n - b->start, &b->w.before, scratch);
+    free(scratch);
+}
+
+static Bench open_bench(const WorkloadKind *kind, int i) {
+    Bench b = {.w = make_workload(kind, i), .peer = {[CGAL] = kind->cgal, [OPENMESH] = kind->openmesh}};
+    b.work = empty_table(b.w.before.cap);
+    b.log_n = 19 * b.w.operators;
+    b.log = malloc(b.log_n);
+    must_of(b.log != NULL, &b.w, "no memory");
+    verify(&b);
+    return b;
+}
+
+static void close_bench(Bench *b) {
+    free_workload(b->w);
+    free_table(b->work);
+    free(b->log);
+}
+
+/* What is timed; the answers were verified, and they are the same each time. */
+static void library_call_pass(void *with) {
+    Bench *b = with;
+    library_run(b, b->log, b->w.script, 0);
+}
+static void library_run_pass(void *with) {
+    Bench *b = with;
+    library_run(b, b->log, b->w.script, b->w.script_n);
+}
+static void library_undo_pass(void *with) { library_undo(with); }
+static void twin_call_pass(void *with) {
+    Bench *b = with;
+    run_twin(b, b->log, b->w.script, 0);
+}
+static void twin_run_pass(void *with) {
+    Bench *b = with;
+    run_twin(b, b->log, b->w.script, b->w.script_n);
+}
+static void twin_undo_pass(void *with) { undo_twin(with); }
+
+/* A round of one direction by library and twin, each less a call with no operator on the same table. */
+static void round_of(Bench *b, int direction, Pass *load, Pass *library, Pass *twin) {
+    Pass *const body[] = {library_call_pass, library, twin_call_pass, twin};
+    double took[4], n = (double)b->w.operators;
+    shortest_passes(load, body, 4, b, took);
+    add(&b->seconds[LIBRARY][direction], (took[1] - took[0]) / n);
+    add(&b->seconds[TWIN][direction], (took[3] - took[2]) / n);
+}
+
+static void round_of_peer(Bench *b, int system) {
+    PeerTimes t, shortest = {INFINITY, INFINITY};
+    double until = seconds() + 2e-3;
+    for (int passes = 0; passes < 3 || seconds() < until; passes++) {
+        must_of(b->peer[system](b->w.size, &t), &b->w, "a peer makes another shape");
+        shortest.run = fmin(shortest.run, t.run);
+        shortest.undo = fmin(shortest.undo, t.undo);
+    }
+    add(&b->seconds[system][RUN], shortest.run);
+    add(&b->seconds[system][UNDO], shortest.undo);
+}
+
+static void round_of_all(Bench *b) {
+    round_of(b, RUN, load_before, library_run_pass, twin_run_pass);
+    round_of(b, UNDO, load_after, library_undo_pass, twin_undo_pass);
+    for (int system = CGAL; system < SYSTEMS; system++)
+        if (b->peer[system]) round_of_peer(b, system);
+}
+
+static void take_medians(Bench *b) {
+    for (int system = LIBRARY; system < SYSTEMS; system++)
+        for (int direction = RUN; direction <= UNDO; direction++)
+            b->ns[system][direction] = 1e9 * median(&b->seconds[system][direction]);
+}
+
+static void print_cell(int wide, int places, double x) {
+    if (isnan(x)) printf(" %*s", wide, "-");
+    else printf(" %*.*f", wide, places, x);
+}
+
+static void print_direction(const Bench *b, const Bench *above, int direction) {
+    double ns = b->ns[LIBRARY][direction];
+    print_cell(8, 0, ns);
+    print_cell(7, 2, above ? growth(above->ns[LIBRARY][direction], ns, above->w.size, b->w.size) : NAN);
+    for (int system = TWIN; system < SYSTEMS; system++) print_cell(7, 1, ns / b->ns[system][direction]);
+}
+
+static void print_row(const Bench *b, const Bench *above) {
+    printf("%-19s %5u %5zu |", b->w.name, b->w.size, b->w.operators);
+    print_direction(b, above, RUN);
+    printf(" |");
+    print_direction(b, above, UNDO);
+    printf("\n");
+}
+
+static void print_head(void) {
+    static const char *columns = "      ns  growth   /twin   /CGAL  /OMesh";
+    printf("operators: ns each, less the check at the call's head\n"
+           "growth: exponent of that time against the size, from the size above; /twin, /CGAL, /OMesh: times theirs\n"
+           "%-31s |%-40s |%s\n", "", " run", " undo");
+    printf("%-19s %5s %5s |%s |%s\n", "workload", "size", "ops", columns, columns);
+    fflush(stdout);
+}
+
+static void write_figures(FILE *f, const Bench *b) {
+    static const char *directions[] = {"run", "undo"};
+    for (int direction = RUN; direction <= UNDO; direction++) {
+        fprintf(f, "\"%s\",%s,%u,%zu,%s", b->w.name, b->w.unit, b->w.size, b->w.operators, directions[direction]);
+        for (int system = LIBRARY; system < SYSTEMS; system++) {
+            double ns = b->ns[system][direction];
+            if (isnan(ns)) fprintf(f, ",");
+            else fprintf(f, ",%.1f", ns);
+        }
+        fprintf(f, "\n");
+    }
+}
+
+/* Opens the workloads with this word in their name, three sizes each; how many benches that are. */
+static int open_all(Bench *b, const char *word) {
+    int n = 0;
+    for (size_t i = 0; i < workload_kinds_n; i++)
+        for (int size = 0; size < SIZES && strstr(workload_kinds[i].name, word); size++)
+            b[n++] = open_bench(&workload_kinds[i], size);
+    return n;
+}
+
+/* All rows in turn, round by round, so that a slow moment of the machine falls on none of them alone. */
+static void bench_all(Bench *b, int n, FILE *figures) {
+    for (int i = 0; i < ROUNDS * n; i++) round_of_all(&b[i % n]);
+    for (int i = 0; i < n; i++) {
+        take_medians(&b[i]);
+        print_row(&b[i], i % SIZES ? &b[i - 1] : NULL);
+        if (figures) write_figures(figures, &b[i]);
+    }
+    for (int i = 0; i < n; i++) close_bench(&b[i]);
+}
 
 typedef struct {
-    double call, run, undo; /* seconds: a call with no operator, an operator run, an operator undone */
-} Cost;
+    FILE *figures;
+    const char *word;
+} Options;
 
-/* mev 1 0 1 2 0 100 0 0 and kev 1, PAIRS times. */
-static size_t pairs_script(uint8_t *out) {
-    const uint8_t pair[] = {3, 1, 0, 1, 2, 0, 200, 1, 0, 0, 4, 1};
-    for (int i = 0; i < PAIRS; i++) memcpy(out + i * sizeof pair, pair, sizeof pair);
-    return PAIRS * sizeof pair;
+static Options options(int argc, char **argv) {
+    Options o = {NULL, ""};
+    int bad = 0;
+    for (int c; (c = getopt(argc, argv, "f:w:")) != -1;) {
+        if (c == 'w') o.word = optarg;
+        else bad = c != 'f' || !(o.figures = fopen(optarg, "w"));
+        if (c == 'f' && bad) perror(optarg);
+    }
+    if (bad || optind < argc) {
+        fprintf(stderr, "usage: operators [-f FILE] [-w WORD]\n");
+        exit(2);
+    }
+    return o;
 }
 
-static Cost cost(uint16_t cap, const uint8_t *script, size_t script_n, uint8_t *log) {
-    const uint8_t seed[] = {1, 1, 1, 1, 1, 0, 0, 0};
-    Table t = empty_table(cap);
-    size_t start = zoghvari_run(t.links, t.links_n, t.points, t.points_n, log, LOG, LOG, seed, sizeof seed).start;
-    double t0 = seconds();
-    zoghvari_run(t.links, t.links_n, t.points, t.points_n, log, LOG, start, script, 0);
-    double t1 = seconds();
-    ZoghvariRan r = zoghvari_run(t.links, t.links_n, t.points, t.points_n, log, LOG, start, script, script_n);
-    double t2 = seconds();
-    ZoghvariUndone u = zoghvari_undo(t.links, t.links_n, t.points, t.points_n, log, LOG, r.start, r.done);
-    double t3 = seconds();
-    if (r.refusal || r.done != 2 * PAIRS || u.refusal || u.undone != r.done) {
-        fprintf(stderr, "capacity %u: run refused %u, undo refused %u\n", cap, r.refusal, u.refusal);
-        exit(1);
+int main(int argc, char **argv) {
+    Options o = options(argc, argv);
+    const char *columns = "workload,unit,size,operators,direction,library_ns,twin_ns,cgal_ns,openmesh_ns";
+    if (o.figures) fprintf(o.figures, "%s\n", columns);
+    print_head();
+    Bench *b = calloc(workload_kinds_n * SIZES, sizeof *b);
+    must(b != NULL, "operators", 0, "no memory");
+    bench_all(b, open_all(b, o.word), o.figures);
+    free(b);
+    if (o.figures && fclose(o.figures)) {
+        perror("figures");
+        return 2;
     }
-    free_table(t);
-    double call = t1 - t0;
-    return (Cost){call, (t2 - t1 - call) / (2 * PAIRS), (t3 - t2 - call) / (2 * PAIRS)};
-}
-
-int main(void) {
-    const uint16_t caps[3] = {64, 512, 4096};
-    static uint8_t script[PAIRS * 12], log[LOG];
-    size_t script_n = pairs_script(script);
-    memset(log, 1, LOG); /* so that the first run does not pay for the pages */
-    Cost c[3];
-    for (int i = 0; i < 3; i++) {
-        c[i] = cost(caps[i], script, script_n, log);
-        printf("capacity %4u: call with no operator %8.1f us, operator run %.3f us, undone %.3f us\n", caps[i],
-               1e6 * c[i].call, 1e6 * c[i].run, 1e6 * c[i].undo);
-    }
-    printf("time an operator, capacity 4096 against 64: run %.2f, undo %.2f\n", c[2].run / c[0].run,
-           c[2].undo / c[0].undo);
     return 0;
 }

@@ -3,14 +3,14 @@
 #include <stdio.h>
 #include <stdlib.h>
 #include <string.h>
-#include <time.h>
 
+#include "records.h"
 #include "zoghvari.h"
 
-double seconds(void) {
-    struct timespec now;
-    clock_gettime(CLOCK_PROCESS_CPUTIME_ID, &now);
-    return (double)now.tv_sec + 1e-9 * (double)now.tv_nsec;
+void must(int ok, const char *name, unsigned size, const char *otherwise) {
+    if (ok) return;
+    fprintf(stderr, "%s, size %u: %s\n", name, size, otherwise);
+    exit(1);
 }
 
 Table empty_table(uint16_t c) {
@@ -39,48 +39,43 @@ int same_table(const Table *a, const Table *b) {
            !memcmp(a->points, b->points, a->points_n * sizeof *a->points);
 }
 
-static uint16_t *solid(Table *t, unsigned n) { return t->links + 5 + (n - 1); }
-static uint16_t *face(Table *t, unsigned n) { return t->links + 5 + t->cap + 2 * (n - 1); }
-static uint16_t *loop(Table *t, unsigned n) { return t->links + 5 + 3 * t->cap + 3 * (n - 1); }
-static uint16_t *half(Table *t, unsigned n) { return t->links + 5 + 6 * t->cap + 4 * (n - 1); }
-static uint16_t *vertex(Table *t, unsigned n) { return t->links + 5 + 14 * t->cap + (n - 1); }
+static Records records(const Table *t) { return records_of(t->links, t->points); }
 
 void put_vertex(Table *t, unsigned v) {
-    int32_t *at = t->points + 3 * (v - 1);
-    *vertex(t, v) = 1;
-    at[0] = (int32_t)(97 * v % 9000);
-    at[1] = -(int32_t)(31 * v % 9000);
-    at[2] = (int32_t)(v % 500);
+    Records r = records(t);
+    int32_t n = (int32_t)v;
+    r.vertex[v] = 1;
+    r.point[v - 1] = (Point){97 * n % 9000, -(31 * n % 9000), n % 500};
 }
 
 void put_face(Table *t, unsigned s, unsigned f, unsigned outer) {
-    *solid(t, s) = 1;
-    face(t, f)[0] = (uint16_t)s;
-    face(t, f)[1] = (uint16_t)outer;
+    Records r = records(t);
+    r.solid[s] = 1;
+    r.face[f] = (Face){s, outer};
 }
 
 void put_edge(Table *t, unsigned e, unsigned from, unsigned to) {
+    Records r = records(t);
     put_vertex(t, from);
     put_vertex(t, to);
-    half(t, 2 * e - 1)[0] = (uint16_t)from;
-    half(t, 2 * e)[0] = (uint16_t)to;
+    r.half[2 * e - 1].start = from;
+    r.half[2 * e].start = to;
 }
 
 void put_loop(Table *t, unsigned f, unsigned l, const unsigned *halves, unsigned n) {
+    Records r = records(t);
     unsigned first = halves[0];
     for (unsigned i = 0; i < n; i++) {
         unsigned k = halves[i], next = halves[i + 1 < n ? i + 1 : 0];
-        half(t, k)[1] = (uint16_t)l;
-        half(t, k)[2] = (uint16_t)next;
-        half(t, next)[3] = (uint16_t)k;
+        r.half[k].loop = l;
+        r.half[k].next = next;
+        r.half[next].prev = k;
         if (k < first) first = k;
     }
-    loop(t, l)[0] = (uint16_t)f;
-    loop(t, l)[1] = (uint16_t)first;
+    r.loop[l] = (Loop){f, first, 0};
 }
 
 void put_lone_loop(Table *t, unsigned f, unsigned l, unsigned v) {
     put_vertex(t, v);
-    loop(t, l)[0] = (uint16_t)f;
-    loop(t, l)[2] = (uint16_t)v;
+    records(t).loop[l] = (Loop){f, 0, v};
 }

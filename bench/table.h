@@ -1,5 +1,5 @@
-/* What the benchmarks share: a clock, and tables written word by word, so that a large one does not need a script. All
- * five capacities of such a table are the same. */
+/* Tables written word by word, so that a large one does not need a script. All five capacities of such a table are the
+ * same. */
 #ifndef BENCH_TABLE_H
 #define BENCH_TABLE_H
 
@@ -13,8 +13,8 @@ typedef struct {
     int32_t *points;
 } Table;
 
-/* The processor's time: the library never waits, and while others have the processor nothing is counted. */
-double seconds(void);
+/* Ends the program where a table is not what it should be, and says of which row. */
+void must(int ok, const char *name, unsigned size, const char *otherwise);
 
 Table empty_table(uint16_t cap);
 void free_table(Table t);

@@ -1,0 +1,33 @@
+/* The twin: the kernel's work written by hand in C on the same records, as the measure of what it could cost. Nothing
+ * of it is proved; it is compared to the byte with the library before anything is timed.
+ *
+ * It does all that the library does behind the check at the head of a call: it reads the script, refuses by the same
+ * numbers, finds the inverse and logs it. Loops of a face and faces of a solid are counted once, at the head of a call,
+ * and kept up; where an operator takes a loop's first away, the search for the next one does not begin anew. */
+#ifndef BENCH_TWIN_H
+#define BENCH_TWIN_H
+
+#include <stddef.h>
+#include <stdint.h>
+
+#include "records.h"
+
+typedef struct {
+    unsigned refusal;
+    size_t done, used, start;
+} TwinRan;
+
+/* How many operands an operator has, by its code. */
+uint8_t twin_operands(unsigned code);
+
+/* The effect of an operator that is known to be good: nothing is asked, nothing is logged. */
+void twin_effect(const Records *t, unsigned code, const int32_t *args);
+
+/* As zoghvari_run and zoghvari_undo, for a table that is known to be sound. */
+TwinRan twin_run(Records t, uint8_t *log, size_t start, const uint8_t *script, size_t script_n);
+TwinRan twin_undo(Records t, const uint8_t *log, size_t log_n, size_t start, size_t n);
+
+/* The lowest rule that a table of good lengths breaks, 0 where it is sound. */
+unsigned twin_check(Records t);
+
+#endif
