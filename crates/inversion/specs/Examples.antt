@@ -1,13 +1,13 @@
 -- The take-down computed beyond example e of document 01 (which crate cases has): a table whose edge 1 is a bridge
 -- between two handles, so that the least crossed k is not the least k; a table that takes every kind of turn; two
 -- solids; a full table, a torus of two edges with no number free: 10, with a start beyond the log 1; its holes counted.
-use Prim.Native.Nat.{ℕ}
+use Prim.Native.Nat.{ℕ, _*_}
 use mathlib.Core.Path.{_≡_, refl}
 use mathlib.Core.List.{List, [], _∷_, _++_}
 use lib.IntN.{ℤ, pos, negsuc}
 use lib.ListN.{replicate}
 use native.Mathlib.Omega.{arith}
-use Rattle.laws.specs.Search.{allTo, anyTo, leastFrom}
+use Rattle.laws.specs.Search.{allTo, anyTo, leastFrom, least}
 use Rattle.laws.specs.Sums.{sumTo}
 use Rattle.laws.specs.Walks.{meets}
 use Rattle.laws.specs.Columns.{sweep}
@@ -27,7 +27,7 @@ use Rattle.euler.specs.Operators.{kvsfLinks, kevLinks, kefEdge, kefLinks, kemrL
 use Rattle.euler.specs.Exec.{linksAfter, pointsAfter, killedVertex, inverse}
 use Rattle.runs.specs.Run.{state, inverseBytes, stepped, entry}
 use Rattle.inversion.specs.Promise.{Euler}
-use Rattle.takedown.specs.Inversion.{Inverted, onRun, crossed, act, makeOuter, moveRings, turnB, turned, invertBy, invertOf}
+use Rattle.takedown.specs.Inversion.{Inverted, ofSolid, crossedHalf, onRun, crossed, act, makeOuter, moveRings, turnB, turned, invertBy, invertOf}
 
 -- what is left
 abbrev pub leaves : ℕ → ℕ → ℕ → List ℕ → List ℤ → List ℕ → Inverted
@@ -117,3 +117,9 @@ linksStray = 1 ∷ 1 ∷ 1 ∷ 1 ∷ 1 ∷ replicate 14 0 ++ (1 ∷ [])
 pub stray-none : (h : ℕ) → Euler (shapeOf linksStray) linksStray h → ⊥
 unfolding itemUsed sumTo
 stray-none h e = omega (arith, e)
+
+-- ---- the crossing test has something to say: of the bridge's solid the least half-edge is 1, and the least crossed one is 3
+
+pub bridge-crossed : (least (2 * 6) (ofSolid (shapeOf linksBridge) linksBridge 1) ≡ 1) × (crossedHalf (shapeOf linksBridge) linksBridge 1 ≡ 3)
+unfolding leastFrom crossed onRun anyTo mate
+bridge-crossed = (refl, refl)

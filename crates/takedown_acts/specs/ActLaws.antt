@@ -16,13 +16,13 @@ use Rattle.takedown.specs.Inversion.{rmov, isRingOf, Work, work, linksIn, act, 
 
 -- ---- one operator
 
-pub act-is : (sh : Shape) (x : List ℕ) (p : List ℤ) (log : List ℕ) (done start : ℕ) (o v : Operator) (n from : ℕ)
-    (y : List ℕ) (q : List ℤ) (m : List ℕ)
+pub act-is : (sh : Shape) (x : List ℕ) (p : List ℤ) (log : List ℕ) (done start : ℕ) (o v : Operator) (n from d : ℕ)
+    (y : List ℕ) (q : List ℤ) (m : List ℕ) → d ≡ done + 1
     → v ≡ inverse sh x p o → n ≡ length (operatorBytes v) → from ≡ start - n
     → y ≡ linksAfter sh x o → q ≡ pointsAfter sh x p o → m ≡ putBytes log from (operatorBytes v)
-    → work (done + 1) (state y q m from) ≡ act sh (work done (state x p log start)) o
+    → work d (state y q m from) ≡ act sh (work done (state x p log start)) o
 unfolding act stepped inverseBytes
-act-is sh x p log done start o v n from y q m ev en ef ey eq em = rw (em, ef, en, ev, ey, eq)
+act-is sh x p log done start o v n from d y q m ed ev en ef ey eq em = rw (ed, em, ef, en, ev, ey, eq)
 
 -- ---- A
 

@@ -1,4 +1,4 @@
-use mathlib.Core.Path.{refl}
+use native.Mathlib.Omega.{arith}
 use Rattle.takedown_acts.specs.ActLaws.{act-is}
 use borrow.Author.Needs.{needs}
 use Rattle.takedown_acts.proofs.acts.act.Statement.{statement}
@@ -50,8 +50,8 @@ same-length-3 c = search needs
 -- src/acts.rt:32:1
 returns : tie.Need-returns
 returns c = (
-  act-is _ _ _ _ _ _ _ _ _ _ _ _ _ (c .before .before .before .before .before .before .before .before .before .before .before .before .before .inverse-of .ensures) (c .before .before .before .before .before .before .before .before .before .before .before .before .operator-size .ensures .0) (c .before .before .before .before .before .before .before .before .before .before .before .less .ensures) (c .before .before .before .before .before .before .before .before .perform .ensures .0) (c .before .before .before .before .before .before .before .before .perform .ensures .1) (c .before .before .before .put-operator .ensures),
-  refl,
+  act-is _ _ _ _ _ _ _ _ _ _ _ _ _ _ (omega arith) (c .before .before .before .before .before .before .before .before .before .before .before .before .before .inverse-of .ensures) (c .before .before .before .before .before .before .before .before .before .before .before .before .operator-size .ensures .0) (c .before .before .before .before .before .before .before .before .before .before .before .less .ensures) (c .before .before .before .before .before .before .before .before .perform .ensures .0) (c .before .before .before .before .before .before .before .before .perform .ensures .1) (c .before .before .before .put-operator .ensures),
+  omega arith,
 )
 
 pub act-spec : {M : Type 1} → statement M

@@ -40,7 +40,7 @@ less-requires c κs = search needs
 
 -- src/invert.rt:53:1
 returns : tie.Need-returns
-returns c = (c .less .ensures, omega (arith, c .less .ensures))
+returns c = (omega (arith, c .less .ensures), omega (arith, c .less .ensures))
 
 pub bound-spec : {M : Type 1} → statement M
 bound-spec =
