@@ -13,8 +13,8 @@ use Rattle.table.specs.declared.clear.ClearAnswer.{ClearAnswer}
 use Rattle.table.specs.declared.count.CountAnswer.{CountAnswer}
 use Rattle.table.specs.Clear.{Cleared, clearOf}
 use Rattle.table.specs.Count.{countOf}
-use Rattle.runs.specs.declared.run.RunAnswer.{RunAnswer}
-use Rattle.runs.specs.declared.undo.UndoAnswer.{UndoAnswer}
+use Rattle.runs.specs.declared.answers.RunAnswer.{RunAnswer}
+use Rattle.runs.specs.declared.answers.UndoAnswer.{UndoAnswer}
 use Rattle.runs.specs.Run.{State, state, Ran, runOf, Undid, undoOf}
 use Rattle.takedown.specs.declared.answer.InvertAnswer.{InvertAnswer}
 use Rattle.takedown.specs.Inversion.{Inverted, invertOf}

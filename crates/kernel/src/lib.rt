@@ -10,8 +10,8 @@ ghost use Rattle.table.specs.Count.{countOf};
 ghost use Rattle.runs.specs.Run.{state, leaves, runOf, restores, undoOf};
 ghost use Rattle.takedown.specs.Inversion.{inverts, invertOf};
 ghost use Rattle.kernel.specs.Kernel.{operatorOf, KeepsFormula};
-use runs::run::RunAnswer;
-use runs::undo::UndoAnswer;
+use runs::answers::RunAnswer;
+use runs::answers::UndoAnswer;
 use script::Operator;
 use script::ReadAnswer;
 use script::WriteAnswer;
@@ -94,7 +94,7 @@ pub extern "C" fn zoghvari_run(
 ) -> RunAnswer
     ensures { λ r. ⌜ leaves r (now (links .exit)) (now (points .exit)) (now (log .exit)) ≡ runOf (state (now (links .entry)) (now (points .entry)) (now (log .entry)) start) (now (script .entry)) ⌝ }
 {
-    runs::run::run(links, points, log, start, script)
+    runs_entry::run::run(links, points, log, start, script)
 }
 
 // Undoes the last n operators by the log's live part, which begins at `start`; no byte of the log changes. Refusal 1, or 2 with the rule;
@@ -109,7 +109,7 @@ pub extern "C" fn zoghvari_undo(
 ) -> UndoAnswer
     ensures { λ r. ⌜ restores r (now (links .exit)) (now (points .exit)) ≡ undoOf (state (now (links .entry)) (now (points .entry)) (now (log .entry)) start) n ⌝ }
 {
-    runs::undo::undo(links, points, log, start, n)
+    runs_entry::undo::undo(links, points, log, start, n)
 }
 
 // Takes a sound table down to nothing (document 01: the take-down), each operator with its inverse in the log below `start`, so that the part

@@ -14,8 +14,8 @@ use Rattle.layout.specs.Layout.{shapeOf}
 use Rattle.euler.specs.Exec.{limits, admitOf, linksAfter, pointsAfter, inverse}
 use Rattle.table.specs.declared.check.CheckAnswer.{CheckAnswer}
 use Rattle.table.specs.Check.{checkOf}
-use Rattle.runs.specs.declared.run.RunAnswer.{RunAnswer}
-use Rattle.runs.specs.declared.undo.UndoAnswer.{UndoAnswer}
+use Rattle.runs.specs.declared.answers.RunAnswer.{RunAnswer}
+use Rattle.runs.specs.declared.answers.UndoAnswer.{UndoAnswer}
 
 -- ---- one operator
 

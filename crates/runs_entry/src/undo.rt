@@ -1,38 +1,36 @@
 // Undo: the first operators of the log's live part, run unlogged. No byte of the log changes.
 ghost use mathlib.Core.Path.{_≡_};
 ghost use Prim.Native.Nat.{ℕ};
-ghost use Rattle.layout.specs.Small.{Small};
+ghost use Rattle.script.specs.Operands.{largests};
+ghost use Rattle.euler.specs.Exec.{limits};
 ghost use Rattle.runs.specs.Run.{state, restores, undoFrom, undoOf};
-use crate::run::enter;
-use crate::steps::admit_read;
-use crate::steps::limits_of;
-use exec_effects::effects::perform;
+ghost use Rattle.runs_steps.specs.Standing.{Standing};
+use counts::counts::fill_counts;
 use layout::shape::Shape;
 use layout::shape::shape_of;
-use script::read_within;
-
-// What undo answers: the refusal, 0 for none; with refusal 2 the broken rule; the operators undone and the log's new start.
-#[repr(C)]
-pub struct UndoAnswer {
-    pub refusal: u8,
-    pub rule: u8,
-    pub undone: usize,
-    pub start: usize,
-}
+use runs::answers::UndoAnswer;
+use runs::enter::enter;
+use runs::enter::ranges_of;
+use runs_steps::steps::undo_step;
 
 // n operators of the log from `start` on.
 fn undo_all(
     links: &mut [u16],
     points: &mut [i32],
+    counts: &mut [u16; 4097],
     sh: Shape,
     log: &[u8],
     start: usize,
     n: usize,
+    most: &[u32; 15],
 ) -> UndoAnswer
-    requires { ⌜ Small sh ⌝ }
-    ensures { λ r. ⌜ restores r (now (links .exit)) (now (points .exit)) ≡ undoFrom n sh (now (log .entry)) start 0 (now (links .entry)) (now (points .entry)) ⌝ }
+    requires { ⌜ Standing sh (now links) (now points) (now counts) ⌝ }
+    requires { ⌜ now most ≡ largests (limits sh) ⌝ }
+    ensures { λ r. ⌜
+        restores r (now (links .exit)) (now (points .exit))
+        ≡ undoFrom n sh (now (log .entry)) start 0 (now (links .entry)) (now (points .entry)) ⌝ }
 {
-    let limits = limits_of(sh);
+    let mut args = [0i32; 8];
     let mut at = start;
     let mut undone: usize = 0;
     while undone < n {
@@ -44,20 +42,16 @@ fn undo_all(
                 start: at,
             };
         }
-        let read = read_within(log, at, limits);
-        let op = read.op;
-        let next = read.next;
-        let refusal = admit_read(links, sh, read);
-        if refusal != 0 {
+        let s = undo_step(links, points, counts, sh, log, at, most, &mut args);
+        if s.refusal != 0 {
             return UndoAnswer {
-                refusal,
+                refusal: s.refusal,
                 rule: 0,
                 undone,
                 start: at,
             };
         }
-        perform(links, points, sh, op);
-        at = next;
+        at = s.next;
         undone += 1;
     }
     UndoAnswer {
@@ -70,7 +64,9 @@ fn undo_all(
 
 // n operators of the live log, on a table that may be any.
 pub fn undo(links: &mut [u16], points: &mut [i32], log: &[u8], start: usize, n: usize) -> UndoAnswer
-    ensures { λ r. ⌜ restores r (now (links .exit)) (now (points .exit)) ≡ undoOf (state (now (links .entry)) (now (points .entry)) (now (log .entry)) start) n ⌝ }
+    ensures { λ r. ⌜
+        restores r (now (links .exit)) (now (points .exit))
+        ≡ undoOf (state (now (links .entry)) (now (points .entry)) (now (log .entry)) start) n ⌝ }
 {
     let entered = enter(links, points, log, start);
     if entered.refusal != 0 {
@@ -82,5 +78,8 @@ pub fn undo(links: &mut [u16], points: &mut [i32], log: &[u8], start: usize, n: 
         };
     }
     let sh = shape_of(links);
-    undo_all(links, points, sh, log, start, n)
+    let most = ranges_of(sh);
+    let mut counts = [0u16; 4097];
+    fill_counts(links, sh, &mut counts);
+    undo_all(links, points, &mut counts, sh, log, start, n, &most)
 }

@@ -1,9 +1,9 @@
 use Rattle.runs.specs.RunLaws.{enter-beyond, enter-checked}
 use borrow.Author.Needs.{needs}
-use Rattle.runs.proofs.run.enter.Statement.{statement}
-use Rattle.runs.proofs.run.enter.Tie as tie
-use Rattle.runs.proofs.run.enter.Reads as reads
-use Rattle.runs.proofs.run.enter.Lts as lts
+use Rattle.runs.proofs.enter.enter.Statement.{statement}
+use Rattle.runs.proofs.enter.enter.Tie as tie
+use Rattle.runs.proofs.enter.enter.Reads as reads
+use Rattle.runs.proofs.enter.enter.Lts as lts
 use Rattle.table.proofs.check.check.Reads as check-reads
 
 -- src/run.rt:29:9

@@ -1,0 +1,3 @@
+// Running a script with its inverse log, and undo.
+pub mod run;
+pub mod undo;

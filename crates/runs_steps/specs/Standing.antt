@@ -1,0 +1,64 @@
+-- What a run and an undo stand on from one operator to the next: the table is good, and the numbers of loops beside it are right.
+-- Both begin with the check and the count, and each operator that is carried out keeps them.
+use mathlib.Core.Path.{_≡_, sym, _∙_}
+use mathlib.Core.Logic.{_≢_}
+use mathlib.Core.List.{List}
+use Prim.Native.Nat.{ℕ}
+use lib.Dec.{eqb}
+use lib.IntN.{ℤ}
+use lib.ListN.{length}
+use Rattle.laws.specs.Bools.{pick, eqb-same, eqb-other}
+use Rattle.script.specs.declared.Operator.{Operator}
+use Rattle.layout.specs.declared.shape.Shape.{Shape}
+use Rattle.layout.specs.Small.{Small}
+use Rattle.euler.specs.Exec.{Table, linksAfter, pointsAfter}
+use Rattle.counts.specs.Counts.{Counted, countsAfter}
+use Rattle.counts_kept.specs.Kept.{counted-after, counted-length}
+use Rattle.validity.specs.Good.{Good}
+use Rattle.soundness.specs.Theorems.{all-hold}
+use Rattle.runs.specs.Run.{readAt, refusalAt}
+use Rattle.promises.specs.Reading.{taken}
+
+-- a good table with the right numbers, one for each face that a table can have
+pub record Standing (sh : Shape) (x : List ℕ) (p : List ℤ) (c : List ℕ) : Type 0 where
+  pub good : Good sh x p
+  pub size : length c ≡ 4097
+  pub counted : Counted sh x c
+
+-- its capacities are small
+pub standing-small : {sh : Shape} {x : List ℕ} {p : List ℤ} {c : List ℕ} → Standing sh x p c → Small sh
+standing-small s =
+    let a = s .good .capacities in
+    record { solids = a .solids .1; faces = a .faces .1; loops = a .loops .1; edges = a .edges .1; vertices = a .vertices .1 }
+
+-- an operator that is read and admitted keeps all this
+pub standing-after : {sh : Shape} {x : List ℕ} {p : List ℤ} {c : List ℕ} → Standing sh x p c → (s : List ℕ) (at : ℕ)
+    → refusalAt sh x s at ≡ 0
+    → let o = readAt sh s at .op in Standing sh (linksAfter sh x o) (pointsAfter sh x p o) (countsAfter sh x c o)
+standing-after {sh} {x} {p} {c} a s at z =
+    let t = taken sh x s at z in
+    let o = readAt sh s at .op in
+    record {
+      good = all-hold sh x p o (a .good) (t .eight) (t .admitted) .0;
+      size = counted-length sh x c o ∙ a .size;
+      counted = counted-after sh x p c o (a .good) (t .eight) (t .admitted) (a .size) (a .counted);
+    }
+
+-- ---- one operator undone
+
+-- the table after the operator at a place of the log, or as it is where that is refused
+unfoldable pub backOf : Shape → List ℕ → List ℤ → List ℕ → ℕ → Table
+backOf sh x p log at =
+    pick (eqb (refusalAt sh x log at) 0)
+    (record { links = linksAfter sh x (readAt sh log at .op); points = pointsAfter sh x p (readAt sh log at .op) })
+    (record { links = x; points = p })
+
+module _ (sh : Shape) (x : List ℕ) (p : List ℤ) (log : List ℕ) (at r : ℕ) (er : r ≡ refusalAt sh x log at) where
+  pub back-refused : r ≢ 0 → _≡_ {A = Table} (record { links = x; points = p }) (backOf sh x p log at)
+  unfolding backOf
+  back-refused z = rw (← er, eqb-other z)
+
+  pub back-done : r ≡ 0 → (o : Operator) → o ≡ readAt sh log at .op → (y : List ℕ) → y ≡ linksAfter sh x o → (q : List ℤ) → q ≡ pointsAfter sh x p o
+      → record { links = y; points = q } ≡ backOf sh x p log at
+  unfolding backOf
+  back-done z o eo y ey q eq = rw (← er, eqb-same z, ← eo, ey, eq)

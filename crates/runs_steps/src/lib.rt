@@ -1,0 +1,2 @@
+// One operator of a run and one of an undo: read, admitted, carried out.
+pub mod steps;
