@@ -2,6 +2,7 @@
 
 #include <stdio.h>
 #include <stdlib.h>
+#include <string.h>
 
 #include "twin.h"
 #include "zoghvari.h"
@@ -19,7 +20,9 @@ struct Maker {
 static void record(Workload *w, uint8_t code, const int32_t *args) {
     w->script = realloc(w->script, w->script_n + 19);
     ZoghvariWritten r = {9, 0};
-    if (w->script) r = zoghvari_write(code, twin_operands(code), args, w->script + w->script_n, 19);
+    ZoghvariOperator op = {code, (uint8_t)twin_operands(code), {0}};
+    memcpy(op.args, args, sizeof op.args);
+    if (w->script) r = zoghvari_write(op, w->script + w->script_n, 19);
     if (r.refusal) {
         fprintf(stderr, "%s, size %u: operator %zu cannot be written\n", w->name, w->size, w->operators + 1);
         exit(1);

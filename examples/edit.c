@@ -48,8 +48,7 @@ static const Edit edits[] = {
 static size_t script_of(const Edit *edit, uint8_t *script) {
     size_t length = 0;
     for (int i = 0; i < edit->n; i++) {
-        const ZoghvariOperator *op = &edit->ops[i];
-        ZoghvariWritten w = zoghvari_write(op->code, op->count, op->args, script + length, SCRIPT - length);
+        ZoghvariWritten w = zoghvari_write(edit->ops[i], script + length, SCRIPT - length);
         if (w.refusal) printf("operator %d cannot be written: refusal %u\n", i + 1, w.refusal);
         length += w.length;
     }

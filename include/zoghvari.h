@@ -97,7 +97,7 @@ ZoghvariCounted zoghvari_count(const uint16_t *links, size_t links_n, const int3
 ZoghvariRead zoghvari_read(const uint8_t *script, size_t script_n, size_t at);
 
 /* Writes an operator, in shortest form, at the front of out. There are always eight args; those behind count are 0. */
-ZoghvariWritten zoghvari_write(uint8_t code, uint8_t count, const int32_t *args, uint8_t *out, size_t out_n);
+ZoghvariWritten zoghvari_write(ZoghvariOperator op, uint8_t *out, size_t out_n);
 
 /* Carries out a script, operator by operator, up to its end or the first refusal; what was done before that stands.
  * Each operator's inverse is put into the log just before `start`, which moves down; no other log byte changes.

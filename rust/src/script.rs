@@ -35,7 +35,7 @@ pub fn read(script: &[u8], at: usize) -> Result<(Operator, usize), Refusal> {
 
 /// Writes an operator at the front of `out`; answers how many bytes it takes, 19 at most. Refusals 4, 5 and 9 write nothing.
 pub fn write(op: &Operator, out: &mut [u8]) -> Result<usize, Refusal> {
-    let answer = sys::write(op.code, op.count, &op.args, out);
+    let answer = sys::write(sys::Operator { code: op.code, count: op.count, args: op.args }, out);
     match Refusal::of(answer.refusal, 0) {
         None => Ok(answer.length),
         Some(refusal) => Err(refusal),

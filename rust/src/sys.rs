@@ -88,7 +88,7 @@ mod c {
         pub fn zoghvari_check(links: *const u16, links_n: usize, points: *const i32, points_n: usize) -> Checked;
         pub fn zoghvari_count(links: *const u16, links_n: usize, points: *const i32, points_n: usize) -> Counted;
         pub fn zoghvari_read(script: *const u8, script_n: usize, at: usize) -> Read;
-        pub fn zoghvari_write(code: u8, count: u8, args: *const i32, out: *mut u8, out_n: usize) -> Written;
+        pub fn zoghvari_write(op: Operator, out: *mut u8, out_n: usize) -> Written;
         #[rustfmt::skip]
         pub fn zoghvari_run(
             links: *mut u16,
@@ -144,8 +144,8 @@ pub fn read(script: &[u8], at: usize) -> Read {
     unsafe { c::zoghvari_read(script.as_ptr(), script.len(), at) }
 }
 
-pub fn write(code: u8, count: u8, args: &[i32; 8], out: &mut [u8]) -> Written {
-    unsafe { c::zoghvari_write(code, count, args.as_ptr(), out.as_mut_ptr(), out.len()) }
+pub fn write(op: Operator, out: &mut [u8]) -> Written {
+    unsafe { c::zoghvari_write(op, out.as_mut_ptr(), out.len()) }
 }
 
 pub fn run(links: &mut [u16], points: &mut [i32], log: &mut [u8], start: usize, script: &[u8]) -> Ran {

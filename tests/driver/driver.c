@@ -42,10 +42,10 @@ static uint32_t answer_read(const Frame *f, uint64_t *out) {
 /* A place beyond the destination has no room behind it. */
 static uint32_t answer_write(const Frame *f, uint64_t *out) {
     const uint64_t *a = f->numbers.data;
-    int32_t args[8];
-    for (int i = 0; i < 8; i++) args[i] = (int32_t)a[2 + i];
+    ZoghvariOperator op = {(uint8_t)a[0], (uint8_t)a[1], {0}};
+    for (int i = 0; i < 8; i++) op.args[i] = (int32_t)a[2 + i];
     uint64_t at = a[10] < f->script.n ? a[10] : f->script.n;
-    ZoghvariWritten r = zoghvari_write((uint8_t)a[0], (uint8_t)a[1], args, (uint8_t *)f->script.data + at, f->script.n - at);
+    ZoghvariWritten r = zoghvari_write(op, (uint8_t *)f->script.data + at, f->script.n - at);
     out[0] = r.refusal;
     out[1] = r.length;
     return 2;

@@ -39,9 +39,9 @@ static void no_table(void) {
 }
 
 static void no_bytes(void) {
-    const int32_t args[8] = {1, 0, 0, 0, 0, 0, 0, 0};
+    const ZoghvariOperator kvsf = {2, 1, {1}};
     equal("read", zoghvari_read(NULL, 0, 0).refusal, 3);
-    equal("write", zoghvari_write(2, 1, args, NULL, 0).refusal, 9);
+    equal("write", zoghvari_write(kvsf, NULL, 0).refusal, 9);
 }
 
 /* A table is there; log and script are not. */

@@ -3,14 +3,9 @@ use mathlib.Core.Path.{_≡_}
 use mathlib.Core.List.{List}
 use Prim.Native.Nat.{ℕ, _+_, _*_}
 use lib.IntN.{ℤ}
-use Rattle.script.specs.declared.Operator.{Operator}
 use Rattle.table.specs.declared.count.CountAnswer.{CountAnswer}
 use Rattle.table.specs.Count.{countOf}
 use Rattle.inversion.specs.Theorem.{count-holes}
-
--- an operator from its parts
-abbrev pub operatorOf : ℕ → ℕ → List ℤ → Operator
-operatorOf code count args = record { code = code; count = count; args = args }
 
 -- what is counted keeps the formula, v − e + f = 2 (s − h) + r
 abbrev pub KeepsFormula : CountAnswer → Type 0

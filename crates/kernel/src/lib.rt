@@ -9,7 +9,7 @@ ghost use Rattle.table.specs.Clear.{cleared, clearOf};
 ghost use Rattle.table.specs.Count.{countOf};
 ghost use Rattle.runs.specs.Run.{state, leaves, runOf, restores, undoOf};
 ghost use Rattle.takedown.specs.Inversion.{inverts, invertOf};
-ghost use Rattle.kernel.specs.Kernel.{operatorOf, KeepsFormula};
+ghost use Rattle.kernel.specs.Kernel.{KeepsFormula};
 use runs::answers::RunAnswer;
 use runs::answers::UndoAnswer;
 use script::Operator;
@@ -65,20 +65,9 @@ pub extern "C" fn zoghvari_read(script: &[u8], at: usize) -> ReadAnswer
 
 // Writes an operator at the front of `out`: refusal 4 or 5, then 9 where it does not fit, with `out` left as it is.
 #[no_mangle]
-pub extern "C" fn zoghvari_write(
-    code: u8,
-    count: u8,
-    args: &[i32; 8],
-    out: &mut [u8],
-) -> WriteAnswer
-    ensures { λ r. ⌜ written r (now (out .exit)) ≡ writeOperator (operatorOf code count (now (args .entry))) (now (out .entry)) ⌝ }
+pub extern "C" fn zoghvari_write(op: Operator, out: &mut [u8]) -> WriteAnswer
+    ensures { λ r. ⌜ written r (now (out .exit)) ≡ writeOperator op (now (out .entry)) ⌝ }
 {
-    let held = *args;
-    let op = Operator {
-        code,
-        count,
-        args: held,
-    };
     script::write_operator(op, out)
 }
 
