@@ -27,7 +27,8 @@ use Rattle.validity.specs.Good.{Good}
 use Rattle.counts.specs.Counts.{movedLoops, movedLoop}
 use Rattle.counts_kept.specs.Stays.{InOrder, in-order, Stays, half-stays, vertex-stays, solid-stays, face-stays}
 use Rattle.counts_kept.specs.Stays.{other-stays, put-half-stays, put-face-stays, put-loop-stays, tie-stays}
-use Rattle.counts_kept.specs.Stays.{between-stays, edge-in-stays, edge-out-stays, relabel-stays, renew-stays, sweep-stays}
+use Rattle.counts_kept.specs.Stays.{between-stays, edge-in-stays, edge-out-stays, relabel-stays, renew-stays}
+use Rattle.counts_kept.specs.Stays.{sweep-stays}
 use Rattle.counts_kept.specs.Caps.{least-cap, loop-cap, face-cap, solid-cap, outer-cap, operand-cap}
 
 -- from x to y no loop but m changes its face, and m is at most the number of loops
@@ -60,7 +61,7 @@ module _ {sh : Shape} (b : InOrder sh) {l : ℕ} (i : In (sh .loops) l) (x : Lis
   mev-stays m h k v =
       vertex-stays b i v 1 (renew-stays b i m _ k 0 (edge-in-stays b i k _ _ _ _ _ _ _ _ start))
 
-  -- 4: nor here
+  -- 4: no loop changes its face
   kev-stays : (k : ℕ) → Stays sh l x (kevLinks sh x k)
   unfolding kevLinks
   kev-stays k =
@@ -131,7 +132,7 @@ module _ {sh : Shape} (b : InOrder sh) {l : ℕ} (i : In (sh .loops) l) (x : Lis
       (after-stays (prevOf sh y (mate k)) (mate n) (startOf sh x (mate k)) (loopOf sh x (mate k))
       (after-stays k n v (loopOf sh x k) start)))))
 
-  -- 12: nor here
+  -- 12: no loop changes its face
   jekv-stays : (k n : ℕ) → Stays sh l x (jekvLinks sh x k n)
   unfolding jekvLinks
   jekv-stays k n =
