@@ -1,0 +1,4 @@
+pub mod Stays
+pub mod Caps
+pub mod Moves
+pub mod Kept
