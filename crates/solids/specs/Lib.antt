@@ -1,2 +1,4 @@
+pub mod HolesLaws
+pub mod LoneLaws
 pub mod Moves
-pub mod SolidsLaws
+pub mod RingsLaws

@@ -25,11 +25,17 @@ pub fn kfmrh_fits(links: &[u16], sh: Shape, f1: usize, f2: usize) -> bool
     requires { ⌜ sh .loops < 65536 ⌝ }
     ensures { λ r. ⌜ r ≡ kfmrhTest sh (now (links .entry)) f1 f2 ⌝ }
 {
+    if f1 == f2 {
+        return false;
+    }
     let loops = loops_in(links, sh, f2);
-    (f1 != f2) & (loops == 1)
+    if loops != 1 {
+        return false;
+    }
+    true
 }
 
-// Where both faces lie in one solid, its faces pass to it and its mark is set again: nothing changes for them.
+// Where both faces lie in one solid, no face passes, and its mark is cleared and set again.
 pub fn kfmrh_links(links: &mut [u16], sh: Shape, f1: usize, f2: usize)
     requires { ⌜ (sh .faces ≤ 4096) × (f1 < 65536) × (f2 < 65536) ⌝ }
     ensures { λ _. ⌜ now (links .exit) ≡ kfmrhLinks sh (now (links .entry)) f1 f2 ⌝ }
@@ -62,10 +68,22 @@ pub fn mfkrh_fits(links: &[u16], sh: Shape, l: usize, f: usize, s: usize) -> boo
     requires { ⌜ (sh .faces ≤ 4096) × (sh .edges ≤ 4096) × (l < 65536) × (f < 65536) ⌝ }
     ensures { λ r. ⌜ r ≡ mfkrhTest sh (now (links .entry)) l f s ⌝ }
 {
-    let old = loop_face(links, sh, l);
     let ring = is_ring(links, sh, l);
+    if !ring {
+        return false;
+    }
+    let old = loop_face(links, sh, l);
     let linked = linked_faces(links, sh, l, f, f, old);
-    ring & ((linked & (s == 0)) | (!linked & (s != 0)))
+    if linked {
+        if s == 0 {
+            return true;
+        }
+        return false;
+    }
+    if s != 0 {
+        return true;
+    }
+    false
 }
 
 // Ring l becomes the outer loop of the new face f, in the solid of its old face.

@@ -2,6 +2,7 @@
 ghost use mathlib.Core.Path.{_≡_};
 ghost use Prim.Native.Nat.{ℕ, _<_, _≤_};
 ghost use Rattle.euler.specs.Operators.{faceIn, facesIn, mvsfLinks, mvsfInverse, kvsfTest, kvsfLinks, kvsfInverse};
+ghost use Rattle.solids.specs.LoneLaws.{faceAfter};
 use euler::faces::loops_in;
 use euler::points::with_point;
 use euler::records::put_face;
@@ -9,6 +10,7 @@ use euler::records::put_loop;
 use euler::scans::count_naming;
 use euler::scans::least_naming_one;
 use layout::columns::face_outer;
+use layout::columns::face_solid;
 use layout::columns::loop_isolated;
 use layout::columns::set_solid_used;
 use layout::columns::set_vertex_used;
@@ -50,16 +52,45 @@ pub fn faces_in(links: &[u16], sh: Shape, s: usize) -> usize
     count_naming(links, sh.face0, 2, sh.faces as usize, s)
 }
 
+// The least face of solid s behind face f; 0 where none follows.
+fn face_after(links: &[u16], sh: Shape, s: usize, f: usize) -> usize
+    requires { ⌜ (sh .faces < 65536) × (f < 65536) ⌝ }
+    ensures { λ r. ⌜ r ≡ faceAfter sh (now (links .entry)) s f ⌝ }
+{
+    let n = sh.faces as usize;
+    let mut g = f + 1;
+    while g <= n {
+        let owner = face_solid(links, sh, g);
+        if owner == s {
+            return g;
+        }
+        g += 1;
+    }
+    0
+}
+
+// The faces are gone through once: up to the least of s, then on to another one.
 pub fn kvsf_fits(links: &[u16], sh: Shape, s: usize) -> bool
     requires { ⌜ (sh .faces < 65536) × (sh .loops < 65536) ⌝ }
     ensures { λ r. ⌜ r ≡ kvsfTest sh (now (links .entry)) s ⌝ }
 {
     let f = face_in(links, sh, s);
-    let faces = faces_in(links, sh, s);
+    if f == 0 {
+        return false;
+    }
+    let other = face_after(links, sh, s, f);
+    if other != 0 {
+        return false;
+    }
     let loops = loops_in(links, sh, f);
-    let l = face_outer(links, sh, f);
-    let v = loop_isolated(links, sh, l);
-    (faces == 1) & (loops == 1) & (v != 0)
+    if loops != 1 {
+        return false;
+    }
+    let v = loop_isolated(links, sh, face_outer(links, sh, f));
+    if v == 0 {
+        return false;
+    }
+    true
 }
 
 // Solid s has the face f alone, f the loop l alone, and l is lone at vertex v.

@@ -10,11 +10,14 @@ use layout::columns::set_face_solid;
 use layout::shape::Shape;
 use shells::faces::same_shell;
 
-// All faces of solid s pass to solid t.
+// All faces of solid s pass to solid t. Where the two are one, none is looked at.
 pub fn move_faces(links: &mut [u16], sh: Shape, s: usize, t: usize)
     requires { ⌜ (sh .faces ≤ 4096) × (t < 65536) ⌝ }
     ensures { λ _. ⌜ now (links .exit) ≡ moveFaces sh (now (links .entry)) s t ⌝ }
 {
+    if s == t {
+        return;
+    }
     let n = sh.faces as usize;
     let mut k: usize = 0;
     while k < n {

@@ -24,11 +24,23 @@ fn shares_outside(links: &[u16], sh: Shape, l: usize, f: usize, k: usize) -> boo
     ensures { λ r. ⌜ r ≡ sharesOutside sh (now (links .entry)) l f k ⌝ }
 {
     let start = start_of(links, sh, k);
+    if start == 0 {
+        return false;
+    }
     let owner = loop_of(links, sh, k);
-    let here = side_of(links, sh, k);
+    if owner == l {
+        return false;
+    }
+    let here = loop_face(links, sh, owner);
     let old = loop_face(links, sh, l);
+    if here != old {
+        return false;
+    }
     let there = side_of(links, sh, mate_of(k));
-    (start != 0) & (here == old) & (owner != l) & (there == f)
+    if there != f {
+        return false;
+    }
+    true
 }
 
 // The least half-edge that does so; 0 where none does.
@@ -48,14 +60,24 @@ fn sharing_half(links: &[u16], sh: Shape, l: usize, f: usize) -> usize
     0
 }
 
+// The half-edges are gone through only for a ring that leaves its face.
 pub fn rmov_fits(links: &[u16], sh: Shape, l: usize, f: usize) -> bool
     requires { ⌜ (sh .edges ≤ 4096) × (l < 65536) ⌝ }
     ensures { λ r. ⌜ r ≡ rmovTest sh (now (links .entry)) l f ⌝ }
 {
-    let old = loop_face(links, sh, l);
     let ring = is_ring(links, sh, l);
+    if !ring {
+        return false;
+    }
+    let old = loop_face(links, sh, l);
+    if f == old {
+        return true;
+    }
     let k = sharing_half(links, sh, l, f);
-    ring & ((f == old) | (k != 0))
+    if k == 0 {
+        return false;
+    }
+    true
 }
 
 pub fn rmov_links(links: &mut [u16], sh: Shape, l: usize, f: usize)

@@ -1,4 +1,4 @@
-use Rattle.solids.specs.SolidsLaws.{kfmrh-steps}
+use Rattle.solids.specs.HolesLaws.{kfmrh-steps}
 use borrow.Author.Needs.{needs}
 use Rattle.solids.proofs.holes.kfmrh_links.Statement.{statement}
 use Rattle.solids.proofs.holes.kfmrh_links.Tie as tie

@@ -1,4 +1,4 @@
-use Rattle.solids.specs.SolidsLaws.{mfkrh-stays, mfkrh-leaves}
+use Rattle.solids.specs.HolesLaws.{mfkrh-stays, mfkrh-leaves}
 use borrow.Author.Needs.{needs}
 use Rattle.solids.proofs.holes.mfkrh_links.Statement.{statement}
 use Rattle.solids.proofs.holes.mfkrh_links.Tie as tie

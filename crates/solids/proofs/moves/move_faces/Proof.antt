@@ -6,7 +6,7 @@ use lib.Dec.{eqb}
 use lib.ListN.{length}
 use Rattle.laws.specs.Bools.{pick}
 use Rattle.solids.specs.Moves.{sweepFaces}
-use Rattle.solids.specs.SolidsLaws.{sweep-none, sweep-more, sweep-all}
+use Rattle.solids.specs.HolesLaws.{sweep-none, sweep-more, sweep-all, move-none}
 use Rattle.solids.proofs.moves.move_faces.Statement.{statement}
 use Rattle.solids.proofs.moves.move_faces.Tie as tie
 use Rattle.solids.proofs.moves.move_faces.Reads as reads
@@ -21,11 +21,16 @@ Inv-loop links₀ sh s t n k₀ links k = (k ≤ n) × (length links ≡ length 
 abbrev μ-loop : tie.MeasureT-loop
 μ-loop links₀ sh s t n k₀ links k = n - k
 
+returns : tie.Need-returns Inv-loop μ-loop
+returns c =
+    let a = c .before .before .args in
+    move-none (a .sh) (a .links .now) (a .s) (a .t) (omega arith)
+
 cast-n : tie.Need-cast-n Inv-loop μ-loop
 cast-n c = search needs
 
 loop-holds : tie.Need-loop-holds Inv-loop μ-loop
-loop-holds c = (omega arith, omega arith, sweep-none (c .before .before .args .sh) _ _)
+loop-holds c = (omega arith, omega arith, sweep-none (c .before .before .before .args .sh) _ _)
 
 add-face-solid : tie.Need-add-face-solid Inv-loop μ-loop
 add-face-solid c = omega arith
@@ -49,13 +54,14 @@ loop-less : tie.Need-loop-less Inv-loop μ-loop
 loop-less c = omega arith
 
 loop-again : tie.Need-loop-again Inv-loop μ-loop
-loop-again c = (omega arith, omega arith, sweep-more (c .before .before .before .before .before .before .before .before .before .before .before .args .sh) _ _ _ _ _ _ _ (c .before .before .before .before .before .before .before .before .loop .inv .2) (c .before .before .before .before .before .face-solid .ensures .0) (c .before .before .before .before .choose .ensures .0) (c .before .before .set-face-solid .ensures))
+loop-again c = (omega arith, omega arith, sweep-more (c .before .before .before .before .before .before .before .before .before .before .before .before .args .sh) _ _ _ _ _ _ _ (c .before .before .before .before .before .before .before .before .loop .inv .2) (c .before .before .before .before .before .face-solid .ensures .0) (c .before .before .before .before .choose .ensures .0) (c .before .before .set-face-solid .ensures))
 
 same-length : tie.Need-same-length Inv-loop μ-loop
 same-length c = omega arith
 
-returns : tie.Need-returns Inv-loop μ-loop
-returns c = sweep-all (c .before .before .before .before .args .sh) _ _ _ _ _ (omega arith) (omega arith) (c .before .loop .inv .2)
+returns-2 : tie.Need-returns-2 Inv-loop μ-loop
+returns-2 c =
+    sweep-all (c .before .before .before .before .before .args .sh) _ _ _ _ _ (omega arith) (omega arith) (c .before .loop .inv .2)
 
 pub move-faces-spec : {M : Type 1} → statement M
 move-faces-spec =
@@ -63,6 +69,7 @@ move-faces-spec =
     (tie.spec
     Inv-loop
     μ-loop
+    returns
     cast-n
     loop-holds
     add-face-solid
@@ -74,4 +81,4 @@ move-faces-spec =
     loop-less
     loop-again
     same-length
-    returns)
+    returns-2)

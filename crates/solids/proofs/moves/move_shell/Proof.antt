@@ -7,7 +7,7 @@ use Rattle.laws.specs.Union.{SameRoots, same-roots-then}
 use Rattle.shells.specs.Forest.{Forest}
 use Rattle.shells.specs.ForestLaws.{same-roots-here, forest-short}
 use Rattle.solids.specs.Moves.{sweepFaces, byRoot, moveShell}
-use Rattle.solids.specs.SolidsLaws.{sweep-none, sweep-more, sweep-all, by-root}
+use Rattle.solids.specs.HolesLaws.{sweep-none, sweep-more, sweep-all, by-root}
 use Rattle.solids.proofs.moves.move_shell.Statement.{statement}
 use Rattle.solids.proofs.moves.move_shell.Tie as tie
 use Rattle.solids.proofs.moves.move_shell.Reads as reads

@@ -1,4 +1,4 @@
-use Rattle.solids.specs.SolidsLaws.{rmov-within, rmov-over}
+use Rattle.solids.specs.RingsLaws.{rmov-within, rmov-over}
 use borrow.Author.Needs.{needs}
 use Rattle.solids.proofs.rings.rmov_links.Statement.{statement}
 use Rattle.solids.proofs.rings.rmov_links.Tie as tie
