@@ -22,6 +22,10 @@ pub record Table : Type 0 where
   pub links : List ℕ
   pub points : List ℤ
 
+-- an operator by its code and its eight operands; how many it has is the code's
+abbrev pub operatorBy : ℕ → List ℤ → Operator
+operatorBy code args = record { code = code; count = pattern code .count; args = args }
+
 -- ---- 5: operands out of a table's range
 
 -- a table's capacities as limits
