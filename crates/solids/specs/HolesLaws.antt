@@ -89,39 +89,36 @@ kfmrh-steps sh x f1 f2 l s t x1 x2 x3 x4 x5 el es et e1 e2 e3 e4 e5 = rw (e5, e4
 -- ---- mfkrh
 
 module _ (sh : Shape) (x : List ℕ) (l f s : ℕ) where
-  -- l is an outer loop
-  pub mfkrh-outer : isRing sh x l ≡ false → false ≡ mfkrhTest sh x l f s
-  unfolding mfkrhTest
-  mfkrh-outer r = rw r
+  module _ (ring : Bool) (er : ring ≡ isRing sh x l) where
+    -- l is an outer loop
+    pub mfkrh-outer : ring ≡ false → false ≡ mfkrhTest sh x l f s
+    unfolding mfkrhTest
+    mfkrh-outer r = rw (← er, r)
 
-  module _ (r : isRing sh x l ≡ true) (o : ℕ) (eo : o ≡ loopFace sh x l) where
-    module _ (k : facesLinkedAs sh x l f f o ≡ true) where
-      linked : linkedAfter sh x l f f (loopFace sh x l) ≡ true
+    module _ (r : ring ≡ true) (o : ℕ) (eo : o ≡ loopFace sh x l) (linked : Bool) (ek : linked ≡ facesLinkedAs sh x l f f o) where
+      after : linked ≡ linkedAfter sh x l f f (loopFace sh x l)
       unfolding linkedAfter
-      linked = rw (← eo) k
+      after = rw (← eo) ek
 
-      -- the faces stay linked and a solid is named
-      pub mfkrh-surplus : s ≢ 0 → false ≡ mfkrhTest sh x l f s
+      -- the faces stay linked, and no solid is named
+      pub mfkrh-within : linked ≡ true → s ≡ 0 → true ≡ mfkrhTest sh x l f s
       unfolding mfkrhTest
-      mfkrh-surplus h = rw (r, linked, eqb-other h)
+      mfkrh-within k h = rw (← er, ← after, r, k, eqb-same h)
 
-      pub mfkrh-within : s ≡ 0 → true ≡ mfkrhTest sh x l f s
+      -- a solid is named that is not due
+      pub mfkrh-surplus : linked ≡ true → s ≢ 0 → false ≡ mfkrhTest sh x l f s
       unfolding mfkrhTest
-      mfkrh-within h = rw (r, linked, eqb-same h)
+      mfkrh-surplus k h = rw (← er, ← after, r, k, eqb-other h)
 
-    module _ (k : facesLinkedAs sh x l f f o ≡ false) where
-      parted : linkedAfter sh x l f f (loopFace sh x l) ≡ false
-      unfolding linkedAfter
-      parted = rw (← eo) k
-
-      -- a new solid is due and none is named
-      pub mfkrh-nameless : s ≡ 0 → false ≡ mfkrhTest sh x l f s
+      -- a new solid is due, and named
+      pub mfkrh-parts : linked ≡ false → s ≢ 0 → true ≡ mfkrhTest sh x l f s
       unfolding mfkrhTest
-      mfkrh-nameless h = rw (r, parted, eqb-same h)
+      mfkrh-parts k h = rw (← er, ← after, r, k, eqb-other h)
 
-      pub mfkrh-parts : s ≢ 0 → true ≡ mfkrhTest sh x l f s
+      -- it is due, and none is named
+      pub mfkrh-nameless : linked ≡ false → s ≡ 0 → false ≡ mfkrhTest sh x l f s
       unfolding mfkrhTest
-      mfkrh-parts h = rw (r, parted, eqb-other h)
+      mfkrh-nameless k h = rw (← er, ← after, r, k, eqb-same h)
 
   -- f stays in the solid
   pub mfkrh-stays : s ≡ 0 → (y : List ℕ) → y ≡ ringFace sh x l f → y ≡ mfkrhLinks sh x l f s

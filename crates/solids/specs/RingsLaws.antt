@@ -53,27 +53,27 @@ module _ (sh : Shape) (x : List ℕ) (l f k : ℕ) where
 
 -- ---- when a ring may move
 
-module _ (sh : Shape) (x : List ℕ) (l f : ℕ) where
+module _ (sh : Shape) (x : List ℕ) (l f : ℕ) (ring : Bool) (er : ring ≡ isRing sh x l) where
   -- l is an outer loop
-  pub rmov-outer : isRing sh x l ≡ false → false ≡ rmovTest sh x l f
+  pub rmov-outer : ring ≡ false → false ≡ rmovTest sh x l f
   unfolding rmovTest
-  rmov-outer r = rw r
+  rmov-outer r = rw (← er, r)
 
-  module _ (r : isRing sh x l ≡ true) where
+  module _ (r : ring ≡ true) (o : ℕ) (eo : o ≡ loopFace sh x l) where
     -- f is its own face
-    pub rmov-own : f ≡ loopFace sh x l → true ≡ rmovTest sh x l f
+    pub rmov-own : f ≡ o → true ≡ rmovTest sh x l f
     unfolding rmovTest
-    rmov-own e = rw (r, eqb-same e)
+    rmov-own e = rw (← er, r, ← eo, eqb-same e)
 
-    module _ (d : f ≢ loopFace sh x l) (k : ℕ) (e : k ≡ least (2 * sh .edges) (sharesOutside sh x l f)) where
+    module _ (d : f ≢ o) (k : ℕ) (ek : k ≡ least (2 * sh .edges) (sharesOutside sh x l f)) where
       -- no edge is shared with f
       pub rmov-apart : k ≡ 0 → false ≡ rmovTest sh x l f
       unfolding rmovTest
-      rmov-apart h = rw (r, eqb-other d, ← e, eqb-same h)
+      rmov-apart h = rw (← er, r, ← eo, eqb-other d, ← ek, eqb-same h)
 
       pub rmov-beside : k ≢ 0 → true ≡ rmovTest sh x l f
       unfolding rmovTest
-      rmov-beside h = rw (r, eqb-other d, ← e, eqb-other h)
+      rmov-beside h = rw (← er, r, ← eo, eqb-other d, ← ek, eqb-other h)
 
 -- ---- what it does
 

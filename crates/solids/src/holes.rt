@@ -2,11 +2,13 @@
 // or kills a hole through it; between two it joins or divides solids.
 ghost use mathlib.Core.Path.{_≡_};
 ghost use Prim.Native.Nat.{ℕ, _<_, _≤_};
+ghost use Rattle.layout.specs.Small.{Small};
 ghost use Rattle.euler.specs.Operators.{kfmrhTest, kfmrhLinks, kfmrhInverse, ringFace, mfkrhTest, mfkrhLinks, mfkrhInverse};
+ghost use Rattle.counts.specs.Counts.{Counted};
 use crate::moves::move_faces;
 use crate::moves::move_shell;
+use counts::counts::loops_kept;
 use euler::faces::is_ring;
-use euler::faces::loops_in;
 use euler::records::choose;
 use euler::records::put_face;
 use layout::columns::face_outer;
@@ -21,14 +23,15 @@ use script::with_number;
 use shells::faces::link_faces;
 use shells::faces::linked_faces;
 
-pub fn kfmrh_fits(links: &[u16], sh: Shape, f1: usize, f2: usize) -> bool
-    requires { ⌜ sh .loops < 65536 ⌝ }
+pub fn kfmrh_fits(links: &[u16], counts: &[u16; 4097], sh: Shape, f1: usize, f2: usize) -> bool
+    requires { ⌜ Small sh ⌝ }
+    requires { ⌜ Counted sh (now links) (now counts) ⌝ }
     ensures { λ r. ⌜ r ≡ kfmrhTest sh (now (links .entry)) f1 f2 ⌝ }
 {
     if f1 == f2 {
         return false;
     }
-    let loops = loops_in(links, sh, f2);
+    let loops = loops_kept(links, counts, sh, f2);
     if loops != 1 {
         return false;
     }

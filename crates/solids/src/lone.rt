@@ -1,9 +1,11 @@
 // A solid of one face with one lone loop: mvsf makes it, kvsf kills it.
 ghost use mathlib.Core.Path.{_≡_};
 ghost use Prim.Native.Nat.{ℕ, _<_, _≤_};
+ghost use Rattle.layout.specs.Small.{Small};
 ghost use Rattle.euler.specs.Operators.{faceIn, facesIn, mvsfLinks, mvsfInverse, kvsfTest, kvsfLinks, kvsfInverse};
+ghost use Rattle.counts.specs.Counts.{Counted};
 ghost use Rattle.solids.specs.LoneLaws.{faceAfter};
-use euler::faces::loops_in;
+use counts::counts::loops_kept;
 use euler::points::with_point;
 use euler::records::put_face;
 use euler::records::put_loop;
@@ -70,8 +72,9 @@ fn face_after(links: &[u16], sh: Shape, s: usize, f: usize) -> usize
 }
 
 // The faces are gone through once: up to the least of s, then on to another one.
-pub fn kvsf_fits(links: &[u16], sh: Shape, s: usize) -> bool
-    requires { ⌜ (sh .faces < 65536) × (sh .loops < 65536) ⌝ }
+pub fn kvsf_fits(links: &[u16], counts: &[u16; 4097], sh: Shape, s: usize) -> bool
+    requires { ⌜ Small sh ⌝ }
+    requires { ⌜ Counted sh (now links) (now counts) ⌝ }
     ensures { λ r. ⌜ r ≡ kvsfTest sh (now (links .entry)) s ⌝ }
 {
     let f = face_in(links, sh, s);
@@ -82,7 +85,7 @@ pub fn kvsf_fits(links: &[u16], sh: Shape, s: usize) -> bool
     if other != 0 {
         return false;
     }
-    let loops = loops_in(links, sh, f);
+    let loops = loops_kept(links, counts, sh, f);
     if loops != 1 {
         return false;
     }

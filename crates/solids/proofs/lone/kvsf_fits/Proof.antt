@@ -5,7 +5,7 @@ use Rattle.solids.proofs.lone.kvsf_fits.Statement.{statement}
 use Rattle.solids.proofs.lone.kvsf_fits.Tie as tie
 use Rattle.solids.proofs.lone.kvsf_fits.Reads as reads
 use Rattle.solids.proofs.lone.kvsf_fits.Lts as lts
-use Rattle.euler.proofs.faces.loops_in.Reads as loops-in-reads
+use Rattle.counts.proofs.counts.loops_kept.Reads as loops-kept-reads
 use Rattle.layout.proofs.columns.face_outer.Reads as face-outer-reads
 use Rattle.layout.proofs.columns.loop_isolated.Reads as loop-isolated-reads
 use Rattle.solids.proofs.lone.face_after.Reads as face-after-reads
@@ -28,14 +28,14 @@ returns-2 c =
     kvsf-several (a .sh) (a .links .now) (a .s) _ (c .before .before .before .face-in .ensures .0) (omega arith) _
     (c .before .face-after .ensures) (omega arith)
 
-loops-in-requires : tie.Need-loops-in-requires
-loops-in-requires c κs = search needs
+loops-kept-requires : tie.Need-loops-kept-requires
+loops-kept-requires c κs = search needs
 
 returns-3 : tie.Need-returns-3
 returns-3 c =
     let a = c .before .before .before .before .before .before .before .args in
     kvsf-rings (a .sh) (a .links .now) (a .s) _ (c .before .before .before .before .before .face-in .ensures .0) _
-    (c .before .loops-in .ensures .0) (omega arith)
+    (c .before .loops-kept .ensures .0) (omega arith)
 
 face-outer-requires : tie.Need-face-outer-requires
 face-outer-requires c κs = search needs
@@ -56,7 +56,7 @@ returns-5 c =
     kvsf-fits (a .sh) (a .links .now) (a .s) _
     (c .before .before .before .before .before .before .before .before .face-in .ensures .0) (omega arith) _
     (c .before .before .before .before .before .before .face-after .ensures) (omega arith)
-    _ (c .before .before .before .before .loops-in .ensures .0) (omega arith) _ _
+    _ (c .before .before .before .before .loops-kept .ensures .0) (omega arith) _ _
     (c .before .before .face-outer .ensures .0) (c .before .loop-isolated .ensures .0) (omega arith)
 
 pub kvsf-fits-spec : {M : Type 1} → statement M
@@ -67,7 +67,7 @@ kvsf-fits-spec =
     returns
     face-after-requires
     returns-2
-    loops-in-requires
+    loops-kept-requires
     returns-3
     face-outer-requires
     loop-isolated-requires

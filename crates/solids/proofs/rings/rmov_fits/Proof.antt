@@ -1,6 +1,5 @@
 use borrow.Author.Tests.{not-true, not-false}
 use native.Mathlib.Omega.{arith}
-use mathlib.Core.Path.{sym, _∙_}
 use Rattle.solids.specs.RingsLaws.{rmov-outer, rmov-own, rmov-apart, rmov-beside}
 use borrow.Author.Needs.{needs}
 use Rattle.solids.proofs.rings.rmov_fits.Statement.{statement}
@@ -17,7 +16,7 @@ is-ring-requires c κs = search needs
 returns : tie.Need-returns
 returns c =
     let a = c .before .before .before .args in
-    rmov-outer (a .sh) (a .links .now) (a .l) (a .f) (sym (c .before .is-ring .ensures) ∙ not-true _ (c .if1 .taken))
+    rmov-outer (a .sh) (a .links .now) (a .l) (a .f) _ (c .before .is-ring .ensures) (not-true _ (c .if1 .taken))
 
 loop-face-requires : tie.Need-loop-face-requires
 loop-face-requires c κs = search needs
@@ -25,8 +24,8 @@ loop-face-requires c κs = search needs
 returns-2 : tie.Need-returns-2
 returns-2 c =
     let a = c .before .before .before .before .before .args in
-    rmov-own (a .sh) (a .links .now) (a .l) (a .f)
-    (sym (c .before .before .before .is-ring .ensures) ∙ not-false _ (c .before .before .if1 .left)) (omega arith)
+    rmov-own (a .sh) (a .links .now) (a .l) (a .f) _ (c .before .before .before .is-ring .ensures) (not-false _ (c .before .before .if1 .left))
+    _ (c .before .loop-face .ensures .0) (omega arith)
 
 sharing-half-requires : tie.Need-sharing-half-requires
 sharing-half-requires c κs = search needs
@@ -34,18 +33,16 @@ sharing-half-requires c κs = search needs
 returns-3 : tie.Need-returns-3
 returns-3 c =
     let a = c .before .before .before .before .before .before .before .args in
-    rmov-apart (a .sh) (a .links .now) (a .l) (a .f)
-    (sym (c .before .before .before .before .before .is-ring .ensures)
-    ∙ not-false _ (c .before .before .before .before .if1 .left))
-    (omega arith) _ (c .before .sharing-half .ensures) (omega arith)
+    rmov-apart (a .sh) (a .links .now) (a .l) (a .f) _
+    (c .before .before .before .before .before .is-ring .ensures) (not-false _ (c .before .before .before .before .if1 .left))
+    _ (c .before .before .before .loop-face .ensures .0) (omega arith) _ (c .before .sharing-half .ensures) (omega arith)
 
 returns-4 : tie.Need-returns-4
 returns-4 c =
     let a = c .before .before .before .before .before .before .before .args in
-    rmov-beside (a .sh) (a .links .now) (a .l) (a .f)
-    (sym (c .before .before .before .before .before .is-ring .ensures)
-    ∙ not-false _ (c .before .before .before .before .if1 .left))
-    (omega arith) _ (c .before .sharing-half .ensures) (omega arith)
+    rmov-beside (a .sh) (a .links .now) (a .l) (a .f) _
+    (c .before .before .before .before .before .is-ring .ensures) (not-false _ (c .before .before .before .before .if1 .left))
+    _ (c .before .before .before .loop-face .ensures .0) (omega arith) _ (c .before .sharing-half .ensures) (omega arith)
 
 pub rmov-fits-spec : {M : Type 1} → statement M
 rmov-fits-spec =
