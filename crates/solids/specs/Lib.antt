@@ -1,4 +1,0 @@
-pub mod HolesLaws
-pub mod LoneLaws
-pub mod Moves
-pub mod RingsLaws
