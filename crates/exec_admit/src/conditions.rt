@@ -13,10 +13,10 @@ use edges_spurs::mev_kev::mev_fits;
 use euler::records::item_of;
 use layout::shape::Shape;
 use script::Operator;
-use solids::holes::kfmrh_fits;
-use solids::holes::mfkrh_fits;
-use solids::lone::kvsf_fits;
-use solids::rings::rmov_fits;
+use solids_holes::holes::kfmrh_fits;
+use solids_holes::holes::mfkrh_fits;
+use solids_lone::lone::kvsf_fits;
+use solids_rings::rings::rmov_fits;
 
 // The condition that document 01 writes for the operator holds.
 pub fn condition_holds(links: &[u16], sh: Shape, op: Operator) -> bool

@@ -25,12 +25,12 @@ use layout::mates::mate_of;
 use layout::shape::Shape;
 use script::Operator;
 use script::blank;
-use solids::holes::kfmrh_links;
-use solids::holes::mfkrh_links;
-use solids::lone::face_in;
-use solids::lone::kvsf_links;
-use solids::lone::mvsf_links;
-use solids::rings::rmov_links;
+use solids_holes::holes::kfmrh_links;
+use solids_holes::holes::mfkrh_links;
+use solids_lone::lone::face_in;
+use solids_lone::lone::kvsf_links;
+use solids_lone::lone::mvsf_links;
+use solids_rings::rings::rmov_links;
 
 // The vertex that kvsf of solid s kills.
 pub fn only_vertex(links: &[u16], sh: Shape, s: usize) -> usize

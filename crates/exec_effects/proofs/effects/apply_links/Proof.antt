@@ -16,10 +16,10 @@ use Rattle.euler.proofs.records.half_by.Reads as half-by-reads
 use Rattle.euler.proofs.records.item_of.Reads as item-of-reads
 use Rattle.exec_effects.proofs.effects.join_edges.Reads as join-edges-reads
 use Rattle.exec_effects.proofs.effects.kill_solid.Reads as kill-solid-reads
-use Rattle.solids.proofs.holes.kfmrh_links.Reads as kfmrh-links-reads
-use Rattle.solids.proofs.holes.mfkrh_links.Reads as mfkrh-links-reads
-use Rattle.solids.proofs.lone.mvsf_links.Reads as mvsf-links-reads
-use Rattle.solids.proofs.rings.rmov_links.Reads as rmov-links-reads
+use Rattle.solids_holes.proofs.holes.kfmrh_links.Reads as kfmrh-links-reads
+use Rattle.solids_holes.proofs.holes.mfkrh_links.Reads as mfkrh-links-reads
+use Rattle.solids_lone.proofs.lone.mvsf_links.Reads as mvsf-links-reads
+use Rattle.solids_rings.proofs.rings.rmov_links.Reads as rmov-links-reads
 
 -- src/effects.rt:74:9
 item-of-requires : tie.Need-item-of-requires
