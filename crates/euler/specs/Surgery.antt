@@ -8,7 +8,7 @@ use lib.IntN.{ℤ, pos}
 use lib.ListN.{getD, set}
 use Rattle.laws.specs.Bools.{pick}
 use Rattle.script.specs.declared.Operator.{Operator}
-use Rattle.script.specs.Operator.{operandOf}
+use Rattle.script.specs.Operator.{natOf}
 use Rattle.layout.specs.declared.shape.Shape.{Shape}
 use Rattle.layout.specs.Layout.{loopFirst, loopIsolated, startOf, loopOf, nextOf, prevOf, setFaceSolid, setFaceOuter, setLoopFace, setLoopFirst, setLoopIsolated, setStart, setLoop, setNext, setPrev}
 use Rattle.layout.specs.Mate.{mate}
@@ -18,9 +18,13 @@ use Rattle.layout.specs.Points.{coordinate, setCoordinate}
 abbrev pub some : ℕ → Bool
 some n = not (eqb n 0)
 
--- operand i as the number of an item; past 8,192, the most that any table has, it names none
+-- operand i of a list as the number of an item; past 8,192, the most that any table has, it names none
+abbrev pub itemIn : List ℤ → ℕ → ℕ
+itemIn args i = pick (leb (natOf (getD args i (pos 0))) 8192) (natOf (getD args i (pos 0))) 0
+
+-- and of an operator
 abbrev pub itemOf : Operator → ℕ → ℕ
-itemOf o i = pick (leb (operandOf o i) 8192) (operandOf o i) 0
+itemOf o i = itemIn (o .args) i
 
 -- ---- ways
 
@@ -57,9 +61,13 @@ putHalf sh x k v l n p = setPrev sh (setNext sh (setLoop sh (setStart sh x k v) 
 abbrev pub putPoint : List ℤ → ℕ → ℤ → ℤ → ℤ → List ℤ
 putPoint p v a b c = setCoordinate (setCoordinate (setCoordinate p v 0 a) v 1 b) v 2 c
 
--- the point that stands at operands i, i + 1, i + 2 goes to vertex v
+-- the point that stands at operands i, i + 1, i + 2 of a list goes to vertex v
+abbrev pub pointIn : List ℤ → List ℤ → ℕ → ℕ → List ℤ
+pointIn p args v i = putPoint p v (getD args i (pos 0)) (getD args (i + 1) (pos 0)) (getD args (i + 2) (pos 0))
+
+-- and that of an operator
 abbrev pub pointTo : List ℤ → Operator → ℕ → ℕ → List ℤ
-pointTo p o v i = putPoint p v (getD (o .args) i (pos 0)) (getD (o .args) (i + 1) (pos 0)) (getD (o .args) (i + 2) (pos 0))
+pointTo p o v i = pointIn p (o .args) v i
 
 -- an operator with c for operand i
 abbrev pub withOperand : Operator → ℕ → ℤ → Operator
