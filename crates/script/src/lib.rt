@@ -4,7 +4,7 @@ pub mod operands; // what each operand is
 mod bytes; // operands as bytes
 
 ghost use mathlib.Core.Path.{_≡_};
-ghost use Prim.Native.Nat.{ℕ, _+_, _≤_, _<_};
+ghost use Prim.Native.Nat.{ℕ, _+_, _-_, _≤_, _<_};
 ghost use lib.ListN.{length};
 ghost use Rattle.script.specs.Operands.{widest};
 ghost use Rattle.script.specs.Operator.{blankOf, operandOf, withNumber, refused, readBehind, readOperator, numbersOf, operatorBytes, operatorRefusal, putBytes, written, writeOperator};
@@ -203,6 +203,21 @@ pub fn put_operator(op: Operator, out: &mut [u8], at: usize)
     let numbers = operands::to_wires(kinds, args);
     let behind = number::write_number(out, at, op.code as u32);
     bytes::write_operands(out, behind, kinds, numbers);
+}
+
+// The operator's bytes, from the last operand to the code, so that they end before `end`; the place where they begin.
+pub fn put_before(op: Operator, out: &mut [u8], end: usize) -> usize
+    requires { ⌜ (length (operatorBytes op) ≤ end) × (end ≤ length (now out)) ⌝ }
+    ensures { λ r. ⌜ r ≡ end - length (operatorBytes op) ⌝ }
+    ensures { λ _. ⌜
+        now (out .exit) ≡ putBytes (now (out .entry)) (end - length (operatorBytes op)) (operatorBytes op) ⌝ }
+{
+    let pattern = operands::pattern_of(op.code);
+    let count = pattern.count as usize;
+    let kinds = pattern.kinds;
+    let args = op.args;
+    let behind = bytes::put_operands_before(out, end, count, kinds, args);
+    number::write_before(out, behind, op.code as u32)
 }
 
 // The operator at the front of `out`: refusal 4 or 5, then 9 where it does not fit, with `out` left as it is.

@@ -1,6 +1,6 @@
 // Numbers in groups of seven bits.
 ghost use mathlib.Core.Path.{_≡_};
-ghost use Prim.Native.Nat.{ℕ, _+_, _*_, _%_, _≤_, _<_};
+ghost use Prim.Native.Nat.{ℕ, _+_, _-_, _*_, _%_, _≤_, _<_};
 ghost use lib.ListN.{length};
 ghost use lib.Seq.{sets};
 ghost use Rattle.script.specs.Number.{readNumber, groups};
@@ -106,4 +106,15 @@ pub fn write_number(out: &mut [u8], at: usize, n: u32) -> usize
     out[at + 1] = more_group(n >> 7);
     out[at + 2] = low_group(n >> 14);
     at + 3
+}
+
+// The number's bytes, so that they end before `end`; the place where they begin.
+pub fn write_before(out: &mut [u8], end: usize, n: u32) -> usize
+    requires { ⌜ (length (groups n) ≤ end) × (end ≤ length (now out)) ⌝ }
+    ensures { λ r. ⌜ r ≡ end - length (groups n) ⌝ }
+    ensures { λ _. ⌜ now (out .exit) ≡ sets (now (out .entry)) (end - length (groups n)) (groups n) ⌝ }
+{
+    let at = end - number_size(n);
+    write_number(out, at, n);
+    at
 }
