@@ -1,6 +1,6 @@
 use mathlib.Core.Path.{_≡_, refl, sym, ap, _∙_}
 use mathlib.Core.Bool.{true}
-use Prim.Native.Nat.{_-_, _≤_}
+use Prim.Native.Nat.{_-_, _≤_, _<_}
 use native.Mathlib.Omega.{arith}
 use lib.ListN.{length, drop}
 use lib.Seq.{sets}
@@ -50,7 +50,7 @@ write-before-requires : tie.Need-write-before-requires Inv-loop μ-loop
 write-before-requires c κs =
     let v = c .before .before .before .before .loop .inv in
     let e = rw (toZ-ofZ (record { sfits = c .before .to-wire-arg .given })) at (c .to-wire .ensures) in
-    let h = c .before .before .before .loop-test .taken in
+    let h : 0 < c .before .before .before .before .loop .i = omega arith in
     let t = last-fits _ _ (v .3) (v .4) _ (v .2) _ _ h (v .0) e _ _ (v .6) (v .8) in
     (t .0, omega arith)
 
@@ -62,7 +62,7 @@ loop-again c =
     let v = c .before .before .before .before .before .before .before .loop .inv in
     let a = c .before .before .before .before .to-wire-arg .given in
     let e = rw (toZ-ofZ (record { sfits = a })) at (c .before .before .before .to-wire .ensures) in
-    let h = c .before .before .before .before .before .before .loop-test .taken in
+    let h : 0 < c .before .before .before .before .before .before .before .loop .i = omega arith in
     let w = c .before .before .write-before .ensures in
     let t = last-turn _ _ (v .3) (v .4) _ (v .2) _ _ h (v .0) e _ _ (v .6) (v .8) _ _ _ _ (v .9) (w .0) (w .1) in
     (omega arith, v .1, v .2, v .3, v .4, omega arith, v .6, v .7, t .0, t .1)
