@@ -9,6 +9,7 @@ pub mod WriteLaws
 pub mod OperatorLaws
 pub mod NumberTrip
 pub mod Ranges
+pub mod BeforeLaws
 pub mod OperandTrip
 pub mod Accepted
 pub mod Bounds

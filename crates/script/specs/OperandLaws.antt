@@ -1,7 +1,7 @@
 -- Laws of the operands: which codes there are, and what is read and stored of one operand.
 use mathlib.Core.Path.{_≡_, refl, sym, _∙_}
 use mathlib.Core.Logic.{_⊎_, inl, inr, ⊎-elim}
-use Prim.Native.Nat.{ℕ, zero, suc, _+_, _≤_, _<_}
+use Prim.Native.Nat.{ℕ, zero, suc, _+_, _*_, _≤_, _<_}
 use native.Mathlib.Omega.{arith}
 use mathlib.Core.List.{List, [], _∷_, _++_, append-assoc, append-nil}
 use lib.ListN.{length, getD, take, drop, set, length-set, drop-of-length-le, List·getD-eq-default}
@@ -14,7 +14,8 @@ use lib.IntN.{ℤ, pos, negsuc}
 use Rattle.laws.specs.Bools.{pick, same?}
 use Rattle.script.specs.declared.Limits.{Limits}
 use Rattle.script.specs.declared.operands.Pattern.{Pattern}
-use Rattle.script.specs.Operands.{row, rows, pattern, leasts, inRange, inRanges, each, coordinate, zig, zag, wire, unwire, none}
+use Rattle.script.specs.Operands.{row, rows, pattern, leasts, largests, inRange, inRanges, each, coordinate}
+use Rattle.script.specs.Operands.{zig, zag, wire, unwire, none}
 
 -- x is none of 1 to n
 abbrev pub NoneOf : ℕ → ℕ → Type 0
@@ -39,6 +40,12 @@ pub pattern-none : (x : ℕ) → NoneOf 13 x → row [] ≡ pattern x
 unfolding pattern rows
 pattern-none x d =
     ⊎-elim (λ e. rw e) (λ h. no-code x h) (none-of 13 x d)
+
+-- the largest numbers, each by its own equation
+pub largest-is : (lim : Limits) (s f l e h v w m c : ℕ) → s ≡ lim .solids → f ≡ lim .faces → l ≡ lim .loops
+    → e ≡ lim .edges → h ≡ 2 * e → v ≡ lim .vertices → w ≡ 1 → m ≡ 3 → c ≡ 100000
+    → 0 ∷ s ∷ s ∷ s ∷ f ∷ f ∷ l ∷ l ∷ e ∷ h ∷ h ∷ v ∷ w ∷ m ∷ c ∷ [] ≡ largests lim
+largest-is lim s f l e h v w m c ps pf pl pe ph pv pw pm pc = rw (ph, ps, pf, pl, pe, pv, pw, pm, pc)
 
 -- one number in or out of range
 module _ (most : List ℕ) (k n : ℕ) where

@@ -104,6 +104,13 @@ unfoldable pub pattern : ℕ → Pattern
 unfolding rows
 pattern code = getD rows code (row [])
 
+-- the first n kinds are of operands, those behind them are unused
+unfoldable pub filled : ℕ → List ℕ → Bool
+filled zero [] = true
+filled zero (k ∷ ks) = pick (eqb k unused) (filled zero ks) false
+filled (suc n) [] = false
+filled (suc n) (k ∷ ks) = pick (eqb k unused) false (filled n ks)
+
 -- the least number of each kind, the kinds in order: 0 where 0 is allowed
 abbrev pub leasts : List ℕ
 leasts = 0 ∷ 1 ∷ 1 ∷ 0 ∷ 1 ∷ 1 ∷ 1 ∷ 1 ∷ 1 ∷ 1 ∷ 0 ∷ 1 ∷ 0 ∷ 0 ∷ 0 ∷ []

@@ -1,6 +1,6 @@
 -- The ways out of the code that writes an operator.
 use mathlib.Core.Path.{_≡_, refl, sym, ap, _∙_}
-use Prim.Native.Nat.{ℕ, _+_, _≤_, _<_}
+use Prim.Native.Nat.{ℕ, _+_, _-_, _*_, _≤_, _<_}
 use native.Mathlib.Omega.{arith}
 use mathlib.Core.Bool.{Bool, true, false}
 use mathlib.Core.List.{List, [], _∷_, _++_}
@@ -10,9 +10,22 @@ use borrow.Author.Tests.{le-leb, lt-leb, eq-eqb, ne-eqb}
 use Rattle.script.specs.declared.Operator.{Operator}
 use Rattle.script.specs.declared.operands.Pattern.{Pattern}
 use Rattle.script.specs.Number.{groups}
-use Rattle.script.specs.Operands.{pattern, widest, largests, inRanges, wires}
-use Rattle.script.specs.Operator.{operandsBytes, operatorBytes, operatorRefusal, putBytes, written, notWritten, writeOperator}
-use Rattle.script.specs.WriteLaws.{sets-append}
+use Rattle.script.specs.Operands.{pattern, widest, largests, inRanges, filled, wires}
+use Rattle.script.specs.Operator.{numbersOf, operandsBytes, operatorBytes, operatorRefusal}
+use Rattle.script.specs.Operator.{putBytes, written, notWritten, writeOperator}
+use Rattle.script.specs.WriteLaws.{sets-append, groups-size}
+use Rattle.script.specs.Ranges.{eight}
+use Rattle.script.specs.BeforeLaws.{before-turn, pattern-filled, operands-bound}
+
+-- an operator takes at most 27 bytes
+pub operator-bound : (op : Operator) → length (operatorBytes op) ≤ 27
+unfolding operatorBytes
+operator-bound op =
+    let e = length-append (groups (op .code)) (operandsBytes (pattern (op .code) .kinds) (numbersOf op)) in
+    let g = groups-size (op .code) in
+    let o = operands-bound (pattern (op .code) .kinds) (numbersOf op) in
+    let k = eight (op .code) in
+    omega arith
 
 module _ (op : Operator) (p : Pattern) (e : p ≡ pattern (op .code)) where
   pub refusal-code : p .count ≡ 0 → 4 ≡ operatorRefusal op
@@ -44,6 +57,31 @@ module _ (op : Operator) (p : Pattern) (e : p ≡ pattern (op .code)) where
     unfolding putBytes
     put-done l y z at behind h a b d =
         rw (le-leb (at + length (operatorBytes op)) (length l) h, bytes-are, d, b, a) (sym (sets-append l at (groups (op .code)) (operandsBytes (p .kinds) ns)))
+
+-- written from the last operand to the code, the bytes end before `end`
+module _ (op : Operator) (p : Pattern) (e : p ≡ pattern (op .code)) where
+  pub before-filled : filled (p .count) (p .kinds) ≡ true
+  before-filled = ap (λ (q : Pattern). filled (q .count) (q .kinds)) e ∙ pattern-filled (op .code)
+
+  abbrev operands : List ℕ
+  operands = operandsBytes (p .kinds) (wires (p .kinds) (op .args))
+
+  pub before-size : length (operatorBytes op) ≡ length (groups (op .code)) + length operands
+  before-size = size-is op p e (wires (p .kinds) (op .args)) refl
+
+  pub before-done : (l y z : List ℕ) (end from to : ℕ) → length (operatorBytes op) ≤ end → end ≤ length l
+      → from ≡ end - length operands → y ≡ sets l from operands → to ≡ from - length (groups (op .code))
+      → z ≡ sets y (from - length (groups (op .code))) (groups (op .code))
+      → (to ≡ end - length (operatorBytes op)) × (z ≡ putBytes l (end - length (operatorBytes op)) (operatorBytes op))
+  unfolding putBytes
+  before-done l y z end from to h k a b d g =
+      let s = before-size in
+      let t : to ≡ end - length (operatorBytes op) = omega arith in (
+        t,
+        rw (le-leb (end - length (operatorBytes op) + length (operatorBytes op)) (length l) (omega arith))
+            (before-turn l y z from (end - length (operatorBytes op)) (groups (op .code)) operands (operatorBytes op)
+            (bytes-are op p e (wires (p .kinds) (op .args)) refl) b (omega arith) (omega arith) g),
+      )
 
 pub put-not : (l : List ℕ) (at : ℕ) (bytes : List ℕ) → length l < at + length bytes → l ≡ putBytes l at bytes
 unfolding putBytes

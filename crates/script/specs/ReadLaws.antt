@@ -92,6 +92,10 @@ module _ (lim : Limits) (s : List ℕ) (at code from : ℕ) (p : Pattern) (e : p
       unfolding readBehind
       behind-done w a v f = rw (← e, ne-eqb (p .count) 0 some, read-is n from (readOperands (p .kinds) s from) g z, ← m, ← u, w, ← v) f
 
+-- a refusal by its number
+pub refused-as : (k n at : ℕ) (r : ReadAnswer) → r ≡ refused k at → k ≡ n → r ≡ refused n at
+refused-as k n at r e f = rw (← f) e
+
 -- the ways out of reading an operator
 module _ (lim : Limits) (s : List ℕ) (at : ℕ) (r : ReadAnswer) where
   pub operator-bad : readNumber s at ≡ Bad → r ≡ refused 3 at → r ≡ readOperator lim s at

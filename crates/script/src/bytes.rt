@@ -1,11 +1,14 @@
 // The operands as bytes, one behind the other.
 ghost use mathlib.Core.Path.{_≡_};
-ghost use Prim.Native.Nat.{ℕ, _+_, _≤_, _<_};
+ghost use mathlib.Core.Bool.{Bool, true};
+ghost use Prim.Native.Nat.{ℕ, _+_, _-_, _≤_, _<_};
 ghost use lib.ListN.{length};
 ghost use lib.Seq.{sets};
+ghost use Rattle.script.specs.Operands.{filled, wires};
 ghost use Rattle.script.specs.Operator.{readOperand, readOperands, numbersAnswer, operandBytes, operandsBytes};
 use crate::number;
 use crate::number::Num;
+use crate::operands;
 use crate::operands::NONE;
 
 // What reading eight operands answers. On a refusal `next` is the place handed in and the numbers are 0.
@@ -102,4 +105,26 @@ pub fn write_operands(out: &mut [u8], at: usize, kinds: [u8; 8], numbers: [u32; 
         p = write_operand(out, p, kinds[i], numbers[i]);
         i += 1;
     }
+}
+
+// The bytes of the first `count` operands, from the last to the first, so that they end before `end`; where they begin.
+pub fn put_operands_before(
+    out: &mut [u8],
+    end: usize,
+    count: usize,
+    kinds: [u8; 8],
+    args: [i32; 8],
+) -> usize
+    requires { ⌜ filled count kinds ≡ true ⌝ }
+    requires { ⌜ (length (operandsBytes kinds (wires kinds args)) ≤ end) × (end ≤ length (now out)) ⌝ }
+    ensures { λ r. ⌜ r ≡ end - length (operandsBytes kinds (wires kinds args)) ⌝ }
+    ensures { λ r. ⌜ now (out .exit) ≡ sets (now (out .entry)) r (operandsBytes kinds (wires kinds args)) ⌝ }
+{
+    let mut i = count;
+    let mut p = end;
+    while i > 0 {
+        i -= 1;
+        p = number::write_before(out, p, operands::to_wire(kinds[i], args[i]));
+    }
+    p
 }

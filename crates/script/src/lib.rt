@@ -1,10 +1,10 @@
 // Operators as bytes: numbers in groups of seven bits, an operator as its code and operands.
-mod number; // numbers
+pub mod number; // numbers
 pub mod operands; // what each operand is
 mod bytes; // operands as bytes
 
 ghost use mathlib.Core.Path.{_≡_};
-ghost use Prim.Native.Nat.{ℕ, _+_, _≤_, _<_};
+ghost use Prim.Native.Nat.{ℕ, _+_, _-_, _≤_, _<_};
 ghost use lib.ListN.{length};
 ghost use Rattle.script.specs.Operands.{widest};
 ghost use Rattle.script.specs.Operator.{blankOf, operandOf, withNumber, refused, readBehind, readOperator, numbersOf, operatorBytes, operatorRefusal, putBytes, written, writeOperator};
@@ -117,7 +117,8 @@ fn read_behind(script: &[u8], at: usize, code: u8, behind: usize, limits: Limits
         return refused(3, at);
     }
     let numbers = read.numbers;
-    if !operands::in_ranges(operands::largest(limits), kinds, numbers) {
+    let most = operands::largest(limits);
+    if !operands::in_ranges(&most, kinds, numbers) {
         return refused(5, at);
     }
     let args = operands::from_wires(kinds, numbers);
@@ -166,7 +167,8 @@ pub fn operator_refusal(op: Operator) -> u8
     let kinds = pattern.kinds;
     let args = op.args;
     let numbers = operands::to_wires(kinds, args);
-    if operands::in_ranges(operands::largest(widest()), kinds, numbers) {
+    let most = operands::largest(widest());
+    if operands::in_ranges(&most, kinds, numbers) {
         return 0;
     }
     5
@@ -201,6 +203,21 @@ pub fn put_operator(op: Operator, out: &mut [u8], at: usize)
     let numbers = operands::to_wires(kinds, args);
     let behind = number::write_number(out, at, op.code as u32);
     bytes::write_operands(out, behind, kinds, numbers);
+}
+
+// The operator's bytes, from the last operand to the code, so that they end before `end`; the place where they begin.
+pub fn put_before(op: Operator, out: &mut [u8], end: usize) -> usize
+    requires { ⌜ (length (operatorBytes op) ≤ end) × (end ≤ length (now out)) ⌝ }
+    ensures { λ r. ⌜ r ≡ end - length (operatorBytes op) ⌝ }
+    ensures { λ _. ⌜
+        now (out .exit) ≡ putBytes (now (out .entry)) (end - length (operatorBytes op)) (operatorBytes op) ⌝ }
+{
+    let pattern = operands::pattern_of(op.code);
+    let count = pattern.count as usize;
+    let kinds = pattern.kinds;
+    let args = op.args;
+    let behind = bytes::put_operands_before(out, end, count, kinds, args);
+    number::write_before(out, behind, op.code as u32)
 }
 
 // The operator at the front of `out`: refusal 4 or 5, then 9 where it does not fit, with `out` left as it is.

@@ -1,6 +1,6 @@
 // Numbers in groups of seven bits.
 ghost use mathlib.Core.Path.{_≡_};
-ghost use Prim.Native.Nat.{ℕ, _+_, _*_, _%_, _≤_, _<_};
+ghost use Prim.Native.Nat.{ℕ, _+_, _-_, _*_, _%_, _≤_, _<_};
 ghost use lib.ListN.{length};
 ghost use lib.Seq.{sets};
 ghost use Rattle.script.specs.Number.{readNumber, groups};
@@ -22,7 +22,7 @@ fn join(low: u32, high: u32) -> u32
     requires { ⌜ high < 16384 ⌝ }
     ensures { λ r. ⌜ r ≡ low % 128 + high * 128 ⌝ }
 {
-    (low & 0x7f) | (high << 7)
+    high * 128 + low % 128
 }
 
 // The number that stands at `at`.
@@ -64,14 +64,14 @@ pub fn read_number(s: &[u8], at: usize) -> Num
 fn low_group(n: u32) -> u8
     ensures { λ r. ⌜ r ≡ n % 128 ⌝ }
 {
-    (n & 0x7f) as u8
+    (n % 128) as u8
 }
 
 // The lowest seven bits, with the mark that another group follows.
 fn more_group(n: u32) -> u8
     ensures { λ r. ⌜ r ≡ n % 128 + 128 ⌝ }
 {
-    ((n & 0x7f) | 0x80) as u8
+    (n % 128 + 128) as u8
 }
 
 // How many bytes a number takes.
@@ -106,4 +106,15 @@ pub fn write_number(out: &mut [u8], at: usize, n: u32) -> usize
     out[at + 1] = more_group(n >> 7);
     out[at + 2] = low_group(n >> 14);
     at + 3
+}
+
+// The number's bytes, so that they end before `end`; the place where they begin.
+pub fn write_before(out: &mut [u8], end: usize, n: u32) -> usize
+    requires { ⌜ (length (groups n) ≤ end) × (end ≤ length (now out)) ⌝ }
+    ensures { λ r. ⌜ r ≡ end - length (groups n) ⌝ }
+    ensures { λ _. ⌜ now (out .exit) ≡ sets (now (out .entry)) (end - length (groups n)) (groups n) ⌝ }
+{
+    let at = end - number_size(n);
+    write_number(out, at, n);
+    at
 }

@@ -1,6 +1,7 @@
 use mathlib.Core.Path.{refl}
+use native.Mathlib.Omega.{arith}
 use borrow.Author.Tests.{not-true, not-false}
-use Rattle.script.specs.ReadLaws.{behind-code, behind-cut, behind-range, behind-done, small-read}
+use Rattle.script.specs.ReadLaws.{behind-code, behind-cut, behind-range, behind-done, refused-as, small-read}
 use borrow.Author.Needs.{needs}
 use Rattle.script.proofs.read_behind.Statement.{statement}
 use Rattle.script.proofs.read_behind.Tie as tie
@@ -12,7 +13,9 @@ refused-requires : tie.Need-refused-requires
 refused-requires c κs = search needs
 
 returns : tie.Need-returns
-returns c = behind-code _ _ _ _ _ _ (c .before .before .pattern-of .ensures) _ (c .before .if1 .taken) (c .refused .ensures)
+returns c =
+    let r = refused-as _ 4 _ _ (c .refused .ensures) (omega arith) in
+    behind-code _ _ _ _ _ _ (c .before .before .pattern-of .ensures) _ (c .before .if1 .taken) r
 
 read-operands-requires : tie.Need-read-operands-requires
 read-operands-requires c κs = search needs
@@ -21,7 +24,11 @@ refused-requires-2 : tie.Need-refused-requires-2
 refused-requires-2 c κs = search needs
 
 returns-2 : tie.Need-returns-2
-returns-2 c = behind-cut _ _ _ _ _ _ (c .before .before .before .before .before .before .pattern-of .ensures) _ (c .before .before .before .before .before .if1 .left) _ (c .before .before .before .read-operands .ensures) (c .before .if2 .taken) (c .refused2 .ensures)
+returns-2 c =
+    let r = refused-as _ 3 _ _ (c .refused2 .ensures) (omega arith) in
+    let a = c .before .before .before .before .before in
+    let n = c .before .before .before .read-operands .ensures in
+    behind-cut _ _ _ _ _ _ (a .before .pattern-of .ensures) _ (a .if1 .left) _ n (c .before .if2 .taken) r
 
 largest-requires : tie.Need-largest-requires
 largest-requires c κs = search needs
@@ -34,16 +41,28 @@ refused-requires-3 c κs = search needs
 
 returns-3 : tie.Need-returns-3
 returns-3 c =
-    behind-range _ _ _ _ _ _ (c .before .before .before .before .before .before .before .before .before .before .pattern-of .ensures) _ (c .before .before .before .before .before .before .before .before .before .if1 .left) _ (c .before .before .before .before .before .before .before .read-operands .ensures) (c .before .before .before .before .before .if2 .left) _ (c .before .before .before .largest .ensures) _ (c .before .before .in-ranges .ensures)
-    (not-true _ (c .before .if3 .taken)) (c .refused3 .ensures)
+    let r = refused-as _ 5 _ _ (c .refused3 .ensures) (omega arith) in
+    let a = c .before .before .before .before .before .before .before .before .before .before in
+    let n = c .before .before .before .before .before .before .before .before .read-operands .ensures in
+    let z = c .before .before .before .before .before .before .if2 .left in
+    let m = c .before .before .before .before .largest .ensures in
+    let t = c .before .before .in-ranges .ensures in
+    behind-range _ _ _ _ _ _ (a .before .pattern-of .ensures) _ (a .if1 .left) _ n z _ m _ t
+    (not-true _ (c .before .if3 .taken)) r
 
 from-wires-requires : tie.Need-from-wires-requires
-from-wires-requires c κs = small-read _ _ _ _ (c .before .before .before .before .before .before .read-operands .ensures)
+from-wires-requires c κs = small-read _ _ _ _ (c .before .before .before .before .before .before .before .read-operands .ensures)
 
 returns-4 : tie.Need-returns-4
 returns-4 c =
-    behind-done _ _ _ _ _ _ (c .before .before .before .before .before .before .before .before .before .before .pattern-of .ensures) _ (c .before .before .before .before .before .before .before .before .before .if1 .left) _ (c .before .before .before .before .before .before .before .read-operands .ensures) (c .before .before .before .before .before .if2 .left) _ (c .before .before .before .largest .ensures) _ (c .before .before .in-ranges .ensures)
-    (not-false _ (c .before .if3 .left)) _ (c .from-wires .ensures) refl
+    let a = c .before .before .before .before .before .before .before .before .before .before in
+    let n = c .before .before .before .before .before .before .before .before .read-operands .ensures in
+    let z = c .before .before .before .before .before .before .if2 .left in
+    let m = c .before .before .before .before .largest .ensures in
+    let t = c .before .before .in-ranges .ensures in
+    let w = not-false _ (c .before .if3 .left) in
+    behind-done _ _ _ _ _ _ (a .before .pattern-of .ensures) _ (a .if1 .left) _ n z _ m _ t w _
+    (c .from-wires .ensures) refl
 
 pub read-behind-spec : {M : Type 1} → statement M
 read-behind-spec =

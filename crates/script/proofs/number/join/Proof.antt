@@ -1,15 +1,17 @@
--- `num::join`: the mask is a remainder, the shift a product that fits, and the two share no bit.
-use mathlib.Core.Path.{_∙_}
-use native.Mathlib.Nat.{add-comm}
-use lib.Dec.{lit≤}
-use lib.Pow.{shl-exact}
-use lib.Bits.{and-mask, mask-lt, or-shifted-r}
+-- by `omega`, so that a wrong sum is refused with numbers at which it fails
+use native.Mathlib.Omega.{arith}
+use borrow.Author.Needs.{needs}
 use Rattle.script.proofs.number.join.Statement.{statement}
 use Rattle.script.proofs.number.join.Tie as tie
 
+mul-result : tie.Need-mul-result
+mul-result c = search needs
+
+add-result : tie.Need-add-result
+add-result c = search needs
+
 returns : tie.Need-returns
-returns c =
-    rw (shl-exact 14 7 32 (c .pre) (lit≤ tt), or-shifted-r (c .args .high) 7 _ (mask-lt (c .args .low) 7), and-mask (c .args .low) 7) (add-comm _ _)
+returns c = omega arith
 
 pub join-spec : {M : Type 1} → statement M
-join-spec = tie.close (tie.spec returns)
+join-spec = tie.close (tie.spec mul-result add-result returns)

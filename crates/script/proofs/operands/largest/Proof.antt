@@ -1,3 +1,5 @@
+use native.Mathlib.Omega.{arith}
+use Rattle.script.specs.OperandLaws.{largest-is}
 use borrow.Author.Needs.{needs}
 use Rattle.script.proofs.operands.largest.Statement.{statement}
 use Rattle.script.proofs.operands.largest.Tie as tie
@@ -21,7 +23,10 @@ wide-requires-5 : tie.Need-wide-requires-5
 wide-requires-5 c κs = search needs
 
 returns : tie.Need-returns
-returns c = cc
+returns c =
+    largest-is _ _ _ _ _ _ _ _ _ _ (c .before .before .before .before .wide .ensures .0)
+    (c .before .before .before .wide2 .ensures .0) (c .before .before .wide3 .ensures .0) (c .before .wide4 .ensures .0)
+    (omega arith) (c .wide5 .ensures .0) (omega arith) (omega arith) (omega arith)
 
 pub largest-spec : {M : Type 1} → statement M
 largest-spec =

@@ -45,50 +45,50 @@ made-requires-12 c κs = search needs
 
 returns : tie.Need-returns
 unfolding pattern rows
-returns c = by-row _ 1 _ (c .before .match .keys1) refl _ (c .made .ensures)
+returns c = by-row _ _ _ (c .before .match .keys1) refl _ (c .made .ensures)
 
 returns-2 : tie.Need-returns-2
 unfolding pattern rows
-returns-2 c = by-row _ 2 _ (c .before .match .keys2) refl _ (c .made2 .ensures)
+returns-2 c = by-row _ _ _ (c .before .match .keys2) refl _ (c .made2 .ensures)
 
 returns-3 : tie.Need-returns-3
 unfolding pattern rows
-returns-3 c = by-row _ 3 _ (c .before .match .keys3) refl _ (c .made3 .ensures)
+returns-3 c = by-row _ _ _ (c .before .match .keys3) refl _ (c .made3 .ensures)
 
 returns-4 : tie.Need-returns-4
 unfolding pattern rows
 returns-4 c = ⊎-elim
-    (λ e. by-row _ 4 _ e refl _ (c .made4 .ensures))
-    (⊎-elim (λ e. by-row _ 6 _ e refl _ (c .made4 .ensures)) (λ e. by-row _ 12 _ e refl _ (c .made4 .ensures)))
+    (λ e. by-row _ _ _ e refl _ (c .made4 .ensures))
+    (⊎-elim (λ e. by-row _ _ _ e refl _ (c .made4 .ensures)) (λ e. by-row _ _ _ e refl _ (c .made4 .ensures)))
     (c .before .match .keys4)
 
 returns-5 : tie.Need-returns-5
 unfolding pattern rows
-returns-5 c = by-row _ 5 _ (c .before .match .keys5) refl _ (c .made5 .ensures)
+returns-5 c = by-row _ _ _ (c .before .match .keys5) refl _ (c .made5 .ensures)
 
 returns-6 : tie.Need-returns-6
 unfolding pattern rows
-returns-6 c = by-row _ 7 _ (c .before .match .keys6) refl _ (c .made6 .ensures)
+returns-6 c = by-row _ _ _ (c .before .match .keys6) refl _ (c .made6 .ensures)
 
 returns-7 : tie.Need-returns-7
 unfolding pattern rows
-returns-7 c = by-row _ 8 _ (c .before .match .keys7) refl _ (c .made7 .ensures)
+returns-7 c = by-row _ _ _ (c .before .match .keys7) refl _ (c .made7 .ensures)
 
 returns-8 : tie.Need-returns-8
 unfolding pattern rows
-returns-8 c = by-row _ 9 _ (c .before .match .keys8) refl _ (c .made8 .ensures)
+returns-8 c = by-row _ _ _ (c .before .match .keys8) refl _ (c .made8 .ensures)
 
 returns-9 : tie.Need-returns-9
 unfolding pattern rows
-returns-9 c = by-row _ 10 _ (c .before .match .keys9) refl _ (c .made9 .ensures)
+returns-9 c = by-row _ _ _ (c .before .match .keys9) refl _ (c .made9 .ensures)
 
 returns-10 : tie.Need-returns-10
 unfolding pattern rows
-returns-10 c = by-row _ 11 _ (c .before .match .keys10) refl _ (c .made10 .ensures)
+returns-10 c = by-row _ _ _ (c .before .match .keys10) refl _ (c .made10 .ensures)
 
 returns-11 : tie.Need-returns-11
 unfolding pattern rows
-returns-11 c = by-row _ 13 _ (c .before .match .keys11) refl _ (c .made11 .ensures)
+returns-11 c = by-row _ _ _ (c .before .match .keys11) refl _ (c .made11 .ensures)
 
 returns-12 : tie.Need-returns-12
 returns-12 c =

@@ -1,6 +1,5 @@
 use native.Mathlib.Omega.{arith}
 use Rattle.script.specs.SignedLaws.{negative, positive}
-use mathlib.Core.Path.{sym}
 use Rattle.script.proofs.operands.zigzag.Statement.{statement}
 use Rattle.script.proofs.operands.zigzag.Tie as tie
 
@@ -27,7 +26,8 @@ add-result c =
 returns : tie.Need-returns
 returns c =
     let z = negative _ (c .before .fits .c) (c .if1 .taken) in
-    rw (z .flipped, z .held) (sym (z .code))
+    let e = z .code in
+    rw (z .flipped, z .held) (omega arith)
 
 cast-result-2 : tie.Need-cast-result-2
 cast-result-2 c =
@@ -42,7 +42,8 @@ mul-result-2 c =
 returns-2 : tie.Need-returns-2
 returns-2 c =
     let z = positive _ (c .before .fits .c) (c .if1 .left) in
-    rw (z .held) (sym (z .code))
+    let e = z .code in
+    rw (z .held) (omega arith)
 
 pub zigzag-spec : {M : Type 1} → statement M
 zigzag-spec =
