@@ -1,5 +1,5 @@
 // Operators as bytes: numbers in groups of seven bits, an operator as its code and operands.
-mod number; // numbers
+pub mod number; // numbers
 pub mod operands; // what each operand is
 mod bytes; // operands as bytes
 
@@ -117,7 +117,8 @@ fn read_behind(script: &[u8], at: usize, code: u8, behind: usize, limits: Limits
         return refused(3, at);
     }
     let numbers = read.numbers;
-    if !operands::in_ranges(operands::largest(limits), kinds, numbers) {
+    let most = operands::largest(limits);
+    if !operands::in_ranges(&most, kinds, numbers) {
         return refused(5, at);
     }
     let args = operands::from_wires(kinds, numbers);
@@ -166,7 +167,8 @@ pub fn operator_refusal(op: Operator) -> u8
     let kinds = pattern.kinds;
     let args = op.args;
     let numbers = operands::to_wires(kinds, args);
-    if operands::in_ranges(operands::largest(widest()), kinds, numbers) {
+    let most = operands::largest(widest());
+    if operands::in_ranges(&most, kinds, numbers) {
         return 0;
     }
     5

@@ -1,6 +1,7 @@
 // The operands of each code: their kinds, ranges, and the numbers they travel as.
 ghost use mathlib.Core.Path.{_≡_};
 ghost use Prim.Native.Nat.{ℕ, _+_, _*_, _≤_, _<_};
+ghost use lib.ListN.{length};
 ghost use Rattle.script.specs.Operands.{pattern, largests, inRange, inRanges, zig, zag, wire, unwire, wires, unwires, Small};
 use crate::Limits;
 
@@ -101,7 +102,7 @@ fn wide(x: u16) -> u32
 const LEAST: [u32; 15] = [0, 1, 1, 0, 1, 1, 1, 1, 1, 1, 0, 1, 0, 0, 0];
 
 // The largest number of each kind, the kinds in order, as it travels.
-pub(crate) fn largest(limits: Limits) -> [u32; 15]
+pub fn largest(limits: Limits) -> [u32; 15]
     ensures { λ r. ⌜ r ≡ largests limits ⌝ }
 {
     let s = wide(limits.solids);
@@ -114,8 +115,9 @@ pub(crate) fn largest(limits: Limits) -> [u32; 15]
 }
 
 // Is the number, as it travels, in the range of its kind?
-fn in_range(most: [u32; 15], kind: u8, n: u32) -> bool
-    ensures { λ r. ⌜ r ≡ inRange most kind n ⌝ }
+pub fn in_range(most: &[u32; 15], kind: u8, n: u32) -> bool
+    requires { ⌜ length (now most) ≡ 15 ⌝ }
+    ensures { λ r. ⌜ r ≡ inRange (now (most .entry)) kind n ⌝ }
 {
     let k = kind as usize;
     if k < 15 {
@@ -128,8 +130,9 @@ fn in_range(most: [u32; 15], kind: u8, n: u32) -> bool
 }
 
 // Are all eight in range?
-pub(crate) fn in_ranges(most: [u32; 15], kinds: [u8; 8], numbers: [u32; 8]) -> bool
-    ensures { λ r. ⌜ r ≡ inRanges most kinds numbers ⌝ }
+pub(crate) fn in_ranges(most: &[u32; 15], kinds: [u8; 8], numbers: [u32; 8]) -> bool
+    requires { ⌜ length (now most) ≡ 15 ⌝ }
+    ensures { λ r. ⌜ r ≡ inRanges (now (most .entry)) kinds numbers ⌝ }
 {
     let mut i: usize = 0;
     while i < 8 {
@@ -163,7 +166,7 @@ fn unzigzag(n: u32) -> i32
 }
 
 // An operand of the record, as it travels; a negative number that is no coordinate is past every range.
-fn to_wire(kind: u8, a: i32) -> u32
+pub fn to_wire(kind: u8, a: i32) -> u32
     ensures { λ r. ⌜ r ≡ wire kind a ⌝ }
 {
     if kind == COORD {
@@ -176,7 +179,7 @@ fn to_wire(kind: u8, a: i32) -> u32
 }
 
 // A number that travelled, as the record has it.
-fn from_wire(kind: u8, n: u32) -> i32
+pub fn from_wire(kind: u8, n: u32) -> i32
     requires { ⌜ n < 2097152 ⌝ }
     ensures { λ r. ⌜ r ≡ unwire kind n ⌝ }
 {

@@ -28,12 +28,12 @@ in-ranges-requires c κs = search needs
 
 returns-3 : tie.Need-returns-3
 returns-3 c =
-    refusal-none _ _ (c .before .before .before .before .before .before .before .before .before .before .before .before .pattern-of .ensures) _ (c .before .before .before .before .to-wires .ensures) (c .before .before .before .before .before .before .before .before .before .before .if1 .left) (c .before .before .before .before .before .before .before .if2 .left) _ (c .before .before .largest .ensures ∙ ap largests (c .before .before .before .widest .ensures))
+    refusal-none _ _ (c .before .before .before .before .before .before .before .before .before .before .before .before .before .pattern-of .ensures) _ (c .before .before .before .before .before .to-wires .ensures) (c .before .before .before .before .before .before .before .before .before .before .before .if1 .left) (c .before .before .before .before .before .before .before .before .if2 .left) _ (c .before .before .before .largest .ensures ∙ ap largests (c .before .before .before .before .widest .ensures))
     (sym (c .before .in-ranges .ensures) ∙ c .if3 .taken)
 
 returns-4 : tie.Need-returns-4
 returns-4 c =
-    refusal-range _ _ (c .before .before .before .before .before .before .before .before .before .before .before .before .pattern-of .ensures) _ (c .before .before .before .before .to-wires .ensures) (c .before .before .before .before .before .before .before .before .before .before .if1 .left) (c .before .before .before .before .before .before .before .if2 .left) _ (c .before .before .largest .ensures ∙ ap largests (c .before .before .before .widest .ensures))
+    refusal-range _ _ (c .before .before .before .before .before .before .before .before .before .before .before .before .before .pattern-of .ensures) _ (c .before .before .before .before .before .to-wires .ensures) (c .before .before .before .before .before .before .before .before .before .before .before .if1 .left) (c .before .before .before .before .before .before .before .before .if2 .left) _ (c .before .before .before .largest .ensures ∙ ap largests (c .before .before .before .before .widest .ensures))
     (sym (c .before .in-ranges .ensures) ∙ c .if3 .left)
 
 pub operator-refusal-spec : {M : Type 1} → statement M

@@ -34,15 +34,15 @@ refused-requires-3 c κs = search needs
 
 returns-3 : tie.Need-returns-3
 returns-3 c =
-    behind-range _ _ _ _ _ _ (c .before .before .before .before .before .before .before .before .before .before .pattern-of .ensures) _ (c .before .before .before .before .before .before .before .before .before .if1 .left) _ (c .before .before .before .before .before .before .before .read-operands .ensures) (c .before .before .before .before .before .if2 .left) _ (c .before .before .before .largest .ensures) _ (c .before .before .in-ranges .ensures)
+    behind-range _ _ _ _ _ _ (c .before .before .before .before .before .before .before .before .before .before .before .pattern-of .ensures) _ (c .before .before .before .before .before .before .before .before .before .before .if1 .left) _ (c .before .before .before .before .before .before .before .before .read-operands .ensures) (c .before .before .before .before .before .before .if2 .left) _ (c .before .before .before .before .largest .ensures) _ (c .before .before .in-ranges .ensures)
     (not-true _ (c .before .if3 .taken)) (c .refused3 .ensures)
 
 from-wires-requires : tie.Need-from-wires-requires
-from-wires-requires c κs = small-read _ _ _ _ (c .before .before .before .before .before .before .read-operands .ensures)
+from-wires-requires c κs = small-read _ _ _ _ (c .before .before .before .before .before .before .before .read-operands .ensures)
 
 returns-4 : tie.Need-returns-4
 returns-4 c =
-    behind-done _ _ _ _ _ _ (c .before .before .before .before .before .before .before .before .before .before .pattern-of .ensures) _ (c .before .before .before .before .before .before .before .before .before .if1 .left) _ (c .before .before .before .before .before .before .before .read-operands .ensures) (c .before .before .before .before .before .if2 .left) _ (c .before .before .before .largest .ensures) _ (c .before .before .in-ranges .ensures)
+    behind-done _ _ _ _ _ _ (c .before .before .before .before .before .before .before .before .before .before .before .pattern-of .ensures) _ (c .before .before .before .before .before .before .before .before .before .before .if1 .left) _ (c .before .before .before .before .before .before .before .before .read-operands .ensures) (c .before .before .before .before .before .before .if2 .left) _ (c .before .before .before .before .largest .ensures) _ (c .before .before .in-ranges .ensures)
     (not-false _ (c .before .if3 .left)) _ (c .from-wires .ensures) refl
 
 pub read-behind-spec : {M : Type 1} → statement M
