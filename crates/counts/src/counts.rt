@@ -9,6 +9,12 @@ use euler::faces::loops_in;
 use layout::columns::loop_face;
 use layout::shape::Shape;
 
+fn wide(x: u16) -> usize
+    ensures { λ r. ⌜ (r ≡ x) × (r < 65536) ⌝ }
+{
+    x as usize
+}
+
 // How many loops face f has, by its number in the array; what no table has for a face is counted.
 pub fn loops_kept(links: &[u16], counts: &[u16; 4097], sh: Shape, f: usize) -> usize
     requires { ⌜ Small sh ⌝ }
@@ -21,7 +27,7 @@ pub fn loops_kept(links: &[u16], counts: &[u16; 4097], sh: Shape, f: usize) -> u
     if f > 4096 {
         return loops_in(links, sh, f);
     }
-    counts[f] as usize
+    wide(counts[f])
 }
 
 // Face f has one loop less.

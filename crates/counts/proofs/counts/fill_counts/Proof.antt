@@ -1,3 +1,7 @@
+use Prim.Native.Nat.{_≤_, _-_}
+use native.Mathlib.Omega.{arith}
+use borrow.Author.Needs.{needs}
+use Rattle.counts.specs.CountLaws.{Filled, filled-none, filled-next, filled-all}
 use Rattle.counts.proofs.counts.fill_counts.Statement.{statement}
 use Rattle.counts.proofs.counts.fill_counts.Tie as tie
 use Rattle.counts.proofs.counts.fill_counts.Reads as reads
@@ -6,42 +10,43 @@ use Rattle.counts.proofs.counts.raise_count.Reads as raise-count-reads
 use Rattle.layout.proofs.columns.loop_face.Reads as loop-face-reads
 
 abbrev Inv-loop : tie.InvT-loop
-Inv-loop links sh counts₀ n l₀ counts l = ?
+Inv-loop links sh counts₀ n l₀ counts l = (l ≤ n) × Filled sh links l counts
 
 abbrev μ-loop : tie.MeasureT-loop
-μ-loop links sh counts₀ n l₀ counts l = ?
+μ-loop links sh counts₀ n l₀ counts l = n - l
 
 -- src/counts.rt:65:13
 cast-n : tie.Need-cast-n Inv-loop μ-loop
-cast-n c = ?
+cast-n c = search needs
 
 -- src/counts.rt:67:5
 loop-holds : tie.Need-loop-holds Inv-loop μ-loop
-loop-holds c = ?
+loop-holds c = (omega arith, filled-none _ _)
 
 -- src/counts.rt:68:9
 add-l : tie.Need-add-l Inv-loop μ-loop
-add-l c = ?
+add-l c = search needs
 
 -- src/counts.rt:69:13
 loop-face-requires : tie.Need-loop-face-requires Inv-loop μ-loop
-loop-face-requires c κs = ?
+loop-face-requires c κs = search needs
 
 -- src/counts.rt:70:9
 raise-count-requires : tie.Need-raise-count-requires Inv-loop μ-loop
-raise-count-requires c κs = ?
+raise-count-requires c κs = search needs
 
 -- src/counts.rt:67:5
 loop-less : tie.Need-loop-less Inv-loop μ-loop
-loop-less c = ?
+loop-less c = search needs
 
 -- src/counts.rt:67:5
 loop-again : tie.Need-loop-again Inv-loop μ-loop
-loop-again c = ?
+loop-again c =
+    (omega arith, filled-next _ _ _ _ _ _ (omega arith) (c .before .before .before .before .loop .inv .1) (c .before .before .loop-face .ensures .0) (c .raise-count .ensures))
 
 -- src/counts.rt:60:1
 returns : tie.Need-returns Inv-loop μ-loop
-returns c = ?
+returns c = filled-all _ _ _ _ (c .before .loop .inv .1) (omega arith) (omega arith)
 
 pub fill-counts-spec : {M : Type 1} → statement M
 fill-counts-spec =

@@ -1,41 +1,46 @@
+use native.Mathlib.Omega.{arith}
+use Rattle.counts.specs.CountLaws.{kept-at}
 use borrow.Author.Needs.{needs}
 use Rattle.counts.proofs.counts.loops_kept.Statement.{statement}
 use Rattle.counts.proofs.counts.loops_kept.Tie as tie
 use Rattle.counts.proofs.counts.loops_kept.Reads as reads
 use Rattle.counts.proofs.counts.loops_kept.Lts as lts
+use Rattle.counts.proofs.counts.wide.Reads as wide-reads
 use Rattle.euler.proofs.faces.loops_in.Reads as loops-in-reads
 
--- src/counts.rt:19:9
+-- src/counts.rt:25:9
 loops-in-requires : tie.Need-loops-in-requires
 loops-in-requires c κs = search needs
 
--- src/counts.rt:19:9
+-- src/counts.rt:25:9
 returns : tie.Need-returns
 returns c = search needs
 
--- src/counts.rt:22:9
+-- src/counts.rt:28:9
 loops-in-requires-2 : tie.Need-loops-in-requires-2
 loops-in-requires-2 c κs = search needs
 
--- src/counts.rt:22:9
+-- src/counts.rt:28:9
 returns-2 : tie.Need-returns-2
 returns-2 c = search needs
 
--- src/counts.rt:24:5
-mul-result : tie.Need-mul-result
-mul-result c = search needs
+-- src/counts.rt:30:10
+mul-wide : tie.Need-mul-wide
+mul-wide c = search needs
 
--- src/counts.rt:24:5
-element-copy-out-result : tie.Need-element-copy-out-result
-element-copy-out-result c = search needs
+-- src/counts.rt:30:10
+element-copy-out-wide : tie.Need-element-copy-out-wide
+element-copy-out-wide c = search needs
 
--- src/counts.rt:24:5
-cast-result : tie.Need-cast-result
-cast-result c = ?
+-- src/counts.rt:30:5
+wide-requires : tie.Need-wide-requires
+wide-requires c κs = search needs
 
--- src/counts.rt:13:1
+-- src/counts.rt:19:1
 returns-3 : tie.Need-returns-3
-returns-3 c = ?
+returns-3 c =
+    let b = c .before .before .before .before .before in
+    kept-at _ _ _ _ _ (b .pre .1) (omega arith) (omega arith) (b .pre .0 .loops) (c .wide .ensures .0)
 
 pub loops-kept-spec : {M : Type 1} → statement M
 loops-kept-spec =
@@ -45,7 +50,7 @@ loops-kept-spec =
     returns
     loops-in-requires-2
     returns-2
-    mul-result
-    element-copy-out-result
-    cast-result
+    mul-wide
+    element-copy-out-wide
+    wide-requires
     returns-3)

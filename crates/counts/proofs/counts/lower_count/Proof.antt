@@ -1,3 +1,6 @@
+use mathlib.Core.Path.{refl}
+use native.Mathlib.Omega.{arith}
+use Rattle.counts.specs.CountLaws.{low-zero, low-past, low-none, low-one}
 use borrow.Author.Needs.{needs}
 use Rattle.counts.proofs.counts.lower_count.Statement.{statement}
 use Rattle.counts.proofs.counts.lower_count.Tie as tie
@@ -6,11 +9,11 @@ use Rattle.counts.proofs.counts.lower_count.Lts as lts
 
 -- src/counts.rt:32:9
 returns : tie.Need-returns
-returns c = ?
+returns c = low-zero _ _ (c .if1 .taken)
 
 -- src/counts.rt:35:9
 returns-2 : tie.Need-returns-2
-returns-2 c = ?
+returns-2 c = low-past _ _ (c .if2 .taken)
 
 -- src/counts.rt:37:13
 mul-n : tie.Need-mul-n
@@ -34,11 +37,11 @@ element-write-counts c = search needs
 
 -- src/counts.rt:28:1
 returns-3 : tie.Need-returns-3
-returns-3 c = ?
+returns-3 c = low-one _ _ _ (omega arith) (omega arith) refl
 
 -- src/counts.rt:28:1
 returns-4 : tie.Need-returns-4
-returns-4 c = ?
+returns-4 c = low-none _ _ _ (omega arith) (omega arith) refl (omega arith)
 
 pub lower-count-spec : {M : Type 1} → statement M
 lower-count-spec =

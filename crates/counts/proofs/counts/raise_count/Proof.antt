@@ -1,3 +1,6 @@
+use mathlib.Core.Path.{refl}
+use native.Mathlib.Omega.{arith}
+use Rattle.counts.specs.CountLaws.{raise-zero, raise-past, raise-full, raise-one}
 use borrow.Author.Needs.{needs}
 use Rattle.counts.proofs.counts.raise_count.Statement.{statement}
 use Rattle.counts.proofs.counts.raise_count.Tie as tie
@@ -6,11 +9,11 @@ use Rattle.counts.proofs.counts.raise_count.Lts as lts
 
 -- src/counts.rt:48:9
 returns : tie.Need-returns
-returns c = ?
+returns c = raise-zero _ _ (c .if1 .taken)
 
 -- src/counts.rt:51:9
 returns-2 : tie.Need-returns-2
-returns-2 c = ?
+returns-2 c = raise-past _ _ (c .if2 .taken)
 
 -- src/counts.rt:53:13
 mul-n : tie.Need-mul-n
@@ -34,11 +37,11 @@ element-write-counts c = search needs
 
 -- src/counts.rt:44:1
 returns-3 : tie.Need-returns-3
-returns-3 c = ?
+returns-3 c = raise-one _ _ _ (omega arith) (omega arith) refl (omega arith)
 
 -- src/counts.rt:44:1
 returns-4 : tie.Need-returns-4
-returns-4 c = ?
+returns-4 c = raise-full _ _ _ (omega arith) (omega arith) refl (omega arith)
 
 pub raise-count-spec : {M : Type 1} → statement M
 raise-count-spec =
