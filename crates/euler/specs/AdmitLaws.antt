@@ -1,30 +1,40 @@
 -- The ways out of the code that looks whether an operator's items are in use, one law each.
 use mathlib.Core.Path.{_≡_, refl, sym}
-use Prim.Native.Nat.{ℕ, _+_, _*_, _≤_, _<_}
+use Prim.Native.Nat.{ℕ, _+_, _≤_, _<_}
 use native.Mathlib.Omega.{arith}
-use mathlib.Core.List.{List, [], _∷_}
+use mathlib.Core.Logic.{_⊎_, ⊎-elim}
+use mathlib.Core.List.{List}
 use lib.Dec.{eqb}
 use lib.ListN.{length, getD, drop, List·getD-eq-default}
 use borrow.Author.Tests.{eq-eqb, ne-eqb}
-use Rattle.laws.specs.Bools.{pick}
+use Rattle.laws.specs.Bools.{pick, same?}
 use Rattle.script.specs.declared.Operator.{Operator}
 use Rattle.script.specs.OperandLaws.{ahead, behind}
 use Rattle.layout.specs.declared.shape.Shape.{Shape}
-use Rattle.layout.specs.Layout.{solidUsed, faceSolid, loopFace, startOf, vertexUsed}
+use Rattle.layout.specs.Layout.{solidUsed}
+use Rattle.euler.specs.ByCode.{by-code}
 use Rattle.euler.specs.Surgery.{itemOf}
 use Rattle.euler.specs.Exec.{useWords, useWord, useRefusal, useRefusals, whenFree, whenUsed}
 
 module _ (sh : Shape) (x : List ℕ) (kind n : ℕ) where
-  -- the six words, the one of the kind
-  pub word-in : (s f l e k v : ℕ) → s ≡ solidUsed sh x n → f ≡ faceSolid sh x n → l ≡ loopFace sh x n → e ≡ startOf sh x (2 * n)
-      → k ≡ startOf sh x n → v ≡ vertexUsed sh x n
-      → getD (0 ∷ s ∷ s ∷ s ∷ f ∷ f ∷ l ∷ l ∷ e ∷ k ∷ k ∷ v ∷ []) kind 0 ≡ useWord sh x kind n
+  -- the word of a kind that is known, one of two, one of three, and of one that names no item
+  pub word-at : (k v r : ℕ) → kind ≡ k → getD (useWords sh x n) k 0 ≡ v → r ≡ v → r ≡ useWord sh x kind n
   unfolding useWord
-  word-in s f l e k v es ef el ee ek ev = rw (es, ef, el, ee, ek, ev)
+  word-at k v r e f g = by-code (useWords sh x n) 0 kind k v r e f g
 
-  pub word-out : 12 ≤ kind → 0 ≡ useWord sh x kind n
+  pub word-two : (k v r : ℕ) → k ≤ kind → kind < k + 2 → getD (useWords sh x n) k 0 ≡ v
+      → getD (useWords sh x n) (k + 1) 0 ≡ v → r ≡ v → r ≡ useWord sh x kind n
+  word-two k v r low high f f′ g =
+      ⊎-elim (λ e. word-at k v r e f g) (λ e. word-at (k + 1) v r (omega arith) f′ g) (same? kind k)
+
+  pub word-solid : (r : ℕ) → 1 ≤ kind → kind < 4 → r ≡ solidUsed sh x n → r ≡ useWord sh x kind n
+  word-solid r low high g =
+      ⊎-elim (λ e. word-at 1 _ r e refl g) (λ e. word-two 2 _ r (omega arith) high refl refl g) (same? kind 1)
+
+  pub word-none : (kind < 1) ⊎ (12 ≤ kind) → 0 ≡ useWord sh x kind n
   unfolding useWord
-  word-out h = sym (List·getD-eq-default (useWords sh x n) 0 h)
+  word-none d =
+      ⊎-elim (λ h. let e : kind ≡ 0 = omega arith in rw e) (λ h. sym (List·getD-eq-default (useWords sh x n) 0 h)) d
 
   pub use-none : n ≡ 0 → 0 ≡ useRefusal sh x kind n
   unfolding useRefusal

@@ -12,22 +12,20 @@ use layout::columns::vertex_used;
 use layout::shape::Shape;
 use script::Operator;
 
-// The word that tells whether item n of an operand's kind is in use. All six are read, so that the kind is one index.
+// The word that tells whether item n of an operand's kind is in use; a new edge by its second half.
 fn use_word(links: &[u16], sh: Shape, kind: usize, n: usize) -> usize
     requires { ⌜ n ≤ 8192 ⌝ }
     ensures { λ r. ⌜ r ≡ useWord sh (now (links .entry)) kind n ⌝ }
 {
-    let s = solid_used(links, sh, n);
-    let f = face_solid(links, sh, n);
-    let l = loop_face(links, sh, n);
-    let e = start_of(links, sh, 2 * n);
-    let k = start_of(links, sh, n);
-    let v = vertex_used(links, sh, n);
-    let words = [0, s, s, s, f, f, l, l, e, k, k, v];
-    if kind < 12 {
-        return words[kind];
+    match kind {
+        1 | 2 | 3 => solid_used(links, sh, n),
+        4 | 5 => face_solid(links, sh, n),
+        6 | 7 => loop_face(links, sh, n),
+        8 => start_of(links, sh, 2 * n),
+        9 | 10 => start_of(links, sh, n),
+        11 => vertex_used(links, sh, n),
+        _ => 0,
     }
-    0
 }
 
 // 6 for the kinds that name an old item.
@@ -53,7 +51,7 @@ fn when_used(kind: usize) -> u8
 }
 
 // The refusal of operand n of a kind; an operand 0 names no item.
-fn use_refusal(links: &[u16], sh: Shape, kind: usize, n: usize) -> u8
+pub fn use_refusal(links: &[u16], sh: Shape, kind: usize, n: usize) -> u8
     requires { ⌜ n ≤ 8192 ⌝ }
     ensures { λ r. ⌜ r ≡ useRefusal sh (now (links .entry)) kind n ⌝ }
 {
