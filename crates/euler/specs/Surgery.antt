@@ -8,7 +8,7 @@ use lib.IntN.{ℤ, pos}
 use lib.ListN.{getD, set}
 use Rattle.laws.specs.Bools.{pick}
 use Rattle.script.specs.declared.Operator.{Operator}
-use Rattle.script.specs.Operator.{operandOf}
+use Rattle.script.specs.Operator.{natOf}
 use Rattle.layout.specs.declared.shape.Shape.{Shape}
 use Rattle.layout.specs.Layout.{loopFirst, loopIsolated, startOf, loopOf, nextOf, prevOf, setFaceSolid, setFaceOuter, setLoopFace, setLoopFirst, setLoopIsolated, setStart, setLoop, setNext, setPrev}
 use Rattle.layout.specs.Mate.{mate}
@@ -18,9 +18,13 @@ use Rattle.layout.specs.Points.{coordinate, setCoordinate}
 abbrev pub some : ℕ → Bool
 some n = not (eqb n 0)
 
--- operand i as the number of an item; past 8,192, the most that any table has, it names none
+-- operand i of a list as the number of an item; past 8,192, the most that any table has, it names none
+abbrev pub itemIn : List ℤ → ℕ → ℕ
+itemIn args i = pick (leb (natOf (getD args i (pos 0))) 8192) (natOf (getD args i (pos 0))) 0
+
+-- and of an operator
 abbrev pub itemOf : Operator → ℕ → ℕ
-itemOf o i = pick (leb (operandOf o i) 8192) (operandOf o i) 0
+itemOf o i = itemIn (o .args) i
 
 -- ---- ways
 

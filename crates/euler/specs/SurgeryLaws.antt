@@ -5,20 +5,20 @@ use Prim.Native.Nat.{ℕ, suc, _+_, _-_, _*_, _%_, _<_, _≤_}
 use native.Mathlib.Omega.{arith}
 use mathlib.Core.List.{List}
 use lib.Dec.{eqb, ltb}
-use lib.IntN.{ℤ, pos}
+use lib.IntN.{ℤ, pos, negsuc}
 use lib.ListN.{length, getD, set, List·getD-eq-default}
 use lib.Seq.{set-set}
 use mir.Syntax.{w32}
 use mir.Val.{SFits, toZ, ofZ}
 use mir.Facts.{toZ-ofZ}
-use borrow.Author.Tests.{eq-eqb, ne-eqb}
+use borrow.Author.Tests.{eq-eqb, ne-eqb, le-leb, lt-leb}
 use Rattle.laws.specs.Bools.{pick, pick-ind}
 use Rattle.layout.specs.declared.shape.Shape.{Shape}
 use Rattle.layout.specs.Layout.{loopOf, nextOf, setLoop}
 use Rattle.script.specs.declared.Operator.{Operator}
 use Rattle.layout.specs.Points.{coordinate, setCoordinate}
 use Rattle.layout.specs.PointsLaws.{coordinate-at, setCoordinate-at}
-use Rattle.euler.specs.Surgery.{halfBy, relabel, seek, withOperand, withPoint}
+use Rattle.euler.specs.Surgery.{itemIn, halfBy, relabel, seek, withOperand, withPoint}
 
 module _ (sh : Shape) (left : ℕ) (x : List ℕ) (k stop l : ℕ) (whole : List ℕ) (rest : relabel sh left x k stop l ≡ whole) where
   pub relabel-stop : 0 < left → k ≡ stop → x ≡ whole
@@ -77,3 +77,16 @@ point-steps o i p v a b r e f g = rw (g, f, e)
 -- edge 0 has no half
 pub half-none : (w : ℕ) → 0 ≡ halfBy 0 w
 half-none w = pick-ind (λ n. 0 ≡ n) (eqb (w % 2) 0) _ _ refl refl
+
+-- ---- an operand as the number of an item
+
+-- negative, in range, and past 8,192
+module _ (l : List ℤ) (i : ℕ) where
+  pub item-negative : (n : ℕ) → getD l i (pos 0) ≡ negsuc n → 0 ≡ itemIn l i
+  item-negative n e = rw e
+
+  pub item-is : (n : ℕ) → getD l i (pos 0) ≡ pos n → n ≤ 8192 → n ≡ itemIn l i
+  item-is n e h = rw (e, le-leb n 8192 h)
+
+  pub item-past : (n : ℕ) → getD l i (pos 0) ≡ pos n → 8192 < n → 0 ≡ itemIn l i
+  item-past n e h = rw (e, lt-leb n 8192 h)

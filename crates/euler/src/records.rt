@@ -3,7 +3,8 @@ ghost use mathlib.Core.Path.{_≡_};
 ghost use mathlib.Core.Bool.{Bool};
 ghost use Prim.Native.Nat.{ℕ, _+_, _*_, _<_, _≤_};
 ghost use Rattle.laws.specs.Bools.{pick};
-ghost use Rattle.euler.specs.Surgery.{itemOf, halfBy, wayOf, corner, cornerVertex, putFace, putLoop, putHalf};
+ghost use Rattle.euler.specs.Surgery.{itemIn, itemOf, halfBy, wayOf, corner, cornerVertex};
+ghost use Rattle.euler.specs.Surgery.{putFace, putLoop, putHalf};
 use layout::columns::loop_isolated;
 use layout::columns::loop_of;
 use layout::columns::set_face_outer;
@@ -36,6 +37,22 @@ pub fn item_of(op: Operator, i: usize) -> usize
     ensures { λ r. ⌜ (r ≡ itemOf op i) × (r ≤ 8192) ⌝ }
 {
     let n = operand(op, i);
+    if n <= 8192 {
+        return n;
+    }
+    0
+}
+
+// Operand i of those lent as the number of an item: an operator's struct is not copied for it.
+pub fn item_at(args: &[i32; 8], i: usize) -> usize
+    requires { ⌜ i < 8 ⌝ }
+    ensures { λ r. ⌜ (r ≡ itemIn (now (args .entry)) i) × (r ≤ 8192) ⌝ }
+{
+    let a = args[i];
+    if a < 0 {
+        return 0;
+    }
+    let n = a as usize;
     if n <= 8192 {
         return n;
     }
