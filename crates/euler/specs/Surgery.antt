@@ -61,9 +61,13 @@ putHalf sh x k v l n p = setPrev sh (setNext sh (setLoop sh (setStart sh x k v) 
 abbrev pub putPoint : List ℤ → ℕ → ℤ → ℤ → ℤ → List ℤ
 putPoint p v a b c = setCoordinate (setCoordinate (setCoordinate p v 0 a) v 1 b) v 2 c
 
--- the point that stands at operands i, i + 1, i + 2 goes to vertex v
+-- the point that stands at operands i, i + 1, i + 2 of a list goes to vertex v
+abbrev pub pointIn : List ℤ → List ℤ → ℕ → ℕ → List ℤ
+pointIn p args v i = putPoint p v (getD args i (pos 0)) (getD args (i + 1) (pos 0)) (getD args (i + 2) (pos 0))
+
+-- and that of an operator
 abbrev pub pointTo : List ℤ → Operator → ℕ → ℕ → List ℤ
-pointTo p o v i = putPoint p v (getD (o .args) i (pos 0)) (getD (o .args) (i + 1) (pos 0)) (getD (o .args) (i + 2) (pos 0))
+pointTo p o v i = pointIn p (o .args) v i
 
 -- an operator with c for operand i
 abbrev pub withOperand : Operator → ℕ → ℤ → Operator

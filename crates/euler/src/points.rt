@@ -1,34 +1,35 @@
-// The point of a vertex: stored from an operator's operands, cleared, and read into an operator.
+// The point of a vertex: stored from operands that are lent, and read into an operator.
 ghost use mathlib.Core.Path.{_≡_};
 ghost use Prim.Native.Nat.{ℕ, _+_, _<_, _≤_};
 ghost use lib.IntN.{ℤ, pos};
 ghost use lib.ListN.{getD};
 ghost use Rattle.layout.specs.Points.{coordinate, setCoordinate};
-ghost use Rattle.euler.specs.Surgery.{pointTo, withOperand, withPoint};
+ghost use Rattle.euler.specs.Surgery.{pointIn, withOperand, withPoint};
 use script::Operator;
 
-// Coordinate i of vertex v becomes operand j of the operator; total, as for the links.
-fn put_coordinate(points: &mut [i32], v: usize, i: usize, op: Operator, j: usize)
+// Coordinate i of vertex v becomes operand j of those lent; total, as for the links.
+fn put_coordinate(points: &mut [i32], v: usize, i: usize, args: &[i32; 8], j: usize)
     requires { ⌜ (v ≤ 65536) × (i < 3) × (j < 8) ⌝ }
-    ensures { λ _. ⌜ now (points .exit) ≡ setCoordinate (now (points .entry)) v i (getD (op .args) j (pos 0)) ⌝ }
+    ensures { λ _. ⌜ now (points .exit)
+        ≡ setCoordinate (now (points .entry)) v i (getD (now (args .entry)) j (pos 0)) ⌝ }
 {
     if v == 0 {
         return;
     }
     let at = 3 * (v - 1) + i;
     if at < points.len() {
-        points[at] = op.args[j];
+        points[at] = args[j];
     }
 }
 
 // The point at operands i, i + 1, i + 2 goes to vertex v.
-pub fn put_point(points: &mut [i32], v: usize, op: Operator, i: usize)
+pub fn put_point(points: &mut [i32], v: usize, args: &[i32; 8], i: usize)
     requires { ⌜ (v ≤ 65536) × (i < 6) ⌝ }
-    ensures { λ _. ⌜ now (points .exit) ≡ pointTo (now (points .entry)) op v i ⌝ }
+    ensures { λ _. ⌜ now (points .exit) ≡ pointIn (now (points .entry)) (now (args .entry)) v i ⌝ }
 {
-    put_coordinate(points, v, 0, op, i);
-    put_coordinate(points, v, 1, op, i + 1);
-    put_coordinate(points, v, 2, op, i + 2);
+    put_coordinate(points, v, 0, args, i);
+    put_coordinate(points, v, 1, args, i + 1);
+    put_coordinate(points, v, 2, args, i + 2);
 }
 
 // The operator with coordinate j of vertex v for operand i.

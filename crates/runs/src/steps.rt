@@ -79,7 +79,8 @@ pub fn carry_out(
     if start < size {
         return Carried { refusal: 9, start };
     }
-    perform(links, points, sh, op);
+    let args = op.args;
+    perform(links, points, sh, op.code, &args);
     put_operator(inverse, log, start - size);
     Carried {
         refusal: 0,

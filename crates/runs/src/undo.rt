@@ -56,7 +56,8 @@ fn undo_all(
                 start: at,
             };
         }
-        perform(links, points, sh, op);
+        let args = op.args;
+        perform(links, points, sh, op.code, &args);
         at = next;
         undone += 1;
     }

@@ -37,7 +37,8 @@ pub fn act(
     let inverse = inverse_of(links, points, sh, op);
     let size = operator_size(inverse);
     let start = less(at.start, size);
-    perform(links, points, sh, op);
+    let args = op.args;
+    perform(links, points, sh, op.code, &args);
     put_operator(inverse, log, start);
     Progress {
         done: at.done + 1,

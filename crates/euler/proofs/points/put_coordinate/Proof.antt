@@ -33,8 +33,8 @@ element-copy-out-points : tie.Need-element-copy-out-points
 element-copy-out-points c = search needs
 
 -- src/points.rt:20:9
-mul-t15 : tie.Need-mul-t15
-mul-t15 c = search needs
+mul-t14 : tie.Need-mul-t14
+mul-t14 c = search needs
 
 -- src/points.rt:20:9
 slice-set-from-points : tie.Need-slice-set-from-points
@@ -62,7 +62,7 @@ put-coordinate-spec =
     add-at
     mul-points
     element-copy-out-points
-    mul-t15
+    mul-t14
     slice-set-from-points
     same-length
     returns-2

@@ -9,7 +9,7 @@ use Rattle.euler.proofs.points.put_coordinate.Reads as put-coordinate-r
 put-coordinate-requires : tie.Need-put-coordinate-requires
 put-coordinate-requires c κs = search needs
 
--- src/points.rt:30:38
+-- src/points.rt:30:40
 add-put-coordinate : tie.Need-add-put-coordinate
 add-put-coordinate c = search needs
 
@@ -17,7 +17,7 @@ add-put-coordinate c = search needs
 put-coordinate-requires-2 : tie.Need-put-coordinate-requires-2
 put-coordinate-requires-2 c κs = search needs
 
--- src/points.rt:31:38
+-- src/points.rt:31:40
 add-put-coordinate-2 : tie.Need-add-put-coordinate-2
 add-put-coordinate-2 c = search needs
 

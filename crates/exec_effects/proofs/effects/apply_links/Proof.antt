@@ -1,4 +1,4 @@
-use mathlib.Core.Path.{refl}
+use Rattle.script.specs.OperandLaws.{NoneOf}
 use Rattle.exec_effects.specs.Chosen.{links-at, links-kvsf, links-none}
 use borrow.Author.Needs.{needs}
 use Rattle.exec_effects.proofs.effects.apply_links.Statement.{statement}
@@ -6,252 +6,281 @@ use Rattle.exec_effects.proofs.effects.apply_links.Tie as tie
 use Rattle.exec_effects.proofs.effects.apply_links.Reads as reads
 use Rattle.exec_effects.proofs.effects.apply_links.Lts as lts
 use Rattle.edges_bridges.proofs.kemr_mekr.kemr_links.Reads as kemr-links-reads
-use Rattle.edges_bridges.proofs.kemr_mekr.mekr_links.Reads as mekr-links-reads
 use Rattle.edges_cuts.proofs.mef_kef.kef_links.Reads as kef-links-reads
-use Rattle.edges_cuts.proofs.mef_kef.mef_links.Reads as mef-links-reads
-use Rattle.edges_splits.proofs.semv_jekv.semv_links.Reads as semv-links-reads
 use Rattle.edges_spurs.proofs.mev_kev.kev_links.Reads as kev-links-reads
-use Rattle.edges_spurs.proofs.mev_kev.mev_links.Reads as mev-links-reads
-use Rattle.euler.proofs.records.half_by.Reads as half-by-reads
-use Rattle.euler.proofs.records.item_of.Reads as item-of-reads
+use Rattle.euler.proofs.records.item_at.Reads as item-at-reads
 use Rattle.exec_effects.proofs.effects.join_edges.Reads as join-edges-reads
+use Rattle.exec_effects.proofs.effects.join_ring.Reads as join-ring-reads
 use Rattle.exec_effects.proofs.effects.kill_solid.Reads as kill-solid-reads
+use Rattle.exec_effects.proofs.effects.make_face.Reads as make-face-reads
+use Rattle.exec_effects.proofs.effects.make_solid.Reads as make-solid-reads
+use Rattle.exec_effects.proofs.effects.make_vertex.Reads as make-vertex-reads
+use Rattle.exec_effects.proofs.effects.split_edge.Reads as split-edge-reads
 use Rattle.solids.proofs.holes.kfmrh_links.Reads as kfmrh-links-reads
 use Rattle.solids.proofs.holes.mfkrh_links.Reads as mfkrh-links-reads
-use Rattle.solids.proofs.lone.mvsf_links.Reads as mvsf-links-reads
 use Rattle.solids.proofs.rings.rmov_links.Reads as rmov-links-reads
 
--- src/effects.rt:74:9
-item-of-requires : tie.Need-item-of-requires
-item-of-requires c κs = search needs
+-- src/effects.rt:135:14
+make-solid-requires : tie.Need-make-solid-requires
+make-solid-requires c κs = search needs
 
--- src/effects.rt:75:9
-item-of-requires-2 : tie.Need-item-of-requires-2
-item-of-requires-2 c κs = search needs
+-- src/effects.rt:136:36
+item-at-requires : tie.Need-item-at-requires
+item-at-requires c κs = search needs
 
--- src/effects.rt:76:9
-item-of-requires-3 : tie.Need-item-of-requires-3
-item-of-requires-3 c κs = search needs
-
--- src/effects.rt:77:9
-item-of-requires-4 : tie.Need-item-of-requires-4
-item-of-requires-4 c κs = search needs
-
--- src/effects.rt:78:9
-item-of-requires-5 : tie.Need-item-of-requires-5
-item-of-requires-5 c κs = search needs
-
--- src/effects.rt:79:9
-item-of-requires-6 : tie.Need-item-of-requires-6
-item-of-requires-6 c κs = search needs
-
--- src/effects.rt:80:9
-item-of-requires-7 : tie.Need-item-of-requires-7
-item-of-requires-7 c κs = search needs
-
--- src/effects.rt:83:14
-mvsf-links-requires : tie.Need-mvsf-links-requires
-mvsf-links-requires c κs = search needs
-
--- src/effects.rt:84:14
+-- src/effects.rt:136:14
 kill-solid-requires : tie.Need-kill-solid-requires
 kill-solid-requires c κs = search needs
 
--- src/effects.rt:85:43
-half-by-requires : tie.Need-half-by-requires
-half-by-requires c κs = search needs
+-- src/effects.rt:137:14
+make-vertex-requires : tie.Need-make-vertex-requires
+make-vertex-requires c κs = search needs
 
--- src/effects.rt:85:14
-mev-links-requires : tie.Need-mev-links-requires
-mev-links-requires c κs = search needs
+-- src/effects.rt:138:35
+item-at-requires-2 : tie.Need-item-at-requires-2
+item-at-requires-2 c κs = search needs
 
--- src/effects.rt:86:14
+-- src/effects.rt:138:14
 kev-links-requires : tie.Need-kev-links-requires
 kev-links-requires c κs = search needs
 
--- src/effects.rt:87:47
-half-by-requires-2 : tie.Need-half-by-requires-2
-half-by-requires-2 c κs = search needs
+-- src/effects.rt:139:14
+make-face-requires : tie.Need-make-face-requires
+make-face-requires c κs = search needs
 
--- src/effects.rt:87:14
-mef-links-requires : tie.Need-mef-links-requires
-mef-links-requires c κs = search needs
+-- src/effects.rt:140:35
+item-at-requires-3 : tie.Need-item-at-requires-3
+item-at-requires-3 c κs = search needs
 
--- src/effects.rt:88:14
+-- src/effects.rt:140:14
 kef-links-requires : tie.Need-kef-links-requires
 kef-links-requires c κs = search needs
 
--- src/effects.rt:89:14
+-- src/effects.rt:141:36
+item-at-requires-4 : tie.Need-item-at-requires-4
+item-at-requires-4 c κs = search needs
+
+-- src/effects.rt:141:54
+item-at-requires-5 : tie.Need-item-at-requires-5
+item-at-requires-5 c κs = search needs
+
+-- src/effects.rt:141:14
 kemr-links-requires : tie.Need-kemr-links-requires
 kemr-links-requires c κs = search needs
 
--- src/effects.rt:90:52
-half-by-requires-3 : tie.Need-half-by-requires-3
-half-by-requires-3 c κs = search needs
+-- src/effects.rt:142:14
+join-ring-requires : tie.Need-join-ring-requires
+join-ring-requires c κs = search needs
 
--- src/effects.rt:90:14
-mekr-links-requires : tie.Need-mekr-links-requires
-mekr-links-requires c κs = search needs
+-- src/effects.rt:143:37
+item-at-requires-6 : tie.Need-item-at-requires-6
+item-at-requires-6 c κs = search needs
 
--- src/effects.rt:91:14
+-- src/effects.rt:143:55
+item-at-requires-7 : tie.Need-item-at-requires-7
+item-at-requires-7 c κs = search needs
+
+-- src/effects.rt:143:14
 kfmrh-links-requires : tie.Need-kfmrh-links-requires
 kfmrh-links-requires c κs = search needs
 
--- src/effects.rt:92:15
+-- src/effects.rt:147:13
+item-at-requires-8 : tie.Need-item-at-requires-8
+item-at-requires-8 c κs = search needs
+
+-- src/effects.rt:148:13
+item-at-requires-9 : tie.Need-item-at-requires-9
+item-at-requires-9 c κs = search needs
+
+-- src/effects.rt:149:13
+item-at-requires-10 : tie.Need-item-at-requires-10
+item-at-requires-10 c κs = search needs
+
+-- src/effects.rt:144:15
 mfkrh-links-requires : tie.Need-mfkrh-links-requires
 mfkrh-links-requires c κs = search needs
 
--- src/effects.rt:93:41
-half-by-requires-4 : tie.Need-half-by-requires-4
-half-by-requires-4 c κs = search needs
+-- src/effects.rt:151:15
+split-edge-requires : tie.Need-split-edge-requires
+split-edge-requires c κs = search needs
 
--- src/effects.rt:93:15
-semv-links-requires : tie.Need-semv-links-requires
-semv-links-requires c κs = search needs
+-- src/effects.rt:152:37
+item-at-requires-11 : tie.Need-item-at-requires-11
+item-at-requires-11 c κs = search needs
 
--- src/effects.rt:94:15
+-- src/effects.rt:152:15
 join-edges-requires : tie.Need-join-edges-requires
 join-edges-requires c κs = search needs
 
--- src/effects.rt:95:15
+-- src/effects.rt:153:37
+item-at-requires-12 : tie.Need-item-at-requires-12
+item-at-requires-12 c κs = search needs
+
+-- src/effects.rt:153:55
+item-at-requires-13 : tie.Need-item-at-requires-13
+item-at-requires-13 c κs = search needs
+
+-- src/effects.rt:153:15
 rmov-links-requires : tie.Need-rmov-links-requires
 rmov-links-requires c κs = search needs
 
--- src/effects.rt:70:1
+-- src/effects.rt:129:1
 same-length : tie.Need-same-length
 same-length c = search needs
 
--- src/effects.rt:70:1
+-- src/effects.rt:129:1
 returns : tie.Need-returns
-returns c = links-at _ _ _ 1 _ _ (c .before .before .before .before .match .keys1) refl cc
+returns c =
+    let d = c .before .before in
+    links-at _ _ _ _ 1 _ (d .before .before .match .keys1) (d .make-solid .ensures)
 
--- src/effects.rt:70:1
+-- src/effects.rt:129:1
 same-length-2 : tie.Need-same-length-2
 same-length-2 c = search needs
 
--- src/effects.rt:70:1
+-- src/effects.rt:129:1
 returns-2 : tie.Need-returns-2
-returns-2 c = links-kvsf _ _ _ _ _ (c .before .before .before .before .match .keys2) (c .before .before .before .before .before .before .before .before .before .before .before .item-of .ensures .0) (c .before .before .kill-solid .ensures)
+returns-2 c =
+    let d = c .before .before in
+    links-kvsf _ _ _ _ _ _ (d .before .before .before .match .keys2) (d .before .item-at .ensures .0)
+    (d .kill-solid .ensures)
 
--- src/effects.rt:70:1
+-- src/effects.rt:129:1
 same-length-3 : tie.Need-same-length-3
 same-length-3 c = search needs
 
--- src/effects.rt:70:1
+-- src/effects.rt:129:1
 returns-3 : tie.Need-returns-3
-returns-3 c = links-at _ _ _ 3 _ _ (c .before .before .before .before .before .match .keys3) refl cc
+returns-3 c =
+    let d = c .before .before in
+    links-at _ _ _ _ 3 _ (d .before .before .match .keys3) (d .make-vertex .ensures)
 
--- src/effects.rt:70:1
+-- src/effects.rt:129:1
 same-length-4 : tie.Need-same-length-4
 same-length-4 c = search needs
 
--- src/effects.rt:70:1
+-- src/effects.rt:129:1
 returns-4 : tie.Need-returns-4
-returns-4 c = links-at _ _ _ 4 _ _ (c .before .before .before .before .match .keys4) refl cc
+returns-4 c = links-at _ _ _ _ 4 _ (c .before .before .before .before .before .match .keys4) cc
 
--- src/effects.rt:70:1
+-- src/effects.rt:129:1
 same-length-5 : tie.Need-same-length-5
 same-length-5 c = search needs
 
--- src/effects.rt:70:1
+-- src/effects.rt:129:1
 returns-5 : tie.Need-returns-5
-returns-5 c = links-at _ _ _ 5 _ _ (c .before .before .before .before .before .match .keys5) refl cc
+returns-5 c =
+    let d = c .before .before in
+    links-at _ _ _ _ 5 _ (d .before .before .match .keys5) (d .make-face .ensures)
 
--- src/effects.rt:70:1
+-- src/effects.rt:129:1
 same-length-6 : tie.Need-same-length-6
 same-length-6 c = search needs
 
--- src/effects.rt:70:1
+-- src/effects.rt:129:1
 returns-6 : tie.Need-returns-6
-returns-6 c = links-at _ _ _ 6 _ _ (c .before .before .before .before .match .keys6) refl cc
+returns-6 c = links-at _ _ _ _ 6 _ (c .before .before .before .before .before .match .keys6) cc
 
--- src/effects.rt:70:1
+-- src/effects.rt:129:1
 same-length-7 : tie.Need-same-length-7
 same-length-7 c = search needs
 
--- src/effects.rt:70:1
+-- src/effects.rt:129:1
 returns-7 : tie.Need-returns-7
-returns-7 c = links-at _ _ _ 7 _ _ (c .before .before .before .before .match .keys7) refl cc
+returns-7 c = links-at _ _ _ _ 7 _ (c .before .before .before .before .before .before .match .keys7) cc
 
--- src/effects.rt:70:1
+-- src/effects.rt:129:1
 same-length-8 : tie.Need-same-length-8
 same-length-8 c = search needs
 
--- src/effects.rt:70:1
+-- src/effects.rt:129:1
 returns-8 : tie.Need-returns-8
-returns-8 c = links-at _ _ _ 8 _ _ (c .before .before .before .before .before .match .keys8) refl cc
+returns-8 c =
+    let d = c .before .before in
+    links-at _ _ _ _ 8 _ (d .before .before .match .keys8) (d .join-ring .ensures)
 
--- src/effects.rt:70:1
+-- src/effects.rt:129:1
 same-length-9 : tie.Need-same-length-9
 same-length-9 c = search needs
 
--- src/effects.rt:70:1
+-- src/effects.rt:129:1
 returns-9 : tie.Need-returns-9
-returns-9 c = links-at _ _ _ 9 _ _ (c .before .before .before .before .match .keys9) refl cc
+returns-9 c = links-at _ _ _ _ 9 _ (c .before .before .before .before .before .before .match .keys9) cc
 
--- src/effects.rt:70:1
+-- src/effects.rt:129:1
 same-length-10 : tie.Need-same-length-10
 same-length-10 c = search needs
 
--- src/effects.rt:70:1
+-- src/effects.rt:129:1
 returns-10 : tie.Need-returns-10
-returns-10 c = links-at _ _ _ 10 _ _ (c .before .before .before .before .match .keys10) refl cc
+returns-10 c = links-at _ _ _ _ 10 _ (c .before .before .before .before .before .before .before .match .keys10) cc
 
--- src/effects.rt:70:1
+-- src/effects.rt:129:1
 same-length-11 : tie.Need-same-length-11
 same-length-11 c = search needs
 
--- src/effects.rt:70:1
+-- src/effects.rt:129:1
 returns-11 : tie.Need-returns-11
-returns-11 c = links-at _ _ _ 11 _ _ (c .before .before .before .before .before .match .keys11) refl cc
+returns-11 c =
+    let d = c .before .before in
+    links-at _ _ _ _ 11 _ (d .before .before .match .keys11) (d .split-edge .ensures)
 
--- src/effects.rt:70:1
+-- src/effects.rt:129:1
 same-length-12 : tie.Need-same-length-12
 same-length-12 c = search needs
 
--- src/effects.rt:70:1
+-- src/effects.rt:129:1
 returns-12 : tie.Need-returns-12
-returns-12 c = links-at _ _ _ 12 _ _ (c .before .before .before .before .match .keys12) refl cc
+returns-12 c = links-at _ _ _ _ 12 _ (c .before .before .before .before .before .match .keys12) cc
 
--- src/effects.rt:70:1
+-- src/effects.rt:129:1
 same-length-13 : tie.Need-same-length-13
 same-length-13 c = search needs
 
--- src/effects.rt:70:1
+-- src/effects.rt:129:1
 returns-13 : tie.Need-returns-13
-returns-13 c = links-at _ _ _ 13 _ _ (c .before .before .before .before .match .keys13) refl cc
+returns-13 c = links-at _ _ _ _ 13 _ (c .before .before .before .before .before .before .match .keys13) cc
 
--- src/effects.rt:70:1
+-- src/effects.rt:129:1
 returns-14 : tie.Need-returns-14
-returns-14 c = let r = c .match .rest in links-none _ _ _ (r .1, (r .0 .1, (r .0 .0 .1, (r .0 .0 .0 .1, (r .0 .0 .0 .0 .1, (r .0 .0 .0 .0 .0 .1, (r .0 .0 .0 .0 .0 .0 .1, (r .0 .0 .0 .0 .0 .0 .0 .1, (r .0 .0 .0 .0 .0 .0 .0 .0 .1, (r .0 .0 .0 .0 .0 .0 .0 .0 .0 .1, (r .0 .0 .0 .0 .0 .0 .0 .0 .0 .0 .1, (r .0 .0 .0 .0 .0 .0 .0 .0 .0 .0 .0 .1, (r .0 .0 .0 .0 .0 .0 .0 .0 .0 .0 .0 .0 .1, tt)))))))))))))
+returns-14 c =
+    let a = c .match .rest in
+    let b = a .0 .0 .0 .0 .0 in
+    let d = b .0 .0 .0 .0 .0 in
+    let code = c .before .before .args .code in
+    let low : NoneOf 3 code = (d .1, (d .0 .1, (d .0 .0 .1, tt))) in
+    let mid : NoneOf 8 code = (b .1, (b .0 .1, (b .0 .0 .1, (b .0 .0 .0 .1, (b .0 .0 .0 .0 .1, low))))) in
+    links-none _ _ _ _ (a .1, (a .0 .1, (a .0 .0 .1, (a .0 .0 .0 .1, (a .0 .0 .0 .0 .1, mid)))))
 
 pub apply-links-spec : {M : Type 1} → statement M
 apply-links-spec =
     tie.close
     (tie.spec
-    item-of-requires
-    item-of-requires-2
-    item-of-requires-3
-    item-of-requires-4
-    item-of-requires-5
-    item-of-requires-6
-    item-of-requires-7
-    mvsf-links-requires
+    make-solid-requires
+    item-at-requires
     kill-solid-requires
-    half-by-requires
-    mev-links-requires
+    make-vertex-requires
+    item-at-requires-2
     kev-links-requires
-    half-by-requires-2
-    mef-links-requires
+    make-face-requires
+    item-at-requires-3
     kef-links-requires
+    item-at-requires-4
+    item-at-requires-5
     kemr-links-requires
-    half-by-requires-3
-    mekr-links-requires
+    join-ring-requires
+    item-at-requires-6
+    item-at-requires-7
     kfmrh-links-requires
+    item-at-requires-8
+    item-at-requires-9
+    item-at-requires-10
     mfkrh-links-requires
-    half-by-requires-4
-    semv-links-requires
+    split-edge-requires
+    item-at-requires-11
     join-edges-requires
+    item-at-requires-12
+    item-at-requires-13
     rmov-links-requires
     same-length
     returns

@@ -1,0 +1,17 @@
+-- The effects know an operator by its code and its operands: they are those of any operator that has these.
+use mathlib.Core.Path.{_≡_}
+use mathlib.Core.List.{List}
+use Prim.Native.Nat.{ℕ}
+use lib.IntN.{ℤ}
+use Rattle.script.specs.declared.Operator.{Operator}
+use Rattle.layout.specs.declared.shape.Shape.{Shape}
+use Rattle.euler.specs.Exec.{operatorBy, linksAfter, killedVertex, pointsAfter}
+
+module _ (sh : Shape) (x : List ℕ) (o : Operator) where
+  pub links-performed : (y : List ℕ) → y ≡ linksAfter sh x (operatorBy (o .code) (o .args)) → y ≡ linksAfter sh x o
+  unfolding linksAfter
+  links-performed y e = e
+
+  pub points-performed : (p q : List ℤ) → q ≡ pointsAfter sh x p (operatorBy (o .code) (o .args)) → q ≡ pointsAfter sh x p o
+  unfolding pointsAfter killedVertex
+  points-performed p q e = e

@@ -1,0 +1,2 @@
+// One operator on a table: the vertex that it kills, and its effect on points.
+pub mod points;
