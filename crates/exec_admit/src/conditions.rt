@@ -13,10 +13,10 @@ use edges_spurs::mev_kev::kev_fits;
 use edges_spurs::mev_kev::mev_fits;
 use euler::records::item_at;
 use layout::shape::Shape;
-use solids::holes::kfmrh_fits;
-use solids::holes::mfkrh_fits;
-use solids::lone::kvsf_fits;
-use solids::rings::rmov_fits;
+use solids_holes::holes::kfmrh_fits;
+use solids_holes::holes::mfkrh_fits;
+use solids_lone::lone::kvsf_fits;
+use solids_rings::rings::rmov_fits;
 
 // The condition that document 01 writes for the operator of this code and these operands holds.
 pub fn condition_holds(
@@ -31,33 +31,20 @@ pub fn condition_holds(
     ensures { λ r. ⌜ r ≡ condition sh (now (links .entry)) (operatorBy code (now (args .entry))) ⌝ }
 {
     let a0 = item_at(args, 0);
+    let a1 = item_at(args, 1);
     match code {
         1 | 11 => true,
-        2 => kvsf_fits(links, sh, a0),
-        3 => mev_fits(links, sh, a0, item_at(args, 1)),
+        2 => kvsf_fits(links, counts, sh, a0),
+        3 => mev_fits(links, sh, a0, a1),
         4 => kev_fits(links, sh, a0),
-        5 => mef_fits(
-            links,
-            sh,
-            a0,
-            item_at(args, 1),
-            item_at(args, 2),
-            item_at(args, 6),
-        ),
+        5 => mef_fits(links, sh, a0, a1, item_at(args, 2), item_at(args, 6)),
         6 => kef_fits(links, counts, sh, a0),
         7 => kemr_fits(links, sh, a0),
-        8 => mekr_fits(
-            links,
-            sh,
-            a0,
-            item_at(args, 1),
-            item_at(args, 2),
-            item_at(args, 3),
-        ),
-        9 => kfmrh_fits(links, sh, a0, item_at(args, 1)),
-        10 => mfkrh_fits(links, sh, a0, item_at(args, 1), item_at(args, 2)),
+        8 => mekr_fits(links, sh, a0, a1, item_at(args, 2), item_at(args, 3)),
+        9 => kfmrh_fits(links, counts, sh, a0, a1),
+        10 => mfkrh_fits(links, sh, a0, a1, item_at(args, 2)),
         12 => jekv_fits(links, sh, a0),
-        13 => rmov_fits(links, sh, a0, item_at(args, 1)),
+        13 => rmov_fits(links, sh, a0, a1),
         _ => true,
     }
 }

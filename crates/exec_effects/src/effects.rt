@@ -23,12 +23,12 @@ use layout::columns::face_outer;
 use layout::columns::loop_isolated;
 use layout::columns::next_of;
 use layout::shape::Shape;
-use solids::holes::kfmrh_links;
-use solids::holes::mfkrh_links;
-use solids::lone::face_in;
-use solids::lone::kvsf_links;
-use solids::lone::mvsf_links;
-use solids::rings::rmov_links;
+use solids_holes::holes::kfmrh_links;
+use solids_holes::holes::mfkrh_links;
+use solids_lone::lone::face_in;
+use solids_lone::lone::kvsf_links;
+use solids_lone::lone::mvsf_links;
+use solids_rings::rings::rmov_links;
 
 // kvsf: the solid's only face, that face's loop and the loop's vertex are found first.
 fn kill_solid(links: &mut [u16], sh: Shape, s: usize)

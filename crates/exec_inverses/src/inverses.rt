@@ -25,12 +25,12 @@ use layout::mates::mate_of;
 use layout::shape::Shape;
 use script::Operator;
 use script::blank;
-use solids::holes::kfmrh_inverse;
-use solids::holes::mfkrh_inverse;
-use solids::lone::face_in;
-use solids::lone::kvsf_inverse;
-use solids::lone::mvsf_inverse;
-use solids::rings::rmov_inverse;
+use solids_holes::holes::kfmrh_inverse;
+use solids_holes::holes::mfkrh_inverse;
+use solids_lone::lone::face_in;
+use solids_lone::lone::kvsf_inverse;
+use solids_lone::lone::mvsf_inverse;
+use solids_rings::rings::rmov_inverse;
 
 // mvsf of the solid that kvsf kills.
 fn solid_again(links: &[u16], points: &[i32], sh: Shape, s: usize) -> Operator

@@ -13,7 +13,7 @@ use layout::columns::next_of;
 use layout::columns::start_of;
 use layout::mates::mate_of;
 use layout::shape::Shape;
-use solids::lone::face_in;
+use solids_lone::lone::face_in;
 
 // The vertex that kvsf of solid s kills.
 pub fn only_vertex(links: &[u16], sh: Shape, s: usize) -> usize

@@ -14,10 +14,10 @@ use Rattle.edges_splits.proofs.semv_jekv.jekv_fits.Reads as jekv-fits-reads
 use Rattle.edges_spurs.proofs.mev_kev.kev_fits.Reads as kev-fits-reads
 use Rattle.edges_spurs.proofs.mev_kev.mev_fits.Reads as mev-fits-reads
 use Rattle.euler.proofs.records.item_at.Reads as item-at-reads
-use Rattle.solids.proofs.holes.kfmrh_fits.Reads as kfmrh-fits-reads
-use Rattle.solids.proofs.holes.mfkrh_fits.Reads as mfkrh-fits-reads
-use Rattle.solids.proofs.lone.kvsf_fits.Reads as kvsf-fits-reads
-use Rattle.solids.proofs.rings.rmov_fits.Reads as rmov-fits-reads
+use Rattle.solids_holes.proofs.holes.kfmrh_fits.Reads as kfmrh-fits-reads
+use Rattle.solids_holes.proofs.holes.mfkrh_fits.Reads as mfkrh-fits-reads
+use Rattle.solids_lone.proofs.lone.kvsf_fits.Reads as kvsf-fits-reads
+use Rattle.solids_rings.proofs.rings.rmov_fits.Reads as rmov-fits-reads
 
 -- src/conditions.rt:27:9
 item-at-requires : tie.Need-item-at-requires

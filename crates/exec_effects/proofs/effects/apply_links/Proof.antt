@@ -16,9 +16,9 @@ use Rattle.exec_effects.proofs.effects.make_face.Reads as make-face-rea
 use Rattle.exec_effects.proofs.effects.make_solid.Reads as make-solid-reads
 use Rattle.exec_effects.proofs.effects.make_vertex.Reads as make-vertex-reads
 use Rattle.exec_effects.proofs.effects.split_edge.Reads as split-edge-reads
-use Rattle.solids.proofs.holes.kfmrh_links.Reads as kfmrh-links-reads
-use Rattle.solids.proofs.holes.mfkrh_links.Reads as mfkrh-links-reads
-use Rattle.solids.proofs.rings.rmov_links.Reads as rmov-links-reads
+use Rattle.solids_holes.proofs.holes.kfmrh_links.Reads as kfmrh-links-reads
+use Rattle.solids_holes.proofs.holes.mfkrh_links.Reads as mfkrh-links-reads
+use Rattle.solids_rings.proofs.rings.rmov_links.Reads as rmov-links-reads
 
 -- src/effects.rt:135:14
 make-solid-requires : tie.Need-make-solid-requires

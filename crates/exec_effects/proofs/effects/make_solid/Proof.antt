@@ -4,7 +4,7 @@ use Rattle.exec_effects.proofs.effects.make_solid.Tie as tie
 use Rattle.exec_effects.proofs.effects.make_solid.Reads as reads
 use Rattle.exec_effects.proofs.effects.make_solid.Lts as lts
 use Rattle.euler.proofs.records.item_at.Reads as item-at-reads
-use Rattle.solids.proofs.lone.mvsf_links.Reads as mvsf-links-reads
+use Rattle.solids_lone.proofs.lone.mvsf_links.Reads as mvsf-links-reads
 
 -- src/effects.rt:62:9
 item-at-requires : tie.Need-item-at-requires

@@ -17,10 +17,10 @@ use Rattle.exec_inverses.proofs.inverses.edge_again.Reads as edge-again
 use Rattle.exec_inverses.proofs.inverses.solid_again.Reads as solid-again-reads
 use Rattle.exec_inverses.proofs.inverses.vertex_again.Reads as vertex-again-reads
 use Rattle.script.proofs.blank.Reads as blank-reads
-use Rattle.solids.proofs.holes.kfmrh_inverse.Reads as kfmrh-inverse-reads
-use Rattle.solids.proofs.holes.mfkrh_inverse.Reads as mfkrh-inverse-reads
-use Rattle.solids.proofs.lone.mvsf_inverse.Reads as mvsf-inverse-reads
-use Rattle.solids.proofs.rings.rmov_inverse.Reads as rmov-inverse-reads
+use Rattle.solids_holes.proofs.holes.kfmrh_inverse.Reads as kfmrh-inverse-reads
+use Rattle.solids_holes.proofs.holes.mfkrh_inverse.Reads as mfkrh-inverse-reads
+use Rattle.solids_lone.proofs.lone.mvsf_inverse.Reads as mvsf-inverse-reads
+use Rattle.solids_rings.proofs.rings.rmov_inverse.Reads as rmov-inverse-reads
 
 -- src/inverses.rt:59:9
 item-of-requires : tie.Need-item-of-requires

@@ -5,7 +5,7 @@ use Rattle.exec_points.proofs.points.only_vertex.Reads as reads
 use Rattle.exec_points.proofs.points.only_vertex.Lts as lts
 use Rattle.layout.proofs.columns.face_outer.Reads as face-outer-reads
 use Rattle.layout.proofs.columns.loop_isolated.Reads as loop-isolated-reads
-use Rattle.solids.proofs.lone.face_in.Reads as face-in-reads
+use Rattle.solids_lone.proofs.lone.face_in.Reads as face-in-reads
 
 -- src/points.rt:23:9
 face-in-requires : tie.Need-face-in-requires

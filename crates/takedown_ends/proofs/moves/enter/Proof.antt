@@ -6,8 +6,8 @@ use Rattle.takedown_ends.proofs.moves.enter.Statement.{statement}
 use Rattle.takedown_ends.proofs.moves.enter.Tie as tie
 use Rattle.takedown_ends.proofs.moves.enter.Reads as reads
 use Rattle.takedown_ends.proofs.moves.enter.Lts as lts
-use Rattle.solids.proofs.lone.face_in.Reads as face-in-reads
-use Rattle.solids.proofs.lone.faces_in.Reads as faces-in-reads
+use Rattle.solids_lone.proofs.lone.face_in.Reads as face-in-reads
+use Rattle.solids_lone.proofs.lone.faces_in.Reads as faces-in-reads
 use Rattle.takedown_ends.proofs.moves.ends_at.Reads as ends-at-reads
 use Rattle.takedown_search.proofs.seek.seek.Reads as seek-reads
 

@@ -1,0 +1,2 @@
+pub mod HolesLaws
+pub mod Moves

@@ -1,0 +1,2 @@
+// rmov moves a ring: test, effect and inverse.
+pub mod rings;
