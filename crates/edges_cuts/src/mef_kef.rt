@@ -1,12 +1,14 @@
 // An edge that divides a loop, with a new face on one side: made (mef, operator 5) and killed (kef, operator 6).
 ghost use mathlib.Core.Path.{_≡_};
 ghost use Prim.Native.Nat.{ℕ, _<_, _≤_};
+ghost use Rattle.layout.specs.Small.{Small};
+ghost use Rattle.counts.specs.Counts.{Counted};
 ghost use Rattle.euler.specs.Operators.{mefTest, mefEdge, mefLinks, mefInverse, kefTest, kefLinks, kefInverse};
 ghost use Rattle.edges_cuts.specs.Parts.{restOf, kefOut};
+use counts::counts::loops_kept;
 use edges::parts::half_at;
 use edges::parts::renew_sides;
 use edges::parts::with_three;
-use euler::faces::loops_in;
 use euler::records::Half;
 use euler::records::choose;
 use euler::records::corner_vertex;
@@ -115,14 +117,16 @@ pub fn mef_inverse(b: usize) -> Operator
 }
 
 // k's loop is the only one of its face, and the mate's face is another.
-pub fn kef_fits(links: &[u16], sh: Shape, k: usize) -> bool
-    requires { ⌜ (k < 65536) × (sh .loops < 65536) ⌝ }
+pub fn kef_fits(links: &[u16], counts: &[u16; 4097], sh: Shape, k: usize) -> bool
+    requires { ⌜ k < 65536 ⌝ }
+    requires { ⌜ Small sh ⌝ }
+    requires { ⌜ Counted sh (now links) (now counts) ⌝ }
     ensures { λ r. ⌜ r ≡ kefTest sh (now (links .entry)) k ⌝ }
 {
     let m = mate_of(k);
     let here = side_of(links, sh, k);
     let there = side_of(links, sh, m);
-    let loops = loops_in(links, sh, here);
+    let loops = loops_kept(links, counts, sh, here);
     (loops == 1) & (there != here)
 }
 

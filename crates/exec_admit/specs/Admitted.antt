@@ -1,5 +1,5 @@
 -- The ways out of `admit`, one law each: an operand's refusal, the condition holds, it does not.
-use mathlib.Core.Path.{_≡_}
+use mathlib.Core.Path.{_≡_, refl, _∙_}
 use mathlib.Core.Bool.{Bool, true, false}
 use mathlib.Core.List.{List}
 use Prim.Native.Nat.{ℕ}
@@ -8,17 +8,22 @@ use Rattle.script.specs.declared.Operator.{Operator}
 use Rattle.script.specs.declared.operands.Pattern.{Pattern}
 use Rattle.script.specs.Operands.{pattern}
 use Rattle.layout.specs.declared.shape.Shape.{Shape}
-use Rattle.euler.specs.Exec.{useRefusals, condition, admitOf}
+use Rattle.euler.specs.Exec.{operatorBy, useRefusals, condition, admitOf}
+
+-- the condition asks the code and the operands alone
+by-parts : (sh : Shape) (x : List ℕ) (o : Operator) → condition sh x (operatorBy (o .code) (o .args)) ≡ condition sh x o
+unfolding condition
+by-parts sh x o = refl
 
 module _ (sh : Shape) (x : List ℕ) (o : Operator) (P : Pattern) (e : P ≡ pattern (o .code)) (r : ℕ) (u : r ≡ useRefusals sh x o (P .kinds) 0) where
   pub admit-used : (r ≡ 0 → ⊥) → r ≡ admitOf sh x o
   unfolding admitOf
   admit-used z = rw (← e, ← u, ne-eqb r 0 z)
 
-  pub admit-holds : r ≡ 0 → (b : Bool) → b ≡ condition sh x o → b ≡ true → 0 ≡ admitOf sh x o
+  pub admit-holds : r ≡ 0 → (b : Bool) → b ≡ condition sh x (operatorBy (o .code) (o .args)) → b ≡ true → 0 ≡ admitOf sh x o
   unfolding admitOf
-  admit-holds z b c t = rw (← e, ← u, eq-eqb r 0 z, ← c, t)
+  admit-holds z b c t = rw (← e, ← u, eq-eqb r 0 z, ← (c ∙ by-parts sh x o), t)
 
-  pub admit-fails : r ≡ 0 → (b : Bool) → b ≡ condition sh x o → b ≡ false → 8 ≡ admitOf sh x o
+  pub admit-fails : r ≡ 0 → (b : Bool) → b ≡ condition sh x (operatorBy (o .code) (o .args)) → b ≡ false → 8 ≡ admitOf sh x o
   unfolding admitOf
-  admit-fails z b c t = rw (← e, ← u, eq-eqb r 0 z, ← c, t)
+  admit-fails z b c t = rw (← e, ← u, eq-eqb r 0 z, ← (c ∙ by-parts sh x o), t)

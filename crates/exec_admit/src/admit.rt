@@ -3,6 +3,7 @@ ghost use mathlib.Core.Path.{_≡_};
 ghost use Rattle.euler.specs.Exec.{admitOf};
 ghost use Rattle.layout.specs.Small.{Small};
 use crate::conditions::condition_holds;
+use counts::counts::fill_counts;
 use euler::admit::use_refusals;
 use layout::shape::Shape;
 use script::Operator;
@@ -19,7 +20,10 @@ pub fn admit(links: &[u16], sh: Shape, op: Operator) -> u8
     if r != 0 {
         return r;
     }
-    if condition_holds(links, sh, op) {
+    let mut counts = [0u16; 4097];
+    fill_counts(links, sh, &mut counts);
+    let args = op.args;
+    if condition_holds(links, &counts, sh, op.code, &args) {
         return 0;
     }
     8

@@ -13,35 +13,23 @@ use Rattle.edges_cuts.proofs.mef_kef.mef_fits.Reads as mef-fits-reads
 use Rattle.edges_splits.proofs.semv_jekv.jekv_fits.Reads as jekv-fits-reads
 use Rattle.edges_spurs.proofs.mev_kev.kev_fits.Reads as kev-fits-reads
 use Rattle.edges_spurs.proofs.mev_kev.mev_fits.Reads as mev-fits-reads
-use Rattle.euler.proofs.records.item_of.Reads as item-of-reads
+use Rattle.euler.proofs.records.item_at.Reads as item-at-reads
 use Rattle.solids_holes.proofs.holes.kfmrh_fits.Reads as kfmrh-fits-reads
 use Rattle.solids_holes.proofs.holes.mfkrh_fits.Reads as mfkrh-fits-reads
 use Rattle.solids_lone.proofs.lone.kvsf_fits.Reads as kvsf-fits-reads
 use Rattle.solids_rings.proofs.rings.rmov_fits.Reads as rmov-fits-reads
 
--- src/conditions.rt:22:9
-item-of-requires : tie.Need-item-of-requires
-item-of-requires c κs = search needs
-
--- src/conditions.rt:23:9
-item-of-requires-2 : tie.Need-item-of-requires-2
-item-of-requires-2 c κs = search needs
-
--- src/conditions.rt:24:9
-item-of-requires-3 : tie.Need-item-of-requires-3
-item-of-requires-3 c κs = search needs
-
--- src/conditions.rt:25:9
-item-of-requires-4 : tie.Need-item-of-requires-4
-item-of-requires-4 c κs = search needs
-
--- src/conditions.rt:26:9
-item-of-requires-5 : tie.Need-item-of-requires-5
-item-of-requires-5 c κs = search needs
+-- src/conditions.rt:27:9
+item-at-requires : tie.Need-item-at-requires
+item-at-requires c κs = search needs
 
 -- src/conditions.rt:30:14
 kvsf-fits-requires : tie.Need-kvsf-fits-requires
 kvsf-fits-requires c κs = search needs
+
+-- src/conditions.rt:31:38
+item-at-requires-2 : tie.Need-item-at-requires-2
+item-at-requires-2 c κs = search needs
 
 -- src/conditions.rt:31:14
 mev-fits-requires : tie.Need-mev-fits-requires
@@ -50,6 +38,18 @@ mev-fits-requires c κs = search needs
 -- src/conditions.rt:32:14
 kev-fits-requires : tie.Need-kev-fits-requires
 kev-fits-requires c κs = search needs
+
+-- src/conditions.rt:33:38
+item-at-requires-3 : tie.Need-item-at-requires-3
+item-at-requires-3 c κs = search needs
+
+-- src/conditions.rt:33:56
+item-at-requires-4 : tie.Need-item-at-requires-4
+item-at-requires-4 c κs = search needs
+
+-- src/conditions.rt:33:74
+item-at-requires-5 : tie.Need-item-at-requires-5
+item-at-requires-5 c κs = search needs
 
 -- src/conditions.rt:33:14
 mef-fits-requires : tie.Need-mef-fits-requires
@@ -63,13 +63,37 @@ kef-fits-requires c κs = search needs
 kemr-fits-requires : tie.Need-kemr-fits-requires
 kemr-fits-requires c κs = search needs
 
+-- src/conditions.rt:36:39
+item-at-requires-6 : tie.Need-item-at-requires-6
+item-at-requires-6 c κs = search needs
+
+-- src/conditions.rt:36:57
+item-at-requires-7 : tie.Need-item-at-requires-7
+item-at-requires-7 c κs = search needs
+
+-- src/conditions.rt:36:75
+item-at-requires-8 : tie.Need-item-at-requires-8
+item-at-requires-8 c κs = search needs
+
 -- src/conditions.rt:36:14
 mekr-fits-requires : tie.Need-mekr-fits-requires
 mekr-fits-requires c κs = search needs
 
+-- src/conditions.rt:37:40
+item-at-requires-9 : tie.Need-item-at-requires-9
+item-at-requires-9 c κs = search needs
+
 -- src/conditions.rt:37:14
 kfmrh-fits-requires : tie.Need-kfmrh-fits-requires
 kfmrh-fits-requires c κs = search needs
+
+-- src/conditions.rt:38:41
+item-at-requires-10 : tie.Need-item-at-requires-10
+item-at-requires-10 c κs = search needs
+
+-- src/conditions.rt:38:59
+item-at-requires-11 : tie.Need-item-at-requires-11
+item-at-requires-11 c κs = search needs
 
 -- src/conditions.rt:38:15
 mfkrh-fits-requires : tie.Need-mfkrh-fits-requires
@@ -79,81 +103,127 @@ mfkrh-fits-requires c κs = search needs
 jekv-fits-requires : tie.Need-jekv-fits-requires
 jekv-fits-requires c κs = search needs
 
+-- src/conditions.rt:40:40
+item-at-requires-12 : tie.Need-item-at-requires-12
+item-at-requires-12 c κs = search needs
+
 -- src/conditions.rt:40:15
 rmov-fits-requires : tie.Need-rmov-fits-requires
 rmov-fits-requires c κs = search needs
 
--- src/conditions.rt:18:1
+-- src/conditions.rt:22:1
 returns : tie.Need-returns
 returns c = ⊎-elim (λ e. condition-at _ _ _ 1 _ _ e refl refl) (λ e. condition-at _ _ _ 11 _ _ e refl refl) (c .match .keys1)
 
--- src/conditions.rt:18:1
+-- src/conditions.rt:22:1
 returns-2 : tie.Need-returns-2
 returns-2 c = condition-at _ _ _ 2 _ _ (c .before .match .keys2) refl cc
 
--- src/conditions.rt:18:1
+-- src/conditions.rt:22:1
 returns-3 : tie.Need-returns-3
-returns-3 c = condition-at _ _ _ 3 _ _ (c .before .match .keys3) refl cc
+returns-3 c = condition-at _ _ _ 3 _ _ (c .before .before .match .keys3) refl cc
 
--- src/conditions.rt:18:1
+-- src/conditions.rt:22:1
 returns-4 : tie.Need-returns-4
 returns-4 c = condition-at _ _ _ 4 _ _ (c .before .match .keys4) refl cc
 
--- src/conditions.rt:18:1
+-- src/conditions.rt:22:1
 returns-5 : tie.Need-returns-5
-returns-5 c = condition-at _ _ _ 5 _ _ (c .before .match .keys5) refl cc
+returns-5 c = condition-at _ _ _ 5 _ _ (c .before .before .before .before .match .keys5) refl cc
 
--- src/conditions.rt:18:1
+-- src/conditions.rt:22:1
 returns-6 : tie.Need-returns-6
 returns-6 c = condition-at _ _ _ 6 _ _ (c .before .match .keys6) refl cc
 
--- src/conditions.rt:18:1
+-- src/conditions.rt:22:1
 returns-7 : tie.Need-returns-7
 returns-7 c = condition-at _ _ _ 7 _ _ (c .before .match .keys7) refl cc
 
--- src/conditions.rt:18:1
+-- src/conditions.rt:22:1
 returns-8 : tie.Need-returns-8
-returns-8 c = condition-at _ _ _ 8 _ _ (c .before .match .keys8) refl cc
+returns-8 c = condition-at _ _ _ 8 _ _ (c .before .before .before .before .match .keys8) refl cc
 
--- src/conditions.rt:18:1
+-- src/conditions.rt:22:1
 returns-9 : tie.Need-returns-9
-returns-9 c = condition-at _ _ _ 9 _ _ (c .before .match .keys9) refl cc
+returns-9 c = condition-at _ _ _ 9 _ _ (c .before .before .match .keys9) refl cc
 
--- src/conditions.rt:18:1
+-- src/conditions.rt:22:1
 returns-10 : tie.Need-returns-10
-returns-10 c = condition-at _ _ _ 10 _ _ (c .before .match .keys10) refl cc
+returns-10 c = condition-at _ _ _ 10 _ _ (c .before .before .before .match .keys10) refl cc
 
--- src/conditions.rt:18:1
+-- src/conditions.rt:22:1
 returns-11 : tie.Need-returns-11
 returns-11 c = condition-at _ _ _ 12 _ _ (c .before .match .keys11) refl cc
 
--- src/conditions.rt:18:1
+-- src/conditions.rt:22:1
 returns-12 : tie.Need-returns-12
-returns-12 c = condition-at _ _ _ 13 _ _ (c .before .match .keys12) refl cc
+returns-12 c = condition-at _ _ _ 13 _ _ (c .before .before .match .keys12) refl cc
 
--- src/conditions.rt:18:1
+-- src/conditions.rt:22:1
 returns-13 : tie.Need-returns-13
-returns-13 c = let r = c .match .rest in condition-none _ _ _ (r .1, (r .0 .1, ((λ e. r .0 .0 .0 .0 .0 .0 .0 .0 .0 .0 .0 .1 (inr e)), (r .0 .0 .1, (r .0 .0 .0 .1, (r .0 .0 .0 .0 .1, (r .0 .0 .0 .0 .0 .1, (r .0 .0 .0 .0 .0 .0 .1, (r .0 .0 .0 .0 .0 .0 .0 .1, (r .0 .0 .0 .0 .0 .0 .0 .0 .1, (r .0 .0 .0 .0 .0 .0 .0 .0 .0 .1, (r .0 .0 .0 .0 .0 .0 .0 .0 .0 .0 .1, ((λ e. r .0 .0 .0 .0 .0 .0 .0 .0 .0 .0 .0 .1 (inl e)), tt)))))))))))))
+returns-13 c =
+    let r = c .match .rest in
+    condition-none _ _ _ (
+      r .1,
+      (
+        r .0 .1,
+        (
+          (λ e. r .0 .0 .0 .0 .0 .0 .0 .0 .0 .0 .0 .1 (inr e)),
+          (
+            r .0 .0 .1,
+            (
+              r .0 .0 .0 .1,
+              (
+                r .0 .0 .0 .0 .1,
+                (
+                  r .0 .0 .0 .0 .0 .1,
+                  (
+                    r .0 .0 .0 .0 .0 .0 .1,
+                    (
+                      r .0 .0 .0 .0 .0 .0 .0 .1,
+                      (
+                        r .0 .0 .0 .0 .0 .0 .0 .0 .1,
+                        (
+                          r .0 .0 .0 .0 .0 .0 .0 .0 .0 .1,
+                          (r .0 .0 .0 .0 .0 .0 .0 .0 .0 .0 .1, ((λ e. r .0 .0 .0 .0 .0 .0 .0 .0 .0 .0 .0 .1 (inl e)), tt)),
+                        ),
+                      ),
+                    ),
+                  ),
+                ),
+              ),
+            ),
+          ),
+        ),
+      ),
+    )
 
 pub condition-holds-spec : {M : Type 1} → statement M
 condition-holds-spec =
     tie.close
     (tie.spec
-    item-of-requires
-    item-of-requires-2
-    item-of-requires-3
-    item-of-requires-4
-    item-of-requires-5
+    item-at-requires
     kvsf-fits-requires
+    item-at-requires-2
     mev-fits-requires
     kev-fits-requires
+    item-at-requires-3
+    item-at-requires-4
+    item-at-requires-5
     mef-fits-requires
     kef-fits-requires
     kemr-fits-requires
+    item-at-requires-6
+    item-at-requires-7
+    item-at-requires-8
     mekr-fits-requires
+    item-at-requires-9
     kfmrh-fits-requires
+    item-at-requires-10
+    item-at-requires-11
     mfkrh-fits-requires
     jekv-fits-requires
+    item-at-requires-12
     rmov-fits-requires
     returns
     returns-2
