@@ -3,6 +3,7 @@
 ghost use mathlib.Core.Path.{_≡_};
 ghost use Prim.Native.Nat.{ℕ, _<_, _≤_};
 ghost use Rattle.items.specs.Rules.{halfLinks, firstNames, halfSides};
+ghost use Rattle.items.specs.Parts.{firstLow};
 use layout::columns::face_solid;
 use layout::columns::loop_face;
 use layout::columns::loop_first;
@@ -13,6 +14,15 @@ use layout::columns::side_of;
 use layout::columns::start_of;
 use layout::mates::mate_of;
 use layout::shape::Shape;
+
+// The first half-edge of n's loop is at most n.
+fn first_low(links: &[u16], sh: Shape, n: usize) -> bool
+    requires { ⌜ n < 65536 ⌝ }
+    ensures { λ r. ⌜ r ≡ firstLow sh (now (links .entry)) n ⌝ }
+{
+    let first = loop_first(links, sh, loop_of(links, sh, n));
+    first <= n
+}
 
 // Half-edge n is free, or joined to its neighbours as rule 4 says, and its loop has a first half-edge, which is at most n.
 pub fn half_links(links: &[u16], sh: Shape, n: usize) -> bool
@@ -29,13 +39,8 @@ pub fn half_links(links: &[u16], sh: Shape, n: usize) -> bool
     let end = start_of(links, sh, mate_of(n));
     let start = start_of(links, sh, a);
     let next_loop = loop_of(links, sh, a);
-    (v == 0)
-        | ((back == n)
-            & (forth == n)
-            & (start == end)
-            & (next_loop == l)
-            & (first != 0)
-            & (first <= n))
+    let low = first_low(links, sh, n);
+    (v == 0) | ((back == n) & (forth == n) & (start == end) & (next_loop == l) & (first != 0) & low)
 }
 
 // The first half-edge of loop n, where it has one, names it.
@@ -54,7 +59,10 @@ pub fn half_sides(links: &[u16], sh: Shape, n: usize) -> bool
     ensures { λ r. ⌜ r ≡ halfSides sh (now (links .entry)) n ⌝ }
 {
     let v = start_of(links, sh, n);
+    if v == 0 {
+        return true;
+    }
     let here = face_solid(links, sh, side_of(links, sh, n));
     let there = face_solid(links, sh, side_of(links, sh, mate_of(n)));
-    (v == 0) | (here == there)
+    here == there
 }

@@ -1,8 +1,9 @@
 // Rule 1, one item at a time: marks, numbers and coordinates in range, free records zero, both halves of an edge in use or neither.
-// Reading is total, so every test of an item is made, whatever the others say, and no test branches.
+// Reading is total, so every test of an item is made, whatever the others say.
 ghost use mathlib.Core.Path.{_≡_};
 ghost use Prim.Native.Nat.{ℕ, _<_};
 ghost use Rattle.items.specs.Rules.{solidRange, faceRange, loopRange, halfRange, vertexRange};
+ghost use Rattle.items.specs.Parts.{goesWith, pointIn, pointFree};
 use layout::columns::face_outer;
 use layout::columns::face_solid;
 use layout::columns::loop_face;
@@ -39,6 +40,16 @@ pub fn face_range(links: &[u16], sh: Shape, n: usize) -> bool
         & ((s == 0) & (l == 0) | (s != 0) & (l != 0))
 }
 
+// b is 0 where a is.
+fn goes_with(a: usize, b: usize) -> bool
+    ensures { λ r. ⌜ r ≡ goesWith a b ⌝ }
+{
+    if a != 0 {
+        return true;
+    }
+    b == 0
+}
+
 // The words of loop n are in range, and all 0 where it is free.
 pub fn loop_range(links: &[u16], sh: Shape, n: usize) -> bool
     requires { ⌜ n < 65536 ⌝ }
@@ -50,8 +61,8 @@ pub fn loop_range(links: &[u16], sh: Shape, n: usize) -> bool
     (f <= sh.faces as usize)
         & (k <= 2 * (sh.edges as usize))
         & (v <= sh.vertices as usize)
-        & ((f != 0) | (k == 0))
-        & ((f != 0) | (v == 0))
+        & goes_with(f, k)
+        & goes_with(f, v)
 }
 
 // The words of half-edge n are in range, and they and its mate's start are all 0 or none is.
@@ -75,16 +86,30 @@ pub fn half_range(links: &[u16], sh: Shape, n: usize) -> bool
         & ((v == 0) & (m == 0) | (v != 0) & (m != 0))
 }
 
+// The point of vertex n is in range.
+fn point_in(points: &[i32], n: usize) -> bool
+    requires { ⌜ n < 65536 ⌝ }
+    ensures { λ r. ⌜ r ≡ pointIn (now (points .entry)) n ⌝ }
+{
+    in_range(points, n, 0) & in_range(points, n, 1) & in_range(points, n, 2)
+}
+
+// The point of vertex n is zero where its mark u is 0.
+fn point_free(points: &[i32], n: usize, u: usize) -> bool
+    requires { ⌜ n < 65536 ⌝ }
+    ensures { λ r. ⌜ r ≡ pointFree (now (points .entry)) n u ⌝ }
+{
+    if u != 0 {
+        return true;
+    }
+    is_zero(points, n, 0) & is_zero(points, n, 1) & is_zero(points, n, 2)
+}
+
 // The mark of vertex n is 0 or 1, and its point in range, and zero where the vertex is free.
 pub fn vertex_range(links: &[u16], points: &[i32], sh: Shape, n: usize) -> bool
     requires { ⌜ n < 65536 ⌝ }
     ensures { λ r. ⌜ r ≡ vertexRange sh (now (links .entry)) (now (points .entry)) n ⌝ }
 {
     let u = vertex_used(links, sh, n);
-    let zero = is_zero(points, n, 0) & is_zero(points, n, 1) & is_zero(points, n, 2);
-    (u <= 1)
-        & in_range(points, n, 0)
-        & in_range(points, n, 1)
-        & in_range(points, n, 2)
-        & ((u != 0) | zero)
+    (u <= 1) & point_in(points, n) & point_free(points, n, u)
 }

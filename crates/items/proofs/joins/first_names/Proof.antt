@@ -1,4 +1,4 @@
-use Rattle.items.specs.Rules.{firstNames}
+use Rattle.items.specs.JoinLaws.{first-names-is}
 use borrow.Author.Needs.{needs}
 use Rattle.items.proofs.joins.first_names.Statement.{statement}
 use Rattle.items.proofs.joins.first_names.Tie as tie
@@ -17,8 +17,7 @@ loop-of-requires c κs = search needs
 
 -- src/joins.rt:34:1
 returns : tie.Need-returns
-unfolding firstNames
-returns c = cc
+returns c = first-names-is _ _ _ _ _ (c .before .loop-first .ensures .0) (c .loop-of .ensures .0)
 
 pub first-names-spec : {M : Type 1} → statement M
 first-names-spec = tie.close (tie.spec loop-first-requires loop-of-requires returns)

@@ -1,9 +1,10 @@
-use Rattle.items.specs.Rules.{halfLinks}
+use Rattle.items.specs.JoinLaws.{half-links-is}
 use borrow.Author.Needs.{needs}
 use Rattle.items.proofs.joins.half_links.Statement.{statement}
 use Rattle.items.proofs.joins.half_links.Tie as tie
 use Rattle.items.proofs.joins.half_links.Reads as reads
 use Rattle.items.proofs.joins.half_links.Lts as lts
+use Rattle.items.proofs.joins.first_low.Reads as first-low-reads
 use Rattle.layout.proofs.columns.loop_first.Reads as loop-first-reads
 use Rattle.layout.proofs.columns.loop_of.Reads as loop-of-reads
 use Rattle.layout.proofs.columns.next_of.Reads as next-of-reads
@@ -11,54 +12,67 @@ use Rattle.layout.proofs.columns.prev_of.Reads as prev-of-reads
 use Rattle.layout.proofs.columns.start_of.Reads as start-of-reads
 use Rattle.layout.proofs.mates.mate_of.Reads as mate-of-reads
 
--- src/joins.rt:20:9
+-- src/joins.rt:32:9
 start-of-requires : tie.Need-start-of-requires
 start-of-requires c κs = search needs
 
--- src/joins.rt:21:9
+-- src/joins.rt:33:9
 loop-of-requires : tie.Need-loop-of-requires
 loop-of-requires c κs = search needs
 
--- src/joins.rt:22:9
+-- src/joins.rt:34:9
 next-of-requires : tie.Need-next-of-requires
 next-of-requires c κs = search needs
 
--- src/joins.rt:23:9
+-- src/joins.rt:35:9
 prev-of-requires : tie.Need-prev-of-requires
 prev-of-requires c κs = search needs
 
--- src/joins.rt:24:9
+-- src/joins.rt:36:9
 loop-first-requires : tie.Need-loop-first-requires
 loop-first-requires c κs = search needs
 
--- src/joins.rt:25:9
+-- src/joins.rt:37:9
 prev-of-requires-2 : tie.Need-prev-of-requires-2
 prev-of-requires-2 c κs = search needs
 
--- src/joins.rt:26:9
+-- src/joins.rt:38:9
 next-of-requires-2 : tie.Need-next-of-requires-2
 next-of-requires-2 c κs = search needs
 
--- src/joins.rt:27:35
+-- src/joins.rt:39:35
 mate-of-requires : tie.Need-mate-of-requires
 mate-of-requires c κs = search needs
 
--- src/joins.rt:27:9
+-- src/joins.rt:39:9
 start-of-requires-2 : tie.Need-start-of-requires-2
 start-of-requires-2 c κs = search needs
 
--- src/joins.rt:28:9
+-- src/joins.rt:40:9
 start-of-requires-3 : tie.Need-start-of-requires-3
 start-of-requires-3 c κs = search needs
 
--- src/joins.rt:29:9
+-- src/joins.rt:41:9
 loop-of-requires-2 : tie.Need-loop-of-requires-2
 loop-of-requires-2 c κs = search needs
 
--- src/joins.rt:16:1
+-- src/joins.rt:42:9
+first-low-requires : tie.Need-first-low-requires
+first-low-requires c κs = search needs
+
+-- src/joins.rt:28:1
 returns : tie.Need-returns
-unfolding halfLinks
-returns c = cc
+returns c =
+    half-links-is _ _ _ _ _ _ _ _ _ _ _ _ _ _ _
+    (c .before .before .before .before .before .before .before .before .before .before .before .start-of .ensures .0)
+    (c .before .before .before .before .before .before .before .before .before .before .loop-of .ensures .0)
+    (c .before .before .before .before .before .before .before .before .before .next-of .ensures .0)
+    (c .before .before .before .before .before .before .before .before .prev-of .ensures .0)
+    (c .before .before .before .before .before .before .before .loop-first .ensures .0)
+    (c .before .before .before .before .before .before .prev-of2 .ensures .0)
+    (c .before .before .before .before .before .next-of2 .ensures .0)
+    (c .before .before .before .before .mate-of .ensures .0) (c .before .before .before .start-of2 .ensures .0)
+    (c .before .before .start-of3 .ensures .0) (c .before .loop-of2 .ensures .0) (c .first-low .ensures)
 
 pub half-links-spec : {M : Type 1} → statement M
 half-links-spec =
@@ -75,4 +89,5 @@ half-links-spec =
     start-of-requires-2
     start-of-requires-3
     loop-of-requires-2
+    first-low-requires
     returns)

@@ -1,4 +1,4 @@
-use Rattle.items.specs.Rules.{faceNames}
+use Rattle.items.specs.NameLaws.{face-names-is}
 use borrow.Author.Needs.{needs}
 use Rattle.items.proofs.names.face_names.Statement.{statement}
 use Rattle.items.proofs.names.face_names.Tie as tie
@@ -27,8 +27,9 @@ loop-face-requires c κs = search needs
 
 -- src/names.rt:19:1
 returns : tie.Need-returns
-unfolding faceNames
-returns c = cc
+returns c =
+    face-names-is _ _ _ _ _ _ _ (c .before .before .before .face-solid .ensures .0)
+    (c .before .before .solid-used .ensures .0) (c .before .face-outer .ensures .0) (c .loop-face .ensures .0)
 
 pub face-names-spec : {M : Type 1} → statement M
 face-names-spec =

@@ -1,4 +1,4 @@
-use Rattle.items.specs.Rules.{halfNames}
+use Rattle.items.specs.NameLaws.{half-names-is}
 use borrow.Author.Needs.{needs}
 use Rattle.items.proofs.names.half_names.Statement.{statement}
 use Rattle.items.proofs.names.half_names.Tie as tie
@@ -45,8 +45,13 @@ start-of-requires-3 c κs = search needs
 
 -- src/names.rt:44:1
 returns : tie.Need-returns
-unfolding halfNames
-returns c = cc
+returns c =
+    half-names-is _ _ _ _ _ _ _ _ _ _ _
+    (c .before .before .before .before .before .before .before .start-of .ensures .0)
+    (c .before .before .before .before .before .before .vertex-used .ensures .0)
+    (c .before .before .before .before .before .loop-of .ensures .0)
+    (c .before .before .before .before .loop-face .ensures .0) (c .before .before .before .next-of .ensures .0)
+    (c .before .before .start-of2 .ensures .0) (c .before .prev-of .ensures .0) (c .start-of3 .ensures .0)
 
 pub half-names-spec : {M : Type 1} → statement M
 half-names-spec =

@@ -1,4 +1,4 @@
-use Rattle.items.specs.Rules.{loopEither}
+use Rattle.items.specs.NameLaws.{loop-either-is}
 use borrow.Author.Needs.{needs}
 use Rattle.items.proofs.names.loop_either.Statement.{statement}
 use Rattle.items.proofs.names.loop_either.Tie as tie
@@ -22,8 +22,9 @@ loop-isolated-requires c κs = search needs
 
 -- src/names.rt:57:1
 returns : tie.Need-returns
-unfolding loopEither
-returns c = cc
+returns c =
+    loop-either-is _ _ _ _ _ _ (c .before .before .loop-face .ensures .0) (c .before .loop-first .ensures .0)
+    (c .loop-isolated .ensures .0)
 
 pub loop-either-spec : {M : Type 1} → statement M
 loop-either-spec =

@@ -1,4 +1,4 @@
-use Rattle.items.specs.Rules.{loopNames}
+use Rattle.items.specs.NameLaws.{loop-names-is}
 use borrow.Author.Needs.{needs}
 use Rattle.items.proofs.names.loop_names.Statement.{statement}
 use Rattle.items.proofs.names.loop_names.Tie as tie
@@ -37,8 +37,11 @@ vertex-used-requires c κs = search needs
 
 -- src/names.rt:30:1
 returns : tie.Need-returns
-unfolding loopNames
-returns c = cc
+returns c =
+    loop-names-is _ _ _ _ _ _ _ _ _ (c .before .before .before .before .before .loop-face .ensures .0)
+    (c .before .before .before .before .loop-first .ensures .0)
+    (c .before .before .before .loop-isolated .ensures .0) (c .before .before .face-solid .ensures .0)
+    (c .before .start-of .ensures .0) (c .vertex-used .ensures .0)
 
 pub loop-names-spec : {M : Type 1} → statement M
 loop-names-spec =

@@ -1,4 +1,4 @@
-use Rattle.items.specs.Rules.{faceRange}
+use Rattle.items.specs.RangeLaws.{face-range-is}
 use borrow.Author.Needs.{needs}
 use Rattle.items.proofs.ranges.face_range.Statement.{statement}
 use Rattle.items.proofs.ranges.face_range.Tie as tie
@@ -25,8 +25,9 @@ cast-result-2 c = search needs
 
 -- src/ranges.rt:30:1
 returns : tie.Need-returns
-unfolding faceRange
-returns c = cc
+returns c =
+    face-range-is _ _ _ _ _ (c .before .before .before .face-solid .ensures .0)
+    (c .before .before .face-outer .ensures .0)
 
 pub face-range-spec : {M : Type 1} → statement M
 face-range-spec =

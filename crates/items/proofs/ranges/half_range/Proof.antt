@@ -1,4 +1,4 @@
-use Rattle.items.specs.Rules.{halfRange}
+use Rattle.items.specs.RangeLaws.{half-range-is}
 use borrow.Author.Needs.{needs}
 use Rattle.items.proofs.ranges.half_range.Statement.{statement}
 use Rattle.items.proofs.ranges.half_range.Tie as tie
@@ -52,8 +52,13 @@ cast-result-2 c = search needs
 
 -- src/ranges.rt:55:1
 returns : tie.Need-returns
-unfolding halfRange
-returns c = cc
+returns c =
+    half-range-is _ _ _ _ _ _ _ _ _
+    (c .before .before .before .before .before .before .before .before .start-of .ensures .0)
+    (c .before .before .before .before .before .before .before .loop-of .ensures .0)
+    (c .before .before .before .before .before .before .next-of .ensures .0)
+    (c .before .before .before .before .before .prev-of .ensures .0)
+    (c .before .before .before .before .mate-of .ensures .0) (c .before .before .before .start-of2 .ensures .0)
 
 pub half-range-spec : {M : Type 1} → statement M
 half-range-spec =

@@ -1,45 +1,57 @@
-use Rattle.items.specs.Rules.{loopRange}
+use Rattle.items.specs.RangeLaws.{loop-range-is}
 use borrow.Author.Needs.{needs}
 use Rattle.items.proofs.ranges.loop_range.Statement.{statement}
 use Rattle.items.proofs.ranges.loop_range.Tie as tie
 use Rattle.items.proofs.ranges.loop_range.Reads as reads
 use Rattle.items.proofs.ranges.loop_range.Lts as lts
+use Rattle.items.proofs.ranges.goes_with.Reads as goes-with-reads
 use Rattle.layout.proofs.columns.loop_face.Reads as loop-face-reads
 use Rattle.layout.proofs.columns.loop_first.Reads as loop-first-reads
 use Rattle.layout.proofs.columns.loop_isolated.Reads as loop-isolated-reads
 
--- src/ranges.rt:44:9
+-- src/ranges.rt:58:9
 loop-face-requires : tie.Need-loop-face-requires
 loop-face-requires c κs = search needs
 
--- src/ranges.rt:45:9
+-- src/ranges.rt:59:9
 loop-first-requires : tie.Need-loop-first-requires
 loop-first-requires c κs = search needs
 
--- src/ranges.rt:46:9
+-- src/ranges.rt:60:9
 loop-isolated-requires : tie.Need-loop-isolated-requires
 loop-isolated-requires c κs = search needs
 
--- src/ranges.rt:47:11
+-- src/ranges.rt:61:11
 cast-result : tie.Need-cast-result
 cast-result c = search needs
 
--- src/ranges.rt:48:22
+-- src/ranges.rt:62:22
 cast-result-2 : tie.Need-cast-result-2
 cast-result-2 c = search needs
 
--- src/ranges.rt:48:17
+-- src/ranges.rt:62:17
 mul-result : tie.Need-mul-result
 mul-result c = search needs
 
--- src/ranges.rt:49:17
+-- src/ranges.rt:63:17
 cast-result-3 : tie.Need-cast-result-3
 cast-result-3 c = search needs
 
--- src/ranges.rt:40:1
+-- src/ranges.rt:64:11
+goes-with-requires : tie.Need-goes-with-requires
+goes-with-requires c κs = search needs
+
+-- src/ranges.rt:65:11
+goes-with-requires-2 : tie.Need-goes-with-requires-2
+goes-with-requires-2 c κs = search needs
+
+-- src/ranges.rt:54:1
 returns : tie.Need-returns
-unfolding loopRange
-returns c = cc
+returns c =
+    loop-range-is _ _ _ _ _ _ _ _ (c .before .before .before .before .before .before .before .loop-face .ensures .0)
+    (c .before .before .before .before .before .before .loop-first .ensures .0)
+    (c .before .before .before .before .before .loop-isolated .ensures .0) (c .before .goes-with .ensures)
+    (c .goes-with2 .ensures)
 
 pub loop-range-spec : {M : Type 1} → statement M
 loop-range-spec =
@@ -52,4 +64,6 @@ loop-range-spec =
     cast-result-2
     mul-result
     cast-result-3
+    goes-with-requires
+    goes-with-requires-2
     returns)

@@ -1,4 +1,4 @@
-use Rattle.items.specs.Rules.{solidRange}
+use Rattle.items.specs.RangeLaws.{solid-range-is}
 use borrow.Author.Needs.{needs}
 use Rattle.items.proofs.ranges.solid_range.Statement.{statement}
 use Rattle.items.proofs.ranges.solid_range.Tie as tie
@@ -12,8 +12,7 @@ solid-used-requires c κs = search needs
 
 -- src/ranges.rt:22:1
 returns : tie.Need-returns
-unfolding solidRange
-returns c = cc
+returns c = solid-range-is _ _ _ _ (c .solid-used .ensures .0)
 
 pub solid-range-spec : {M : Type 1} → statement M
 solid-range-spec = tie.close (tie.spec solid-used-requires returns)

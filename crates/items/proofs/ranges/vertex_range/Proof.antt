@@ -1,55 +1,31 @@
-use Rattle.items.specs.Rules.{vertexRange}
+use Rattle.items.specs.RangeLaws.{vertex-range-is}
 use borrow.Author.Needs.{needs}
 use Rattle.items.proofs.ranges.vertex_range.Statement.{statement}
 use Rattle.items.proofs.ranges.vertex_range.Tie as tie
 use Rattle.items.proofs.ranges.vertex_range.Reads as reads
 use Rattle.items.proofs.ranges.vertex_range.Lts as lts
+use Rattle.items.proofs.ranges.point_free.Reads as point-free-reads
+use Rattle.items.proofs.ranges.point_in.Reads as point-in-reads
 use Rattle.layout.proofs.columns.vertex_used.Reads as vertex-used-reads
-use Rattle.layout.proofs.points.in_range.Reads as in-range-reads
-use Rattle.layout.proofs.points.is_zero.Reads as is-zero-reads
 
--- src/ranges.rt:80:9
+-- src/ranges.rt:113:9
 vertex-used-requires : tie.Need-vertex-used-requires
 vertex-used-requires c κs = search needs
 
--- src/ranges.rt:81:16
-is-zero-requires : tie.Need-is-zero-requires
-is-zero-requires c κs = search needs
+-- src/ranges.rt:114:16
+point-in-requires : tie.Need-point-in-requires
+point-in-requires c κs = search needs
 
--- src/ranges.rt:81:40
-is-zero-requires-2 : tie.Need-is-zero-requires-2
-is-zero-requires-2 c κs = search needs
+-- src/ranges.rt:114:38
+point-free-requires : tie.Need-point-free-requires
+point-free-requires c κs = search needs
 
--- src/ranges.rt:81:64
-is-zero-requires-3 : tie.Need-is-zero-requires-3
-is-zero-requires-3 c κs = search needs
-
--- src/ranges.rt:82:16
-in-range-requires : tie.Need-in-range-requires
-in-range-requires c κs = search needs
-
--- src/ranges.rt:82:41
-in-range-requires-2 : tie.Need-in-range-requires-2
-in-range-requires-2 c κs = search needs
-
--- src/ranges.rt:82:66
-in-range-requires-3 : tie.Need-in-range-requires-3
-in-range-requires-3 c κs = search needs
-
--- src/ranges.rt:76:1
+-- src/ranges.rt:109:1
 returns : tie.Need-returns
-unfolding vertexRange
-returns c = cc
+returns c =
+    vertex-range-is _ _ _ _ _ _ _ (c .before .before .vertex-used .ensures .0) (c .before .point-in .ensures)
+    (c .point-free .ensures)
 
 pub vertex-range-spec : {M : Type 1} → statement M
 vertex-range-spec =
-    tie.close
-    (tie.spec
-    vertex-used-requires
-    is-zero-requires
-    is-zero-requires-2
-    is-zero-requires-3
-    in-range-requires
-    in-range-requires-2
-    in-range-requires-3
-    returns)
+    tie.close (tie.spec vertex-used-requires point-in-requires point-free-requires returns)

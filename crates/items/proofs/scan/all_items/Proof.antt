@@ -5,6 +5,7 @@ use native.Mathlib.Omega.{arith}
 use borrow.Author.Needs.{needs}
 use Rattle.laws.specs.Search.{allTo}
 use Rattle.items.specs.Scan.{itemTest}
+use Rattle.items.specs.TestLaws.{at-item}
 use Rattle.laws.specs.ScanLaws.{all-start, all-turn, all-fail, all-end}
 use Rattle.items.proofs.scan.all_items.Statement.{statement}
 use Rattle.items.proofs.scan.all_items.Tie as tie
@@ -32,7 +33,9 @@ item-test-requires c κs = search needs
 
 -- src/scan.rt:64:13
 returns : tie.Need-returns Inv-loop μ-loop
-returns c = all-fail _ _ _ _ (c .before .before .loop-test .taken) (c .before .item-test .ensures) (c .if1 .taken)
+returns c =
+    all-fail _ _ _ _ (c .before .before .loop-test .taken)
+    (at-item _ _ _ _ _ _ _ (omega arith) (c .before .item-test .ensures)) (c .if1 .taken)
 
 -- src/scan.rt:66:9
 add-k : tie.Need-add-k Inv-loop μ-loop
@@ -44,7 +47,11 @@ loop-less c = search needs
 
 -- src/scan.rt:62:5
 loop-again : tie.Need-loop-again Inv-loop μ-loop
-loop-again c = (omega arith, all-turn _ _ _ (c .before .before .before .loop .inv .1) (c .before .item-test .ensures) (c .if1 .left))
+loop-again c = (
+  omega arith,
+  all-turn _ _ _ (c .before .before .before .loop .inv .1)
+      (at-item _ _ _ _ _ _ _ (omega arith) (c .before .item-test .ensures)) (c .if1 .left),
+)
 
 -- src/scan.rt:57:1
 returns-2 : tie.Need-returns-2 Inv-loop μ-loop
