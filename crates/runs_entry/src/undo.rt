@@ -11,7 +11,7 @@ use layout::shape::shape_of;
 use runs::answers::UndoAnswer;
 use runs::enter::enter;
 use runs::enter::ranges_of;
-use runs_steps::steps::undo_step;
+use runs_steps::back::undo_step;
 
 // n operators of the log from `start` on.
 fn undo_all(

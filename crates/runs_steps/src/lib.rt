@@ -1,2 +1,3 @@
 // One operator of a run and one of an undo: read, admitted, carried out.
-pub mod steps;
+pub mod back; // undo
+pub mod steps; // run
