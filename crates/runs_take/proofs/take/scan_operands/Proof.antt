@@ -1,0 +1,115 @@
+use mathlib.Core.Path.{_≡_, refl, _∙_}
+use Prim.Native.Nat.{_-_, _≤_}
+use native.Mathlib.Omega.{arith}
+use lib.ListN.{length, length-set, take, drop}
+use mir.Facts.{toZ-ofZ}
+use mir.Syntax.{w32}
+use borrow.Author.Needs.{needs}
+use Rattle.runs_take.specs.Take.{scan}
+use Rattle.runs_take.specs.Turns.{number-small, scan-bad, scan-turn, scan-end}
+use Rattle.runs_take.proofs.take.scan_operands.Statement.{statement}
+use Rattle.runs_take.proofs.take.scan_operands.Tie as tie
+use Rattle.runs_take.proofs.take.scan_operands.Reads as reads
+use Rattle.runs_take.proofs.take.scan_operands.Lts as lts
+use Rattle.runs_take.proofs.take.join_refusal.Reads as join-refusal-reads
+use Rattle.script.proofs.number.read_number.Reads as read-number-reads
+use Rattle.script.proofs.operands.from_wire.Reads as from-wire-reads
+
+abbrev Inv-loop : tie.InvT-loop
+Inv-loop links sh script behind most count args₀ kinds i₀ p₀ refusal₀ args i p refusal =
+    (i ≤ count) × (length kinds ≡ 8)
+    × (scan sh links script (drop i (take count kinds)) i p refusal args
+    ≡ scan sh links script (take count kinds) 0 behind 0 args₀)
+
+abbrev μ-loop : tie.MeasureT-loop
+μ-loop links sh script behind most count args₀ kinds i₀ p₀ refusal₀ args i p refusal = count - i
+
+-- src/take.rt:74:5
+loop-holds : tie.Need-loop-holds Inv-loop μ-loop
+loop-holds c = (omega arith, search needs, refl)
+
+-- src/take.rt:75:20
+array-read-kind : tie.Need-array-read-kind Inv-loop μ-loop
+array-read-kind c = search needs
+
+-- src/take.rt:76:13
+read-number-requires : tie.Need-read-number-requires Inv-loop μ-loop
+read-number-requires c κs = search needs
+
+-- src/take.rt:78:22
+enum-known-x : tie.Need-enum-known-x Inv-loop μ-loop
+enum-known-x c = search needs
+
+-- src/take.rt:79:17
+join-refusal-requires : tie.Need-join-refusal-requires Inv-loop μ-loop
+join-refusal-requires c κs = search needs
+
+-- src/take.rt:80:27
+from-wire-requires : tie.Need-from-wire-requires Inv-loop μ-loop
+from-wire-requires c κs =
+    let b = c .before .before in
+    let l = b .before .before .before .before in
+    number-small (l .before .before .before .args .script .now) (l .loop .p) _ (b .x .given .0 .1 .0) (cc)
+
+-- src/take.rt:80:17
+mul-t22 : tie.Need-mul-t22 Inv-loop μ-loop
+mul-t22 c = search needs
+
+-- src/take.rt:80:17
+element-set-from-args : tie.Need-element-set-from-args Inv-loop μ-loop
+element-set-from-args c = search needs
+
+-- src/take.rt:84:17
+enum-told : tie.Need-enum-told Inv-loop μ-loop
+enum-told c = search needs
+
+-- src/take.rt:84:17
+returns : tie.Need-returns Inv-loop μ-loop
+returns c =
+    let l = c .before .before .before in
+    scan-bad _ _ _ _ _ (omega arith) _ _ _ _ _ (l .before .loop .inv .2) (l .loop-test .taken) (cc)
+
+-- src/take.rt:87:9
+add-i : tie.Need-add-i Inv-loop μ-loop
+add-i c = search needs
+
+-- src/take.rt:74:5
+loop-less : tie.Need-loop-less Inv-loop μ-loop
+loop-less c = search needs
+
+-- src/take.rt:74:5
+loop-again : tie.Need-loop-again Inv-loop μ-loop
+loop-again c =
+    let l = c .before .before .before .before .before .before in
+    let v = l .before .loop .inv in
+    rw (toZ-ofZ {w = w32} {z = c .from-wire .result} (record { sfits = c .from-wire .ok })) (
+      omega arith,
+      v .1,
+      scan-turn _ _ _ _ _ (omega arith) _ _ _ _ _ (v .2) (l .loop-test .taken) _ _ (cc)
+          _ (c .before .join-refusal .ensures) _ (c .from-wire .ensures),
+    )
+
+-- src/take.rt:56:1
+returns-2 : tie.Need-returns-2 Inv-loop μ-loop
+returns-2 c = let v = c .before .loop .inv in scan-end _ _ _ _ _ (omega arith) _ _ _ _ _ (v .2) (c .loop-test .left)
+
+pub scan-operands-spec : {M : Type 1} → statement M
+scan-operands-spec =
+    tie.close
+    (tie.spec
+    Inv-loop
+    μ-loop
+    loop-holds
+    array-read-kind
+    read-number-requires
+    enum-known-x
+    join-refusal-requires
+    from-wire-requires
+    mul-t22
+    element-set-from-args
+    enum-told
+    returns
+    add-i
+    loop-less
+    loop-again
+    returns-2)

@@ -1,0 +1,60 @@
+use Rattle.runs_take.specs.Outcome.{few, behind-none, behind-some}
+use borrow.Author.Needs.{needs}
+use Rattle.runs_take.proofs.take.take_behind.Statement.{statement}
+use Rattle.runs_take.proofs.take.take_behind.Tie as tie
+use Rattle.runs_take.proofs.take.take_behind.Reads as reads
+use Rattle.runs_take.proofs.take.take_behind.Lts as lts
+use Rattle.runs_take.proofs.take.scan_operands.Reads as scan-operands-reads
+use Rattle.runs_take.proofs.take.settle.Reads as settle-reads
+use Rattle.runs_take.proofs.take.told.Reads as told-reads
+use Rattle.script.proofs.operands.pattern_of.Reads as pattern-of-reads
+
+-- src/take.rt:151:9
+pattern-of-requires : tie.Need-pattern-of-requires
+pattern-of-requires c κs = search needs
+
+-- src/take.rt:152:17
+cast-count : tie.Need-cast-count
+cast-count c = search needs
+
+-- src/take.rt:154:9
+told-requires : tie.Need-told-requires
+told-requires c κs = search needs
+
+-- src/take.rt:154:9
+returns : tie.Need-returns
+returns c =
+    let b = c .before .before .before in
+    let d = b .before .before .before in
+    behind-none _ (d .pre .0) _ _ _ _ _ (b .pattern-of .ensures) _ (c .before .if1 .taken) _ (c .told .ensures) _
+
+-- src/take.rt:158:9
+scan-operands-requires : tie.Need-scan-operands-requires
+scan-operands-requires c κs =
+    let b = c .before .before .before .before .before in
+    let d = b .before .before .before in
+    (d .pre .0, (d .pre .1 .0, few _ _ (b .pattern-of .ensures)))
+
+-- src/take.rt:159:5
+settle-requires : tie.Need-settle-requires
+settle-requires c κs = search needs
+
+-- src/take.rt:134:1
+returns-2 : tie.Need-returns-2
+returns-2 c =
+    let b = c .before .before .before .before .before .before .before .before in
+    let d = b .before .before .before in
+    behind-some _ (d .pre .0) _ _ _ _ _ (b .pattern-of .ensures) _ (c .before .before .before .before .before .before .if1 .left) _ (c .before .before .scan-operands .ensures) _
+    (c .settle .ensures)
+
+pub take-behind-spec : {M : Type 1} → statement M
+take-behind-spec =
+    tie.close
+    (tie.spec
+    pattern-of-requires
+    cast-count
+    told-requires
+    returns
+    scan-operands-requires
+    settle-requires
+    returns-2)

@@ -1,0 +1,4 @@
+pub mod Take
+pub mod Pass
+pub mod Turns
+pub mod Outcome
