@@ -89,7 +89,8 @@ module _ (sh : Shape) (x : List ℕ) (l f s : ℕ) where
     unfolding mfkrhTest
     mfkrh-outer r = rw (← er, r)
 
-    module _ (r : ring ≡ true) (o : ℕ) (eo : o ≡ loopFace sh x l) (linked : Bool) (ek : linked ≡ facesLinkedAs sh x l f f o) where
+    module _ (r : ring ≡ true) (o : ℕ) (eo : o ≡ loopFace sh x l)
+        (linked : Bool) (ek : linked ≡ facesLinkedAs sh x l f f o) where
       after : linked ≡ linkedAfter sh x l f f (loopFace sh x l)
       unfolding linkedAfter
       after = rw (← eo) ek

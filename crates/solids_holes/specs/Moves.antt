@@ -1,4 +1,4 @@
--- Faces passing to another solid: all of a solid, or those of a shell by the parents that link them; a loop passing to another face.
+-- What passes: faces to another solid, all of them or those of one shell; a loop to another face.
 use Prim.Native.Nat.{ℕ}
 use mathlib.Core.List.{List}
 use Rattle.laws.specs.Bools.{pick}

@@ -1,5 +1,5 @@
-// kfmrh makes the loop of a face a ring of another face, mfkrh makes a ring the outer loop of a new face. Within one solid this makes
-// or kills a hole through it; between two it joins or divides solids.
+// kfmrh makes the loop of a face a ring of another face, mfkrh makes a ring the outer loop of a new face. Within one
+// solid this makes or kills a hole through it; between two it joins or divides solids.
 ghost use mathlib.Core.Path.{_≡_};
 ghost use Prim.Native.Nat.{ℕ, _<_, _≤_};
 ghost use Rattle.layout.specs.Small.{Small};

@@ -33,7 +33,8 @@ returns c =
     let a = read .before .before .before .before .before .before .before .args in
     kfmrh-steps (a .sh) (a .links .now) (a .f1) (a .f2) _ _ _ _ _
     (read .before .before .before .before .face-outer .ensures .0) (read .before .before .face-solid .ensures .0)
-    (read .face-solid2 .ensures .0) (c .before .before .before .before .before .before .give-loop .ensures) (c .before .before .join-solids .ensures)
+    (read .face-solid2 .ensures .0) (c .before .before .before .before .before .before .give-loop .ensures)
+    (c .before .before .join-solids .ensures)
 
 pub kfmrh-links-spec : {M : Type 1} → statement M
 kfmrh-links-spec =
