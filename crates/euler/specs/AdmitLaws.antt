@@ -4,17 +4,13 @@ use Prim.Native.Nat.{ℕ, _+_, _≤_, _<_}
 use native.Mathlib.Omega.{arith}
 use mathlib.Core.Logic.{_⊎_, ⊎-elim}
 use mathlib.Core.List.{List}
-use lib.Dec.{eqb}
-use lib.ListN.{length, getD, drop, List·getD-eq-default}
+use lib.ListN.{getD, List·getD-eq-default}
 use borrow.Author.Tests.{eq-eqb, ne-eqb}
-use Rattle.laws.specs.Bools.{pick, same?}
-use Rattle.script.specs.declared.Operator.{Operator}
-use Rattle.script.specs.OperandLaws.{ahead, behind}
+use Rattle.laws.specs.Bools.{same?}
 use Rattle.layout.specs.declared.shape.Shape.{Shape}
 use Rattle.layout.specs.Layout.{solidUsed}
 use Rattle.euler.specs.ByCode.{by-code}
-use Rattle.euler.specs.Surgery.{itemOf}
-use Rattle.euler.specs.Exec.{useWords, useWord, useRefusal, useRefusals, whenFree, whenUsed}
+use Rattle.euler.specs.Exec.{useWords, useWord, useRefusal, whenFree, whenUsed}
 
 module _ (sh : Shape) (x : List ℕ) (kind n : ℕ) where
   -- the word of a kind that is known, one of two, one of three, and of one that names no item
@@ -47,19 +43,3 @@ module _ (sh : Shape) (x : List ℕ) (kind n : ℕ) where
   pub use-used : (n ≡ 0 → ⊥) → (w : ℕ) → w ≡ useWord sh x kind n → (w ≡ 0 → ⊥) → (r : ℕ) → r ≡ getD whenUsed kind 0 → r ≡ useRefusal sh x kind n
   unfolding useRefusal
   use-used h w e z r f = rw (ne-eqb n 0 h, ← e, ne-eqb w 0 z) f
-
--- the operands from left to right: as a turn begins, at a refusal, after a turn and at the end
-module _ (sh : Shape) (x : List ℕ) (o : Operator) (ks : List ℕ) (i : ℕ) (p : length ks ≡ 8) (whole : ℕ) (rest : useRefusals sh x o (drop i ks) i ≡ whole) where
-  turn : i < 8 → pick (eqb (useRefusal sh x (getD ks i 0) (itemOf o i)) 0) (useRefusals sh x o (drop (i + 1) ks) (i + 1)) (useRefusal sh x (getD ks i 0) (itemOf o i)) ≡ whole
-  unfolding useRefusals
-  turn h = rw (ahead ks i 0 (omega arith)) at rest
-
-  pub uses-stop : i < 8 → (n : ℕ) → n ≡ itemOf o i → (r : ℕ) → r ≡ useRefusal sh x (getD ks i 0) n → (r ≡ 0 → ⊥) → r ≡ whole
-  uses-stop h n en r er z = rw (← en, ← er, ne-eqb r 0 z) at (turn h)
-
-  pub uses-turn : i < 8 → (n : ℕ) → n ≡ itemOf o i → (r : ℕ) → r ≡ useRefusal sh x (getD ks i 0) n → r ≡ 0 → useRefusals sh x o (drop (i + 1) ks) (i + 1) ≡ whole
-  uses-turn h n en r er z = rw (← en, ← er, eq-eqb r 0 z) at (turn h)
-
-  pub uses-end : 8 ≤ i → 0 ≡ whole
-  unfolding useRefusals
-  uses-end h = rw (behind ks i p h) at rest

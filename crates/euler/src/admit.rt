@@ -2,15 +2,13 @@
 ghost use mathlib.Core.Path.{_≡_};
 ghost use Prim.Native.Nat.{ℕ, _≤_, _<_};
 ghost use lib.ListN.{getD};
-ghost use Rattle.euler.specs.Exec.{useWord, useRefusal, useRefusals, whenFree, whenUsed};
-use crate::records::item_of;
+ghost use Rattle.euler.specs.Exec.{useWord, useRefusal, whenFree, whenUsed};
 use layout::columns::face_solid;
 use layout::columns::loop_face;
 use layout::columns::solid_used;
 use layout::columns::start_of;
 use layout::columns::vertex_used;
 use layout::shape::Shape;
-use script::Operator;
 
 // The word that tells whether item n of an operand's kind is in use; a new edge by its second half.
 fn use_word(links: &[u16], sh: Shape, kind: usize, n: usize) -> usize
@@ -63,21 +61,4 @@ pub fn use_refusal(links: &[u16], sh: Shape, kind: usize, n: usize) -> u8
         return when_free(kind);
     }
     when_used(kind)
-}
-
-// The first refusal of the operands from left to right.
-pub fn use_refusals(links: &[u16], sh: Shape, op: Operator, kinds: [u8; 8]) -> u8
-    ensures { λ r. ⌜ r ≡ useRefusals sh (now (links .entry)) op kinds 0 ⌝ }
-{
-    let mut i: usize = 0;
-    while i < 8 {
-        let kind = kinds[i] as usize;
-        let n = item_of(op, i);
-        let r = use_refusal(links, sh, kind, n);
-        if r != 0 {
-            return r;
-        }
-        i += 1;
-    }
-    0
 }

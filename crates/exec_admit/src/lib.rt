@@ -1,3 +1,2 @@
 // One operator on a table: its refusal. This only reads, so that a refused operator changes nothing.
-pub mod admit;
 pub mod conditions;

@@ -19,95 +19,75 @@ use Rattle.solids_holes.proofs.holes.mfkrh_fits.Reads as mfkrh-fits-reads
 use Rattle.solids_lone.proofs.lone.kvsf_fits.Reads as kvsf-fits-reads
 use Rattle.solids_rings.proofs.rings.rmov_fits.Reads as rmov-fits-reads
 
--- src/conditions.rt:27:9
+-- src/conditions.rt:33:9
 item-at-requires : tie.Need-item-at-requires
 item-at-requires c κs = search needs
 
--- src/conditions.rt:30:14
-kvsf-fits-requires : tie.Need-kvsf-fits-requires
-kvsf-fits-requires c κs = search needs
-
--- src/conditions.rt:31:38
+-- src/conditions.rt:34:9
 item-at-requires-2 : tie.Need-item-at-requires-2
 item-at-requires-2 c κs = search needs
 
--- src/conditions.rt:31:14
+-- src/conditions.rt:37:14
+kvsf-fits-requires : tie.Need-kvsf-fits-requires
+kvsf-fits-requires c κs = search needs
+
+-- src/conditions.rt:38:14
 mev-fits-requires : tie.Need-mev-fits-requires
 mev-fits-requires c κs = search needs
 
--- src/conditions.rt:32:14
+-- src/conditions.rt:39:14
 kev-fits-requires : tie.Need-kev-fits-requires
 kev-fits-requires c κs = search needs
 
--- src/conditions.rt:33:38
+-- src/conditions.rt:40:42
 item-at-requires-3 : tie.Need-item-at-requires-3
 item-at-requires-3 c κs = search needs
 
--- src/conditions.rt:33:56
+-- src/conditions.rt:40:60
 item-at-requires-4 : tie.Need-item-at-requires-4
 item-at-requires-4 c κs = search needs
 
--- src/conditions.rt:33:74
-item-at-requires-5 : tie.Need-item-at-requires-5
-item-at-requires-5 c κs = search needs
-
--- src/conditions.rt:33:14
+-- src/conditions.rt:40:14
 mef-fits-requires : tie.Need-mef-fits-requires
 mef-fits-requires c κs = search needs
 
--- src/conditions.rt:34:14
+-- src/conditions.rt:41:14
 kef-fits-requires : tie.Need-kef-fits-requires
 kef-fits-requires c κs = search needs
 
--- src/conditions.rt:35:14
+-- src/conditions.rt:42:14
 kemr-fits-requires : tie.Need-kemr-fits-requires
 kemr-fits-requires c κs = search needs
 
--- src/conditions.rt:36:39
+-- src/conditions.rt:43:43
+item-at-requires-5 : tie.Need-item-at-requires-5
+item-at-requires-5 c κs = search needs
+
+-- src/conditions.rt:43:61
 item-at-requires-6 : tie.Need-item-at-requires-6
 item-at-requires-6 c κs = search needs
 
--- src/conditions.rt:36:57
-item-at-requires-7 : tie.Need-item-at-requires-7
-item-at-requires-7 c κs = search needs
-
--- src/conditions.rt:36:75
-item-at-requires-8 : tie.Need-item-at-requires-8
-item-at-requires-8 c κs = search needs
-
--- src/conditions.rt:36:14
+-- src/conditions.rt:43:14
 mekr-fits-requires : tie.Need-mekr-fits-requires
 mekr-fits-requires c κs = search needs
 
--- src/conditions.rt:37:40
-item-at-requires-9 : tie.Need-item-at-requires-9
-item-at-requires-9 c κs = search needs
-
--- src/conditions.rt:37:14
+-- src/conditions.rt:44:14
 kfmrh-fits-requires : tie.Need-kfmrh-fits-requires
 kfmrh-fits-requires c κs = search needs
 
--- src/conditions.rt:38:41
-item-at-requires-10 : tie.Need-item-at-requires-10
-item-at-requires-10 c κs = search needs
+-- src/conditions.rt:45:45
+item-at-requires-7 : tie.Need-item-at-requires-7
+item-at-requires-7 c κs = search needs
 
--- src/conditions.rt:38:59
-item-at-requires-11 : tie.Need-item-at-requires-11
-item-at-requires-11 c κs = search needs
-
--- src/conditions.rt:38:15
+-- src/conditions.rt:45:15
 mfkrh-fits-requires : tie.Need-mfkrh-fits-requires
 mfkrh-fits-requires c κs = search needs
 
--- src/conditions.rt:39:15
+-- src/conditions.rt:46:15
 jekv-fits-requires : tie.Need-jekv-fits-requires
 jekv-fits-requires c κs = search needs
 
--- src/conditions.rt:40:40
-item-at-requires-12 : tie.Need-item-at-requires-12
-item-at-requires-12 c κs = search needs
-
--- src/conditions.rt:40:15
+-- src/conditions.rt:47:15
 rmov-fits-requires : tie.Need-rmov-fits-requires
 rmov-fits-requires c κs = search needs
 
@@ -121,7 +101,7 @@ returns-2 c = condition-at _ _ _ 2 _ _ (c .before .match .keys2) refl cc
 
 -- src/conditions.rt:22:1
 returns-3 : tie.Need-returns-3
-returns-3 c = condition-at _ _ _ 3 _ _ (c .before .before .match .keys3) refl cc
+returns-3 c = condition-at _ _ _ 3 _ _ (c .before .match .keys3) refl cc
 
 -- src/conditions.rt:22:1
 returns-4 : tie.Need-returns-4
@@ -129,7 +109,7 @@ returns-4 c = condition-at _ _ _ 4 _ _ (c .before .match .keys4) refl cc
 
 -- src/conditions.rt:22:1
 returns-5 : tie.Need-returns-5
-returns-5 c = condition-at _ _ _ 5 _ _ (c .before .before .before .before .match .keys5) refl cc
+returns-5 c = condition-at _ _ _ 5 _ _ (c .before .before .before .match .keys5) refl cc
 
 -- src/conditions.rt:22:1
 returns-6 : tie.Need-returns-6
@@ -141,15 +121,15 @@ returns-7 c = condition-at _ _ _ 7 _ _ (c .before .match .keys7) refl cc
 
 -- src/conditions.rt:22:1
 returns-8 : tie.Need-returns-8
-returns-8 c = condition-at _ _ _ 8 _ _ (c .before .before .before .before .match .keys8) refl cc
+returns-8 c = condition-at _ _ _ 8 _ _ (c .before .before .before .match .keys8) refl cc
 
 -- src/conditions.rt:22:1
 returns-9 : tie.Need-returns-9
-returns-9 c = condition-at _ _ _ 9 _ _ (c .before .before .match .keys9) refl cc
+returns-9 c = condition-at _ _ _ 9 _ _ (c .before .match .keys9) refl cc
 
 -- src/conditions.rt:22:1
 returns-10 : tie.Need-returns-10
-returns-10 c = condition-at _ _ _ 10 _ _ (c .before .before .before .match .keys10) refl cc
+returns-10 c = condition-at _ _ _ 10 _ _ (c .before .before .match .keys10) refl cc
 
 -- src/conditions.rt:22:1
 returns-11 : tie.Need-returns-11
@@ -157,73 +137,48 @@ returns-11 c = condition-at _ _ _ 12 _ _ (c .before .match .keys11) refl cc
 
 -- src/conditions.rt:22:1
 returns-12 : tie.Need-returns-12
-returns-12 c = condition-at _ _ _ 13 _ _ (c .before .before .match .keys12) refl cc
+returns-12 c = condition-at _ _ _ 13 _ _ (c .before .match .keys12) refl cc
 
 -- src/conditions.rt:22:1
 returns-13 : tie.Need-returns-13
 returns-13 c =
     let r = c .match .rest in
-    condition-none _ _ _ (
-      r .1,
-      (
-        r .0 .1,
-        (
-          (λ e. r .0 .0 .0 .0 .0 .0 .0 .0 .0 .0 .0 .1 (inr e)),
-          (
-            r .0 .0 .1,
-            (
-              r .0 .0 .0 .1,
-              (
-                r .0 .0 .0 .0 .1,
-                (
-                  r .0 .0 .0 .0 .0 .1,
-                  (
-                    r .0 .0 .0 .0 .0 .0 .1,
-                    (
-                      r .0 .0 .0 .0 .0 .0 .0 .1,
-                      (
-                        r .0 .0 .0 .0 .0 .0 .0 .0 .1,
-                        (
-                          r .0 .0 .0 .0 .0 .0 .0 .0 .0 .1,
-                          (r .0 .0 .0 .0 .0 .0 .0 .0 .0 .0 .1, ((λ e. r .0 .0 .0 .0 .0 .0 .0 .0 .0 .0 .0 .1 (inl e)), tt)),
-                        ),
-                      ),
-                    ),
-                  ),
-                ),
-              ),
-            ),
-          ),
-        ),
-      ),
-    )
+    let two = r .0 .0 .0 .0 .0 .0 .0 .0 .0 .0 .0 .1 in
+    condition-none _ _ _
+    (r .1,
+    (r .0 .1,
+    ((λ e. two (inr e)),
+    (r .0 .0 .1,
+    (r .0 .0 .0 .1,
+    (r .0 .0 .0 .0 .1,
+    (r .0 .0 .0 .0 .0 .1,
+    (r .0 .0 .0 .0 .0 .0 .1,
+    (r .0 .0 .0 .0 .0 .0 .0 .1,
+    (r .0 .0 .0 .0 .0 .0 .0 .0 .1,
+    (r .0 .0 .0 .0 .0 .0 .0 .0 .0 .1,
+    (r .0 .0 .0 .0 .0 .0 .0 .0 .0 .0 .1, ((λ e. two (inl e)), tt)))))))))))))
 
 pub condition-holds-spec : {M : Type 1} → statement M
 condition-holds-spec =
     tie.close
     (tie.spec
     item-at-requires
-    kvsf-fits-requires
     item-at-requires-2
+    kvsf-fits-requires
     mev-fits-requires
     kev-fits-requires
     item-at-requires-3
     item-at-requires-4
-    item-at-requires-5
     mef-fits-requires
     kef-fits-requires
     kemr-fits-requires
+    item-at-requires-5
     item-at-requires-6
-    item-at-requires-7
-    item-at-requires-8
     mekr-fits-requires
-    item-at-requires-9
     kfmrh-fits-requires
-    item-at-requires-10
-    item-at-requires-11
+    item-at-requires-7
     mfkrh-fits-requires
     jekv-fits-requires
-    item-at-requires-12
     rmov-fits-requires
     returns
     returns-2
