@@ -47,7 +47,9 @@ returns-2 c = vertex-isolated _ _ _ _ _ _ (omega arith) (omega arith) (omega (ar
 
 -- src/labels.rt:36:1
 returns-3 : tie.Need-returns-3
-returns-3 c = vertex-starting _ _ _ _ _ (c .before .before .before .wide .result) (c .before .wide2 .result) (omega arith) (omega arith) (omega arith) (omega arith)
+returns-3 c =
+    vertex-starting _ _ _ _ _ (c .before .before .before .wide .result) (c .before .wide2 .result) (omega arith)
+    (omega arith) (omega arith) (omega arith)
 
 pub vertex-either-spec : {M : Type 1} → statement M
 vertex-either-spec =
