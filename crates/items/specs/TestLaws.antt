@@ -1,7 +1,7 @@
 -- Two tests of numbers are one test where the numbers lie alike, whichever side they are written on; a scan's test
 -- by its name.
 use mathlib.Core.Path.{_≡_}
-use mathlib.Core.Bool.{Bool}
+use mathlib.Core.Bool.{Bool, not}
 use mathlib.Core.List.{List}
 use Prim.Native.Nat.{ℕ, _+_, _-_, _≤_}
 use native.Mathlib.Omega.{arith}
@@ -18,6 +18,10 @@ as-far a b c d h =
     let f : a ≡ b → c ≡ d = omega arith in
     let g : c ≡ d → a ≡ b = omega arith in
     same-T (λ t. true-T (eqb-same (f (eqb→eq a b t)))) (λ t. true-T (eqb-same (g (eqb→eq c d t))))
+
+-- and so for "not equal"
+pub as-far-not : (a b c d : ℕ) → a - b + (b - a) ≡ c - d + (d - c) → not (eqb a b) ≡ not (eqb c d)
+as-far-not a b c d h = rw (as-far a b c d h)
 
 -- a is above b by as much as c above d
 pub as-low : (a b c d : ℕ) → a - b ≡ c - d → leb a b ≡ leb c d

@@ -17,7 +17,7 @@ use Rattle.orbits.specs.Cycles.{oneCycleEach}
 use Rattle.orbits.specs.OrbitsLaws.{LoopFacts, loops-one-cycle, vertices-one-cycle}
 use Rattle.shells.specs.Shells.{shellsWhole}
 use Rattle.shells.specs.RuleLaws.{whole-is}
-use Rattle.items.specs.declared.scan.Test.the-variants.{SolidRange, FaceRange, LoopRange, HalfRange, VertexRange, FaceNames, LoopNames, HalfNames, HalfLinks, FirstNames, HalfSides}
+use Rattle.items.specs.declared.scan.Test.the-variants.{SolidRange, FaceRange, LoopRange, HalfRange, VertexRange, FaceNames, LoopNames, HalfNames, LoopEither, HalfLinks, FirstNames, HalfSides}
 use Rattle.rules.specs.declared.labels.LabelTest.the-variants.{SolidNames, VertexEither}
 use Rattle.items.specs.Rules.{rule1, solidNames, rule2, halfLinks, firstNames, halfInLoop, rule4, vertexEither, halfAtVertex, rule5, halfSides, faceLinked, rule6, brokenRule, rule3}
 use Rattle.items.specs.Scan.{itemTest}
@@ -79,6 +79,10 @@ module _ (sh : Shape) (x : List ℕ) (p : List ℤ) where
       → (((a && b) && c) && d) ≡ rule2 sh x
   unfolding rule2 itemTest
   rule2-is ls a b c d h e ea eb ec ed = rw (ea, eb, ec, ed, solids-named ls h e)
+
+  pub rule3-is : (r : Bool) → r ≡ allTo (sh .loops) (itemTest LoopEither sh x p) → r ≡ rule3 sh x
+  unfolding rule3 itemTest
+  rule3-is r h = h
 
   -- the entries of the arrays are the rule's own counts and starters
   vertices-counted : (counts starters : List ℕ) → sh .vertices ≤ 4096 → counts ≡ tally (loopIsolated sh x) (sh .loops) blank

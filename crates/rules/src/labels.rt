@@ -25,8 +25,11 @@ fn solid_names(links: &[u16], sh: Shape, faces: &[u16; 4097], n: usize) -> bool
     requires { ⌜ n ≤ 4096 ⌝ }
     ensures { λ r. ⌜ r ≡ labelTest SolidNames sh (now (links .entry)) (now (faces .entry)) (now (faces .entry)) n ⌝ }
 {
+    if solid_used(links, sh, n) == 0 {
+        return true;
+    }
     let f = wide(faces[n]);
-    (solid_used(links, sh, n) == 0) | (f != 0)
+    f != 0
 }
 
 // Vertex n is free, or isolated in one loop and starts no half-edge, or isolated in none and starts one.
@@ -40,9 +43,15 @@ fn vertex_either(
     requires { ⌜ n ≤ 4096 ⌝ }
     ensures { λ r. ⌜ r ≡ labelTest VertexEither sh (now (links .entry)) (now (counts .entry)) (now (starters .entry)) n ⌝ }
 {
+    if vertex_used(links, sh, n) == 0 {
+        return true;
+    }
     let c = wide(counts[n]);
     let k = wide(starters[n]);
-    (vertex_used(links, sh, n) == 0) | ((c == 1) & (k == 0) | (c == 0) & (k != 0))
+    if c == 1 {
+        return k == 0;
+    }
+    (c == 0) & (k != 0)
 }
 
 // The test of item n.

@@ -13,13 +13,12 @@ use Rattle.laws.specs.Bools.{pick, split, eqb-same, eqb-other}
 use Rattle.laws.specs.Columns.{Kind, sweep}
 use Rattle.laws.specs.Union.{SameRoots}
 use Rattle.layout.specs.declared.shape.Shape.{Shape}
-use Rattle.layout.specs.Layout.{kind, faceSolid, faceOuter, loopFace, setSolidUsed, setFaceSolid, setLoopFace}
+use Rattle.layout.specs.Layout.{kind, faceSolid, faceOuter, loopFace, setSolidUsed, setFaceSolid}
 use Rattle.shells.specs.Shells.{sideAs, oneRoot, facesLinkedAs, Shells}
 use Rattle.shells.specs.ShellsLaws.{one-root-short}
-use Rattle.euler.specs.Surgery.{putFace}
 use Rattle.euler.specs.Operators.{loopsIn, isRing, moveFaces, kfmrhTest, kfmrhLinks}
 use Rattle.euler.specs.Operators.{linkedAfter, ringFace, mfkrhTest, mfkrhLinks}
-use Rattle.solids_holes.specs.Moves.{sweepFaces, byRoot, moveShell}
+use Rattle.solids_holes.specs.Moves.{sweepFaces, byRoot, moveShell, joinSolids, giveLoop}
 
 -- ---- face after face
 
@@ -75,16 +74,11 @@ module _ (sh : Shape) (x : List ℕ) (f1 f2 : ℕ) where
   unfolding kfmrhTest
   kfmrh-fits d n e h = rw (eqb-other d, ← e, eqb-same h)
 
-pub kfmrh-steps : (sh : Shape) (x : List ℕ) (f1 f2 l s t : ℕ) (x1 x2 x3 x4 x5 : List ℕ)
+pub kfmrh-steps : (sh : Shape) (x : List ℕ) (f1 f2 l s t : ℕ) (x1 x2 : List ℕ)
     → l ≡ faceOuter sh x f2 → s ≡ faceSolid sh x f2 → t ≡ faceSolid sh x f1
-    → x1 ≡ setLoopFace sh x l f1
-    → x2 ≡ putFace sh x1 f2 0 0
-    → x3 ≡ moveFaces sh x2 s t
-    → x4 ≡ setSolidUsed sh x3 s 0
-    → x5 ≡ setSolidUsed sh x4 t 1
-    → x5 ≡ kfmrhLinks sh x f1 f2
+    → x1 ≡ giveLoop sh x l f1 f2 → x2 ≡ joinSolids sh x1 s t → x2 ≡ kfmrhLinks sh x f1 f2
 unfolding kfmrhLinks
-kfmrh-steps sh x f1 f2 l s t x1 x2 x3 x4 x5 el es et e1 e2 e3 e4 e5 = rw (e5, e4, e3, e2, e1, el, es, et)
+kfmrh-steps sh x f1 f2 l s t x1 x2 el es et e1 e2 = rw (e2, e1, el, es, et)
 
 -- ---- mfkrh
 
@@ -95,7 +89,8 @@ module _ (sh : Shape) (x : List ℕ) (l f s : ℕ) where
     unfolding mfkrhTest
     mfkrh-outer r = rw (← er, r)
 
-    module _ (r : ring ≡ true) (o : ℕ) (eo : o ≡ loopFace sh x l) (linked : Bool) (ek : linked ≡ facesLinkedAs sh x l f f o) where
+    module _ (r : ring ≡ true) (o : ℕ) (eo : o ≡ loopFace sh x l)
+        (linked : Bool) (ek : linked ≡ facesLinkedAs sh x l f f o) where
       after : linked ≡ linkedAfter sh x l f f (loopFace sh x l)
       unfolding linkedAfter
       after = rw (← eo) ek

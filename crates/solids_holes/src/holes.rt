@@ -1,11 +1,12 @@
-// kfmrh makes the loop of a face a ring of another face, mfkrh makes a ring the outer loop of a new face. Within one solid this makes
-// or kills a hole through it; between two it joins or divides solids.
+// kfmrh makes the loop of a face a ring of another face, mfkrh makes a ring the outer loop of a new face. Within one
+// solid this makes or kills a hole through it; between two it joins or divides solids.
 ghost use mathlib.Core.Path.{_≡_};
 ghost use Prim.Native.Nat.{ℕ, _<_, _≤_};
 ghost use Rattle.layout.specs.Small.{Small};
 ghost use Rattle.euler.specs.Operators.{kfmrhTest, kfmrhLinks, kfmrhInverse, ringFace, mfkrhTest, mfkrhLinks, mfkrhInverse};
 ghost use Rattle.counts.specs.Counts.{Counted};
-use crate::moves::move_faces;
+ghost use Rattle.solids_holes.specs.Moves.{giveLoop};
+use crate::moves::join_solids;
 use crate::moves::move_shell;
 use counts::counts::loops_kept;
 use euler::faces::is_ring;
@@ -38,7 +39,15 @@ pub fn kfmrh_fits(links: &[u16], counts: &[u16; 4097], sh: Shape, f1: usize, f2:
     true
 }
 
-// Where both faces lie in one solid, no face passes, and its mark is cleared and set again.
+// Loop l of face g becomes a ring of face f, and g is killed.
+fn give_loop(links: &mut [u16], sh: Shape, l: usize, f: usize, g: usize)
+    requires { ⌜ (l < 65536) × (f < 65536) × (g < 65536) ⌝ }
+    ensures { λ _. ⌜ now (links .exit) ≡ giveLoop sh (now (links .entry)) l f g ⌝ }
+{
+    set_loop_face(links, sh, l, f);
+    put_face(links, sh, g, 0, 0);
+}
+
 pub fn kfmrh_links(links: &mut [u16], sh: Shape, f1: usize, f2: usize)
     requires { ⌜ (sh .faces ≤ 4096) × (f1 < 65536) × (f2 < 65536) ⌝ }
     ensures { λ _. ⌜ now (links .exit) ≡ kfmrhLinks sh (now (links .entry)) f1 f2 ⌝ }
@@ -46,11 +55,8 @@ pub fn kfmrh_links(links: &mut [u16], sh: Shape, f1: usize, f2: usize)
     let l = face_outer(links, sh, f2);
     let s = face_solid(links, sh, f2);
     let t = face_solid(links, sh, f1);
-    set_loop_face(links, sh, l, f1);
-    put_face(links, sh, f2, 0, 0);
-    move_faces(links, sh, s, t);
-    set_solid_used(links, sh, s, 0);
-    set_solid_used(links, sh, t, 1);
+    give_loop(links, sh, l, f1, f2);
+    join_solids(links, sh, s, t);
 }
 
 pub fn kfmrh_inverse(links: &[u16], sh: Shape, f1: usize, f2: usize) -> Operator

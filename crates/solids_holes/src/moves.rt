@@ -3,15 +3,16 @@ ghost use mathlib.Core.Path.{_≡_};
 ghost use Prim.Native.Nat.{ℕ, _<_, _≤_};
 ghost use Rattle.euler.specs.Operators.{moveFaces};
 ghost use Rattle.shells.specs.Forest.{Forest};
-ghost use Rattle.solids_holes.specs.Moves.{moveShell};
+ghost use Rattle.solids_holes.specs.Moves.{joinSolids, moveShell};
 use euler::records::choose;
 use layout::columns::face_solid;
 use layout::columns::set_face_solid;
+use layout::columns::set_solid_used;
 use layout::shape::Shape;
 use shells::faces::same_shell;
 
 // All faces of solid s pass to solid t. Where the two are one, none is looked at.
-pub fn move_faces(links: &mut [u16], sh: Shape, s: usize, t: usize)
+fn move_faces(links: &mut [u16], sh: Shape, s: usize, t: usize)
     requires { ⌜ (sh .faces ≤ 4096) × (t < 65536) ⌝ }
     ensures { λ _. ⌜ now (links .exit) ≡ moveFaces sh (now (links .entry)) s t ⌝ }
 {
@@ -26,6 +27,16 @@ pub fn move_faces(links: &mut [u16], sh: Shape, s: usize, t: usize)
         set_face_solid(links, sh, k + 1, new);
         k += 1;
     }
+}
+
+// All faces of solid s pass to solid t, and s is killed. Where the two are one, its mark is cleared and set again.
+pub fn join_solids(links: &mut [u16], sh: Shape, s: usize, t: usize)
+    requires { ⌜ (sh .faces ≤ 4096) × (s < 65536) × (t < 65536) ⌝ }
+    ensures { λ _. ⌜ now (links .exit) ≡ joinSolids sh (now (links .entry)) s t ⌝ }
+{
+    move_faces(links, sh, s, t);
+    set_solid_used(links, sh, s, 0);
+    set_solid_used(links, sh, t, 1);
 }
 
 // All faces with the root of face f pass to solid s.

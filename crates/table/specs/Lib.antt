@@ -7,4 +7,5 @@ pub mod CountLaws
 pub mod Examples
 pub mod Sizes
 pub mod SizesLaws
+pub mod FitLaws
 pub mod Valid

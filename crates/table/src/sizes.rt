@@ -7,7 +7,10 @@ use layout::cells::word;
 fn is_capacity(n: usize) -> bool
     ensures { λ r. ⌜ r ≡ capacity n ⌝ }
 {
-    (1 <= n) & (n <= 4096)
+    if n == 0 {
+        return false;
+    }
+    n <= 4096
 }
 
 // So many words and coordinates are the links and points of a table of these capacities.
@@ -24,13 +27,13 @@ pub fn sizes_fit(
     ensures { λ r. ⌜ r ≡ sizesFit words coordinates s f l e v ⌝ }
 {
     let long = 5 + s + 2 * f + 3 * l + 8 * e + v;
-    is_capacity(s)
-        & is_capacity(f)
-        & is_capacity(l)
-        & is_capacity(e)
-        & is_capacity(v)
-        & (words == long)
-        & (coordinates == 3 * v)
+    if words != long {
+        return false;
+    }
+    if coordinates != 3 * v {
+        return false;
+    }
+    is_capacity(s) & is_capacity(f) & is_capacity(l) & is_capacity(e) & is_capacity(v)
 }
 
 // The two slices fit the capacities that the first five words say.

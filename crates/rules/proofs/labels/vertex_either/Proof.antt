@@ -1,4 +1,6 @@
-use Rattle.rules.specs.Labels.{labelTest}
+use native.Mathlib.Omega.{arith}
+use Rattle.items.specs.TestLaws.{as-far}
+use Rattle.rules.specs.LabelsLaws.{vertex-free, vertex-isolated, vertex-starting}
 use borrow.Author.Needs.{needs}
 use Rattle.rules.proofs.labels.vertex_either.Statement.{statement}
 use Rattle.rules.proofs.labels.vertex_either.Tie as tie
@@ -7,48 +9,59 @@ use Rattle.rules.proofs.labels.vertex_either.Lts as lts
 use Rattle.layout.proofs.columns.vertex_used.Reads as vertex-used-reads
 use Rattle.rules.proofs.labels.wide.Reads as wide-reads
 
--- src/labels.rt:37:18
-mul-wide : tie.Need-mul-wide
-mul-wide c = search needs
-
--- src/labels.rt:37:18
-element-copy-out-wide : tie.Need-element-copy-out-wide
-element-copy-out-wide c = search needs
-
--- src/labels.rt:37:9
-wide-requires : tie.Need-wide-requires
-wide-requires c κs = search needs
-
--- src/labels.rt:38:18
-mul-wide-2 : tie.Need-mul-wide-2
-mul-wide-2 c = search needs
-
--- src/labels.rt:38:18
-element-copy-out-wide-2 : tie.Need-element-copy-out-wide-2
-element-copy-out-wide-2 c = search needs
-
--- src/labels.rt:38:9
-wide-requires-2 : tie.Need-wide-requires-2
-wide-requires-2 c κs = search needs
-
--- src/labels.rt:39:6
+-- src/labels.rt:46:8
 vertex-used-requires : tie.Need-vertex-used-requires
 vertex-used-requires c κs = search needs
 
--- src/labels.rt:33:1
+-- src/labels.rt:47:9
 returns : tie.Need-returns
-unfolding labelTest
-returns c = cc
+returns c = vertex-free _ _ _ _ _ (omega arith)
+
+-- src/labels.rt:49:18
+mul-wide : tie.Need-mul-wide
+mul-wide c = search needs
+
+-- src/labels.rt:49:18
+element-copy-out-wide : tie.Need-element-copy-out-wide
+element-copy-out-wide c = search needs
+
+-- src/labels.rt:49:9
+wide-requires : tie.Need-wide-requires
+wide-requires c κs = search needs
+
+-- src/labels.rt:50:18
+mul-wide-2 : tie.Need-mul-wide-2
+mul-wide-2 c = search needs
+
+-- src/labels.rt:50:18
+element-copy-out-wide-2 : tie.Need-element-copy-out-wide-2
+element-copy-out-wide-2 c = search needs
+
+-- src/labels.rt:50:9
+wide-requires-2 : tie.Need-wide-requires-2
+wide-requires-2 c κs = search needs
+
+-- src/labels.rt:52:9
+returns-2 : tie.Need-returns-2
+returns-2 c = vertex-isolated _ _ _ _ _ _ (omega arith) (omega arith) (omega (arith, as-far))
+
+-- src/labels.rt:36:1
+returns-3 : tie.Need-returns-3
+returns-3 c =
+    vertex-starting _ _ _ _ _ (c .before .before .before .wide .result) (c .before .wide2 .result) (omega arith)
+    (omega arith) (omega arith) (omega arith)
 
 pub vertex-either-spec : {M : Type 1} → statement M
 vertex-either-spec =
     tie.close
     (tie.spec
+    vertex-used-requires
+    returns
     mul-wide
     element-copy-out-wide
     wide-requires
     mul-wide-2
     element-copy-out-wide-2
     wide-requires-2
-    vertex-used-requires
-    returns)
+    returns-2
+    returns-3)

@@ -1,5 +1,4 @@
-use Rattle.items.specs.Scan.{itemTest}
-use Rattle.items.specs.Rules.{rule3}
+use Rattle.rules.specs.RuleLaws.{rule3-is}
 use borrow.Author.Needs.{needs}
 use Rattle.rules.proofs.rules.rule_3.Statement.{statement}
 use Rattle.rules.proofs.rules.rule_3.Tie as tie
@@ -17,8 +16,7 @@ all-items-requires c κs = search needs
 
 -- src/rules.rt:23:1
 returns : tie.Need-returns
-unfolding rule3 itemTest
-returns c = cc
+returns c = rule3-is _ _ _ _ (c .all-items .ensures)
 
 pub rule-3-spec : {M : Type 1} → statement M
 rule-3-spec = tie.close (tie.spec cast-all-items all-items-requires returns)

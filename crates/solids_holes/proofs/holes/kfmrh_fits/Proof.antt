@@ -18,7 +18,8 @@ loops-kept-requires c κs = search needs
 returns-2 : tie.Need-returns-2
 returns-2 c =
     let a = c .before .before .before .before .args in
-    kfmrh-rings (a .sh) (a .links .now) (a .f1) (a .f2) (omega arith) _ (c .before .loops-kept .ensures .0) (omega arith)
+    kfmrh-rings (a .sh) (a .links .now) (a .f1) (a .f2) (omega arith) _ (c .before .loops-kept .ensures .0)
+    (omega arith)
 
 returns-3 : tie.Need-returns-3
 returns-3 c =

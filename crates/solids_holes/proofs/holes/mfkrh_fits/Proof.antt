@@ -16,7 +16,8 @@ is-ring-requires c κs = search needs
 returns : tie.Need-returns
 returns c =
     let a = c .before .before .before .args in
-    mfkrh-outer (a .sh) (a .links .now) (a .l) (a .f) (a .s) _ (c .before .is-ring .ensures) (not-true _ (c .if1 .taken))
+    mfkrh-outer (a .sh) (a .links .now) (a .l) (a .f) (a .s) _ (c .before .is-ring .ensures)
+    (not-true _ (c .if1 .taken))
 
 loop-face-requires : tie.Need-loop-face-requires
 loop-face-requires c κs = search needs
@@ -28,29 +29,37 @@ returns-2 : tie.Need-returns-2
 returns-2 c =
     let a = c .before .before .before .before .before .before .before .args in
     mfkrh-within (a .sh) (a .links .now) (a .l) (a .f) (a .s) _
-    (c .before .before .before .before .before .is-ring .ensures) (not-false _ (c .before .before .before .before .if1 .left))
-    _ (c .before .before .before .loop-face .ensures .0) _ (c .before .before .linked-faces .ensures) (c .before .if2 .taken) (omega arith)
+    (c .before .before .before .before .before .is-ring .ensures)
+    (not-false _ (c .before .before .before .before .if1 .left))
+    _ (c .before .before .before .loop-face .ensures .0) _ (c .before .before .linked-faces .ensures)
+    (c .before .if2 .taken) (omega arith)
 
 returns-3 : tie.Need-returns-3
 returns-3 c =
     let a = c .before .before .before .before .before .before .before .args in
     mfkrh-surplus (a .sh) (a .links .now) (a .l) (a .f) (a .s) _
-    (c .before .before .before .before .before .is-ring .ensures) (not-false _ (c .before .before .before .before .if1 .left))
-    _ (c .before .before .before .loop-face .ensures .0) _ (c .before .before .linked-faces .ensures) (c .before .if2 .taken) (omega arith)
+    (c .before .before .before .before .before .is-ring .ensures)
+    (not-false _ (c .before .before .before .before .if1 .left))
+    _ (c .before .before .before .loop-face .ensures .0) _ (c .before .before .linked-faces .ensures)
+    (c .before .if2 .taken) (omega arith)
 
 returns-4 : tie.Need-returns-4
 returns-4 c =
     let a = c .before .before .before .before .before .before .before .args in
     mfkrh-parts (a .sh) (a .links .now) (a .l) (a .f) (a .s) _
-    (c .before .before .before .before .before .is-ring .ensures) (not-false _ (c .before .before .before .before .if1 .left))
-    _ (c .before .before .before .loop-face .ensures .0) _ (c .before .before .linked-faces .ensures) (c .before .if2 .left) (omega arith)
+    (c .before .before .before .before .before .is-ring .ensures)
+    (not-false _ (c .before .before .before .before .if1 .left))
+    _ (c .before .before .before .loop-face .ensures .0) _ (c .before .before .linked-faces .ensures)
+    (c .before .if2 .left) (omega arith)
 
 returns-5 : tie.Need-returns-5
 returns-5 c =
     let a = c .before .before .before .before .before .before .before .args in
     mfkrh-nameless (a .sh) (a .links .now) (a .l) (a .f) (a .s) _
-    (c .before .before .before .before .before .is-ring .ensures) (not-false _ (c .before .before .before .before .if1 .left))
-    _ (c .before .before .before .loop-face .ensures .0) _ (c .before .before .linked-faces .ensures) (c .before .if2 .left) (omega arith)
+    (c .before .before .before .before .before .is-ring .ensures)
+    (not-false _ (c .before .before .before .before .if1 .left))
+    _ (c .before .before .before .loop-face .ensures .0) _ (c .before .before .linked-faces .ensures)
+    (c .before .if2 .left) (omega arith)
 
 pub mfkrh-fits-spec : {M : Type 1} → statement M
 mfkrh-fits-spec =

@@ -61,7 +61,8 @@ same-length c = omega arith
 
 returns-2 : tie.Need-returns-2 Inv-loop μ-loop
 returns-2 c =
-    sweep-all (c .before .before .before .before .before .args .sh) _ _ _ _ _ (omega arith) (omega arith) (c .before .loop .inv .2)
+    sweep-all (c .before .before .before .before .before .args .sh) _ _ _ _ _ (omega arith) (omega arith)
+    (c .before .loop .inv .2)
 
 pub move-faces-spec : {M : Type 1} → statement M
 move-faces-spec =

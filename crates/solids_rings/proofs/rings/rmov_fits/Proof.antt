@@ -24,7 +24,8 @@ loop-face-requires c κs = search needs
 returns-2 : tie.Need-returns-2
 returns-2 c =
     let a = c .before .before .before .before .before .args in
-    rmov-own (a .sh) (a .links .now) (a .l) (a .f) _ (c .before .before .before .is-ring .ensures) (not-false _ (c .before .before .if1 .left))
+    rmov-own (a .sh) (a .links .now) (a .l) (a .f) _ (c .before .before .before .is-ring .ensures)
+    (not-false _ (c .before .before .if1 .left))
     _ (c .before .loop-face .ensures .0) (omega arith)
 
 sharing-half-requires : tie.Need-sharing-half-requires
@@ -34,15 +35,19 @@ returns-3 : tie.Need-returns-3
 returns-3 c =
     let a = c .before .before .before .before .before .before .before .args in
     rmov-apart (a .sh) (a .links .now) (a .l) (a .f) _
-    (c .before .before .before .before .before .is-ring .ensures) (not-false _ (c .before .before .before .before .if1 .left))
-    _ (c .before .before .before .loop-face .ensures .0) (omega arith) _ (c .before .sharing-half .ensures) (omega arith)
+    (c .before .before .before .before .before .is-ring .ensures)
+    (not-false _ (c .before .before .before .before .if1 .left))
+    _ (c .before .before .before .loop-face .ensures .0) (omega arith) _ (c .before .sharing-half .ensures)
+    (omega arith)
 
 returns-4 : tie.Need-returns-4
 returns-4 c =
     let a = c .before .before .before .before .before .before .before .args in
     rmov-beside (a .sh) (a .links .now) (a .l) (a .f) _
-    (c .before .before .before .before .before .is-ring .ensures) (not-false _ (c .before .before .before .before .if1 .left))
-    _ (c .before .before .before .loop-face .ensures .0) (omega arith) _ (c .before .sharing-half .ensures) (omega arith)
+    (c .before .before .before .before .before .is-ring .ensures)
+    (not-false _ (c .before .before .before .before .if1 .left))
+    _ (c .before .before .before .loop-face .ensures .0) (omega arith) _ (c .before .sharing-half .ensures)
+    (omega arith)
 
 pub rmov-fits-spec : {M : Type 1} → statement M
 rmov-fits-spec =

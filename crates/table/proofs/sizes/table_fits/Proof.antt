@@ -1,3 +1,4 @@
+use Rattle.table.specs.FitLaws.{words-fit}
 use borrow.Author.Needs.{needs}
 use Rattle.table.proofs.sizes.table_fits.Statement.{statement}
 use Rattle.table.proofs.sizes.table_fits.Tie as tie
@@ -32,7 +33,12 @@ sizes-fit-requires c κs = search needs
 
 -- src/sizes.rt:29:1
 returns : tie.Need-returns
-returns c = cc
+returns c =
+    words-fit (c .before .before .before .before .before .before .before .args .links .now)
+    (c .before .before .before .before .before .before .before .args .points .now) _ _ _ _ _ _
+    (c .before .before .before .before .before .word .ensures .0)
+    (c .before .before .before .before .word2 .ensures .0) (c .before .before .before .word3 .ensures .0)
+    (c .before .before .word4 .ensures .0) (c .before .word5 .ensures .0) (c .sizes-fit .ensures)
 
 pub table-fits-spec : {M : Type 1} → statement M
 table-fits-spec =

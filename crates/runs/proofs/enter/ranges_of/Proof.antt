@@ -1,0 +1,24 @@
+use mathlib.Core.Path.{_≡_, ap, _∙_}
+use Rattle.script.specs.Operands.{largests}
+use borrow.Author.Needs.{needs}
+use Rattle.runs.proofs.enter.ranges_of.Statement.{statement}
+use Rattle.runs.proofs.enter.ranges_of.Tie as tie
+use Rattle.runs.proofs.enter.ranges_of.Reads as reads
+use Rattle.runs.proofs.enter.ranges_of.Lts as lts
+use Rattle.runs.proofs.enter.limits_of.Reads as limits-of-reads
+use Rattle.script.proofs.operands.largest.Reads as largest-reads
+
+-- src/enter.rt:45:13
+limits-of-requires : tie.Need-limits-of-requires
+limits-of-requires c κs = search needs
+
+-- src/enter.rt:45:5
+largest-requires : tie.Need-largest-requires
+largest-requires c κs = search needs
+
+-- src/enter.rt:41:1
+returns : tie.Need-returns
+returns c = c .largest .ensures ∙ ap largests (c .before .limits-of .ensures)
+
+pub ranges-of-spec : {M : Type 1} → statement M
+ranges-of-spec = tie.close (tie.spec limits-of-requires largest-requires returns)
