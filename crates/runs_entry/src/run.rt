@@ -38,18 +38,7 @@ fn run_all(
     let mut done: usize = 0;
     let mut from = start;
     while at < script.len() {
-        let s = run_step(
-            links,
-            points,
-            log,
-            counts,
-            sh,
-            from,
-            script,
-            at,
-            most,
-            &mut args,
-        );
+        let s = run_step(links, points, log, counts, sh, from, script, at, most, &mut args);
         if s.refusal != 0 {
             return RunAnswer {
                 refusal: s.refusal,
