@@ -44,6 +44,13 @@ standing-after {sh} {x} {p} {c} a s at z =
       counted = counted-after sh x p c o (a .good) (t .eight) (t .admitted) (a .size) (a .counted);
     }
 
+-- the same of what the code holds afterwards
+pub standing-kept : {sh : Shape} {x : List ℕ} {p : List ℤ} {c : List ℕ} → Standing sh x p c → (s : List ℕ) (at r : ℕ)
+    → r ≡ refusalAt sh x s at → r ≡ 0 → (o : Operator) → o ≡ readAt sh s at .op
+    → (y : List ℕ) → y ≡ linksAfter sh x o → (q : List ℤ) → q ≡ pointsAfter sh x p o
+    → (d : List ℕ) → d ≡ countsAfter sh x c o → Standing sh y q d
+standing-kept a s at r er z o eo y ey q eq d ed = rw (ey, eq, ed, eo) (standing-after a s at (sym er ∙ z))
+
 -- ---- one operator undone
 
 -- the table after the operator at a place of the log, or as it is where that is refused

@@ -8,15 +8,32 @@ use Prim.Native.Nat.{ℕ, _-_, _≤_}
 use lib.Dec.{eqb, leb}
 use lib.IntN.{ℤ}
 use lib.ListN.{length}
-use borrow.Author.Tests.{eq-eqb, ne-eqb}
+use native.Mathlib.Omega.{arith}
+use borrow.Author.Tests.{le-leb, leb-true}
 use Rattle.laws.specs.Bools.{pick, split, eqb-same, eqb-other}
 use Rattle.script.specs.declared.Operator.{Operator}
 use Rattle.script.specs.Operator.{operatorBytes, putBytes}
+use Rattle.script.specs.OperatorLaws.{operator-bound}
 use Rattle.layout.specs.declared.shape.Shape.{Shape}
-use Rattle.euler.specs.Exec.{admitOf, linksAfter, pointsAfter, inverse}
+use Rattle.euler.specs.Exec.{operatorBy, admitOf, linksAfter, pointsAfter, inverse}
 use Rattle.runs.specs.Run.{State, state, readAt, admitRead, refusalAt, inverseBytes, stepped}
 use Rattle.runs.specs.Run.{carryRefusal, carriedIs, carryOf, stepIs, stepOf}
 use Rattle.promises.specs.Reading.{taken, in-range}
+
+-- how many operands its record says makes no difference to the inverse
+pub inverse-by : (sh : Shape) (x : List ℕ) (p : List ℤ) (code count : ℕ) (args : List ℤ)
+    → inverse sh x p (record { code = code; count = count; args = args }) ≡ inverse sh x p (operatorBy code args)
+unfolding inverse
+inverse-by sh x p code count args = refl
+
+-- whether bytes fit, where none are more than 27, and by their number
+pub fits-far : (op : Operator) (end : ℕ) → 27 ≤ end → true ≡ leb (length (operatorBytes op)) end
+fits-far op end h = sym (le-leb (length (operatorBytes op)) end (omega (arith, operator-bound op)))
+
+-- what fits is no longer than the place in front of `end`
+pub fits-room : (op : Operator) (end : ℕ) (b : Bool) → b ≡ leb (length (operatorBytes op)) end → b ≡ true
+    → length (operatorBytes op) ≤ end
+fits-room op end b e t = leb-true (length (operatorBytes op)) end (sym e ∙ t)
 
 module _ (sh : Shape) (x : List ℕ) (p : List ℤ) (log : List ℕ) (start : ℕ) (s : List ℕ) (at : ℕ)
     (r : ℕ) (er : r ≡ refusalAt sh x s at) (n : ℕ) (en : n ≡ readAt sh s at .next) where
