@@ -1,7 +1,7 @@
 // The numbers of loops of all faces, face f's at place f of an array beside the table.
 ghost use mathlib.Core.Path.{_≡_};
 ghost use Prim.Native.Nat.{ℕ, _<_, _≤_};
-ghost use lib.ListN.{getD};
+ghost use lib.ListN.{length};
 ghost use Rattle.layout.specs.Small.{Small};
 ghost use Rattle.euler.specs.Operators.{loopsIn};
 ghost use Rattle.counts.specs.Counts.{Counted, lowered, raised};
@@ -65,7 +65,8 @@ pub fn raise_count(counts: &mut [u16; 4097], f: usize)
 // All loops counted.
 pub fn fill_counts(links: &[u16], sh: Shape, counts: &mut [u16; 4097])
     requires { ⌜ Small sh ⌝ }
-    ensures { λ _. ⌜ Counted sh (now (links .entry)) (now (counts .exit)) ⌝ }
+    ensures { λ _. ⌜
+        (Counted sh (now (links .entry)) (now (counts .exit))) × (length (now (counts .exit)) ≡ 4097) ⌝ }
 {
     *counts = [0u16; 4097];
     let n = sh.loops as usize;

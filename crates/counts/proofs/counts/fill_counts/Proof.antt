@@ -46,7 +46,9 @@ loop-again c =
 
 -- src/counts.rt:60:1
 returns : tie.Need-returns Inv-loop μ-loop
-returns c = filled-all _ _ _ _ (c .before .loop .inv .1) (omega arith) (omega arith)
+returns c =
+    let f = c .before .loop .inv .1 in
+    (filled-all _ _ _ _ f (omega arith) (omega arith), f .size)
 
 pub fill-counts-spec : {M : Type 1} → statement M
 fill-counts-spec =
