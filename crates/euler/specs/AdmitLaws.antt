@@ -8,7 +8,7 @@ use lib.ListN.{length, getD, drop, List·getD-eq-default}
 use borrow.Author.Tests.{eq-eqb, ne-eqb}
 use Rattle.laws.specs.Bools.{pick}
 use Rattle.script.specs.declared.Operator.{Operator}
-use Rattle.script.specs.OperandLaws.{ahead, behind}
+use Rattle.codec.specs.OperandLaws.{ahead, behind}
 use Rattle.layout.specs.declared.shape.Shape.{Shape}
 use Rattle.layout.specs.Layout.{solidUsed, faceSolid, loopFace, startOf, vertexUsed}
 use Rattle.euler.specs.Surgery.{itemOf}

@@ -5,8 +5,8 @@ use mathlib.Core.List.{List}
 use Prim.Native.Nat.{ℕ}
 use borrow.Author.Tests.{eq-eqb, ne-eqb}
 use Rattle.script.specs.declared.Operator.{Operator}
-use Rattle.script.specs.declared.operands.Pattern.{Pattern}
-use Rattle.script.specs.Operands.{pattern}
+use Rattle.codec.specs.declared.operands.Pattern.{Pattern}
+use Rattle.codec.specs.Operands.{pattern}
 use Rattle.layout.specs.declared.shape.Shape.{Shape}
 use Rattle.euler.specs.Exec.{useRefusals, condition, admitOf}
 

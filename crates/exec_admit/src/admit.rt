@@ -3,10 +3,10 @@ ghost use mathlib.Core.Path.{_≡_};
 ghost use Rattle.euler.specs.Exec.{admitOf};
 ghost use Rattle.layout.specs.Small.{Small};
 use crate::conditions::condition_holds;
+use codec::operands::pattern_of;
 use euler::admit::use_refusals;
 use layout::shape::Shape;
 use script::Operator;
-use script::operands::pattern_of;
 
 // The refusal 6, 7 or 8; 0 where the operator is accepted.
 pub fn admit(links: &[u16], sh: Shape, op: Operator) -> u8

@@ -6,7 +6,7 @@ use Rattle.exec_admit.proofs.admit.admit.Reads as reads
 use Rattle.exec_admit.proofs.admit.admit.Lts as lts
 use Rattle.euler.proofs.admit.use_refusals.Reads as use-refusals-reads
 use Rattle.exec_admit.proofs.conditions.condition_holds.Reads as condition-holds-reads
-use Rattle.script.proofs.operands.pattern_of.Reads as pattern-of-reads
+use Rattle.codec.proofs.operands.pattern_of.Reads as pattern-of-reads
 
 -- src/admit.rt:16:9
 pattern-of-requires : tie.Need-pattern-of-requires
