@@ -1,3 +1,4 @@
+use Rattle.exec_effects.specs.Performed.{links-performed, points-performed}
 use Rattle.runs.specs.RunLaws.{carry-refused, carry-full, carry-done}
 use borrow.Author.Needs.{needs}
 use Rattle.runs.proofs.steps.carry_out.Statement.{statement}
@@ -68,12 +69,12 @@ same-length-6 c = search needs
 -- src/steps.rt:60:1
 returns-3 : tie.Need-returns-3
 returns-3 c =
-    let d = c .before .before .before .before .before .before .before .before .before .before in
+    let d = c .before .before .before .before .before .before .before .before .before .before .before .before in
+    let f = c .before .before .before .before .before .before .before .perform .ensures in
     carry-done _ _ _ _ _ _ _ (d .before .before .before .before .before .before .admit .ensures)
     (d .before .before .before .before .before .if1 .left) _
     (d .before .before .inverse-of .ensures) _ (d .before .operator-size .ensures .0) (d .if2 .left) _
-    (c .before .before .before .before .before .before .before .perform .ensures .0) _
-    (c .before .before .before .before .before .before .before .perform .ensures .1) _
+    (links-performed _ _ _ _ (f .0)) _ (points-performed _ _ _ _ _ (f .1)) _
     (c .before .before .put-operator .ensures)
 
 pub carry-out-spec : {M : Type 1} → statement M

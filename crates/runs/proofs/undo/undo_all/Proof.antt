@@ -1,3 +1,4 @@
+use Rattle.exec_effects.specs.Performed.{links-performed, points-performed}
 use borrow.Author.Needs.{needs}
 use Prim.Native.Nat.{_-_, _≤_, _<_}
 use mathlib.Core.Path.{_≡_, refl}
@@ -74,7 +75,18 @@ loop-less c = omega arith
 
 -- src/undo.rt:38:5
 loop-again : tie.Need-loop-again Inv-loop μ-loop
-loop-again c = (omega arith, omega arith, omega arith, undo-turn _ _ _ _ _ _ _ _ (c .before .before .before .before .before .before .before .before .before .before .before .before .before .loop .inv .3) (omega arith) (omega arith) _ (c .before .before .before .before .before .before .before .before .before .before .before .before .before .before .limits-of .ensures) _ (c .before .before .before .before .before .before .before .before .before .before .read-within .ensures) _ (c .before .before .before .before .before .before .before .admit-read .ensures) (c .before .before .before .before .before .before .if2 .left) _ (c .before .before .before .perform .ensures .0) _ (c .before .before .before .perform .ensures .1) _ (omega arith))
+loop-again c =
+    let f = c .before .before .before .perform .ensures in
+    let d = c .before .before .before .before .before .before .before .before in
+    let r = d .before .before .before .before in
+    let l = r .before .before .before in (
+      omega arith,
+      omega arith,
+      omega arith,
+      undo-turn _ _ _ _ _ _ _ _ (l .loop .inv .3) (omega arith) (omega arith) _ (l .before .limits-of .ensures) _
+          (r .read-within .ensures) _ (d .before .admit-read .ensures) (d .if2 .left) _
+          (links-performed _ _ _ _ (f .0)) _ (points-performed _ _ _ _ _ (f .1)) _ (omega arith),
+    )
 
 -- src/undo.rt:24:1
 same-length-5 : tie.Need-same-length-5 Inv-loop μ-loop
