@@ -7,7 +7,7 @@ use lib.ListN.{length}
 use Rattle.script.specs.declared.Operator.{Operator}
 use Rattle.script.specs.declared.ReadAnswer.{ReadAnswer}
 use Rattle.script.specs.declared.WriteAnswer.{WriteAnswer}
-use Rattle.script.specs.Operands.{widest}
+use Rattle.codec.specs.Operands.{widest}
 use Rattle.script.specs.Operator.{Written, readOperator, writeOperator}
 use Rattle.table.specs.declared.clear.ClearAnswer.{ClearAnswer}
 use Rattle.table.specs.declared.count.CountAnswer.{CountAnswer}

@@ -11,7 +11,7 @@ use lib.ListN.{length, getD}
 use Rattle.laws.specs.Bools.{split, pick-ind}
 use Rattle.laws.specs.Search.{least, Least, none-is, one-is, leastFrom-is}
 use Rattle.script.specs.declared.Operator.{Operator}
-use Rattle.script.specs.Operands.{coordinate, pattern}
+use Rattle.codec.specs.Operands.{coordinate, pattern}
 use Rattle.script.specs.Operator.{operandOf}
 use Rattle.layout.specs.declared.shape.Shape.{Shape}
 use Rattle.layout.specs.Layout.{faceSolid, faceOuter, loopFace, loopOf}

@@ -11,8 +11,8 @@ use lib.IntN.{ℤ}
 use lib.ListN.{length, getD}
 use Rattle.laws.specs.Bools.{pick-ind, split}
 use Rattle.script.specs.declared.Operator.{Operator}
-use Rattle.script.specs.Operands.{coordinate, pattern, rows}
-use Rattle.script.specs.OperandLaws.{NoneOf, pattern-none}
+use Rattle.codec.specs.Operands.{coordinate, pattern, rows}
+use Rattle.codec.specs.OperandLaws.{NoneOf, pattern-none}
 use Rattle.layout.specs.declared.shape.Shape.{Shape}
 use Rattle.layout.specs.Layout.{faceSolid, faceOuter, loopFace, startOf, loopOf, nextOf, prevOf, side}
 use Rattle.layout.specs.Mate.{mate}

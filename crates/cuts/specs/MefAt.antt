@@ -8,7 +8,7 @@ use native.Mathlib.Omega.{arith}
 use lib.IntN.{ℤ, pos}
 use borrow.Author.Tests.{le-leb}
 use Rattle.script.specs.declared.Operator.{Operator}
-use Rattle.script.specs.Operands.{pattern, rows}
+use Rattle.codec.specs.Operands.{pattern, rows}
 use Rattle.layout.specs.declared.shape.Shape.{Shape}
 use Rattle.layout.specs.Mate.{edgeOf}
 use Rattle.euler.specs.Operators.{mefTest, mefEdge, mefLinks}

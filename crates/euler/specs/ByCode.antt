@@ -4,7 +4,7 @@ use mathlib.Core.Logic.{_⊎_, inl, inr, ⊎-elim}
 use mathlib.Core.List.{List}
 use Prim.Native.Nat.{ℕ, _≤_, _<_}
 use lib.ListN.{length, getD, List·getD-eq-default}
-use Rattle.script.specs.OperandLaws.{NoneOf, none-of}
+use Rattle.codec.specs.OperandLaws.{NoneOf, none-of}
 
 pub by-code {ℓ} : {A : Type ℓ} (xs : List A) (d : A) (code k : ℕ) (v r : A) → code ≡ k → getD xs k d ≡ v → r ≡ v → r ≡ getD xs code d
 by-code xs d code k v r e f g = rw (e, f) g

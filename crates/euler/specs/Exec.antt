@@ -7,9 +7,9 @@ use lib.Dec.{eqb}
 use lib.IntN.{ℤ, pos}
 use lib.ListN.{getD}
 use Rattle.laws.specs.Bools.{pick}
-use Rattle.script.specs.declared.Limits.{Limits}
+use Rattle.codec.specs.declared.Limits.{Limits}
 use Rattle.script.specs.declared.Operator.{Operator}
-use Rattle.script.specs.Operands.{pattern, largests, inRanges}
+use Rattle.codec.specs.Operands.{pattern, largests, inRanges}
 use Rattle.script.specs.Operator.{numbersOf, blankOf}
 use Rattle.layout.specs.declared.shape.Shape.{Shape}
 use Rattle.layout.specs.Layout.{solidUsed, faceSolid, faceOuter, loopFace, loopIsolated, startOf, nextOf, vertexUsed}

@@ -6,7 +6,7 @@ use mathlib.Core.List.{List}
 use Prim.Native.Nat.{ℕ}
 use lib.ListN.{getD}
 use Rattle.script.specs.declared.Operator.{Operator}
-use Rattle.script.specs.OperandLaws.{NoneOf}
+use Rattle.codec.specs.OperandLaws.{NoneOf}
 use Rattle.layout.specs.declared.shape.Shape.{Shape}
 use Rattle.euler.specs.ByCode.{by-code, by-none}
 use Rattle.euler.specs.Surgery.{itemOf}

@@ -7,7 +7,7 @@ use lib.IntN.{ℤ}
 use lib.ListN.{getD}
 use Rattle.script.specs.declared.Operator.{Operator}
 use Rattle.script.specs.Operator.{blankOf}
-use Rattle.script.specs.OperandLaws.{NoneOf}
+use Rattle.codec.specs.OperandLaws.{NoneOf}
 use Rattle.layout.specs.declared.shape.Shape.{Shape}
 use Rattle.layout.specs.Mate.{mate}
 use Rattle.euler.specs.ByCode.{by-code, by-none}

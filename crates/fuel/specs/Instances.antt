@@ -9,7 +9,7 @@ use Rattle.laws.specs.Search.{allTo, leastFrom}
 use Rattle.laws.specs.Sums.{sumTo}
 use Rattle.laws.specs.Walks.{meets}
 use Rattle.laws.specs.Closure.{across, pass, rounds, linkedb}
-use Rattle.script.specs.Operands.{pattern, rows, inRanges, inRange, wire, zig}
+use Rattle.codec.specs.Operands.{pattern, rows, inRanges, inRange, wire, zig}
 use Rattle.script.specs.declared.Operator.{Operator}
 use Rattle.layout.specs.declared.shape.Shape.{Shape}
 use Rattle.layout.specs.Layout.{shapeOf}

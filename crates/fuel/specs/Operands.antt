@@ -10,11 +10,11 @@ use lib.IntN.{ℤ, pos, negsuc}
 use lib.ListN.{length, getD}
 use borrow.Author.Tests.{le-leb}
 use Rattle.laws.specs.Bools.{true-T}
-use Rattle.script.specs.declared.Limits.{Limits}
+use Rattle.codec.specs.declared.Limits.{Limits}
 use Rattle.script.specs.declared.Operator.{Operator}
-use Rattle.script.specs.Operands.{coordinate, pattern, leasts, largests, widest, inRange, wire}
+use Rattle.codec.specs.Operands.{coordinate, pattern, leasts, largests, widest, inRange, wire}
 use Rattle.script.specs.Operator.{natOf, operandOf}
-use Rattle.script.specs.Ranges.{range-between, within-largest, eight}
+use Rattle.codec.specs.Ranges.{range-between, within-largest, eight}
 use Rattle.layout.specs.declared.shape.Shape.{Shape}
 use Rattle.layout.specs.Points.{rangeTest}
 use Rattle.euler.specs.Surgery.{itemOf}

@@ -12,9 +12,10 @@ use Rattle.laws.specs.Sums.{sumTo}
 use Rattle.laws.specs.Walks.{meets}
 use Rattle.laws.specs.Columns.{sweep}
 use Rattle.laws.specs.Closure.{across, pass, rounds, linkedb}
-use Rattle.script.specs.Number.{third, second, first, readNumber, groups}
-use Rattle.script.specs.Operands.{pattern, rows, inRanges, inRange, zig, zag, wire, unwire}
-use Rattle.script.specs.Operator.{operandBytes, operandsBytes, operatorBytes, putBytes}
+use Rattle.codec.specs.Number.{third, second, first, readNumber, groups}
+use Rattle.codec.specs.Operands.{pattern, rows, inRanges, inRange, zig, zag, wire, unwire}
+use Rattle.codec.specs.OperandBytes.{operandBytes, operandsBytes}
+use Rattle.script.specs.Operator.{operatorBytes, putBytes}
 use Rattle.layout.specs.Layout.{shapeOf}
 use Rattle.layout.specs.Mate.{mate}
 use Rattle.shells.specs.Shells.{within, joins, linkedBy}

@@ -12,7 +12,7 @@ use Rattle.laws.specs.Bools.{T-true, true-T, eqb-same}
 use Rattle.laws.specs.Every.{T-every}
 use Rattle.laws.specs.Sums.{countTo}
 use Rattle.laws.specs.Update.{upd-same, upd-off}
-use Rattle.script.specs.Operands.{pattern, rows}
+use Rattle.codec.specs.Operands.{pattern, rows}
 use Rattle.layout.specs.declared.shape.Shape.{Shape}
 use Rattle.layout.specs.Mate.{mate}
 use Rattle.euler.specs.Operators.{kefTest}

@@ -14,7 +14,7 @@ use lib.Seq.{take-append-seam}
 use borrow.Author.Tests.{le-ltb, eqb-false}
 use Rattle.laws.specs.Sums.{count-le}
 use Rattle.script.specs.Operator.{operatorBytes}
-use Rattle.script.specs.Ranges.{Within}
+use Rattle.codec.specs.Ranges.{Within}
 use Rattle.script.specs.Scripts.{operator-size}
 use Rattle.layout.specs.declared.shape.Shape.{Shape}
 use Rattle.layout.specs.Layout.{shapeOf}

@@ -10,7 +10,7 @@ use lib.IntN.{ℤ}
 use borrow.Author.Tests.{le-leb}
 use Rattle.laws.specs.Search.{least}
 use Rattle.laws.specs.Bools.{eqb-same, eqb-other}
-use Rattle.script.specs.Operands.{pattern, rows}
+use Rattle.codec.specs.Operands.{pattern, rows}
 use Rattle.layout.specs.declared.shape.Shape.{Shape}
 use Rattle.layout.specs.Mate.{mate}
 use Rattle.euler.specs.Operators.{sharesOutside, rmovTest, rmovLinks}

@@ -2,7 +2,7 @@
 // itself, and answers a refusal by document 01's number; none asks anything of its caller. For C they are in include/zoghvari.h.
 ghost use mathlib.Core.Path.{_≡_};
 ghost use lib.ListN.{length};
-ghost use Rattle.script.specs.Operands.{widest};
+ghost use Rattle.codec.specs.Operands.{widest};
 ghost use Rattle.script.specs.Operator.{readOperator, writeOperator, written};
 ghost use Rattle.table.specs.Check.{checkOf};
 ghost use Rattle.table.specs.Clear.{cleared, clearOf};

@@ -12,9 +12,9 @@ use Prim.Native.Nat.{ℕ, _≤_}
 use lib.IntN.{ℤ}
 use lib.ListN.{length, getD, take}
 use Rattle.script.specs.declared.Operator.{Operator}
-use Rattle.script.specs.Operands.{widest}
+use Rattle.codec.specs.Operands.{widest}
 use Rattle.script.specs.Operator.{readOperator, notWritten, writeOperator, readScript}
-use Rattle.script.specs.NumberTrip.{Bytes}
+use Rattle.codec.specs.NumberTrip.{Bytes}
 use Rattle.script.specs.EntryTrips.{Copied, writtenAll}
 use Rattle.layout.specs.declared.shape.Shape.{Shape}
 use Rattle.layout.specs.Layout.{shapeOf}

@@ -1,6 +1,6 @@
 -- THE MISSION IS PROVED: each statement by its theorem.
 use mathlib.Core.Path.{ap}
-use Rattle.script.specs.Operands.{widest}
+use Rattle.codec.specs.Operands.{widest}
 use Rattle.script.specs.EntryTrips.{write-read, read-write, script-copied}
 use Rattle.table.specs.declared.check.CheckAnswer.{CheckAnswer}
 use Rattle.validity.specs.ClearSound.{clear-valid}

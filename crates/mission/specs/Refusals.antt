@@ -10,15 +10,16 @@ use lib.Dec.{T, eqb, leb, ltb, eqb→eq}
 use lib.IntN.{ℤ}
 use lib.ListN.{length, getD}
 use Rattle.laws.specs.Bools.{pick, pick-ind, split, eqb-same, eqb-other, le?, or-T, and-T, allb}
-use Rattle.script.specs.declared.number.Num.{Num}
-use Rattle.script.specs.declared.number.Num.the-variants.{Got, Bad}
-use Rattle.script.specs.declared.Limits.{Limits}
+use Rattle.codec.specs.declared.number.Num.{Num}
+use Rattle.codec.specs.declared.number.Num.the-variants.{Got, Bad}
+use Rattle.codec.specs.declared.Limits.{Limits}
 use Rattle.script.specs.declared.Operator.{Operator}
 use Rattle.script.specs.declared.ReadAnswer.{ReadAnswer}
-use Rattle.script.specs.Number.{readNumber, onNum}
-use Rattle.script.specs.Operands.{pattern, largests, widest, inRanges}
+use Rattle.codec.specs.Number.{readNumber, onNum}
+use Rattle.codec.specs.Operands.{pattern, largests, widest, inRanges}
 use Rattle.script.specs.Accepted.{operatorIs}
-use Rattle.script.specs.Operator.{Numbers, Read, Cut, onNumbers, readOperands, refused, readBehind, readOperator}
+use Rattle.codec.specs.OperandBytes.{Numbers, Read, Cut, onNumbers, readOperands}
+use Rattle.script.specs.Operator.{refused, readBehind, readOperator}
 use Rattle.script.specs.Operator.{numbersOf, operatorBytes, operatorRefusal, Written, notWritten, writeOperator}
 use Rattle.layout.specs.declared.shape.Shape.{Shape}
 use Rattle.layout.specs.Layout.{shapeOf}

@@ -8,7 +8,7 @@ use lib.ListN.{length}
 use borrow.Author.Tests.{le-leb}
 use Rattle.laws.specs.Bools.{split, eqb-same, eqb-other}
 use Rattle.script.specs.declared.Operator.{Operator}
-use Rattle.script.specs.Ranges.{Within}
+use Rattle.codec.specs.Ranges.{Within}
 use Rattle.layout.specs.declared.shape.Shape.{Shape}
 use Rattle.layout.specs.Layout.{shapeOf}
 use Rattle.items.specs.Rules.{brokenRule}

@@ -10,9 +10,10 @@ use Rattle.laws.specs.Sums.{sumTo}
 use Rattle.laws.specs.Walks.{meets}
 use Rattle.laws.specs.Columns.{sweep}
 use Rattle.laws.specs.Closure.{across, pass, rounds, linkedb}
-use Rattle.script.specs.Number.{third, second, first, readNumber, groups}
-use Rattle.script.specs.Operands.{pattern, rows, inRanges, inRange, zig, zag, wire, unwire}
-use Rattle.script.specs.Operator.{readOperand, readOperands, readBehind, readOperator, operandBytes, operandsBytes, operatorBytes, putBytes}
+use Rattle.codec.specs.Number.{third, second, first, readNumber, groups}
+use Rattle.codec.specs.Operands.{pattern, rows, inRanges, inRange, zig, zag, wire, unwire}
+use Rattle.codec.specs.OperandBytes.{readOperand, readOperands, operandBytes, operandsBytes}
+use Rattle.script.specs.Operator.{readBehind, readOperator, operatorBytes, putBytes}
 use Rattle.layout.specs.Mate.{mate}
 use Rattle.items.specs.Rules.{solidRange, faceRange, loopRange, halfRange, vertexRange, rule1, solidNames, faceNames, loopNames, halfNames, rule2, loopEither, rule3, halfLinks, firstNames, halfInLoop, rule4, vertexEither, halfAtVertex, rule5, halfSides, faceLinked, rule6, brokenRule}
 use Rattle.table.specs.Sizes.{sizesFit}

@@ -10,7 +10,7 @@ use lib.ListN.{length, drop, length-append, length-drop}
 use borrow.Author.Tests.{lt-ltb}
 use Rattle.script.specs.declared.Operator.{Operator}
 use Rattle.script.specs.Operator.{operatorBytes}
-use Rattle.script.specs.Ranges.{Within}
+use Rattle.codec.specs.Ranges.{Within}
 use Rattle.script.specs.Scripts.{operator-size}
 use Rattle.layout.specs.declared.shape.Shape.{Shape}
 use Rattle.euler.specs.Exec.{limits, refusalOf, linksAfter, pointsAfter}

@@ -8,10 +8,10 @@ use lib.ListN.{length, drop}
 use borrow.Author.Tests.{eq-eqb, ne-eqb}
 use Rattle.script.specs.declared.Operator.{Operator}
 use Rattle.script.specs.declared.ReadAnswer.{ReadAnswer}
-use Rattle.script.specs.Operands.{pattern, widest, largests, inRanges, unwire}
+use Rattle.codec.specs.Operands.{pattern, widest, largests, inRanges, unwire}
 use Rattle.script.specs.Operator.{numbersOf, operatorBytes, operatorRefusal}
-use Rattle.script.specs.Ranges.{Within, within-largest, ranges-wider, eight}
-use Rattle.script.specs.OperandTrip.{operands-length, wires-unwires, each-length}
+use Rattle.codec.specs.Ranges.{Within, within-largest, ranges-wider, eight}
+use Rattle.codec.specs.OperandTrip.{operands-length, wires-unwires, each-length}
 use Rattle.script.specs.Accepted.{operatorIs, accepted, read-accepted}
 use Rattle.script.specs.RoundTrip.{Writable, operator-written}
 use Rattle.layout.specs.declared.shape.Shape.{Shape}

@@ -10,7 +10,7 @@ use lib.ListN.{length, getD, take, drop, set, length-append, drop-of-length-le}
 use lib.Seq.{sets, drop-cons}
 use borrow.Author.Tests.{lt-ltb, le-ltb}
 use Rattle.laws.specs.Bools.{le?}
-use Rattle.script.specs.WriteLaws.{sets-append}
+use Rattle.codec.specs.WriteLaws.{sets-append}
 use Rattle.table.specs.declared.count.CountAnswer.{CountAnswer}
 use Rattle.io.specs.Digits as io
 use Rattle.report.specs.Text.{digits, decimal, newline, refusalLabel, doneLabel, usedLabel, solidsLabel, facesLabel, loopsLabel, edgesLabel, verticesLabel, ringsLabel, holesLabel, field, answerLine, countLine, textOf}

@@ -13,7 +13,7 @@ use Rattle.laws.specs.Bools.{pick, true-T, T-true, eqb-same}
 use Rattle.laws.specs.Every.{every-T, T-every}
 use Rattle.laws.specs.Sums.{countTo}
 use Rattle.script.specs.declared.Operator.{Operator}
-use Rattle.script.specs.Operands.{pattern, rows}
+use Rattle.codec.specs.Operands.{pattern, rows}
 use Rattle.layout.specs.declared.shape.Shape.{Shape}
 use Rattle.euler.specs.Operators.{kfmrhTest, kfmrhLinks}
 use Rattle.euler.specs.Exec.{useWord, condition, refusalOf, linksAfter, pointsAfter, inverse}

@@ -10,7 +10,7 @@ use lib.IntN.{ℤ}
 use lib.ListN.{length}
 use borrow.Author.Tests.{lt-ltb, le-ltb, le-leb, lt-leb, eq-eqb, ne-eqb}
 use Rattle.laws.specs.Bools.{pick, same?, split, eqb-same, eqb-other}
-use Rattle.script.specs.declared.Limits.{Limits}
+use Rattle.codec.specs.declared.Limits.{Limits}
 use Rattle.script.specs.declared.Operator.{Operator}
 use Rattle.script.specs.declared.ReadAnswer.{ReadAnswer}
 use Rattle.script.specs.Operator.{readOperator, operatorBytes, putBytes}

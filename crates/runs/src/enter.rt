@@ -1,12 +1,12 @@
 // The way into a run, an undo and their operators: who is let in, and the ranges that the table's operands have.
 ghost use mathlib.Core.Path.{_≡_};
-ghost use Rattle.script.specs.Operands.{largests};
+ghost use Rattle.codec.specs.Operands.{largests};
 ghost use Rattle.euler.specs.Exec.{limits};
 ghost use Rattle.layout.specs.Small.{Small};
 ghost use Rattle.runs.specs.Run.{state, entry};
+use codec::Limits;
+use codec::operands::largest;
 use layout::shape::Shape;
-use script::Limits;
-use script::operands::largest;
 use table::check::CheckAnswer;
 use table::check::check;
 

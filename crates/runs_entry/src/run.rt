@@ -3,7 +3,7 @@
 ghost use mathlib.Core.Path.{_≡_};
 ghost use Prim.Native.Nat.{ℕ, _≤_};
 ghost use lib.ListN.{length};
-ghost use Rattle.script.specs.Operands.{largests};
+ghost use Rattle.codec.specs.Operands.{largests};
 ghost use Rattle.euler.specs.Exec.{limits};
 ghost use Rattle.runs.specs.Run.{state, leaves, runFrom, runOf};
 ghost use Rattle.runs_steps.specs.Standing.{Standing};
@@ -38,7 +38,18 @@ fn run_all(
     let mut done: usize = 0;
     let mut from = start;
     while at < script.len() {
-        let s = run_step(links, points, log, counts, sh, from, script, at, most, &mut args);
+        let s = run_step(
+            links,
+            points,
+            log,
+            counts,
+            sh,
+            from,
+            script,
+            at,
+            most,
+            &mut args,
+        );
         if s.refusal != 0 {
             return RunAnswer {
                 refusal: s.refusal,

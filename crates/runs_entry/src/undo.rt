@@ -1,7 +1,7 @@
 // Undo: the first operators of the log's live part, run unlogged. No byte of the log changes.
 ghost use mathlib.Core.Path.{_≡_};
 ghost use Prim.Native.Nat.{ℕ};
-ghost use Rattle.script.specs.Operands.{largests};
+ghost use Rattle.codec.specs.Operands.{largests};
 ghost use Rattle.euler.specs.Exec.{limits};
 ghost use Rattle.runs.specs.Run.{state, restores, undoFrom, undoOf};
 ghost use Rattle.runs_steps.specs.Standing.{Standing};

@@ -1,6 +1,6 @@
 // One operator of a log: read, admitted, carried out, unlogged.
 ghost use mathlib.Core.Path.{_≡_};
-ghost use Rattle.script.specs.Operands.{largests};
+ghost use Rattle.codec.specs.Operands.{largests};
 ghost use Rattle.euler.specs.Exec.{limits};
 ghost use Rattle.runs.specs.Run.{readAt, refusalAt};
 ghost use Rattle.runs_steps.specs.Standing.{Standing, backOf};

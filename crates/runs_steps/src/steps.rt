@@ -4,7 +4,7 @@ ghost use mathlib.Core.Path.{_≡_};
 ghost use Prim.Native.Nat.{ℕ, _-_, _≤_, _<_};
 ghost use lib.Dec.{leb};
 ghost use lib.ListN.{length};
-ghost use Rattle.script.specs.Operands.{largests};
+ghost use Rattle.codec.specs.Operands.{largests};
 ghost use Rattle.script.specs.Operator.{operatorBytes};
 ghost use Rattle.euler.specs.Exec.{limits};
 ghost use Rattle.runs.specs.Run.{state, stepIs, stepOf};

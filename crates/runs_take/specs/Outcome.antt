@@ -12,14 +12,15 @@ use lib.ListN.{length, getD, take, drop, replicate, take-append-drop}
 use borrow.Author.Tests.{eqb-true, eq-eqb, ne-eqb, le-leb, lt-leb, leb-true}
 use Rattle.laws.specs.Bools.{pick, allb, ask, split, le?, eqb-same, and-T, true-T, T-true}
 use Rattle.script.specs.declared.ReadAnswer.{ReadAnswer}
-use Rattle.script.specs.declared.number.Num.the-variants.{Got, Bad}
-use Rattle.script.specs.declared.operands.Pattern.{Pattern}
-use Rattle.script.specs.Number.{readNumber}
-use Rattle.script.specs.Operands.{unused, row, rows, pattern, largests, inRanges, unwires}
-use Rattle.script.specs.Operator.{Numbers, Read, Cut, onNumbers, readOperands, refused, readBehind, readOperator}
-use Rattle.script.specs.OperandLaws.{no-code}
-use Rattle.script.specs.ReadLaws.{operator-bad, operator-behind, operator-none}
-use Rattle.script.specs.Ranges.{each-row, eight, not-true}
+use Rattle.codec.specs.declared.number.Num.the-variants.{Got, Bad}
+use Rattle.codec.specs.declared.operands.Pattern.{Pattern}
+use Rattle.codec.specs.Number.{readNumber}
+use Rattle.codec.specs.Operands.{unused, row, rows, pattern, largests, inRanges, unwires}
+use Rattle.codec.specs.OperandBytes.{Numbers, Read, Cut, onNumbers, readOperands}
+use Rattle.script.specs.Operator.{refused, readBehind, readOperator}
+use Rattle.codec.specs.OperandLaws.{no-code}
+use Rattle.script.specs.AnswerLaws.{operator-bad, operator-behind, operator-none}
+use Rattle.codec.specs.Ranges.{each-row, eight, not-true}
 use Rattle.layout.specs.declared.shape.Shape.{Shape}
 use Rattle.layout.specs.Small.{Small}
 use Rattle.euler.specs.Exec.{operatorBy, limits, condition, useRefusals, admitOf}

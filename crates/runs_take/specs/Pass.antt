@@ -12,15 +12,16 @@ use lib.ListN.{length, getD, take, set, replicate, length-append, List·getD-eq-
 use lib.Seq.{getD-take, set-at}
 use borrow.Author.Tests.{le-leb}
 use Rattle.laws.specs.Bools.{pick, pick-ind, split, le?, eqb-same, eqb-other}
-use Rattle.script.specs.declared.Limits.{Limits}
+use Rattle.codec.specs.declared.Limits.{Limits}
 use Rattle.script.specs.declared.Operator.{Operator}
-use Rattle.script.specs.declared.number.Num.{Num}
-use Rattle.script.specs.declared.number.Num.the-variants.{Got, Bad}
-use Rattle.script.specs.Number.{readNumber, onNum}
-use Rattle.script.specs.Operands.{unused, coordinate, largests, inRange, inRanges, unwire, unwires}
-use Rattle.script.specs.Operator.{Numbers, Read, Cut, onNumbers, readOperand, readOperands, natOf}
-use Rattle.script.specs.OperandLaws.{unwire-plain}
-use Rattle.script.specs.Ranges.{range-between, ranges-cons}
+use Rattle.codec.specs.declared.number.Num.{Num}
+use Rattle.codec.specs.declared.number.Num.the-variants.{Got, Bad}
+use Rattle.codec.specs.Number.{readNumber, onNum}
+use Rattle.codec.specs.Operands.{unused, coordinate, largests, inRange, inRanges, unwire, unwires}
+use Rattle.codec.specs.OperandBytes.{Numbers, Read, Cut, onNumbers, readOperand, readOperands}
+use Rattle.script.specs.Operator.{natOf}
+use Rattle.codec.specs.OperandLaws.{unwire-plain}
+use Rattle.codec.specs.Ranges.{range-between, ranges-cons}
 use Rattle.layout.specs.declared.shape.Shape.{Shape}
 use Rattle.layout.specs.Small.{Small}
 use Rattle.euler.specs.Surgery.{itemOf}

@@ -8,8 +8,8 @@ use lib.IntN.{ℤ}
 use lib.ListN.{set}
 use Rattle.laws.specs.Bools.{pick}
 use Rattle.script.specs.declared.ReadAnswer.{ReadAnswer}
-use Rattle.script.specs.Number.{readNumber, onNum}
-use Rattle.script.specs.Operands.{largests, inRange, unwire}
+use Rattle.codec.specs.Number.{readNumber, onNum}
+use Rattle.codec.specs.Operands.{largests, inRange, unwire}
 use Rattle.script.specs.Operator.{readBehind}
 use Rattle.layout.specs.declared.shape.Shape.{Shape}
 use Rattle.euler.specs.Exec.{operatorBy, limits, useRefusal, condition}

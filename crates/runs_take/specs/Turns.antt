@@ -10,13 +10,13 @@ use lib.ListN.{length, getD, take, drop, set, drop-of-length-le}
 use lib.Seq.{getD-take, length-take-le}
 use borrow.Author.Tests.{eq-eqb, ne-eqb, le-leb, lt-leb}
 use Rattle.laws.specs.Bools.{pick}
-use Rattle.script.specs.declared.number.Num.{Num}
-use Rattle.script.specs.declared.number.Num.the-variants.{Got, Bad}
-use Rattle.script.specs.Number.{readNumber, onNum}
-use Rattle.script.specs.Operands.{inRange, unwire}
-use Rattle.script.specs.Operator.{readOperand, readOperands}
-use Rattle.script.specs.OperandLaws.{ahead}
-use Rattle.script.specs.ReadLaws.{small-read}
+use Rattle.codec.specs.declared.number.Num.{Num}
+use Rattle.codec.specs.declared.number.Num.the-variants.{Got, Bad}
+use Rattle.codec.specs.Number.{readNumber, onNum}
+use Rattle.codec.specs.Operands.{inRange, unwire}
+use Rattle.codec.specs.OperandBytes.{readOperand, readOperands}
+use Rattle.codec.specs.OperandLaws.{ahead}
+use Rattle.codec.specs.ReadLaws.{small-read}
 use Rattle.layout.specs.declared.shape.Shape.{Shape}
 use Rattle.euler.specs.Exec.{operatorBy, condition}
 use Rattle.runs_take.specs.Take.{Scan, scanIs, joined, joinedBy, scan, taken, settled}

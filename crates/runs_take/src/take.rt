@@ -2,20 +2,20 @@
 ghost use mathlib.Core.Path.{_≡_};
 ghost use Prim.Native.Nat.{ℕ, _≤_, _<_};
 ghost use lib.ListN.{take};
-ghost use Rattle.script.specs.Operands.{largests};
+ghost use Rattle.codec.specs.Operands.{largests};
 ghost use Rattle.layout.specs.Small.{Small};
 ghost use Rattle.euler.specs.Exec.{operatorBy, limits};
 ghost use Rattle.counts.specs.Counts.{Counted};
 ghost use Rattle.runs.specs.Run.{readAt, refusalAt};
 ghost use Rattle.runs_take.specs.Take.{scanIs, joinedBy, scan, taken, settled, Answers, readFrom};
+use codec::number::Num;
+use codec::number::read_number;
+use codec::operands::from_wire;
+use codec::operands::in_range;
+use codec::operands::pattern_of;
 use euler::admit::use_refusal;
 use exec_admit::conditions::condition_holds;
 use layout::shape::Shape;
-use script::number::Num;
-use script::number::read_number;
-use script::operands::from_wire;
-use script::operands::in_range;
-use script::operands::pattern_of;
 
 // What taking an operator answers. On 3, 4 and 5 `next` is the place handed in.
 pub struct Taken {

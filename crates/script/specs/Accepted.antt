@@ -10,17 +10,18 @@ use lib.ListN.{length, getD, drop}
 use lib.Dec.{ltb, leb, eqb}
 use borrow.Author.Tests.{ltb-false, leb-true, le-leb, lt-leb, le-ltb, eqb-true, eqb-false, eq-eqb, ne-eqb}
 use Rattle.laws.specs.Bools.{pick, ask, le?, allb}
-use Rattle.script.specs.declared.number.Num.{Num}
-use Rattle.script.specs.declared.number.Num.the-variants.{Got, Bad}
-use Rattle.script.specs.declared.Limits.{Limits}
+use Rattle.codec.specs.declared.number.Num.{Num}
+use Rattle.codec.specs.declared.number.Num.the-variants.{Got, Bad}
+use Rattle.codec.specs.declared.Limits.{Limits}
 use Rattle.script.specs.declared.Operator.{Operator}
-use Rattle.script.specs.declared.operands.Pattern.{Pattern}
+use Rattle.codec.specs.declared.operands.Pattern.{Pattern}
 use Rattle.script.specs.declared.ReadAnswer.{ReadAnswer}
-use Rattle.script.specs.Number.{readNumber, groups, onNum}
-use Rattle.script.specs.Operands.{unused, row, rows, pattern, leasts, largests, widest, inRange, inRanges, unwires}
-use Rattle.script.specs.Operator.{Numbers, Read, Cut, onNumbers, readOperand, readOperands, refused, readBehind, readOperator}
-use Rattle.script.specs.OperandLaws.{no-code}
-use Rattle.script.specs.NumberTrip.{number-next}
+use Rattle.codec.specs.Number.{readNumber, groups, onNum}
+use Rattle.codec.specs.Operands.{unused, row, rows, pattern, leasts, largests, widest, inRange, inRanges, unwires}
+use Rattle.codec.specs.OperandBytes.{Numbers, Read, Cut, onNumbers, readOperand, readOperands}
+use Rattle.script.specs.Operator.{refused, readBehind, readOperator}
+use Rattle.codec.specs.OperandLaws.{no-code}
+use Rattle.codec.specs.NumberTrip.{number-next}
 
 -- the operator that these numbers are
 abbrev pub operatorIs : ℕ → List ℕ → Operator

@@ -10,13 +10,14 @@ use lib.IntN.{ℤ, pos, negsuc, natAbs}
 use lib.Dec.{ltb, leb, eqb}
 use borrow.Author.Tests.{le-ltb, le-leb, lt-leb, ne-eqb, eq-eqb, ltb-true, leb-true}
 use Rattle.laws.specs.Bools.{pick, ask, allb, le?}
-use Rattle.script.specs.declared.Limits.{Limits}
-use Rattle.script.specs.declared.operands.Pattern.{Pattern}
-use Rattle.script.specs.Operands.{row, rows, pattern, coordinate, leasts, largests, inRange, inRanges, zig, zag, wire, unwire, unwires}
-use Rattle.script.specs.Operator.{Read, readOperands, readOperator, natOf, operandOf}
-use Rattle.script.specs.SignedLaws.{zig-zag}
-use Rattle.script.specs.Ranges.{not-true, range-between, ranges-cons, eight}
-use Rattle.script.specs.OperandTrip.{operands-length}
+use Rattle.codec.specs.declared.Limits.{Limits}
+use Rattle.codec.specs.declared.operands.Pattern.{Pattern}
+use Rattle.codec.specs.Operands.{row, rows, pattern, coordinate, leasts, largests, inRange, inRanges, zig, zag, wire, unwire, unwires}
+use Rattle.codec.specs.OperandBytes.{Read, readOperands}
+use Rattle.script.specs.Operator.{readOperator, natOf, operandOf}
+use Rattle.codec.specs.SignedLaws.{zig-zag}
+use Rattle.codec.specs.Ranges.{not-true, range-between, ranges-cons, eight}
+use Rattle.codec.specs.OperandTrip.{operands-length}
 use Rattle.script.specs.Accepted.{Accepted, accepted}
 
 -- each of 1 to 13 is a code

@@ -13,11 +13,11 @@ use borrow.Author.Tests.{le-leb, leb-true, eq-eqb, eqb-true, eqb-false}
 use Rattle.laws.specs.Bools.{pick}
 use Rattle.script.specs.declared.Operator.{Operator}
 use Rattle.script.specs.declared.ReadAnswer.{ReadAnswer}
-use Rattle.script.specs.Operands.{widest}
+use Rattle.codec.specs.Operands.{widest}
 use Rattle.script.specs.Operator.{readOperator, operatorBytes, operatorRefusal, Written, written, notWritten}
 use Rattle.script.specs.Operator.{writeOperator, writeScript, Script, scriptIs, before, readFrom, readScript}
-use Rattle.script.specs.NumberTrip.{Bytes}
-use Rattle.script.specs.Ranges.{Within}
+use Rattle.codec.specs.NumberTrip.{Bytes}
+use Rattle.codec.specs.Ranges.{Within}
 use Rattle.script.specs.RoundTrip.{Writable, operator-written, read-next, written-read, read-writable}
 use Rattle.script.specs.Scripts.{AllWritable, operator-size, written-script}
 

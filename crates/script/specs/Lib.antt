@@ -1,16 +1,6 @@
-pub mod Number
-pub mod NumberLaws
-pub mod Operands
 pub mod Operator
-pub mod SignedLaws
-pub mod OperandLaws
-pub mod ReadLaws
-pub mod WriteLaws
+pub mod AnswerLaws
 pub mod OperatorLaws
-pub mod NumberTrip
-pub mod Ranges
-pub mod BeforeLaws
-pub mod OperandTrip
 pub mod Accepted
 pub mod Bounds
 pub mod RoundTrip

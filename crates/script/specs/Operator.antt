@@ -1,21 +1,18 @@
 -- An operator is its code and its operands, as numbers one behind the other. Reading one gives 3, 4 or 5; writing one 4, 5, then 9.
 use Prim.Native.Nat.{ℕ, zero, suc, _+_}
-use mathlib.Core.Bool.{Bool, true, false}
 use mathlib.Core.List.{List, [], _∷_, _++_}
 use lib.ListN.{length, getD, set, replicate}
 use lib.Seq.{sets}
 use lib.IntN.{ℤ, pos, negsuc}
 use lib.Dec.{ltb, leb, eqb}
 use Rattle.laws.specs.Bools.{pick}
-use Rattle.script.specs.declared.number.Num.{Num}
-use Rattle.script.specs.declared.number.Num.the-variants.{Got, Bad}
-use Rattle.script.specs.declared.bytes.NumbersAnswer.{NumbersAnswer}
-use Rattle.script.specs.declared.Limits.{Limits}
+use Rattle.codec.specs.declared.Limits.{Limits}
 use Rattle.script.specs.declared.Operator.{Operator}
 use Rattle.script.specs.declared.ReadAnswer.{ReadAnswer}
 use Rattle.script.specs.declared.WriteAnswer.{WriteAnswer}
-use Rattle.script.specs.Number.{readNumber, groups, onNum}
-use Rattle.script.specs.Operands.{unused, pattern, widest, largests, inRanges, wires, unwires}
+use Rattle.codec.specs.Number.{readNumber, groups, onNum}
+use Rattle.codec.specs.Operands.{pattern, widest, largests, inRanges, wires, unwires}
+use Rattle.codec.specs.OperandBytes.{onNumbers, readOperands, operandsBytes}
 
 -- an operator with the operands 0
 abbrev pub blankOf : ℕ → ℕ → Operator
@@ -35,30 +32,6 @@ abbrev pub withNumber : Operator → ℕ → ℕ → Operator
 withNumber op i n = record { code = op .code; count = op .count; args = set (op .args) i (pos n) }
 
 -- READING
--- numbers that were read, with the place behind them, or a refusal
-pub data Numbers : Type 0 where
-  Read : List ℕ → ℕ → Numbers
-  Cut : Numbers
-
-abbrev pub onNumbers {ℓ} : {X : Type ℓ} → Numbers → (List ℕ → ℕ → X) → X → X
-onNumbers (Read ns next) got cut = got ns next
-onNumbers Cut got cut = cut
-
--- an unused operand is 0 and takes no byte
-unfoldable pub readOperand : ℕ → List ℕ → ℕ → Num
-readOperand kind s at = pick (eqb kind unused) (Got 0 at) (readNumber s at)
-
--- the operands of these kinds, from `at` on
-unfoldable pub readOperands : List ℕ → List ℕ → ℕ → Numbers
-readOperands [] s at = Read [] at
-readOperands (k ∷ ks) s at =
-    onNum (readOperand k s at) (λ n next. onNumbers (readOperands ks s next) (λ ns end. Read (n ∷ ns) end) Cut) Cut
-
--- as the code has them: on a refusal the place handed in and zeros
-abbrev pub numbersAnswer : ℕ → Numbers → NumbersAnswer
-numbersAnswer at (Read ns next) = record { refusal = 0; next = next; numbers = ns }
-numbersAnswer at Cut = record { refusal = 3; next = at; numbers = replicate 8 0 }
-
 -- a refused read answers the place it was given and the blank operator 0
 abbrev pub refused : ℕ → ℕ → ReadAnswer
 refused refusal at = record { refusal = refusal; next = at; op = blankOf 0 0 }
@@ -86,14 +59,6 @@ readOperator lim s at = onNum (readNumber s at) (readBehind lim s at) (refused 3
 -- the numbers that an operator's operands travel as
 abbrev pub numbersOf : Operator → List ℕ
 numbersOf op = wires (pattern (op .code) .kinds) (op .args)
-
-unfoldable pub operandBytes : ℕ → ℕ → List ℕ
-operandBytes kind n = pick (eqb kind unused) [] (groups n)
-
-unfoldable pub operandsBytes : List ℕ → List ℕ → List ℕ
-operandsBytes [] ns = []
-operandsBytes (k ∷ ks) [] = []
-operandsBytes (k ∷ ks) (n ∷ ns) = operandBytes k n ++ operandsBytes ks ns
 
 unfoldable pub operatorBytes : Operator → List ℕ
 operatorBytes op = groups (op .code) ++ operandsBytes (pattern (op .code) .kinds) (numbersOf op)

@@ -1,21 +1,23 @@
 -- The ways out of the code that writes an operator.
 use mathlib.Core.Path.{_≡_, refl, sym, ap, _∙_}
-use Prim.Native.Nat.{ℕ, _+_, _-_, _*_, _≤_, _<_}
+use Prim.Native.Nat.{ℕ, _+_, _-_, _≤_, _<_}
 use native.Mathlib.Omega.{arith}
-use mathlib.Core.Bool.{Bool, true, false}
-use mathlib.Core.List.{List, [], _∷_, _++_}
-use lib.ListN.{length, length-append}
+use mathlib.Core.Bool.{true, false}
+use mathlib.Core.List.{List, _++_, map}
+use lib.ListN.{length, length-append, length-map, getD, List·getD-eq-default}
+use lib.IntN.{ℤ, pos, negsuc}
 use lib.Seq.{sets}
 use borrow.Author.Tests.{le-leb, lt-leb, eq-eqb, ne-eqb}
 use Rattle.script.specs.declared.Operator.{Operator}
-use Rattle.script.specs.declared.operands.Pattern.{Pattern}
-use Rattle.script.specs.Number.{groups}
-use Rattle.script.specs.Operands.{pattern, widest, largests, inRanges, filled, wires}
-use Rattle.script.specs.Operator.{numbersOf, operandsBytes, operatorBytes, operatorRefusal}
+use Rattle.codec.specs.declared.operands.Pattern.{Pattern}
+use Rattle.codec.specs.Number.{groups}
+use Rattle.codec.specs.Operands.{pattern, widest, largests, inRanges, filled, wires}
+use Rattle.codec.specs.OperandBytes.{operandsBytes}
+use Rattle.script.specs.Operator.{natOf, numbersOf, operatorBytes, operatorRefusal}
 use Rattle.script.specs.Operator.{putBytes, written, notWritten, writeOperator}
-use Rattle.script.specs.WriteLaws.{sets-append, groups-size}
-use Rattle.script.specs.Ranges.{eight}
-use Rattle.script.specs.BeforeLaws.{before-turn, pattern-filled, operands-bound}
+use Rattle.codec.specs.WriteLaws.{sets-append, groups-size}
+use Rattle.codec.specs.Ranges.{eight}
+use Rattle.codec.specs.BeforeLaws.{before-turn, pattern-filled, operands-bound}
 
 -- an operator takes at most 27 bytes
 pub operator-bound : (op : Operator) → length (operatorBytes op) ≤ 27
@@ -95,7 +97,7 @@ module _ (op : Operator) (out : List ℕ) (r : ℕ) (e : r ≡ operatorRefusal o
   module _ (z : r ≡ 0) (size : ℕ) (f : size ≡ length (operatorBytes op)) where
     pub write-short : length out < size → notWritten 9 out ≡ writeOperator op out
     unfolding writeOperator
-    write-short h = rw (← e, eq-eqb r 0 z, ← f, lt-leb size (length out) h)
+    write-short h = rw (← e, eq-eqb r 0 z, ← f, lt-leb size (length out) h) refl
 
     pub write-done : size ≤ length out → (y : List ℕ) → y ≡ putBytes out 0 (operatorBytes op) → written (record { refusal = 0; length = size }) y ≡ writeOperator op out
     unfolding writeOperator putBytes
@@ -104,3 +106,17 @@ module _ (op : Operator) (out : List ℕ) (r : ℕ) (e : r ≡ operatorRefusal o
         let n : 0 + length (operatorBytes op) ≡ length (operatorBytes op) = omega arith in
         rw (← e, eq-eqb r 0 z, f, le-leb (length (operatorBytes op)) (length out) k)
         (ap (λ (l : List ℕ). written (record { refusal = 0; length = length (operatorBytes op) }) l) (rw (n, le-leb (length (operatorBytes op)) (length out) k) at g))
+
+-- an operand as a number that is not negative
+pub natOf-pos : (z : ℤ) (n : ℕ) → z ≡ pos n → n ≡ natOf z
+natOf-pos z n e = rw e
+
+pub natOf-neg : (z : ℤ) (n : ℕ) → z ≡ negsuc n → 0 ≡ natOf z
+natOf-neg z n e = rw e
+
+pub natOf-out : (l : List ℤ) (i : ℕ) → length l ≡ 8 → 8 ≤ i → 0 ≡ natOf (getD l i (pos 0))
+natOf-out l i e h = let k : length l ≤ i = omega arith in rw (List·getD-eq-default l (pos 0) k)
+
+-- the length of an array in a struct, as the logic has it
+pub unmapped : (l : List ℤ) (n : ℕ) → length (map (λ (v : ℤ). v) l) ≡ n → length l ≡ n
+unmapped l n e = sym (length-map l (λ (v : ℤ). v)) ∙ e

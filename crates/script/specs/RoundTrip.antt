@@ -11,17 +11,18 @@ use lib.Seq.{drop-at, drop-drop, drop-append-seam, take-append-seam}
 use lib.Dec.{ltb, eqb}
 use borrow.Author.Tests.{lt-ltb, le-ltb, eq-eqb, ne-eqb, eqb-true, eqb-false, ltb-true, ltb-false}
 use Rattle.laws.specs.Bools.{pick, ask}
-use Rattle.script.specs.declared.number.Num.the-variants.{Got, Bad}
-use Rattle.script.specs.declared.Limits.{Limits}
+use Rattle.codec.specs.declared.number.Num.the-variants.{Got, Bad}
+use Rattle.codec.specs.declared.Limits.{Limits}
 use Rattle.script.specs.declared.Operator.{Operator}
 use Rattle.script.specs.declared.ReadAnswer.{ReadAnswer}
-use Rattle.script.specs.Number.{readNumber, groups}
-use Rattle.script.specs.Operands.{pattern, widest, largests, inRanges, wire, unwire, wires, unwires}
-use Rattle.script.specs.Operator.{Read, readOperands, readOperator, numbersOf, operandsBytes, operatorBytes, operatorRefusal, writeScript, Script, scriptIs, before, readFrom, readScript}
-use Rattle.script.specs.WriteLaws.{groups-size}
-use Rattle.script.specs.NumberTrip.{Bytes, number-written, written-number, number-next}
-use Rattle.script.specs.Ranges.{Within, within-largest, ranges-wider, eight, code-between}
-use Rattle.script.specs.OperandTrip.{operands-written, written-operands, operands-next, wires-unwires, unwires-wires, each-length}
+use Rattle.codec.specs.Number.{readNumber, groups}
+use Rattle.codec.specs.Operands.{pattern, widest, largests, inRanges, wire, unwire, wires, unwires}
+use Rattle.codec.specs.OperandBytes.{Read, readOperands, operandsBytes}
+use Rattle.script.specs.Operator.{readOperator, numbersOf, operatorBytes, operatorRefusal, writeScript, Script, scriptIs, before, readFrom, readScript}
+use Rattle.codec.specs.WriteLaws.{groups-size}
+use Rattle.codec.specs.NumberTrip.{Bytes, number-written, written-number, number-next}
+use Rattle.codec.specs.Ranges.{Within, within-largest, ranges-wider, eight, code-between}
+use Rattle.codec.specs.OperandTrip.{operands-written, written-operands, operands-next, wires-unwires, unwires-wires, each-length}
 use Rattle.script.specs.Accepted.{Accepted, accepted, read-accepted, operatorIs}
 
 -- an operator that can be written: a record of eight operands that writing does not refuse

@@ -1,14 +1,14 @@
-// Operators as bytes: numbers in groups of seven bits, an operator as its code and operands.
-pub mod number; // numbers
-pub mod operands; // what each operand is
-mod bytes; // operands as bytes
-
+// Operators as bytes: the code and the operands, one behind the other.
 ghost use mathlib.Core.Path.{_≡_};
 ghost use Prim.Native.Nat.{ℕ, _+_, _-_, _≤_, _<_};
 ghost use lib.ListN.{length};
-ghost use Rattle.script.specs.Operands.{widest};
+ghost use Rattle.codec.specs.Operands.{widest};
 ghost use Rattle.script.specs.Operator.{blankOf, operandOf, withNumber, refused, readBehind, readOperator, numbersOf, operatorBytes, operatorRefusal, putBytes, written, writeOperator};
-use number::Num;
+use codec::Limits;
+use codec::bytes;
+use codec::number;
+use codec::number::Num;
+use codec::operands;
 
 // An operator: its code, how many operands it has, and the operands, zeros behind them.
 #[repr(C)]
@@ -16,15 +16,6 @@ pub struct Operator {
     pub code: u8,
     pub count: u8,
     pub args: [i32; 8],
-}
-
-// The largest number of each kind; there are twice as many half-edges as edges.
-pub struct Limits {
-    pub solids: u16,
-    pub faces: u16,
-    pub loops: u16,
-    pub edges: u16,
-    pub vertices: u16,
 }
 
 // What reading an operator answers. On a refusal `next` is the place handed in and `op` the blank operator 0.

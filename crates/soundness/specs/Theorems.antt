@@ -9,7 +9,7 @@ use lib.IntN.{ℤ}
 use lib.ListN.{length}
 use Rattle.laws.specs.Bools.{split}
 use Rattle.script.specs.declared.Operator.{Operator}
-use Rattle.script.specs.OperandLaws.{NoneOf, pattern-none}
+use Rattle.codec.specs.OperandLaws.{NoneOf, pattern-none}
 use Rattle.layout.specs.declared.shape.Shape.{Shape}
 use Rattle.layout.specs.Layout.{shapeOf}
 use Rattle.euler.specs.Exec.{Table, exec, refusalOf, linksAfter, pointsAfter}

@@ -11,7 +11,7 @@ use lib.ListN.{length, getD}
 use borrow.Author.Tests.{le-leb}
 use Rattle.laws.specs.Bools.{true-T, T-true, and-T, T-and, eqb-same}
 use Rattle.script.specs.declared.Operator.{Operator}
-use Rattle.script.specs.Operands.{pattern, rows}
+use Rattle.codec.specs.Operands.{pattern, rows}
 use Rattle.script.specs.Operator.{operandOf}
 use Rattle.layout.specs.declared.shape.Shape.{Shape}
 use Rattle.layout.specs.Mate.{mate, edgeOf}

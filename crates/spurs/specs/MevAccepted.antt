@@ -7,7 +7,7 @@ use native.Mathlib.Omega.{arith}
 use lib.Dec.{T}
 use lib.IntN.{ℤ, pos}
 use borrow.Author.Tests.{le-leb}
-use Rattle.script.specs.Operands.{pattern, rows}
+use Rattle.codec.specs.Operands.{pattern, rows}
 use Rattle.layout.specs.declared.shape.Shape.{Shape}
 use Rattle.layout.specs.Points.{rangeTest}
 use Rattle.euler.specs.Surgery.{corner}

@@ -12,10 +12,10 @@ use lib.ListN.{length, getD, replicate}
 use lib.Seq.{ext-getD}
 use borrow.Author.Tests.{le-leb}
 use Rattle.laws.specs.Bools.{pick, split, true-T, eqb-same, eqb-other}
-use Rattle.script.specs.declared.Limits.{Limits}
+use Rattle.codec.specs.declared.Limits.{Limits}
 use Rattle.script.specs.declared.Operator.{Operator}
-use Rattle.script.specs.Operands.{unused, coordinate, pattern, leasts, largests, inRange, inRanges, zig, wire, wires}
-use Rattle.script.specs.Ranges.{range-between, between-range}
+use Rattle.codec.specs.Operands.{unused, coordinate, pattern, leasts, largests, inRange, inRanges, zig, wire, wires}
+use Rattle.codec.specs.Ranges.{range-between, between-range}
 use Rattle.script.specs.Operator.{natOf, operandOf, numbersOf}
 use Rattle.layout.specs.declared.shape.Shape.{Shape}
 use Rattle.layout.specs.Points.{rangeTest}

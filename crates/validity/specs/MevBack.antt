@@ -13,7 +13,7 @@ use Rattle.laws.specs.Search.{least-ext}
 use Rattle.laws.specs.Update.{upd, upd-same, upd-off}
 use Rattle.laws.specs.Cycles.{agree}
 use Rattle.script.specs.declared.Operator.{Operator}
-use Rattle.script.specs.Operands.{pattern, rows}
+use Rattle.codec.specs.Operands.{pattern, rows}
 use Rattle.layout.specs.declared.shape.Shape.{Shape}
 use Rattle.layout.specs.Layout.{setVertexUsed}
 use Rattle.layout.specs.Mate.{mate, edgeOf}

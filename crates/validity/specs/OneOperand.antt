@@ -10,7 +10,7 @@ use lib.IntN.{pos}
 use lib.ListN.{length, getD, replicate}
 use borrow.Author.Tests.{le-leb}
 use Rattle.script.specs.declared.Operator.{Operator}
-use Rattle.script.specs.Operands.{unused, coordinate, pattern, leasts, largests, inRange, inRanges, wire, wires}
+use Rattle.codec.specs.Operands.{unused, coordinate, pattern, leasts, largests, inRange, inRanges, wire, wires}
 use Rattle.script.specs.Operator.{operandOf}
 use Rattle.layout.specs.declared.shape.Shape.{Shape}
 use Rattle.euler.specs.Exec.{limits, useWord, whenFree, whenUsed, useRefusal, useRefusals, condition, refusalOf}

@@ -14,7 +14,7 @@ use Rattle.laws.specs.Every.{every-T, T-every}
 use Rattle.laws.specs.Search.{least, Least, none-is, one-is, leastFrom-is}
 use Rattle.laws.specs.Update.{upd-same, upd-off}
 use Rattle.script.specs.declared.Operator.{Operator}
-use Rattle.script.specs.Operands.{pattern, rows}
+use Rattle.codec.specs.Operands.{pattern, rows}
 use Rattle.layout.specs.declared.shape.Shape.{Shape}
 use Rattle.layout.specs.Layout.{setFaceOuter, setLoopFace}
 use Rattle.layout.specs.Mate.{mate}

@@ -4,7 +4,8 @@ use native.Mathlib.Omega.{arith}
 use borrow.Author.Needs.{needs}
 use lib.ListN.{getD}
 use lib.IntN.{pos}
-use Rattle.script.specs.SignedLaws.{negative, positive, natOf-pos, natOf-neg, natOf-out, unmapped}
+use Rattle.codec.specs.SignedLaws.{negative, positive}
+use Rattle.script.specs.OperatorLaws.{natOf-pos, natOf-neg, natOf-out, unmapped}
 use Rattle.script.proofs.operand.Statement.{statement}
 use Rattle.script.proofs.operand.Tie as tie
 

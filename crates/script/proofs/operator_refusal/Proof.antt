@@ -1,5 +1,5 @@
 use mathlib.Core.Path.{sym, ap, _∙_}
-use Rattle.script.specs.Operands.{largests}
+use Rattle.codec.specs.Operands.{largests}
 use Rattle.script.specs.OperatorLaws.{refusal-code, refusal-count, refusal-range, refusal-none}
 use borrow.Author.Needs.{needs}
 use Rattle.script.proofs.operator_refusal.Statement.{statement}

@@ -1,7 +1,8 @@
 use mathlib.Core.Path.{refl}
 use native.Mathlib.Omega.{arith}
 use borrow.Author.Tests.{not-true, not-false}
-use Rattle.script.specs.ReadLaws.{behind-code, behind-cut, behind-range, behind-done, refused-as, small-read}
+use Rattle.codec.specs.ReadLaws.{small-read}
+use Rattle.script.specs.AnswerLaws.{behind-code, behind-cut, behind-range, behind-done, refused-as}
 use borrow.Author.Needs.{needs}
 use Rattle.script.proofs.read_behind.Statement.{statement}
 use Rattle.script.proofs.read_behind.Tie as tie

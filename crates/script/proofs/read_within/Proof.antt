@@ -1,6 +1,6 @@
 use mathlib.Core.Path.{sym, _∙_}
 use native.Mathlib.Omega.{arith}
-use Rattle.script.specs.ReadLaws.{operator-bad, operator-behind, operator-none}
+use Rattle.script.specs.AnswerLaws.{operator-bad, operator-behind, operator-none}
 use borrow.Author.Needs.{needs}
 use Rattle.script.proofs.read_within.Statement.{statement}
 use Rattle.script.proofs.read_within.Tie as tie

@@ -2,7 +2,7 @@ use Prim.Native.Nat.{_≤_, _<_}
 use native.Mathlib.Omega.{arith}
 use lib.ListN.{getD}
 use lib.IntN.{pos}
-use Rattle.script.specs.SignedLaws.{negative, positive}
+use Rattle.codec.specs.SignedLaws.{negative, positive}
 use Rattle.euler.specs.SurgeryLaws.{item-negative, item-is, item-past}
 use borrow.Author.Needs.{needs}
 use Rattle.euler.proofs.records.item_at.Statement.{statement}

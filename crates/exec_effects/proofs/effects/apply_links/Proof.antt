@@ -1,4 +1,4 @@
-use Rattle.script.specs.OperandLaws.{NoneOf}
+use Rattle.codec.specs.OperandLaws.{NoneOf}
 use Rattle.exec_effects.specs.Chosen.{links-at, links-kvsf, links-none}
 use borrow.Author.Needs.{needs}
 use Rattle.exec_effects.proofs.effects.apply_links.Statement.{statement}

@@ -1,12 +1,12 @@
 use mathlib.Core.Path.{_≡_, ap, _∙_}
-use Rattle.script.specs.Operands.{largests}
+use Rattle.codec.specs.Operands.{largests}
 use borrow.Author.Needs.{needs}
 use Rattle.runs.proofs.enter.ranges_of.Statement.{statement}
 use Rattle.runs.proofs.enter.ranges_of.Tie as tie
 use Rattle.runs.proofs.enter.ranges_of.Reads as reads
 use Rattle.runs.proofs.enter.ranges_of.Lts as lts
 use Rattle.runs.proofs.enter.limits_of.Reads as limits-of-reads
-use Rattle.script.proofs.operands.largest.Reads as largest-reads
+use Rattle.codec.proofs.operands.largest.Reads as largest-reads
 
 -- src/enter.rt:45:13
 limits-of-requires : tie.Need-limits-of-requires

@@ -9,7 +9,7 @@ use Rattle.runs_take.proofs.take.join_refusal.Tie as tie
 use Rattle.runs_take.proofs.take.join_refusal.Reads as reads
 use Rattle.runs_take.proofs.take.join_refusal.Lts as lts
 use Rattle.euler.proofs.admit.use_refusal.Reads as use-refusal-reads
-use Rattle.script.proofs.operands.in_range.Reads as in-range-reads
+use Rattle.codec.proofs.operands.in_range.Reads as in-range-reads
 
 -- src/take.rt:40:9
 returns : tie.Need-returns

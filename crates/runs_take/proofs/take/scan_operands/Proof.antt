@@ -12,8 +12,8 @@ use Rattle.runs_take.proofs.take.scan_operands.Tie as tie
 use Rattle.runs_take.proofs.take.scan_operands.Reads as reads
 use Rattle.runs_take.proofs.take.scan_operands.Lts as lts
 use Rattle.runs_take.proofs.take.join_refusal.Reads as join-refusal-reads
-use Rattle.script.proofs.number.read_number.Reads as read-number-reads
-use Rattle.script.proofs.operands.from_wire.Reads as from-wire-reads
+use Rattle.codec.proofs.number.read_number.Reads as read-number-reads
+use Rattle.codec.proofs.operands.from_wire.Reads as from-wire-reads
 
 abbrev Inv-loop : tie.InvT-loop
 Inv-loop links sh script behind most count args₀ kinds i₀ p₀ refusal₀ args i p refusal =

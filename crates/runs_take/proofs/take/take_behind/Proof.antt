@@ -7,7 +7,7 @@ use Rattle.runs_take.proofs.take.take_behind.Lts as lts
 use Rattle.runs_take.proofs.take.scan_operands.Reads as scan-operands-reads
 use Rattle.runs_take.proofs.take.settle.Reads as settle-reads
 use Rattle.runs_take.proofs.take.told.Reads as told-reads
-use Rattle.script.proofs.operands.pattern_of.Reads as pattern-of-reads
+use Rattle.codec.proofs.operands.pattern_of.Reads as pattern-of-reads
 
 -- src/take.rt:151:9
 pattern-of-requires : tie.Need-pattern-of-requires

@@ -1,3 +1,4 @@
+use Rattle.exec_effects.specs.Performed.{links-performed, points-performed}
 use native.Mathlib.Omega.{arith}
 use Rattle.takedown_acts.specs.ActLaws.{act-is}
 use borrow.Author.Needs.{needs}
@@ -32,8 +33,8 @@ put-operator-requires : tie.Need-put-operator-requires
 put-operator-requires c κs = search needs
 
 -- src/acts.rt:49:15
-add-t21 : tie.Need-add-t21
-add-t21 c = search needs
+add-t23 : tie.Need-add-t23
+add-t23 c = search needs
 
 -- src/acts.rt:32:1
 same-length : tie.Need-same-length
@@ -49,10 +50,15 @@ same-length-3 c = search needs
 
 -- src/acts.rt:32:1
 returns : tie.Need-returns
-returns c = (
-  act-is _ _ _ _ _ _ _ _ _ _ _ _ _ _ (omega arith) (c .before .before .before .before .before .before .before .before .before .before .before .before .before .inverse-of .ensures) (c .before .before .before .before .before .before .before .before .before .before .before .before .operator-size .ensures .0) (c .before .before .before .before .before .before .before .before .before .before .before .less .ensures) (c .before .before .before .before .before .before .before .before .perform .ensures .0) (c .before .before .before .before .before .before .before .before .perform .ensures .1) (c .before .before .before .put-operator .ensures),
-  omega arith,
-)
+returns c =
+    let p = c .before .before .before .before .before .before .before .before in
+    let f = p .perform .ensures in
+    let d = p .before .before .before .before .before in (
+      act-is _ _ _ _ _ _ _ _ _ _ _ _ _ _ (omega arith) (d .before .before .inverse-of .ensures)
+          (d .before .operator-size .ensures .0) (d .less .ensures) (links-performed _ _ _ _ (f .0))
+          (points-performed _ _ _ _ _ (f .1)) (c .before .before .before .put-operator .ensures),
+      omega arith,
+    )
 
 pub act-spec : {M : Type 1} → statement M
 act-spec =
@@ -63,7 +69,7 @@ act-spec =
     less-requires
     perform-requires
     put-operator-requires
-    add-t21
+    add-t23
     same-length
     same-length-2
     same-length-3
