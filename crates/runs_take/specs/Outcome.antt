@@ -2,29 +2,28 @@
 use mathlib.Core.Path.{_≡_, refl, sym, ap, subst, _∙_}
 use mathlib.Core.Logic.{_≢_, _⊎_, inl, inr, ⊎-elim}
 use mathlib.Core.Bool.{Bool, true, false, _&&_, not}
-use mathlib.Core.List.{List, [], _∷_, _++_, map}
-use Prim.Native.Nat.{ℕ, _+_, _≤_, _<_}
+use mathlib.Core.List.{List, [], _∷_, map}
+use Prim.Native.Nat.{ℕ, _≤_, _<_}
 use native.Mathlib.Nat.{zero-add}
 use native.Mathlib.Omega.{arith}
 use lib.Dec.{eqb, eqb→eq, leb, T}
 use lib.IntN.{ℤ, pos}
 use lib.ListN.{length, getD, take, drop, replicate, take-append-drop}
-use borrow.Author.Tests.{eqb-true, eq-eqb, ne-eqb, le-leb, lt-leb, leb-true}
+use borrow.Author.Tests.{eq-eqb, ne-eqb, leb-true}
 use Rattle.laws.specs.Bools.{pick, allb, ask, split, le?, eqb-same, and-T, true-T, T-true}
 use Rattle.script.specs.declared.ReadAnswer.{ReadAnswer}
 use Rattle.codec.specs.declared.number.Num.the-variants.{Got, Bad}
 use Rattle.codec.specs.declared.operands.Pattern.{Pattern}
 use Rattle.codec.specs.Number.{readNumber}
-use Rattle.codec.specs.Operands.{unused, row, rows, pattern, largests, inRanges, unwires}
+use Rattle.codec.specs.Operands.{unused, rows, pattern, largests, inRanges, unwires}
 use Rattle.codec.specs.OperandBytes.{Numbers, Read, Cut, onNumbers, readOperands}
-use Rattle.script.specs.Operator.{refused, readBehind, readOperator}
-use Rattle.codec.specs.OperandLaws.{no-code}
+use Rattle.script.specs.Operator.{refused, readBehind}
 use Rattle.script.specs.AnswerLaws.{operator-bad, operator-behind, operator-none}
-use Rattle.codec.specs.Ranges.{each-row, eight, not-true}
+use Rattle.codec.specs.Ranges.{each-row, eight}
 use Rattle.layout.specs.declared.shape.Shape.{Shape}
 use Rattle.layout.specs.Small.{Small}
 use Rattle.euler.specs.Exec.{operatorBy, limits, condition, useRefusals, admitOf}
-use Rattle.runs.specs.Run.{admitRead, readAt, refusalAt}
+use Rattle.runs.specs.Run.{admitRead, readAt}
 use Rattle.runs_take.specs.declared.take.Taken.{Taken}
 use Rattle.runs_take.specs.Take.{Scan, scanIs, joined, scan, taken, settled, readFrom, Answers}
 use Rattle.runs_take.specs.Turns.{settled-holds, settled-fails, settled-low, settled-high}
@@ -191,7 +190,8 @@ module _ (sh : Shape) (z : Small sh) (x s : List ℕ) (at code : ℕ) where
   passed-agrees : (behind : ℕ)
       → Agrees sh x s (passed behind (replicate 8 (pos 0))) 0 [] kinds (readOperands kinds s behind)
   passed-agrees behind =
-      subst (λ n. Agrees sh x s (passed behind (replicate n (pos 0))) 0 [] kinds (readOperands kinds s behind)) (eight code)
+      subst (λ n. Agrees sh x s (passed behind (replicate n (pos 0))) 0 [] kinds (readOperands kinds s behind))
+      (eight code)
       (subst (λ ks. Agrees sh x s (passed behind (replicate (length ks) (pos 0))) 0 [] ks (readOperands ks s behind))
       (take-append-drop (pattern code .count) kinds)
       (agree sh x s (used (pattern code)) (past (pattern code)) (both code .0) (both code .1) 0 behind 0 [] refl))

@@ -6,20 +6,18 @@ use mathlib.Core.List.{List, [], _∷_, _++_, append-assoc}
 use Prim.Native.Nat.{ℕ, zero, suc, _+_, _*_, _≤_, _<_}
 use native.Mathlib.Nat.{add-zero}
 use native.Mathlib.Omega.{arith}
-use lib.Dec.{eqb, leb}
+use lib.Dec.{eqb}
 use lib.IntN.{ℤ, pos}
 use lib.ListN.{length, getD, take, set, replicate, length-append, List·getD-eq-default}
 use lib.Seq.{getD-take, set-at}
 use borrow.Author.Tests.{le-leb}
 use Rattle.laws.specs.Bools.{pick, pick-ind, split, le?, eqb-same, eqb-other}
-use Rattle.codec.specs.declared.Limits.{Limits}
 use Rattle.script.specs.declared.Operator.{Operator}
 use Rattle.codec.specs.declared.number.Num.{Num}
 use Rattle.codec.specs.declared.number.Num.the-variants.{Got, Bad}
 use Rattle.codec.specs.Number.{readNumber, onNum}
-use Rattle.codec.specs.Operands.{unused, coordinate, largests, inRange, inRanges, unwire, unwires}
+use Rattle.codec.specs.Operands.{unused, largests, inRange, inRanges, unwire, unwires}
 use Rattle.codec.specs.OperandBytes.{Numbers, Read, Cut, onNumbers, readOperand, readOperands}
-use Rattle.script.specs.Operator.{natOf}
 use Rattle.codec.specs.OperandLaws.{unwire-plain}
 use Rattle.codec.specs.Ranges.{range-between, ranges-cons}
 use Rattle.layout.specs.declared.shape.Shape.{Shape}
@@ -60,7 +58,7 @@ use-high sh x k n h =
     rw (List·getD-eq-default whenFree 0 h, List·getD-eq-default whenUsed 0 h)
     (pick-ind (λ u. 0 ≡ u) (eqb n 0) 0 _ refl (pick-ind (λ u. 0 ≡ u) (eqb (useWord sh x k n) 0) 0 0 refl refl))
 
-pub use-late : (sh : Shape) (x : List ℕ) (k n : ℕ) → Late (useRefusal sh x k n)
+use-late : (sh : Shape) (x : List ℕ) (k n : ℕ) → Late (useRefusal sh x k n)
 unfolding useRefusal
 use-late sh x k n =
     let o = late-0 in

@@ -1,16 +1,12 @@
 -- The ways out of the code of the pass, one law each.
-use mathlib.Core.Path.{_≡_, refl, sym, _∙_}
+use mathlib.Core.Path.{_≡_}
 use mathlib.Core.Bool.{Bool, true, false}
 use mathlib.Core.List.{List, [], _∷_}
 use Prim.Native.Nat.{ℕ, _+_, _≤_, _<_}
-use native.Mathlib.Omega.{arith}
-use lib.Dec.{eqb}
 use lib.IntN.{ℤ}
 use lib.ListN.{length, getD, take, drop, set, drop-of-length-le}
 use lib.Seq.{getD-take, length-take-le}
 use borrow.Author.Tests.{eq-eqb, ne-eqb, le-leb, lt-leb}
-use Rattle.laws.specs.Bools.{pick}
-use Rattle.codec.specs.declared.number.Num.{Num}
 use Rattle.codec.specs.declared.number.Num.the-variants.{Got, Bad}
 use Rattle.codec.specs.Number.{readNumber, onNum}
 use Rattle.codec.specs.Operands.{inRange, unwire}

@@ -23,7 +23,8 @@ in-range-requires c κs = ap length (c .before .before .pre .1)
 returns-2 : tie.Need-returns-2
 returns-2 c =
     let b = c .before in
-    joined-range _ _ _ (b .before .if1 .left)
+    let n = b .before .if1 .left in
+    joined-range _ _ _ (λ e. omega arith)
     (range-is _ _ _ _ _ _ (b .before .before .before .pre .1) (b .in-range .ensures) (not-true _ (c .if2 .taken)))
 
 -- src/take.rt:46:9
@@ -32,7 +33,8 @@ returns-3 c =
     let b = c .before .before in
     let p = b .before .before .before .pre .1 in
     let t = range-is _ _ _ _ _ _ p (b .in-range .ensures) (not-false _ (c .before .if2 .left)) in
-    joined-first _ _ _ (b .before .if1 .left) t (c .if3 .taken)
+    let n = b .before .if1 .left in
+    joined-first _ _ _ (λ e. omega arith) t (c .if3 .taken)
 
 -- src/take.rt:50:9
 returns-4 : tie.Need-returns-4

@@ -18,7 +18,10 @@ told-requires c κs = search needs
 
 -- src/take.rt:123:13
 returns : tie.Need-returns
-returns c = c .told .ensures ∙ settled-holds _ _ _ _ _ (c .before .before .before .if1 .taken) _ (c .before .before .condition-holds .ensures) (c .before .if2 .taken)
+returns c =
+    let b = c .before .before in
+    c .told .ensures
+    ∙ settled-holds _ _ _ _ _ (b .before .if1 .taken) _ (b .condition-holds .ensures) (c .before .if2 .taken)
 
 -- src/take.rt:125:9
 told-requires-2 : tie.Need-told-requires-2
@@ -26,7 +29,10 @@ told-requires-2 c κs = search needs
 
 -- src/take.rt:125:9
 returns-2 : tie.Need-returns-2
-returns-2 c = c .told2 .ensures ∙ settled-fails _ _ _ _ _ (c .before .before .before .if1 .taken) _ (c .before .before .condition-holds .ensures) (c .before .if2 .left)
+returns-2 c =
+    let b = c .before .before in
+    c .told2 .ensures
+    ∙ settled-fails _ _ _ _ _ (b .before .if1 .taken) _ (b .condition-holds .ensures) (c .before .if2 .left)
 
 -- src/take.rt:128:9
 told-requires-3 : tie.Need-told-requires-3

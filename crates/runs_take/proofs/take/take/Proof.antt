@@ -22,7 +22,9 @@ told-requires c κs = search needs
 
 -- src/take.rt:184:17
 returns : tie.Need-returns
-returns c = let g = c .before .before .before .x .given .0 in take-none _ _ _ _ _ (g .0) (g .1 .0) (cc) (c .before .if1 .taken) (c .told .ensures) _
+returns c =
+    let g = c .before .before .before .x .given .0 in
+    take-none _ _ _ _ _ (g .0) (g .1 .0) (cc) (c .before .if1 .taken) (c .told .ensures) _
 
 -- src/take.rt:186:56
 cast-take-behind : tie.Need-cast-take-behind
@@ -42,7 +44,9 @@ told-requires-2 c κs = search needs
 
 -- src/take.rt:163:1
 returns-2 : tie.Need-returns-2
-returns-2 c = let g = c .before .before .before .before .x .given .0 in take-some _ _ _ _ _ (g .0) (g .1 .0) (cc) _ (c .take-behind .ensures)
+returns-2 c =
+    let g = c .before .before .before .before .x .given .0 in
+    take-some _ _ _ _ _ (g .0) (g .1 .0) (cc) _ (c .take-behind .ensures)
 
 -- src/take.rt:163:1
 returns-3 : tie.Need-returns-3

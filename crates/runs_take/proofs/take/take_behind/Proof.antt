@@ -42,9 +42,11 @@ settle-requires c κs = search needs
 -- src/take.rt:134:1
 returns-2 : tie.Need-returns-2
 returns-2 c =
-    let b = c .before .before .before .before .before .before .before .before in
+    let g = c .before .before in
+    let n = g .before .before .before .before in
+    let b = n .before .before in
     let d = b .before .before .before in
-    behind-some _ (d .pre .0) _ _ _ _ _ (b .pattern-of .ensures) _ (c .before .before .before .before .before .before .if1 .left) _ (c .before .before .scan-operands .ensures) _
+    behind-some _ (d .pre .0) _ _ _ _ _ (b .pattern-of .ensures) _ (n .if1 .left) _ (g .scan-operands .ensures) _
     (c .settle .ensures)
 
 pub take-behind-spec : {M : Type 1} → statement M
