@@ -22,6 +22,11 @@ unfolding down
 down-turn g zero a b whole rest h e = absurd (omega arith)
 down-turn g (suc k) a b whole rest h e = let n : suc k - 1 ≡ k = omega arith in rw (n, e) rest
 
+-- the number stored is the record's own
+pub least-turn : (f : ℕ → ℕ) (k v w : ℕ) (a b whole : List ℕ) → leastNaming f k a ≡ whole → 0 < k → v ≡ f k → w ≡ k
+    → b ≡ set a v w → leastNaming f (k - 1) b ≡ whole
+least-turn f k v w a b whole rest h ev ew eb = down-turn (λ j l. set l (f j) j) k a b whole rest h (eb ∙ rw (ev, ew))
+
 -- nothing is left
 pub down-out : (g : ℕ → List ℕ → List ℕ) (k : ℕ) (a whole : List ℕ) → down g k a ≡ whole → k ≤ 0 → a ≡ whole
 unfolding down

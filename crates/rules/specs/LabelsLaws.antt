@@ -47,6 +47,6 @@ module _ (sh : Shape) (x a b : List ℕ) (n : ℕ) where
   vertex-starting c k f g ec ek = rw (eqb-other f, ← ec, ← ek, eqb-other g)
 
 -- the arm that was taken is the test's own
-pub by-label : (test t : LabelTest) → test ≡ t → (sh : Shape) (x a b : List ℕ) (n : ℕ) (r : Bool) → r ≡ labelTest t sh x a b n
-    → r ≡ labelTest test sh x a b n
+pub by-label : (test t : LabelTest) → test ≡ t → (sh : Shape) (x a b : List ℕ) (n : ℕ) (r : Bool)
+    → r ≡ labelTest t sh x a b n → r ≡ labelTest test sh x a b n
 by-label test t e sh x a b n r h = rw e h

@@ -21,10 +21,11 @@ module _ {A : Type 0} (z : A) where
   pub filled-none : (l : List A) → Filled z l 0
   filled-none l = record { at = λ j h. absurd (omega arith) }
 
-  -- one element more
-  pub filled-more : (l : List A) (i : ℕ) → i < length l → Filled z l i → Filled z (set l i z) (i + 1)
-  filled-more l i h f = record {
-    at = λ j k. split j i (λ e. rw e (getD-set-same l i z z h)) (λ n. getD-set-other l i j z z n ∙ f .at j (omega arith));
+  -- one element more, and what is stored is z
+  pub filled-more : (l : List A) (i : ℕ) (v : A) → v ≡ z → i < length l → Filled z l i → Filled z (set l i v) (i + 1)
+  filled-more l i v s h f = record {
+    at = λ j k.
+        split j i (λ e. rw e (getD-set-same l i v z h ∙ s)) (λ n. getD-set-other l i j v z n ∙ f .at j (omega arith));
   }
 
   -- all of them

@@ -30,7 +30,8 @@ module _ (m n s f l e v : ℕ) where
   -- the links are too long or too short
   pub links-other : m ≢ linksLength s f l e v → false ≡ sizesFit m n s f l e v
   unfolding sizesFit
-  links-other d = sym (T-false (λ t. d (eqb→eq m (linksLength s f l e v) (every-T (sizeTests m n s f l e v) t .1 .1 .1 .1 .1 .0))))
+  links-other d =
+      sym (T-false (λ t. d (eqb→eq m (linksLength s f l e v) (every-T (sizeTests m n s f l e v) t .1 .1 .1 .1 .1 .0))))
 
   -- the points are
   pub points-other : n ≢ 3 * v → false ≡ sizesFit m n s f l e v
@@ -38,8 +39,9 @@ module _ (m n s f l e v : ℕ) where
   points-other d = sym (T-false (λ t. d (eqb→eq n (3 * v) (every-T (sizeTests m n s f l e v) t .1 .1 .1 .1 .1 .1 .0))))
 
   -- both lengths fit, and the capacities are asked
-  pub lengths-fit : (a b c d g : Bool) → m ≡ linksLength s f l e v → n ≡ 3 * v → a ≡ capacity s → b ≡ capacity f → c ≡ capacity l
-      → d ≡ capacity e → g ≡ capacity v → every (a ∷ b ∷ c ∷ d ∷ g ∷ []) ≡ sizesFit m n s f l e v
+  pub lengths-fit : (a b c d g : Bool) → m ≡ linksLength s f l e v → n ≡ 3 * v → a ≡ capacity s
+      → b ≡ capacity f → c ≡ capacity l → d ≡ capacity e → g ≡ capacity v
+      → every (a ∷ b ∷ c ∷ d ∷ g ∷ []) ≡ sizesFit m n s f l e v
   unfolding sizesFit
   lengths-fit a b c d g em en ea eb ec ed eg =
       rw (ea, eb, ec, ed, eg)

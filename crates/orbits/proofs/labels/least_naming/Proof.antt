@@ -5,7 +5,7 @@ use lib.ListN.{length}
 use Rattle.laws.specs.Columns.{col}
 use Rattle.layout.specs.Layout.{kind}
 use Rattle.orbits.specs.Labels.{blank, leastNaming}
-use Rattle.orbits.specs.LabelsLaws.{down-turn, down-out, long-set, blank-long}
+use Rattle.orbits.specs.LabelsLaws.{least-turn, down-out, long-set, blank-long}
 use borrow.Author.Needs.{needs}
 use Rattle.orbits.proofs.labels.least_naming.Statement.{statement}
 use Rattle.orbits.proofs.labels.least_naming.Tie as tie
@@ -47,8 +47,12 @@ loop-less c = search needs
 -- src/labels.rt:40:5
 loop-again : tie.Need-loop-again Inv-loop μ-loop
 loop-again c =
-    let inv = c .before .before .before .before .loop .inv in
-    (omega arith, long-set (c .before .before .before .before .loop .least) _ _ _ _ (inv .1) (c .put-entry .ensures), down-turn _ _ _ _ _ (inv .2) (omega arith) (cc))
+    let inv = c .before .before .before .before .loop .inv in (
+      omega arith,
+      long-set (c .before .before .before .before .loop .least) _ _ _ _ (inv .1) (c .put-entry .ensures),
+      least-turn _ _ _ _ _ _ _ (inv .2) (omega arith) (c .before .before .cell .ensures .0) (omega arith)
+          (c .put-entry .ensures),
+    )
 
 -- src/labels.rt:35:1
 returns : tie.Need-returns Inv-loop μ-loop

@@ -38,7 +38,10 @@ loop-less c = simp length-set (omega arith)
 
 -- src/clear.rt:36:5
 loop-again : tie.Need-loop-again Inv-loop μ-loop
-loop-again c = (simp length-set (c .before .loop .inv .0), filled-more (pos 0) _ _ (c .loop-test .taken) (c .before .loop .inv .1))
+loop-again c = (
+  simp length-set (c .before .loop .inv .0),
+  filled-more (pos 0) _ _ _ refl (c .loop-test .taken) (c .before .loop .inv .1),
+)
 
 -- src/clear.rt:32:1
 same-length : tie.Need-same-length Inv-loop μ-loop

@@ -37,7 +37,10 @@ loop-less c = simp length-set (omega arith)
 
 -- src/clear.rt:26:5
 loop-again : tie.Need-loop-again Inv-loop μ-loop
-loop-again c = (simp length-set (c .before .loop .inv .0), filled-more 0 _ _ (c .loop-test .taken) (c .before .loop .inv .1))
+loop-again c = (
+  simp length-set (c .before .loop .inv .0),
+  filled-more 0 _ _ _ (omega arith) (c .loop-test .taken) (c .before .loop .inv .1),
+)
 
 -- src/clear.rt:22:1
 same-length : tie.Need-same-length Inv-loop μ-loop
