@@ -41,9 +41,13 @@ returns-2 c =
     let d = c .before .before .before .before .before .before .before .before in
     let t = d .before .before .take .ensures in
     let z = d .if1 .left in
-    let o = t .1 .1 z in
-    ((sym z ∙ t .0, t .1 .0), (back-done _ _ _ _ _ _ (t .0) z _ o _ (e .0 .0) _ (e .0 .1),
-    standing-kept (d .before .before .before .before .before .before .before .before .pre .0) _ _ _ (t .0) z _ o _ (e .0 .0) _ (e .0 .1) _ (e .1)))
+    let o = t .1 .1 z in (
+      (sym z ∙ t .0, t .1 .0),
+      (
+        back-done _ _ _ _ _ _ (t .0) z _ o _ (e .0 .0) _ (e .0 .1),
+        standing-kept (d .before .before .before .before .before .before .before .before .pre .0) _ _ _ (t .0) z _ o _ (e .0 .0) _ (e .0 .1) _ (e .1),
+      ),
+    )
 
 pub undo-step-spec : {M : Type 1} → statement M
 undo-step-spec =

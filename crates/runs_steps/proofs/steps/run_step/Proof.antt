@@ -50,9 +50,10 @@ returns-2 c =
     let d = c .before .before .before .before .before .before in
     let t = d .before .before .take .ensures in
     let z = d .if1 .left in
-    let i = c .before .before .inverse-of .ensures ∙ inverse-by _ _ _ _ _ _ in
-    (step-full _ _ _ _ _ _ _ _ (t .0) _ (t .1 .0) z _ (t .1 .1 z) _ i (sym (c .before .fits-before .ensures) ∙ not-true _ (c .if2 .taken)),
-    (d .before .before .before .before .before .before .before .before .before .pre .0, omega arith))
+    let i = c .before .before .inverse-of .ensures ∙ inverse-by _ _ _ _ _ _ in (
+      step-full _ _ _ _ _ _ _ _ (t .0) _ (t .1 .0) z _ (t .1 .1 z) _ i (sym (c .before .fits-before .ensures) ∙ not-true _ (c .if2 .taken)),
+      (d .before .before .before .before .before .before .before .before .before .pre .0, omega arith),
+    )
 
 -- src/steps.rt:85:5
 perform-counted-requires : tie.Need-perform-counted-requires
@@ -85,10 +86,11 @@ returns-3 c =
     let t = d .before .before .take .ensures in
     let z = d .if1 .left in
     let o = t .1 .1 z in
-    let i = f .before .before .inverse-of .ensures ∙ inverse-by _ _ _ _ _ _ in
-    (step-done _ _ _ _ _ _ _ _ (t .0) _ (t .1 .0) z _ o _ i (sym (f .before .fits-before .ensures) ∙ not-false _ (f .if2 .left))
-    _ (e .0 .0) _ (e .0 .1) _ (w .0) _ (w .1),
-    (standing-kept (d .before .before .before .before .before .before .before .before .before .pre .0) _ _ _ (t .0) z _ o _ (e .0 .0) _ (e .0 .1) _ (e .1), omega (arith, w .0)))
+    let i = f .before .before .inverse-of .ensures ∙ inverse-by _ _ _ _ _ _ in (
+      step-done _ _ _ _ _ _ _ _ (t .0) _ (t .1 .0) z _ o _ i (sym (f .before .fits-before .ensures) ∙ not-false _ (f .if2 .left))
+          _ (e .0 .0) _ (e .0 .1) _ (w .0) _ (w .1),
+      (standing-kept (d .before .before .before .before .before .before .before .before .before .pre .0) _ _ _ (t .0) z _ o _ (e .0 .0) _ (e .0 .1) _ (e .1), omega (arith, w .0)),
+    )
 
 pub run-step-spec : {M : Type 1} → statement M
 run-step-spec =

@@ -1,0 +1,109 @@
+use borrow.Author.Needs.{needs}
+use Prim.Native.Nat.{_-_, _≤_, _<_}
+use mathlib.Core.Path.{_≡_, refl}
+use native.Mathlib.Omega.{arith}
+use lib.ListN.{length}
+use Rattle.runs.specs.Run.{undoFrom}
+use Rattle.runs.specs.RunLaws.{undo-begins, undo-past, undo-end}
+use Rattle.runs_steps.specs.Standing.{Standing}
+use Rattle.runs_entry.specs.EntryLaws.{undo-stop, undo-turn}
+use Rattle.runs_entry.proofs.undo.undo_all.Statement.{statement}
+use Rattle.runs_entry.proofs.undo.undo_all.Tie as tie
+use Rattle.runs_entry.proofs.undo.undo_all.Reads as reads
+use Rattle.runs_entry.proofs.undo.undo_all.Lts as lts
+use Rattle.runs_steps.proofs.back.undo_step.Reads as undo-step-reads
+
+abbrev Inv-loop : tie.InvT-loop
+Inv-loop links₀ points₀ counts₀ sh log start n most args₀ at₀ undone₀ links points counts args at undone =
+    (length links ≡ length links₀) × (length points ≡ length points₀) × (undone ≤ n) × Standing sh links points counts
+    × (undoFrom (n - undone) sh log at undone links points ≡ undoFrom n sh log start 0 links₀ points₀)
+
+abbrev μ-loop : tie.MeasureT-loop
+μ-loop links₀ points₀ counts₀ sh log start n most args₀ at₀ undone₀ links points counts args at undone = n - undone
+
+-- src/undo.rt:36:5
+loop-holds : tie.Need-loop-holds Inv-loop μ-loop
+loop-holds c = (refl, refl, omega arith, c .before .before .pre .0, undo-begins _ _ _ _ _ _)
+
+-- src/undo.rt:38:13
+same-length : tie.Need-same-length Inv-loop μ-loop
+same-length c = search needs
+
+-- src/undo.rt:38:13
+same-length-2 : tie.Need-same-length-2 Inv-loop μ-loop
+same-length-2 c = search needs
+
+-- src/undo.rt:38:13
+returns : tie.Need-returns Inv-loop μ-loop
+returns c = undo-past _ _ _ _ _ _ _ _ (c .before .before .loop .inv .4) (omega arith) (omega arith)
+
+-- src/undo.rt:45:13
+undo-step-requires : tie.Need-undo-step-requires Inv-loop μ-loop
+undo-step-requires c κs = (c .before .before .before .before .before .before .loop .inv .3, c .before .before .before .before .before .before .before .before .before .pre .1)
+
+-- src/undo.rt:47:13
+same-length-3 : tie.Need-same-length-3 Inv-loop μ-loop
+same-length-3 c = search needs
+
+-- src/undo.rt:47:13
+same-length-4 : tie.Need-same-length-4 Inv-loop μ-loop
+same-length-4 c = search needs
+
+-- src/undo.rt:47:13
+returns-2 : tie.Need-returns-2 Inv-loop μ-loop
+returns-2 c =
+    let u = c .before .before .before .before .before .undo-step .ensures in
+    undo-stop _ _ _ _ _ _ _ _ (c .before .before .before .before .before .before .before .before .before .before .before .before .loop .inv .4) (omega arith) (omega arith) _ (u .0 .0) _ (u .1 .0) (c .if2 .taken)
+
+-- src/undo.rt:55:9
+add-undone : tie.Need-add-undone Inv-loop μ-loop
+add-undone c = search needs
+
+-- src/undo.rt:36:5
+loop-less : tie.Need-loop-less Inv-loop μ-loop
+loop-less c = omega arith
+
+-- src/undo.rt:36:5
+loop-again : tie.Need-loop-again Inv-loop μ-loop
+loop-again c =
+    let u = c .before .before .before .before .before .undo-step .ensures in (
+      omega arith,
+      omega arith,
+      omega arith,
+      u .1 .1,
+      undo-turn _ _ _ _ _ _ _ _ (c .before .before .before .before .before .before .before .before .before .before .before .before .loop .inv .4) (omega arith) (omega arith) _ (u .0 .0) _ (u .1 .0) (c .if2 .left) _ (u .0 .1) _
+          (omega arith),
+    )
+
+-- src/undo.rt:17:1
+same-length-5 : tie.Need-same-length-5 Inv-loop μ-loop
+same-length-5 c = search needs
+
+-- src/undo.rt:17:1
+same-length-6 : tie.Need-same-length-6 Inv-loop μ-loop
+same-length-6 c = search needs
+
+-- src/undo.rt:17:1
+returns-3 : tie.Need-returns-3 Inv-loop μ-loop
+returns-3 c = undo-end _ _ _ _ _ _ _ _ (c .before .loop .inv .4) (omega arith)
+
+pub undo-all-spec : {M : Type 1} → statement M
+undo-all-spec =
+    tie.close
+    (tie.spec
+    Inv-loop
+    μ-loop
+    loop-holds
+    same-length
+    same-length-2
+    returns
+    undo-step-requires
+    same-length-3
+    same-length-4
+    returns-2
+    add-undone
+    loop-less
+    loop-again
+    same-length-5
+    same-length-6
+    returns-3)
