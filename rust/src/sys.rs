@@ -69,7 +69,7 @@ pub struct Inverted {
 }
 
 mod c {
-    use super::{Checked, Cleared, Counted, Inverted, Ran, Read, Undone, Written};
+    use super::{Checked, Cleared, Counted, Inverted, Operator, Ran, Read, Undone, Written};
 
     extern "C" {
         #[rustfmt::skip]
