@@ -1,4 +1,4 @@
-"""The cases of crates/examples, from which rows.py makes the rows: scripts that lead to small tables, and operators on them with the
+"""The cases of crates/evidence_rows, from which rows.py makes the rows: scripts that lead to small tables, and operators on them with the
 refusal that document 01 settles."""
 
 from collections import namedtuple

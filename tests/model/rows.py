@@ -1,6 +1,6 @@
-"""The rows of crates/examples: operators on small tables, and what the model says they leave.
+"""The rows of crates/evidence_rows: operators on small tables, and what the model says they leave.
 
-    python3 tests/model/rows.py           writes crates/examples/specs/Rows*.antt
+    python3 tests/model/rows.py           writes crates/evidence_rows/specs/Rows*.antt
     python3 tests/model/rows.py --check   compares these files, layout aside, with what it would write
 
 A table is said by the script that leads to it, a row by its operator and the refusal that
@@ -25,9 +25,9 @@ USES = [
     "use mathlib.Core.List.{List, [], _∷_}",
     "use lib.IntN.{pos, negsuc}",
     "use Rattle.euler.specs.Exec.{Table}",
-    "use Rattle.examples.specs.Row.{Row, table, operation, accepts, refuses}",
+    "use Rattle.evidence_rows.specs.Row.{Row, table, operation, accepts, refuses}",
 ]
-FOLDER = os.path.join(os.path.dirname(os.path.abspath(__file__)), "..", "..", "crates", "examples", "specs")
+FOLDER = os.path.join(os.path.dirname(os.path.abspath(__file__)), "..", "..", "crates", "evidence_rows", "specs")
 
 # Tables and misuses
 

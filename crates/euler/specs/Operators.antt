@@ -19,7 +19,7 @@ use Rattle.script.specs.Operator.{blankOf, withNumber}
 use Rattle.layout.specs.declared.shape.Shape.{Shape}
 use Rattle.layout.specs.Layout.{kind, solidUsed, faceSolid, faceOuter, loopFace, loopFirst, loopIsolated, startOf, loopOf, nextOf, prevOf, vertexUsed, setSolidUsed, setFaceSolid, setFaceOuter, setLoopFace, setStart, setVertexUsed, side}
 use Rattle.layout.specs.Mate.{mate, edgeOf}
-use Rattle.shells.specs.Shells.{facesLinkedAs}
+use Rattle.check_shells.specs.Shells.{facesLinkedAs}
 use Rattle.euler.specs.Surgery.{some, halfBy, wayOf, corner, cornerVertex, withPoint, putFace, putLoop, putHalf, between, edgeIn, edgeOut, tie, relabelRun, lower, renew}
 
 -- ---- operators as records

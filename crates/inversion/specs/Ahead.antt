@@ -12,10 +12,10 @@ use Rattle.layout.specs.declared.shape.Shape.{Shape}
 use Rattle.layout.specs.Layout.{loopOf}
 use Rattle.euler.specs.Operators.{facesIn, faceIn, isRing}
 use Rattle.euler.specs.Exec.{linksAfter, pointsAfter}
-use Rattle.validity.specs.Fields.{Loop}
-use Rattle.validity.specs.Sound.{In}
-use Rattle.validity.specs.Good.{Good, own}
-use Rattle.bridges.specs.KemrOperator.{kemr-links}
+use Rattle.layout.specs.Fields.{Loop}
+use Rattle.sound_tables.specs.Sound.{In}
+use Rattle.sound_tables.specs.Good.{Good, own}
+use Rattle.sound_bridges.specs.KemrAccepted.{kemr-links}
 use Rattle.runs.specs.Run.{state, stepped}
 use Rattle.takedown.specs.Inversion.{Work, act, begin, linksIn, solidAt, freeLoop, edgesLeft, ofSolid, inRing, ringHalf, spurHalf, crossed, isCrossed, crossedHalf, kev, kemr}
 use Rattle.inversion.specs.Path.{acted-table}

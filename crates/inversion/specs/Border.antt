@@ -16,10 +16,10 @@ use Rattle.layout.specs.Mate.{mate}
 use Rattle.euler.specs.Surgery.{some}
 use Rattle.euler.specs.Operators.{isRing, faceIn}
 use Rattle.euler.specs.Exec.{refusalOf, linksAfter}
-use Rattle.validity.specs.Fields.{change, SolidUsed, Solid, Outer, Face, Start, Loop, VertexUsed}
-use Rattle.validity.specs.Sound.{In, HalfUsed, side}
-use Rattle.validity.specs.Cells.{Shows}
-use Rattle.validity.specs.Good.{Good, own}
+use Rattle.layout.specs.Fields.{change, SolidUsed, Solid, Outer, Face, Start, Loop, VertexUsed}
+use Rattle.sound_tables.specs.Sound.{In, HalfUsed, side}
+use Rattle.sound_tables.specs.Cells.{Shows}
+use Rattle.sound_tables.specs.Good.{Good, own}
 use Rattle.takedown.specs.Inversion.{Work, act, isRingOf, moveRings, rmov}
 use Rattle.inversion.specs.Path.{Path, there, first, acted, joinsIn, acted-table}
 use Rattle.inversion.specs.Counts.{solids, faces, loops, edges, vertices, strays, count-same}

@@ -11,12 +11,12 @@ use Rattle.layout.specs.declared.shape.Shape.{Shape}
 use Rattle.layout.specs.Points.{coordinate}
 use Rattle.euler.specs.Surgery.{some}
 use Rattle.table.specs.Clear.{emptyLinks, emptyPoints}
-use Rattle.validity.specs.Fields.{Field, groups, capOf, Capacity, SolidUsed, Solid, Outer, Face, First, Isolated, Start, Loop, Next, Prev, VertexUsed}
-use Rattle.validity.specs.Sound.{In, VertexSound, alone, joined}
-use Rattle.validity.specs.Cells.{shows-own, shows-ext}
-use Rattle.validity.specs.PointLists.{points-ext}
-use Rattle.validity.specs.ClearSound.{past-head, zero-coordinate}
-use Rattle.validity.specs.Good.{Good, own, good-shows}
+use Rattle.layout.specs.Fields.{Field, groups, capOf, Capacity, SolidUsed, Solid, Outer, Face, First, Isolated, Start, Loop, Next, Prev, VertexUsed}
+use Rattle.sound_tables.specs.Sound.{In, VertexSound, alone, joined}
+use Rattle.sound_tables.specs.Cells.{shows-own, shows-ext}
+use Rattle.sound_tables.specs.PointLists.{points-ext}
+use Rattle.sound_tables.specs.ClearSound.{past-head, zero-coordinate}
+use Rattle.sound_tables.specs.Good.{Good, own, good-shows}
 use Rattle.takedown.specs.Inversion.{solidAt}
 use Rattle.inversion.specs.Counts.{count-none}
 use Rattle.inversion.specs.Same.{words, solids-is, faces-is, loops-is, edges-is, vertices-is}

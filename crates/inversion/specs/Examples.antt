@@ -1,4 +1,4 @@
--- The take-down computed beyond example e of document 01 (which crate cases has): a table whose edge 1 is a bridge
+-- The take-down computed beyond example e of document 01 (which crate evidence_cases has): a table whose edge 1 is a bridge
 -- between two handles, so that the least crossed k is not the least k; a table that takes every kind of turn; two
 -- solids; a full table, a torus of two edges with no number free: 10, with a start beyond the log 1; its holes counted.
 use Prim.Native.Nat.{ℕ, _*_}
@@ -18,8 +18,8 @@ use Rattle.codec.specs.OperandBytes.{operandBytes, operandsBytes}
 use Rattle.script.specs.Operator.{operatorBytes, putBytes}
 use Rattle.layout.specs.Layout.{shapeOf}
 use Rattle.layout.specs.Mate.{mate}
-use Rattle.shells.specs.Shells.{within, joins, linkedBy}
-use Rattle.items.specs.Rules.{solidRange, faceRange, loopRange, halfRange, vertexRange, rule1, solidNames, faceNames, loopNames, halfNames, rule2, loopEither, rule3, halfLinks, firstNames, halfInLoop, rule4, vertexEither, halfAtVertex, rule5, halfSides, faceLinked, rule6, brokenRule}
+use Rattle.check_shells.specs.Shells.{within, joins, linkedBy}
+use Rattle.check_items.specs.Rules.{solidRange, faceRange, loopRange, halfRange, vertexRange, rule1, solidNames, faceNames, loopNames, halfNames, rule2, loopEither, rule3, halfLinks, firstNames, halfInLoop, rule4, vertexEither, halfAtVertex, rule5, halfSides, faceLinked, rule6, brokenRule}
 use Rattle.table.specs.Sizes.{sizesFit}
 use Rattle.table.specs.Check.{checkOf}
 use Rattle.table.specs.Count.{itemUsed, tallyOf, counts, countOf}

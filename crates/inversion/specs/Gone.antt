@@ -11,20 +11,20 @@ use Rattle.laws.specs.Update.{upd, upd-at, upd-same, upd-off, relabel-at, relab
 use Rattle.layout.specs.declared.shape.Shape.{Shape}
 use Rattle.layout.specs.Mate.{mate}
 use Rattle.euler.specs.Exec.{linksAfter}
-use Rattle.validity.specs.Fields.{Columns, SolidUsed, Solid, Outer, Face, Start, Loop, Next, Prev}
-use Rattle.validity.specs.Mates.{mate-other}
-use Rattle.validity.specs.EdgeIn.{next-prev}
-use Rattle.validity.specs.Sound.{In, HalfUsed, side}
-use Rattle.validity.specs.Cells.{Shows}
-use Rattle.validity.specs.Walking.{run-other}
-use Rattle.validity.specs.Good.{Good, own}
-use Rattle.spurs.specs.KevSound.{Left, kevColumns}
-use Rattle.spurs.specs.KevOperator.{kevList, kev-shows}
-use Rattle.bridges.specs.BridgeLists.{kemrList}
-use Rattle.bridges.specs.DownColumns.{Span, walk}
-use Rattle.cuts.specs.KefPlace.{spotAt}
-use Rattle.cuts.specs.MendShown.{tieP, tieN, tieP′, tieN′}
-use Rattle.ringfaces.specs.MfkrhSound.{RingFace}
+use Rattle.layout.specs.Fields.{Columns, SolidUsed, Solid, Outer, Face, Start, Loop, Next, Prev}
+use Rattle.sound_tables.specs.Mates.{mate-other}
+use Rattle.sound_tables.specs.EdgeIn.{next-prev}
+use Rattle.sound_tables.specs.Sound.{In, HalfUsed, side}
+use Rattle.sound_tables.specs.Cells.{Shows}
+use Rattle.sound_tables.specs.Walking.{run-other}
+use Rattle.sound_tables.specs.Good.{Good, own}
+use Rattle.sound_spurs.specs.KevSound.{Left, kevColumns}
+use Rattle.sound_spurs.specs.KevAccepted.{kevList, kev-shows}
+use Rattle.sound_bridges.specs.Lists.{kemrList}
+use Rattle.sound_bridges.specs.KemrColumns.{Span, walk}
+use Rattle.sound_cuts.specs.KefPlace.{spotAt}
+use Rattle.sound_cuts.specs.KefShown.{tieP, tieN, tieP′, tieN′}
+use Rattle.sound_holes.specs.MfkrhSound.{RingFace}
 use Rattle.takedown.specs.Inversion.{mfkrh, kef}
 use Rattle.inversion.specs.KevLaws.{kev-law}
 use Rattle.inversion.specs.KefLaws.{kef-shown, kef-law}

@@ -17,18 +17,18 @@ use Rattle.layout.specs.declared.shape.Shape.{Shape}
 use Rattle.layout.specs.Mate.{mate}
 use Rattle.euler.specs.Operators.{kefTest}
 use Rattle.euler.specs.Exec.{useWord, condition, refusalOf, linksAfter, pointsAfter, inverse}
-use Rattle.validity.specs.Fields.{SolidUsed, Solid, Face, Start, Loop, VertexUsed}
-use Rattle.validity.specs.Mates.{mate-other}
-use Rattle.validity.specs.Sound.{In, side}
-use Rattle.validity.specs.Labels.{many-one}
-use Rattle.validity.specs.OneOperand.{one-accepted}
-use Rattle.validity.specs.Cells.{Shows}
-use Rattle.validity.specs.Good.{Good, own, good-shows}
-use Rattle.cuts.specs.MendShown.{mend-shows}
-use Rattle.cuts.specs.MendSound.{mend-sound}
-use Rattle.cuts.specs.KefPlace.{spotAt, mendColumns, KefPlace}
-use Rattle.cuts.specs.KefCut.{kef-cut, kef-only, kef-first}
-use Rattle.cuts.specs.KefAt.{kef-links, kef-points}
+use Rattle.layout.specs.Fields.{SolidUsed, Solid, Face, Start, Loop, VertexUsed}
+use Rattle.sound_tables.specs.Mates.{mate-other}
+use Rattle.sound_tables.specs.Sound.{In, side}
+use Rattle.sound_tables.specs.Labels.{many-one}
+use Rattle.sound_tables.specs.OneOperand.{one-accepted}
+use Rattle.sound_tables.specs.Cells.{Shows}
+use Rattle.sound_tables.specs.Good.{Good, own, good-shows}
+use Rattle.sound_cuts.specs.KefShown.{mend-shows}
+use Rattle.sound_cuts.specs.KefSound.{mend-sound}
+use Rattle.sound_cuts.specs.KefPlace.{spotAt, mendColumns, KefPlace}
+use Rattle.sound_cuts.specs.KefRelation.{kef-cut, kef-only, kef-first}
+use Rattle.sound_cuts.specs.KefAccepted.{kef-links, kef-points}
 use Rattle.takedown.specs.Inversion.{kef}
 use Rattle.inversion.specs.Path.{joinsIn}
 use Rattle.inversion.specs.Counts.{solids, faces, loops, edges, vertices}

@@ -12,21 +12,21 @@ use Rattle.laws.specs.Permutations.{iter}
 use Rattle.laws.specs.Update.{upd-off}
 use Rattle.laws.specs.Exchange.{Till, stop, go}
 use Rattle.laws.specs.Walks.{walk-till}
-use Rattle.validity.specs.Names.{loop-unnamed}
+use Rattle.sound_tables.specs.Names.{loop-unnamed}
 use Rattle.layout.specs.declared.shape.Shape.{Shape}
 use Rattle.layout.specs.Mate.{mate}
 use Rattle.layout.specs.MateLaws.{mate-mate, mate-range}
 use Rattle.euler.specs.Operators.{faceIn}
-use Rattle.validity.specs.Fields.{Columns, SolidUsed, Solid, Outer, Face, Start, Loop, Next, Prev, VertexUsed}
-use Rattle.validity.specs.Mates.{mate-other}
-use Rattle.validity.specs.Cells.{Shows}
-use Rattle.validity.specs.Sound.{In, HalfUsed}
-use Rattle.validity.specs.Walking.{runColumns, run-met, run-off}
-use Rattle.validity.specs.Good.{Good, own}
-use Rattle.bridges.specs.Bridge.{Bridged}
-use Rattle.bridges.specs.BridgeLists.{kemrList}
-use Rattle.bridges.specs.DownColumns.{Span, walk, kemrColumns, down-bridged}
-use Rattle.bridges.specs.DownShown.{kemr-shows}
+use Rattle.layout.specs.Fields.{Columns, SolidUsed, Solid, Outer, Face, Start, Loop, Next, Prev, VertexUsed}
+use Rattle.sound_tables.specs.Mates.{mate-other}
+use Rattle.sound_tables.specs.Cells.{Shows}
+use Rattle.sound_tables.specs.Sound.{In, HalfUsed}
+use Rattle.sound_tables.specs.Walking.{runColumns, run-met, run-off}
+use Rattle.sound_tables.specs.Good.{Good, own}
+use Rattle.sound_bridges.specs.Relation.{Bridged}
+use Rattle.sound_bridges.specs.Lists.{kemrList}
+use Rattle.sound_bridges.specs.KemrColumns.{Span, walk, kemrColumns, down-bridged}
+use Rattle.sound_bridges.specs.KemrShown.{kemr-shows}
 use Rattle.takedown.specs.Inversion.{inRing, ringHalf}
 use Rattle.inversion.specs.Counts.{solids, faces, loops, edges, vertices, isStray, strays, count-same}
 use Rattle.inversion.specs.Same.{words-same, words-fewer, solids-is, faces-is, loops-is, vertices-is, face-in-same, stray-same, face-or-none}

@@ -13,14 +13,14 @@ use Rattle.layout.specs.declared.shape.Shape.{Shape}
 use Rattle.layout.specs.Mate.{mate}
 use Rattle.euler.specs.Operators.{kevTest}
 use Rattle.euler.specs.Exec.{useWord, condition, refusalOf, inverse}
-use Rattle.validity.specs.Fields.{SolidUsed, Solid, Face, Start, Next, VertexUsed}
-use Rattle.validity.specs.Sound.{In, HalfUsed}
-use Rattle.validity.specs.OneOperand.{one-accepted}
-use Rattle.validity.specs.Cells.{Shows}
-use Rattle.validity.specs.Good.{Good, own}
-use Rattle.spurs.specs.Spur.{in-k, in-b, used-b, far-in, far-used}
-use Rattle.spurs.specs.KevSound.{Left, kevColumns, out-start-k, out-start-b}
-use Rattle.spurs.specs.KevOperator.{kevList, kev-shows}
+use Rattle.layout.specs.Fields.{SolidUsed, Solid, Face, Start, Next, VertexUsed}
+use Rattle.sound_tables.specs.Sound.{In, HalfUsed}
+use Rattle.sound_tables.specs.OneOperand.{one-accepted}
+use Rattle.sound_tables.specs.Cells.{Shows}
+use Rattle.sound_tables.specs.Good.{Good, own}
+use Rattle.sound_spurs.specs.Relation.{in-k, in-b, used-b, far-in, far-used}
+use Rattle.sound_spurs.specs.KevSound.{Left, kevColumns, out-start-k, out-start-b}
+use Rattle.sound_spurs.specs.KevAccepted.{kevList, kev-shows}
 use Rattle.takedown.specs.Inversion.{kev}
 use Rattle.inversion.specs.Path.{joinsIn}
 use Rattle.inversion.specs.Counts.{solids, faces, loops, edges, vertices, strays}

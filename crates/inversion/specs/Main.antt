@@ -23,16 +23,16 @@ use Rattle.table.specs.Count.{itemUsed, tallyOf, holesOf}
 use Rattle.table.specs.declared.tally.Item.the-variants.{Edge, Vertex}
 use Rattle.table.specs.declared.check.CheckAnswer.{CheckAnswer}
 use Rattle.script.specs.declared.Operator.{Operator}
-use Rattle.validity.specs.Accepted.{accepted}
-use Rattle.validity.specs.Good.{Good}
-use Rattle.soundness.specs.Theorems.{all-hold}
+use Rattle.sound_tables.specs.Accepted.{accepted}
+use Rattle.sound_tables.specs.Good.{Good}
+use Rattle.sound_operators.specs.Theorems.{all-hold}
 use Rattle.runs.specs.Run.{State, state, Ran, entry, runOf, runFrom}
 use Rattle.runs.specs.Clauses.{run-in}
 use Rattle.promises.specs.Reading.{range-writable}
 use Rattle.promises.specs.Leads.{Leads, none, first}
 use Rattle.promises.specs.Checked.{good-within, good-entry, checked-good}
-use Rattle.promises.specs.Back.{Back, back-none}
-use Rattle.fuel.specs.Inverse.{inverse-small}
+use Rattle.promises.specs.WayBack.{Back, back-none}
+use Rattle.evidence_fuel.specs.Inverse.{inverse-small}
 use Rattle.takedown.specs.Inversion.{Work, Inverted, freeFace, freeLoop, freeEdge, turns, bound, noneFree, shortLog, inverted, begin, invertBy, invertOf}
 use Rattle.inversion.specs.Script.{joinsOf, joins-first, roomOf, room-first}
 use Rattle.inversion.specs.Path.{Path, acted, acted-table, path-back, joinsIn, path-joins}

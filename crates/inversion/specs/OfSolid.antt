@@ -19,13 +19,13 @@ use Rattle.layout.specs.Mate.{mate}
 use Rattle.layout.specs.MateLaws.{mate-mate}
 use Rattle.euler.specs.Surgery.{some}
 use Rattle.euler.specs.Operators.{facesIn}
-use Rattle.validity.specs.Fields.{Columns, Solid, Outer, Face, Loop, Next}
-use Rattle.validity.specs.Mates.{mate-other}
-use Rattle.validity.specs.Sound.{In, HalfUsed, side}
-use Rattle.validity.specs.Labels.{one-many}
-use Rattle.validity.specs.Walking.{Steps}
-use Rattle.validity.specs.Good.{Good, own}
-use Rattle.fuel.specs.Walks.{near}
+use Rattle.layout.specs.Fields.{Columns, Solid, Outer, Face, Loop, Next}
+use Rattle.sound_tables.specs.Mates.{mate-other}
+use Rattle.sound_tables.specs.Sound.{In, HalfUsed, side}
+use Rattle.sound_tables.specs.Labels.{one-many}
+use Rattle.sound_tables.specs.Walking.{Steps}
+use Rattle.sound_tables.specs.Good.{Good, own}
+use Rattle.evidence_fuel.specs.Walks.{near}
 use Rattle.takedown.specs.Inversion.{ofSolid, edgesLeft, inRing, ringHalf, isSpur, spurHalf, between, isCrossed, crossedHalf}
 use Rattle.inversion.specs.Crossing.{crossed as crossing}
 use Rattle.takedown.specs.Crossed.{at-crossed}

@@ -13,14 +13,14 @@ use Rattle.script.specs.declared.Operator.{Operator}
 use Rattle.script.specs.Operator.{operatorBytes}
 use Rattle.layout.specs.declared.shape.Shape.{Shape}
 use Rattle.euler.specs.Exec.{refusalOf, linksAfter, pointsAfter, inverse}
-use Rattle.validity.specs.Good.{Good}
-use Rattle.soundness.specs.Theorems.{all-hold}
+use Rattle.sound_tables.specs.Good.{Good}
+use Rattle.sound_operators.specs.Theorems.{all-hold}
 use Rattle.runs.specs.Run.{State, inverseBytes, stepped}
 use Rattle.promises.specs.Checked.{good-within}
 use Rattle.promises.specs.Inverses.{inverse-eight}
 use Rattle.promises.specs.Logging.{put-live}
-use Rattle.promises.specs.Back.{Back, back-stepped}
-use Rattle.fuel.specs.Inverse.{inverse-small}
+use Rattle.promises.specs.WayBack.{Back, back-stepped}
+use Rattle.evidence_fuel.specs.Inverse.{inverse-small}
 use Rattle.takedown.specs.Inversion.{Work, act}
 use Rattle.inversion.specs.Script.{joinsFaces, joinsOf, joins-first}
 

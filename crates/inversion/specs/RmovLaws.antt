@@ -15,13 +15,13 @@ use Rattle.layout.specs.declared.shape.Shape.{Shape}
 use Rattle.layout.specs.Mate.{mate}
 use Rattle.euler.specs.Operators.{sharesOutside, rmovTest, rmovLinks}
 use Rattle.euler.specs.Exec.{useWord, condition, refusalOf, linksAfter, pointsAfter, inverse}
-use Rattle.validity.specs.Fields.{change, Solid, Outer, Face, Loop}
-use Rattle.validity.specs.Accepted.{old-use}
-use Rattle.validity.specs.TwoOperands.{two-accepted}
-use Rattle.validity.specs.Sound.{In, HalfUsed, side}
-use Rattle.validity.specs.Cells.{Shows, shows-put}
-use Rattle.validity.specs.Good.{Good, own, good-shows}
-use Rattle.soundness.specs.Theorems.{all-hold}
+use Rattle.layout.specs.Fields.{change, Solid, Outer, Face, Loop}
+use Rattle.sound_tables.specs.Accepted.{old-use}
+use Rattle.sound_tables.specs.TwoOperands.{two-accepted}
+use Rattle.sound_tables.specs.Sound.{In, HalfUsed, side}
+use Rattle.sound_tables.specs.Cells.{Shows, shows-put}
+use Rattle.sound_tables.specs.Good.{Good, own, good-shows}
+use Rattle.sound_operators.specs.Theorems.{all-hold}
 use Rattle.takedown.specs.Inversion.{rmov}
 use Rattle.inversion.specs.Path.{joinsIn}
 use Rattle.inversion.specs.OfSolid.{least-there}

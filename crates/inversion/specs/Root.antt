@@ -12,10 +12,10 @@ use Rattle.laws.specs.Search.{least}
 use Rattle.layout.specs.declared.shape.Shape.{Shape}
 use Rattle.euler.specs.Surgery.{some}
 use Rattle.euler.specs.Operators.{isRing, faceIn}
-use Rattle.validity.specs.Fields.{SolidUsed, Solid, Outer, Face, First, Isolated, Loop, VertexUsed}
-use Rattle.validity.specs.Sound.{In}
-use Rattle.validity.specs.Labels.{LeastIs, label-found, label-some}
-use Rattle.validity.specs.Good.{Good, own}
+use Rattle.layout.specs.Fields.{SolidUsed, Solid, Outer, Face, First, Isolated, Loop, VertexUsed}
+use Rattle.sound_tables.specs.Sound.{In}
+use Rattle.sound_tables.specs.Labels.{LeastIs, label-found, label-some}
+use Rattle.sound_tables.specs.Good.{Good, own}
 use Rattle.takedown.specs.Inversion.{solidAt, ofSolid, edgesLeft, inRing, ringHalf, isRingOf, ringOf}
 use Rattle.inversion.specs.OfSolid.{least-some, least-no, least-there, both, joint, Of, of-solid}
 

@@ -13,8 +13,8 @@ use Rattle.layout.specs.declared.shape.Shape.{Shape}
 use Rattle.layout.specs.Layout.{nextOf}
 use Rattle.layout.specs.Mate.{mate}
 use Rattle.layout.specs.MateLaws.{mate-odd, mate-even}
-use Rattle.validity.specs.Sound.{In}
-use Rattle.validity.specs.Walking.{Steps, steps-on}
+use Rattle.sound_tables.specs.Sound.{In}
+use Rattle.sound_tables.specs.Walking.{Steps, steps-on}
 use Rattle.takedown.specs.Inversion.{onRun, between, either, crossed}
 
 or-split : (a b : Bool) → (a || b) ≡ true → (a ≡ true) ⊎ (b ≡ true)

@@ -14,9 +14,9 @@ use Rattle.layout.specs.declared.shape.Shape.{Shape}
 use Rattle.euler.specs.Surgery.{some}
 use Rattle.euler.specs.Operators.{faceIn, facesIn}
 use Rattle.table.specs.Count.{itemUsed}
-use Rattle.validity.specs.Fields.{SolidUsed, Solid, Face, Start, VertexUsed}
-use Rattle.validity.specs.Sound.{In}
-use Rattle.validity.specs.Good.{Good, own}
+use Rattle.layout.specs.Fields.{SolidUsed, Solid, Face, Start, VertexUsed}
+use Rattle.sound_tables.specs.Sound.{In}
+use Rattle.sound_tables.specs.Good.{Good, own}
 use Rattle.takedown.specs.Inversion.{solidAt, freeFace, freeLoop, freeEdge}
 use Rattle.inversion.specs.OfSolid.{least-some, least-there}
 use Rattle.inversion.specs.Counts.{solids, faces, loops, edges, vertices, isStray, strays, count-same}

@@ -11,14 +11,14 @@ use Rattle.layout.specs.declared.shape.Shape.{Shape}
 use Rattle.layout.specs.Mate.{mate}
 use Rattle.euler.specs.Operators.{facesIn}
 use Rattle.euler.specs.Exec.{linksAfter}
-use Rattle.validity.specs.Fields.{Loop, Next}
-use Rattle.validity.specs.Sound.{In, HalfUsed}
-use Rattle.validity.specs.Names.{loop-unnamed}
-use Rattle.validity.specs.Good.{Good, own}
-use Rattle.bridges.specs.BridgeLists.{kemrList}
-use Rattle.bridges.specs.Runs.{met?}
-use Rattle.bridges.specs.DownColumns.{walk}
-use Rattle.bridges.specs.KemrOperator.{kemr-links}
+use Rattle.layout.specs.Fields.{Loop, Next}
+use Rattle.sound_tables.specs.Sound.{In, HalfUsed}
+use Rattle.sound_tables.specs.Names.{loop-unnamed}
+use Rattle.sound_tables.specs.Good.{Good, own}
+use Rattle.sound_bridges.specs.Lists.{kemrList}
+use Rattle.sound_bridges.specs.Runs.{met?}
+use Rattle.sound_bridges.specs.KemrColumns.{walk}
+use Rattle.sound_bridges.specs.KemrAccepted.{kemr-links}
 use Rattle.takedown.specs.Inversion.{solidAt, freeLoop, edgesLeft, inRing, ringHalf, spurHalf, crossedHalf, kemr}
 use Rattle.inversion.specs.Turn.{Ready}
 use Rattle.inversion.specs.OfSolid.{one-loop}

@@ -17,13 +17,13 @@ use Rattle.layout.specs.Mate.{mate}
 use Rattle.layout.specs.MateLaws.{mate-mate, mate-range}
 use Rattle.euler.specs.Operators.{faceIn, facesIn, isRing}
 use Rattle.euler.specs.Exec.{linksAfter}
-use Rattle.validity.specs.Fields.{SolidUsed, Solid, Outer, Face, Start, Loop, Next}
-use Rattle.validity.specs.Mates.{mate-other}
-use Rattle.validity.specs.Sound.{In, HalfUsed, side}
-use Rattle.validity.specs.Walking.{Steps, steps-on, way-round, on-the-way}
-use Rattle.validity.specs.Good.{Good, own}
-use Rattle.soundness.specs.Theorems.{all-hold}
-use Rattle.cuts.specs.KefPlace.{KefPlace}
+use Rattle.layout.specs.Fields.{SolidUsed, Solid, Outer, Face, Start, Loop, Next}
+use Rattle.sound_tables.specs.Mates.{mate-other}
+use Rattle.sound_tables.specs.Sound.{In, HalfUsed, side}
+use Rattle.sound_tables.specs.Walking.{Steps, steps-on, way-round, on-the-way}
+use Rattle.sound_tables.specs.Good.{Good, own}
+use Rattle.sound_operators.specs.Theorems.{all-hold}
+use Rattle.sound_cuts.specs.KefPlace.{KefPlace}
 use Rattle.takedown.specs.Inversion.{Work, act, linksIn, solidAt, outside, borderHalf, isRingOf, makeOuter, moveRings, rmov, kef}
 use Rattle.inversion.specs.Path.{Path, acted, acted-table}
 use Rattle.inversion.specs.Same.{solid-at-same, count-fewer-in}

@@ -11,9 +11,9 @@ use Rattle.laws.specs.Bools.{split, true-T}
 use Rattle.layout.specs.declared.shape.Shape.{Shape}
 use Rattle.euler.specs.Operators.{faceIn, facesIn, isRing}
 use Rattle.euler.specs.Exec.{linksAfter}
-use Rattle.validity.specs.Fields.{Solid, Outer, Face, Loop, Start}
-use Rattle.validity.specs.Sound.{In, side}
-use Rattle.validity.specs.Good.{Good, own}
+use Rattle.layout.specs.Fields.{Solid, Outer, Face, Loop, Start}
+use Rattle.sound_tables.specs.Sound.{In, side}
+use Rattle.sound_tables.specs.Good.{Good, own}
 use Rattle.takedown.specs.Inversion.{solidAt, freeEdge, ofSolid, edgesLeft, isRingOf, ringOf, kev, mekr}
 use Rattle.inversion.specs.Same.{face-in-same, faces-in-same, solid-at-same}
 use Rattle.inversion.specs.OfSolid.{least-some, both}

@@ -14,9 +14,9 @@ use Rattle.layout.specs.Layout.{solidUsed}
 use Rattle.layout.specs.Mate.{mate}
 use Rattle.euler.specs.Surgery.{some}
 use Rattle.euler.specs.Operators.{faceIn, facesIn}
-use Rattle.validity.specs.Fields.{SolidUsed, Solid, Loop, Next, Prev}
-use Rattle.validity.specs.Sound.{In, HalfUsed, side}
-use Rattle.validity.specs.Good.{Good, own}
+use Rattle.layout.specs.Fields.{SolidUsed, Solid, Loop, Next, Prev}
+use Rattle.sound_tables.specs.Sound.{In, HalfUsed, side}
+use Rattle.sound_tables.specs.Good.{Good, own}
 use Rattle.takedown.specs.Inversion.{solidAt, outside, ofSolid, inRing, isSpur, spurHalf, isRingOf}
 use Rattle.inversion.specs.Same.{face-in-same, faces-in-same, solid-at-same}
 use Rattle.inversion.specs.OfSolid.{both, joint, of-solid}

@@ -16,9 +16,9 @@ use Rattle.layout.specs.Layout.{shapeOf, faceOuter, loopOf, side}
 use Rattle.euler.specs.Surgery.{some}
 use Rattle.euler.specs.Operators.{faceIn, facesIn}
 use Rattle.euler.specs.Exec.{linksAfter}
-use Rattle.validity.specs.Fields.{SolidUsed}
-use Rattle.validity.specs.Sound.{In}
-use Rattle.validity.specs.Good.{Good, own}
+use Rattle.layout.specs.Fields.{SolidUsed}
+use Rattle.sound_tables.specs.Sound.{In}
+use Rattle.sound_tables.specs.Good.{Good, own}
 use Rattle.table.specs.Check.{checkOf}
 use Rattle.runs.specs.Run.{State, entry, stepped}
 use Rattle.promises.specs.Checked.{checked-good}

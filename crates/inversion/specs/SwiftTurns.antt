@@ -15,12 +15,12 @@ use Rattle.layout.specs.Mate.{mate}
 use Rattle.layout.specs.MateLaws.{mate-mate}
 use Rattle.euler.specs.Operators.{facesIn}
 use Rattle.euler.specs.Exec.{linksAfter, pointsAfter}
-use Rattle.validity.specs.Fields.{Loop, Next, Prev}
-use Rattle.validity.specs.EdgeIn.{prev-in}
-use Rattle.validity.specs.Sound.{In, HalfUsed}
-use Rattle.validity.specs.Walking.{Steps, steps-on}
-use Rattle.validity.specs.Good.{Good, own}
-use Rattle.bridges.specs.DownColumns.{walk}
+use Rattle.layout.specs.Fields.{Loop, Next, Prev}
+use Rattle.sound_tables.specs.EdgeIn.{prev-in}
+use Rattle.sound_tables.specs.Sound.{In, HalfUsed}
+use Rattle.sound_tables.specs.Walking.{Steps, steps-on}
+use Rattle.sound_tables.specs.Good.{Good, own}
+use Rattle.sound_bridges.specs.KemrColumns.{walk}
 use Rattle.takedown.specs.Inversion.{solidAt, freeLoop, edgesLeft, ofSolid, inRing, ringHalf, isSpur, spurHalf, crossed, isCrossed, crossedHalf, kev, kemr}
 use Rattle.inversion.specs.Turn.{Ready}
 use Rattle.inversion.specs.TurnCross.{span}

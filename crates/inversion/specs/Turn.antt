@@ -13,7 +13,7 @@ use Rattle.script.specs.declared.Operator.{Operator}
 use Rattle.layout.specs.declared.shape.Shape.{Shape}
 use Rattle.euler.specs.Operators.{faceIn, facesIn}
 use Rattle.table.specs.Clear.{emptyLinks, emptyPoints}
-use Rattle.validity.specs.Good.{Good}
+use Rattle.sound_tables.specs.Good.{Good}
 use Rattle.takedown.specs.Inversion.{Work, solidAt, freeFace, freeLoop, freeEdge, ringHalf, turned, invertBy}
 use Rattle.inversion.specs.Path.{Path, there, first, acted, path-append, acted-append, path-good, joinsIn, acted-table}
 use Rattle.inversion.specs.Counts.{solids, faces, loops, edges, vertices, strays}

@@ -18,11 +18,11 @@ use Rattle.layout.specs.Mate.{mate}
 use Rattle.layout.specs.MateLaws.{mate-mate, mate-range}
 use Rattle.euler.specs.Operators.{isRing, faceIn, facesIn}
 use Rattle.euler.specs.Exec.{linksAfter}
-use Rattle.validity.specs.Fields.{change, SolidUsed, Solid, Outer, Face, Start, Loop, VertexUsed}
-use Rattle.validity.specs.Sound.{In, HalfUsed, side}
-use Rattle.validity.specs.Labels.{many-one, LeastIs, label-found}
-use Rattle.validity.specs.Good.{Good, own}
-use Rattle.cuts.specs.KefPlace.{KefPlace}
+use Rattle.layout.specs.Fields.{change, SolidUsed, Solid, Outer, Face, Start, Loop, VertexUsed}
+use Rattle.sound_tables.specs.Sound.{In, HalfUsed, side}
+use Rattle.sound_tables.specs.Labels.{many-one, LeastIs, label-found}
+use Rattle.sound_tables.specs.Good.{Good, own}
+use Rattle.sound_cuts.specs.KefPlace.{KefPlace}
 use Rattle.takedown.specs.Inversion.{Work, act, solidAt, freeEdge, turned, outside, borderHalf, makeOuter, moveRings, turnA, rmov, kef}
 use Rattle.inversion.specs.Path.{Path, there, first, acted, path-append, acted-append, acted-table, joinsIn}
 use Rattle.inversion.specs.Counts.{solids, faces, loops, edges, vertices, isStray, strays}

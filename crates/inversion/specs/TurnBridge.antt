@@ -13,17 +13,17 @@ use Rattle.layout.specs.Mate.{mate}
 use Rattle.layout.specs.MateLaws.{mate-odd}
 use Rattle.euler.specs.Operators.{isRing, faceIn, facesIn}
 use Rattle.euler.specs.Exec.{linksAfter, inverse}
-use Rattle.validity.specs.Fields.{Loop, SolidUsed, Solid, Outer, Face, First, Isolated, Start, Next, VertexUsed}
-use Rattle.validity.specs.Sound.{In, HalfUsed}
-use Rattle.validity.specs.Names.{free-zero}
-use Rattle.validity.specs.Cells.{Shows}
-use Rattle.validity.specs.Good.{Good, own}
-use Rattle.spurs.specs.KevOperator.{kevList, kevPoints, kev-links, kev-points}
-use Rattle.bridges.specs.Bridge.{Ends, Bridged}
-use Rattle.bridges.specs.BridgeLists.{mekrList}
-use Rattle.bridges.specs.UpColumns.{mekrColumns, up-bridged}
-use Rattle.bridges.specs.UpShown.{mekr-shows, mekr-good}
-use Rattle.bridges.specs.MekrOperator.{MekrFacts, mekr-accepted, mekr-links, mekr-points}
+use Rattle.layout.specs.Fields.{Loop, SolidUsed, Solid, Outer, Face, First, Isolated, Start, Next, VertexUsed}
+use Rattle.sound_tables.specs.Sound.{In, HalfUsed}
+use Rattle.sound_tables.specs.Names.{free-zero}
+use Rattle.sound_tables.specs.Cells.{Shows}
+use Rattle.sound_tables.specs.Good.{Good, own}
+use Rattle.sound_spurs.specs.KevAccepted.{kevList, kevPoints, kev-links, kev-points}
+use Rattle.sound_bridges.specs.Relation.{Ends, Bridged}
+use Rattle.sound_bridges.specs.Lists.{mekrList}
+use Rattle.sound_bridges.specs.MekrColumns.{mekrColumns, up-bridged}
+use Rattle.sound_bridges.specs.MekrShown.{mekr-shows, mekr-good}
+use Rattle.sound_bridges.specs.MekrAccepted.{MekrFacts, mekr-accepted, mekr-links, mekr-points}
 use Rattle.takedown.specs.Inversion.{solidAt, freeEdge, edgesLeft, isRingOf, ringOf, mekr, kev}
 use Rattle.inversion.specs.Path.{path-good, Path, there, first, acted, joinsIn}
 use Rattle.inversion.specs.Counts.{solids, faces, loops, edges, vertices, isStray, strays, count-le-by}

@@ -11,13 +11,13 @@ use Rattle.laws.specs.Bools.{true-T}
 use Rattle.layout.specs.declared.shape.Shape.{Shape}
 use Rattle.euler.specs.Operators.{faceIn, facesIn}
 use Rattle.euler.specs.Exec.{inverse}
-use Rattle.validity.specs.Fields.{Solid, Face, Loop}
-use Rattle.validity.specs.Sound.{In, side}
-use Rattle.validity.specs.Labels.{label-only, one-many}
-use Rattle.validity.specs.Good.{Good, own}
-use Rattle.bridges.specs.BridgeLists.{kemrList}
-use Rattle.bridges.specs.DownColumns.{Span}
-use Rattle.bridges.specs.KemrOperator.{kemr-accepted, kemr-links, kemr-points}
+use Rattle.layout.specs.Fields.{Solid, Face, Loop}
+use Rattle.sound_tables.specs.Sound.{In, side}
+use Rattle.sound_tables.specs.Labels.{label-only, one-many}
+use Rattle.sound_tables.specs.Good.{Good, own}
+use Rattle.sound_bridges.specs.Lists.{kemrList}
+use Rattle.sound_bridges.specs.KemrColumns.{Span}
+use Rattle.sound_bridges.specs.KemrAccepted.{kemr-accepted, kemr-links, kemr-points}
 use Rattle.takedown.specs.Inversion.{solidAt, freeLoop, edgesLeft, isCrossed, crossedHalf, crossed, ofSolid, ringHalf, spurHalf, kemr}
 use Rattle.inversion.specs.Path.{there, first, acted, joinsIn}
 use Rattle.inversion.specs.Counts.{solids, faces, loops, edges}

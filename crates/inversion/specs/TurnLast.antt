@@ -14,14 +14,14 @@ use Rattle.layout.specs.declared.shape.Shape.{Shape}
 use Rattle.euler.specs.Surgery.{putPoint}
 use Rattle.euler.specs.Operators.{faceIn, facesIn}
 use Rattle.euler.specs.Exec.{linksAfter, inverse}
-use Rattle.validity.specs.Fields.{First, SolidUsed, Solid, Outer, Face, Isolated, Start, VertexUsed}
-use Rattle.validity.specs.Sound.{In}
-use Rattle.validity.specs.Labels.{one-many}
-use Rattle.validity.specs.Cells.{Shows}
-use Rattle.validity.specs.MvsfSound.{placed, placedLinks, shows-placed}
-use Rattle.validity.specs.KvsfSound.{OneLoop}
-use Rattle.validity.specs.SolidOperators.{kvsf-links, kvsf-points, kvsf-accepted}
-use Rattle.validity.specs.Good.{Good, own, good-shows}
+use Rattle.layout.specs.Fields.{First, SolidUsed, Solid, Outer, Face, Isolated, Start, VertexUsed}
+use Rattle.sound_tables.specs.Sound.{In}
+use Rattle.sound_tables.specs.Labels.{one-many}
+use Rattle.sound_tables.specs.Cells.{Shows}
+use Rattle.sound_lone.specs.MvsfSound.{placed, placedLinks, shows-placed}
+use Rattle.sound_lone.specs.KvsfSound.{OneLoop}
+use Rattle.sound_lone.specs.Accepted.{kvsf-links, kvsf-points, kvsf-accepted}
+use Rattle.sound_tables.specs.Good.{Good, own, good-shows}
 use Rattle.takedown.specs.Inversion.{solidAt, edgesLeft, ringOf, kvsf}
 use Rattle.inversion.specs.Path.{there, first, acted, joinsIn}
 use Rattle.inversion.specs.Counts.{solids, faces, loops, edges, vertices, isStray, strays, count-le-by}

@@ -16,16 +16,16 @@ use Rattle.layout.specs.declared.shape.Shape.{Shape}
 use Rattle.layout.specs.Mate.{mate}
 use Rattle.euler.specs.Operators.{isRing, faceIn, facesIn}
 use Rattle.euler.specs.Exec.{refusalOf, linksAfter, pointsAfter, inverse}
-use Rattle.validity.specs.Fields.{SolidUsed, Solid, Outer, Face, Start, Loop, VertexUsed}
-use Rattle.validity.specs.Sound.{In, HalfUsed, side}
-use Rattle.validity.specs.Cells.{Shows}
-use Rattle.validity.specs.Good.{Good, own, good-shows}
-use Rattle.soundness.specs.Theorems.{all-hold}
-use Rattle.cuts.specs.KefPlace.{KefPlace}
-use Rattle.ringfaces.specs.Chains.{chain-after}
-use Rattle.ringfaces.specs.MfkrhSound.{cut, RingFace, old-solid, face-unnamed}
-use Rattle.ringfaces.specs.KfmrhOperator.{kfmrhOf, mfkrhOf}
-use Rattle.ringfaces.specs.MfkrhOperator.{Outcome, mfkrh-accepted, mfkrh-inverse, mfkrh-shows, mfkrh-points}
+use Rattle.layout.specs.Fields.{SolidUsed, Solid, Outer, Face, Start, Loop, VertexUsed}
+use Rattle.sound_tables.specs.Sound.{In, HalfUsed, side}
+use Rattle.sound_tables.specs.Cells.{Shows}
+use Rattle.sound_tables.specs.Good.{Good, own, good-shows}
+use Rattle.sound_operators.specs.Theorems.{all-hold}
+use Rattle.sound_cuts.specs.KefPlace.{KefPlace}
+use Rattle.sound_holes.specs.Chains.{chain-after}
+use Rattle.sound_holes.specs.MfkrhSound.{cut, RingFace, old-solid, face-unnamed}
+use Rattle.sound_holes.specs.KfmrhAccepted.{kfmrhOf, mfkrhOf}
+use Rattle.sound_holes.specs.MfkrhAccepted.{Outcome, mfkrh-accepted, mfkrh-inverse, mfkrh-shows, mfkrh-points}
 use Rattle.takedown.specs.Inversion.{solidAt, freeFace, edgesLeft, ofSolid, inRing, ringHalf, mfkrh, kef}
 use Rattle.inversion.specs.Script.{joinsFaces}
 use Rattle.inversion.specs.Path.{Path, there, first, acted, joinsIn}

@@ -11,9 +11,9 @@ use Rattle.laws.specs.Bools.{true-T}
 use Rattle.layout.specs.declared.shape.Shape.{Shape}
 use Rattle.layout.specs.Mate.{mate}
 use Rattle.euler.specs.Operators.{faceIn, facesIn}
-use Rattle.validity.specs.Fields.{Next}
-use Rattle.validity.specs.Good.{Good, own}
-use Rattle.spurs.specs.KevOperator.{kevList, kevPoints, kev-links, kev-points}
+use Rattle.layout.specs.Fields.{Next}
+use Rattle.sound_tables.specs.Good.{Good, own}
+use Rattle.sound_spurs.specs.KevAccepted.{kevList, kevPoints, kev-links, kev-points}
 use Rattle.takedown.specs.Inversion.{solidAt, edgesLeft, ofSolid, isSpur, ringHalf, spurHalf, kev}
 use Rattle.inversion.specs.Path.{there, first, acted}
 use Rattle.inversion.specs.Same.{free-face-same, free-loop-same, free-edge-kept}

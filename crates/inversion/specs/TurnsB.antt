@@ -13,12 +13,12 @@ use Rattle.layout.specs.declared.shape.Shape.{Shape}
 use Rattle.layout.specs.Mate.{mate}
 use Rattle.euler.specs.Operators.{facesIn, isRing}
 use Rattle.euler.specs.Exec.{linksAfter, pointsAfter}
-use Rattle.validity.specs.Fields.{Solid, Outer, Face, Loop, Next}
-use Rattle.validity.specs.Sound.{In, HalfUsed, side}
-use Rattle.validity.specs.Good.{Good, own}
-use Rattle.soundness.specs.Theorems.{all-hold}
-use Rattle.spurs.specs.KevOperator.{kevList, kev-links}
-use Rattle.bridges.specs.KemrOperator.{kemr-accepted, kemr-links}
+use Rattle.layout.specs.Fields.{Solid, Outer, Face, Loop, Next}
+use Rattle.sound_tables.specs.Sound.{In, HalfUsed, side}
+use Rattle.sound_tables.specs.Good.{Good, own}
+use Rattle.sound_operators.specs.Theorems.{all-hold}
+use Rattle.sound_spurs.specs.KevAccepted.{kevList, kev-links}
+use Rattle.sound_bridges.specs.KemrAccepted.{kemr-accepted, kemr-links}
 use Rattle.takedown.specs.Inversion.{solidAt, freeFace, freeLoop, edgesLeft, ofSolid, inRing, ringHalf, spurHalf, crossed, isCrossed, crossedHalf, kev, kef, kemr, mfkrh}
 use Rattle.inversion.specs.Turn.{Ready}
 use Rattle.inversion.specs.OfSolid.{both, joint, Of, of-solid, solid-of, one-loop}

@@ -14,11 +14,11 @@ use Rattle.laws.specs.Cycles.{Cycles, forwards}
 use Rattle.layout.specs.declared.shape.Shape.{Shape}
 use Rattle.layout.specs.Mate.{mate}
 use Rattle.layout.specs.MateLaws.{mate-mate}
-use Rattle.validity.specs.Fields.{Columns, Loop, Next}
-use Rattle.validity.specs.Sound.{HalfUsed}
-use Rattle.validity.specs.Walking.{Steps, iter-keeps, way-round, on-the-way}
-use Rattle.validity.specs.Good.{Good, own}
-use Rattle.fuel.specs.Walks.{near}
+use Rattle.layout.specs.Fields.{Columns, Loop, Next}
+use Rattle.sound_tables.specs.Sound.{HalfUsed}
+use Rattle.sound_tables.specs.Walking.{Steps, iter-keeps, way-round, on-the-way}
+use Rattle.sound_tables.specs.Good.{Good, own}
+use Rattle.evidence_fuel.specs.Walks.{near}
 use Rattle.takedown.specs.Inversion.{between, crossed}
 use Rattle.takedown.specs.Crossed.{Crossing, crossed-at, at-crossed}
 use Rattle.inversion.specs.Runs.{run-at, at-run}

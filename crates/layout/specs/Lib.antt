@@ -1,3 +1,4 @@
+pub mod Fields
 pub mod Layout
 pub mod LayoutLaws
 pub mod Mate

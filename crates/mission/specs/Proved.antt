@@ -3,8 +3,8 @@ use mathlib.Core.Path.{ap}
 use Rattle.codec.specs.Operands.{widest}
 use Rattle.script.specs.EntryTrips.{write-read, read-write, script-copied}
 use Rattle.table.specs.declared.check.CheckAnswer.{CheckAnswer}
-use Rattle.validity.specs.ClearSound.{clear-valid}
-use Rattle.soundness.specs.Theorems.{valid-kept, inverse-exact}
+use Rattle.sound_tables.specs.ClearSound.{clear-valid}
+use Rattle.sound_operators.specs.Theorems.{valid-kept, inverse-exact}
 use Rattle.runs.specs.Clauses.{run-out, undo-out}
 use Rattle.promises.specs.Checked.{checked-valid}
 use Rattle.promises.specs.Reading.{taken}

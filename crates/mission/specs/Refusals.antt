@@ -23,7 +23,7 @@ use Rattle.script.specs.Operator.{refused, readBehind, readOperator}
 use Rattle.script.specs.Operator.{numbersOf, operatorBytes, operatorRefusal, Written, notWritten, writeOperator}
 use Rattle.layout.specs.declared.shape.Shape.{Shape}
 use Rattle.layout.specs.Layout.{shapeOf}
-use Rattle.items.specs.Rules.{rule1, rule2, rule3, rule4, rule5, rule6, brokenRule}
+use Rattle.check_items.specs.Rules.{rule1, rule2, rule3, rule4, rule5, rule6, brokenRule}
 use Rattle.table.specs.declared.check.CheckAnswer.{CheckAnswer}
 use Rattle.table.specs.declared.count.CountAnswer.{CountAnswer}
 use Rattle.table.specs.Sizes.{sizesFit, tableFits}

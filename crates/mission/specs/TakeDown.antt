@@ -19,7 +19,7 @@ use Rattle.table.specs.Count.{tallyOf}
 use Rattle.runs.specs.Run.{State, entry}
 use Rattle.runs.specs.Clauses.{entry-passed}
 use Rattle.takedown.specs.Inversion.{noneFree, shortLog, Inverted, inverted, begin, invertOf}
-use Rattle.validity.specs.ClearSound.{clear-valid}
+use Rattle.sound_tables.specs.ClearSound.{clear-valid}
 use Rattle.inversion.specs.Promise.{clearLinks, clearPoints, Asked}
 use Rattle.inversion.specs.Main.{half-is}
 use Rattle.inversion.specs.Theorem.{inversion-exact, holes-one}

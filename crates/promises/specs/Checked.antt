@@ -11,14 +11,14 @@ use Rattle.script.specs.declared.Operator.{Operator}
 use Rattle.codec.specs.Ranges.{Within}
 use Rattle.layout.specs.declared.shape.Shape.{Shape}
 use Rattle.layout.specs.Layout.{shapeOf}
-use Rattle.items.specs.Rules.{brokenRule}
+use Rattle.check_items.specs.Rules.{brokenRule}
 use Rattle.euler.specs.Exec.{limits, refusalOf}
 use Rattle.table.specs.Check.{answer, checkOf}
 use Rattle.table.specs.CheckLaws.{checked-fits}
 use Rattle.table.specs.Valid.{Valid}
-use Rattle.validity.specs.Good.{Good}
-use Rattle.validity.specs.Undone.{Kept, Undone}
-use Rattle.validity.specs.ValidGood.{valid-good, good-valid}
+use Rattle.sound_tables.specs.Good.{Good}
+use Rattle.sound_tables.specs.Undone.{Kept, Undone}
+use Rattle.sound_tables.specs.ValidGood.{valid-good, good-valid}
 use Rattle.runs.specs.Run.{State, entry}
 
 -- the capacities of a good table are those a table can have

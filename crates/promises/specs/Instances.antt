@@ -15,7 +15,7 @@ use Rattle.codec.specs.Operands.{pattern, rows, inRanges, inRange, zig, zag, wi
 use Rattle.codec.specs.OperandBytes.{readOperand, readOperands, operandBytes, operandsBytes}
 use Rattle.script.specs.Operator.{readBehind, readOperator, operatorBytes, putBytes}
 use Rattle.layout.specs.Mate.{mate}
-use Rattle.items.specs.Rules.{solidRange, faceRange, loopRange, halfRange, vertexRange, rule1, solidNames, faceNames, loopNames, halfNames, rule2, loopEither, rule3, halfLinks, firstNames, halfInLoop, rule4, vertexEither, halfAtVertex, rule5, halfSides, faceLinked, rule6, brokenRule}
+use Rattle.check_items.specs.Rules.{solidRange, faceRange, loopRange, halfRange, vertexRange, rule1, solidNames, faceNames, loopNames, halfNames, rule2, loopEither, rule3, halfLinks, firstNames, halfInLoop, rule4, vertexEither, halfAtVertex, rule5, halfSides, faceLinked, rule6, brokenRule}
 use Rattle.table.specs.Sizes.{sizesFit}
 use Rattle.table.specs.Check.{checkOf}
 use Rattle.euler.specs.Surgery.{corner, edgeIn, edgeOut, relabel, seek, renew}

@@ -15,7 +15,7 @@ use Rattle.script.specs.Scripts.{operator-size}
 use Rattle.layout.specs.declared.shape.Shape.{Shape}
 use Rattle.euler.specs.Exec.{limits, refusalOf, linksAfter, pointsAfter}
 use Rattle.runs.specs.Run.{admitRead, undid, undoFrom}
-use Rattle.validity.specs.Accepted.{accepted}
+use Rattle.sound_tables.specs.Accepted.{accepted}
 use Rattle.promises.specs.Reading.{in-range, range-writable, written-at}
 use Rattle.promises.specs.Logging.{behind-part}
 

@@ -4,9 +4,9 @@ pub mod Reading
 pub mod Logging
 pub mod Leads
 pub mod Checked
-pub mod Back
+pub mod WayBack
 pub mod Carried
-pub mod Again
+pub mod OtherLog
 pub mod UndoParts
 pub mod Promises
 pub mod Instances

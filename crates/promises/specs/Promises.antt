@@ -16,9 +16,9 @@ use Rattle.runs.specs.Run.{State, Undid, undid, undoFrom, notRun, notUndone, en
 use Rattle.promises.specs.RunAll.{runAll, undoneBy}
 use Rattle.runs.specs.Clauses.{run-out, undo-in, undo-out, entry-beyond}
 use Rattle.promises.specs.Checked.{checked-good, good-checked, good-entry}
-use Rattle.promises.specs.Again.{withLog, Alike, Same, same-run}
+use Rattle.promises.specs.OtherLog.{withLog, Alike, Same, same-run}
 use Rattle.promises.specs.UndoParts.{counted, onward, undo-counted, undo-add, undo-fewer, undo-full, undo-entered, undo-kept}
-use Rattle.promises.specs.Back.{Back, back-none, back-undo, back-all}
+use Rattle.promises.specs.WayBack.{Back, back-none, back-undo, back-all}
 
 -- undo by the sum of the done counts, after the scripts ss were run, one after the other, from the state t on
 abbrev pub undoAll : State → List (List ℕ) → Undid

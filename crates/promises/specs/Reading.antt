@@ -16,7 +16,7 @@ use Rattle.script.specs.Accepted.{operatorIs, accepted, read-accepted}
 use Rattle.script.specs.RoundTrip.{Writable, operator-written}
 use Rattle.layout.specs.declared.shape.Shape.{Shape}
 use Rattle.euler.specs.Exec.{limits, rangeRefusal, admitOf, refusalOf}
-use Rattle.validity.specs.Accepted.{first-zero, Accepted}
+use Rattle.sound_tables.specs.Accepted.{first-zero, Accepted}
 use Rattle.runs.specs.Run.{readAt, admitRead, refusalAt}
 
 -- ---- what is read is in range

@@ -15,11 +15,11 @@ use Rattle.script.specs.RoundTrip.{read-next}
 use Rattle.layout.specs.declared.shape.Shape.{Shape}
 use Rattle.layout.specs.Layout.{shapeOf}
 use Rattle.euler.specs.Exec.{limits, linksAfter, pointsAfter}
-use Rattle.validity.specs.Good.{Good}
+use Rattle.sound_tables.specs.Good.{Good}
 use Rattle.runs.specs.Run.{State, Undid, readAt, refusalAt, undid, undoFrom, entry, undoOf}
 use Rattle.runs.specs.Clauses.{pick-by, undo-none, undo-some, undo-in, undo-out, entry-passed}
 use Rattle.promises.specs.Reading.{taken}
-use Rattle.soundness.specs.Theorems.{all-hold}
+use Rattle.sound_operators.specs.Theorems.{all-hold}
 use Rattle.promises.specs.Checked.{checked-good}
 
 -- what undo leaves, k operators having been undone before

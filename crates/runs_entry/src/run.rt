@@ -7,7 +7,7 @@ ghost use Rattle.codec.specs.Operands.{largests};
 ghost use Rattle.euler.specs.Exec.{limits};
 ghost use Rattle.runs.specs.Run.{state, leaves, runFrom, runOf};
 ghost use Rattle.runs_steps.specs.Standing.{Standing};
-use counts::counts::fill_counts;
+use euler_counts::counts::fill_counts;
 use layout::shape::Shape;
 use layout::shape::shape_of;
 use runs::answers::RunAnswer;

@@ -12,10 +12,10 @@ use Rattle.script.specs.declared.Operator.{Operator}
 use Rattle.layout.specs.declared.shape.Shape.{Shape}
 use Rattle.layout.specs.Small.{Small}
 use Rattle.euler.specs.Exec.{Table, linksAfter, pointsAfter}
-use Rattle.counts.specs.Counts.{Counted, countsAfter}
-use Rattle.counts_kept.specs.Kept.{counted-after, counted-length}
-use Rattle.validity.specs.Good.{Good}
-use Rattle.soundness.specs.Theorems.{all-hold}
+use Rattle.euler_counts.specs.Counts.{Counted, countsAfter}
+use Rattle.sound_counts.specs.Kept.{counted-after, counted-length}
+use Rattle.sound_tables.specs.Good.{Good}
+use Rattle.sound_operators.specs.Theorems.{all-hold}
 use Rattle.runs.specs.Run.{readAt, refusalAt}
 use Rattle.promises.specs.Reading.{taken}
 

@@ -4,7 +4,7 @@ ghost use Rattle.codec.specs.Operands.{largests};
 ghost use Rattle.euler.specs.Exec.{limits};
 ghost use Rattle.runs.specs.Run.{readAt, refusalAt};
 ghost use Rattle.runs_steps.specs.Standing.{Standing, backOf};
-use exec_counted::counted::perform_counted;
+use euler_counted::counted::perform_counted;
 use layout::shape::Shape;
 use runs_take::take::take;
 

@@ -5,7 +5,7 @@ ghost use lib.ListN.{take};
 ghost use Rattle.codec.specs.Operands.{largests};
 ghost use Rattle.layout.specs.Small.{Small};
 ghost use Rattle.euler.specs.Exec.{operatorBy, limits};
-ghost use Rattle.counts.specs.Counts.{Counted};
+ghost use Rattle.euler_counts.specs.Counts.{Counted};
 ghost use Rattle.runs.specs.Run.{readAt, refusalAt};
 ghost use Rattle.runs_take.specs.Take.{scanIs, joinedBy, scan, taken, settled, Answers, readFrom};
 use codec::number::Num;
@@ -14,7 +14,7 @@ use codec::operands::from_wire;
 use codec::operands::in_range;
 use codec::operands::pattern_of;
 use euler::admit::use_refusal;
-use exec_admit::conditions::condition_holds;
+use euler_admit::conditions::condition_holds;
 use layout::shape::Shape;
 
 // What taking an operator answers. On 3, 4 and 5 `next` is the place handed in.

@@ -6,7 +6,7 @@ use lib.IntN.{ℤ}
 use Rattle.laws.specs.Bools.{pick}
 use Rattle.layout.specs.Layout.{shapeOf}
 use Rattle.table.specs.declared.check.CheckAnswer.{CheckAnswer}
-use Rattle.items.specs.Rules.{brokenRule}
+use Rattle.check_items.specs.Rules.{brokenRule}
 use Rattle.table.specs.Sizes.{tableFits}
 
 abbrev pub answer : ℕ → ℕ → CheckAnswer

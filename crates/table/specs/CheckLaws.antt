@@ -10,7 +10,7 @@ use borrow.Author.Tests.{not-true, not-false, eq-eqb, ne-eqb}
 use Rattle.laws.specs.Bools.{ask}
 use Rattle.layout.specs.declared.shape.Shape.{Shape}
 use Rattle.layout.specs.Layout.{shapeOf}
-use Rattle.items.specs.Rules.{brokenRule}
+use Rattle.check_items.specs.Rules.{brokenRule}
 use Rattle.table.specs.Sizes.{tableFits}
 use Rattle.layout.specs.Small.{Small}
 use Rattle.table.specs.SizesLaws.{fits-small}

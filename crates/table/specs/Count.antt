@@ -13,7 +13,7 @@ use Rattle.table.specs.declared.tally.Item.the-variants.{Solid, Face, Lo
 use Rattle.table.specs.declared.check.CheckAnswer.{CheckAnswer}
 use Rattle.table.specs.declared.count.CountAnswer.{CountAnswer}
 use Rattle.table.specs.Check.{checkOf}
-use Rattle.items.specs.Rules.{some, faceUsed, loopUsed, halfUsed}
+use Rattle.check_items.specs.Rules.{some, faceUsed, loopUsed, halfUsed}
 
 -- a ring is a loop that is not its face's outer loop
 abbrev pub isRing : Shape → List ℕ → ℕ → Bool

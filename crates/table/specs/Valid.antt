@@ -7,7 +7,7 @@ use native.Mathlib.Omega.{arith}
 use lib.IntN.{ℤ}
 use Rattle.laws.specs.Bools.{pick, split, eqb-other}
 use Rattle.layout.specs.Layout.{shapeOf}
-use Rattle.items.specs.Rules.{rule1, rule2, rule3, rule4, rule5, rule6, brokenRule}
+use Rattle.check_items.specs.Rules.{rule1, rule2, rule3, rule4, rule5, rule6, brokenRule}
 use Rattle.table.specs.Sizes.{tableFits}
 use Rattle.table.specs.Check.{answer, ruled, checkOf}
 use Rattle.table.specs.CheckLaws.{checked-fits}

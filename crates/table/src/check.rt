@@ -3,7 +3,7 @@ ghost use mathlib.Core.Path.{_≡_};
 ghost use Rattle.table.specs.Check.{checkOf};
 use crate::sizes::table_fits;
 use layout::shape::shape_of;
-use rules::rules::broken_rule;
+use check_rules::rules::broken_rule;
 
 #[repr(C)]
 pub struct CheckAnswer {

@@ -6,11 +6,9 @@ use Rattle.kernel.proofs.zoghvari_count.Reads as reads
 use Rattle.kernel.proofs.zoghvari_count.Lts as lts
 use Rattle.table.proofs.count.count.Reads as count-reads
 
--- src/lib.rt:55:5
 count-requires : tie.Need-count-requires
 count-requires c κs = search needs
 
--- src/lib.rt:51:1
 returns : tie.Need-returns
 returns c = (c .count .ensures, counted-keeps _ _ _ (c .count .ensures))
 

@@ -8,27 +8,21 @@ use Rattle.euler.proofs.admit.use_word.Reads as use-word-reads
 use Rattle.euler.proofs.admit.when_free.Reads as when-free-reads
 use Rattle.euler.proofs.admit.when_used.Reads as when-used-reads
 
--- src/admit.rt:57:9
 returns : tie.Need-returns
 returns c = use-none _ _ _ _ (c .if1 .taken)
 
--- src/admit.rt:59:9
 use-word-requires : tie.Need-use-word-requires
 use-word-requires c κs = search needs
 
--- src/admit.rt:61:9
 when-free-requires : tie.Need-when-free-requires
 when-free-requires c κs = search needs
 
--- src/admit.rt:61:9
 returns-2 : tie.Need-returns-2
 returns-2 c = use-free _ _ _ _ (c .before .before .before .if1 .left) _ (c .before .before .use-word .ensures) (c .before .if2 .taken) _ (c .when-free .ensures)
 
--- src/admit.rt:63:5
 when-used-requires : tie.Need-when-used-requires
 when-used-requires c κs = search needs
 
--- src/admit.rt:52:1
 returns-3 : tie.Need-returns-3
 returns-3 c = use-used _ _ _ _ (c .before .before .before .if1 .left) _ (c .before .before .use-word .ensures) (c .before .if2 .left) _ (c .when-used .ensures)
 

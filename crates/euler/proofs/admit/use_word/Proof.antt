@@ -13,63 +13,48 @@ use Rattle.layout.proofs.columns.solid_used.Reads as solid-used-reads
 use Rattle.layout.proofs.columns.start_of.Reads as start-of-reads
 use Rattle.layout.proofs.columns.vertex_used.Reads as vertex-used-reads
 
--- src/admit.rt:24:34
 mul-start-of : tie.Need-mul-start-of
 mul-start-of c = search needs
 
--- src/admit.rt:24:14
 start-of-requires : tie.Need-start-of-requires
 start-of-requires c κs = search needs
 
--- src/admit.rt:26:15
 vertex-used-requires : tie.Need-vertex-used-requires
 vertex-used-requires c κs = search needs
 
--- src/admit.rt:21:22
 solid-used-requires : tie.Need-solid-used-requires
 solid-used-requires c κs = search needs
 
--- src/admit.rt:22:18
 face-solid-requires : tie.Need-face-solid-requires
 face-solid-requires c κs = search needs
 
--- src/admit.rt:23:18
 loop-face-requires : tie.Need-loop-face-requires
 loop-face-requires c κs = search needs
 
--- src/admit.rt:25:19
 start-of-requires-2 : tie.Need-start-of-requires-2
 start-of-requires-2 c κs = search needs
 
--- src/admit.rt:16:1
 returns : tie.Need-returns
 returns c = word-at _ _ _ _ 8 _ _ (c .before .match .keys1) refl (c .start-of .ensures .0)
 
--- src/admit.rt:16:1
 returns-2 : tie.Need-returns-2
 returns-2 c = word-at _ _ _ _ 11 _ _ (c .before .match .keys2) refl (c .vertex-used .ensures .0)
 
--- src/admit.rt:16:1
 returns-3 : tie.Need-returns-3
 returns-3 c = word-solid _ _ _ _ _ (c .before .before .if1 .left) (c .before .if2 .taken) (c .solid-used .ensures .0)
 
--- src/admit.rt:16:1
 returns-4 : tie.Need-returns-4
 returns-4 c = word-two _ _ _ _ 4 _ _ (omega arith) (omega arith) refl refl (c .face-solid .ensures .0)
 
--- src/admit.rt:16:1
 returns-5 : tie.Need-returns-5
 returns-5 c = word-two _ _ _ _ 6 _ _ (omega arith) (omega arith) refl refl (c .loop-face .ensures .0)
 
--- src/admit.rt:16:1
 returns-6 : tie.Need-returns-6
 returns-6 c = let k = c .before .before .before .before .before .before .match .rest .0 .1 in word-two _ _ _ _ 9 _ _ (omega arith) (omega arith) refl refl (c .start-of2 .ensures .0)
 
--- src/admit.rt:16:1
 returns-7 : tie.Need-returns-7
 returns-7 c = word-none _ _ _ _ (inl (c .if1 .taken))
 
--- src/admit.rt:16:1
 returns-8 : tie.Need-returns-8
 returns-8 c = let k = c .before .before .before .before .before .match .rest .1 in word-none _ _ _ _ (inr (omega arith))
 

@@ -7,15 +7,12 @@ use Rattle.euler.proofs.admit.when_used.Tie as tie
 use Rattle.euler.proofs.admit.when_used.Reads as reads
 use Rattle.euler.proofs.admit.when_used.Lts as lts
 
--- src/admit.rt:46:16
 array-read-result : tie.Need-array-read-result
 array-read-result c = search needs
 
--- src/admit.rt:46:9
 returns : tie.Need-returns
 returns c = search needs
 
--- src/admit.rt:41:1
 returns-2 : tie.Need-returns-2
 returns-2 c = sym (List·getD-eq-default whenUsed 0 (c .if1 .left))
 

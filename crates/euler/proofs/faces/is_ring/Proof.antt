@@ -7,15 +7,12 @@ use Rattle.euler.proofs.faces.is_ring.Lts as lts
 use Rattle.layout.proofs.columns.face_outer.Reads as face-outer-reads
 use Rattle.layout.proofs.columns.loop_face.Reads as loop-face-reads
 
--- src/faces.rt:25:9
 loop-face-requires : tie.Need-loop-face-requires
 loop-face-requires c κs = search needs
 
--- src/faces.rt:26:9
 face-outer-requires : tie.Need-face-outer-requires
 face-outer-requires c κs = search needs
 
--- src/faces.rt:21:1
 returns : tie.Need-returns
 returns c = cc
 

@@ -8,47 +8,36 @@ use Rattle.euler.proofs.points.put_coordinate.Tie as tie
 use Rattle.euler.proofs.points.put_coordinate.Reads as reads
 use Rattle.euler.proofs.points.put_coordinate.Lts as lts
 
--- src/points.rt:16:9
 returns : tie.Need-returns
 returns c = search needs
 
--- src/points.rt:18:19
 sub-at : tie.Need-sub-at
 sub-at c = search needs
 
--- src/points.rt:18:14
 mul-at : tie.Need-mul-at
 mul-at c = search needs
 
--- src/points.rt:18:14
 add-at : tie.Need-add-at
 add-at c = search needs
 
--- src/points.rt:20:22
 mul-points : tie.Need-mul-points
 mul-points c = search needs
 
--- src/points.rt:20:22
 element-copy-out-points : tie.Need-element-copy-out-points
 element-copy-out-points c = search needs
 
--- src/points.rt:20:9
 mul-t14 : tie.Need-mul-t14
 mul-t14 c = search needs
 
--- src/points.rt:20:9
 slice-set-from-points : tie.Need-slice-set-from-points
 slice-set-from-points c = search needs
 
--- src/points.rt:11:1
 same-length : tie.Need-same-length
 same-length c = search needs
 
--- src/points.rt:11:1
 returns-2 : tie.Need-returns-2
 returns-2 c = stored-coordinate _ _ _ _ (search needs) (c .before .before .if1 .left)
 
--- src/points.rt:11:1
 returns-3 : tie.Need-returns-3
 returns-3 c = sym (set-out _ _ _ (c .if2 .left)) ∙ setCoordinate-at _ _ _ _ (c .before .if1 .left)
 

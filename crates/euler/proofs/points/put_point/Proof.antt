@@ -5,31 +5,24 @@ use Rattle.euler.proofs.points.put_point.Reads as reads
 use Rattle.euler.proofs.points.put_point.Lts as lts
 use Rattle.euler.proofs.points.put_coordinate.Reads as put-coordinate-reads
 
--- src/points.rt:29:5
 put-coordinate-requires : tie.Need-put-coordinate-requires
 put-coordinate-requires c κs = search needs
 
--- src/points.rt:30:40
 add-put-coordinate : tie.Need-add-put-coordinate
 add-put-coordinate c = search needs
 
--- src/points.rt:30:5
 put-coordinate-requires-2 : tie.Need-put-coordinate-requires-2
 put-coordinate-requires-2 c κs = search needs
 
--- src/points.rt:31:40
 add-put-coordinate-2 : tie.Need-add-put-coordinate-2
 add-put-coordinate-2 c = search needs
 
--- src/points.rt:31:5
 put-coordinate-requires-3 : tie.Need-put-coordinate-requires-3
 put-coordinate-requires-3 c κs = search needs
 
--- src/points.rt:25:1
 same-length : tie.Need-same-length
 same-length c = search needs
 
--- src/points.rt:25:1
 returns : tie.Need-returns
 returns c = cc
 

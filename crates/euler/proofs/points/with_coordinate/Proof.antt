@@ -5,51 +5,39 @@ use Rattle.euler.proofs.points.with_coordinate.Tie as tie
 use Rattle.euler.proofs.points.with_coordinate.Reads as reads
 use Rattle.euler.proofs.points.with_coordinate.Lts as lts
 
--- src/points.rt:40:5
 mul-next : tie.Need-mul-next
 mul-next c = search needs
 
--- src/points.rt:40:5
 element-set-of-next : tie.Need-element-set-of-next
 element-set-of-next c = search needs
 
--- src/points.rt:42:9
 returns : tie.Need-returns
 returns c = rw (c .if1 .taken)
 
--- src/points.rt:44:19
 sub-at : tie.Need-sub-at
 sub-at c = search needs
 
--- src/points.rt:44:14
 mul-at : tie.Need-mul-at
 mul-at c = search needs
 
--- src/points.rt:44:14
 add-at : tie.Need-add-at
 add-at c = search needs
 
--- src/points.rt:46:24
 mul-next-2 : tie.Need-mul-next-2
 mul-next-2 c = search needs
 
--- src/points.rt:46:24
 shared-slice-copy-out-next : tie.Need-shared-slice-copy-out-next
 shared-slice-copy-out-next c = search needs
 
--- src/points.rt:46:9
 mul-t16 : tie.Need-mul-t16
 mul-t16 c = search needs
 
--- src/points.rt:46:9
 element-set-from-next : tie.Need-element-set-from-next
 element-set-from-next c = search needs
 
--- src/points.rt:47:9
 returns-2 : tie.Need-returns-2
 returns-2 c = read-coordinate (c .before .before .before .args .op) (c .before .before .before .args .i) (c .before .before .before .args .points .now) (c .before .before .before .args .v) (c .before .before .before .args .j) (search needs) (c .before .before .if1 .left)
 
--- src/points.rt:35:1
 returns-3 : tie.Need-returns-3
 returns-3 c = no-coordinate (c .before .before .args .op) (c .before .before .args .i) (c .before .before .args .points .now) (c .before .before .args .v) (c .before .before .args .j) (c .if2 .left) (c .before .if1 .left)
 

@@ -6,27 +6,21 @@ use Rattle.euler.proofs.points.with_point.Reads as reads
 use Rattle.euler.proofs.points.with_point.Lts as lts
 use Rattle.euler.proofs.points.with_coordinate.Reads as with-coordinate-reads
 
--- src/points.rt:57:9
 with-coordinate-requires : tie.Need-with-coordinate-requires
 with-coordinate-requires c κs = search needs
 
--- src/points.rt:58:32
 add-with-coordinate : tie.Need-add-with-coordinate
 add-with-coordinate c = search needs
 
--- src/points.rt:58:9
 with-coordinate-requires-2 : tie.Need-with-coordinate-requires-2
 with-coordinate-requires-2 c κs = search needs
 
--- src/points.rt:59:24
 add-with-coordinate-2 : tie.Need-add-with-coordinate-2
 add-with-coordinate-2 c = search needs
 
--- src/points.rt:59:5
 with-coordinate-requires-3 : tie.Need-with-coordinate-requires-3
 with-coordinate-requires-3 c κs = search needs
 
--- src/points.rt:53:1
 returns : tie.Need-returns
 returns c = point-steps (c .before .before .before .args .op) (c .before .before .before .args .i) (c .before .before .before .args .points .now) (c .before .before .before .args .v) _ _ _ (c .before .before .with-coordinate .ensures) (c .before .with-coordinate2 .ensures) (c .with-coordinate3 .ensures)
 

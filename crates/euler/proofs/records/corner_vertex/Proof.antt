@@ -7,19 +7,15 @@ use Rattle.euler.proofs.records.corner_vertex.Lts as lts
 use Rattle.layout.proofs.columns.loop_isolated.Reads as loop-isolated-reads
 use Rattle.layout.proofs.columns.start_of.Reads as start-of-reads
 
--- src/records.rt:54:9
 loop-isolated-requires : tie.Need-loop-isolated-requires
 loop-isolated-requires c κs = search needs
 
--- src/records.rt:54:9
 returns : tie.Need-returns
 returns c = rw (eq-eqb _ _ (c .before .if1 .taken)) (c .loop-isolated .ensures)
 
--- src/records.rt:56:5
 start-of-requires : tie.Need-start-of-requires
 start-of-requires c κs = search needs
 
--- src/records.rt:49:1
 returns-2 : tie.Need-returns-2
 returns-2 c = rw (ne-eqb _ _ (c .before .if1 .left)) (c .start-of .ensures)
 

@@ -8,27 +8,21 @@ use Rattle.euler.proofs.records.half_by.Tie as tie
 use Rattle.euler.proofs.records.half_by.Reads as reads
 use Rattle.euler.proofs.records.half_by.Lts as lts
 
--- src/records.rt:50:9
 returns : tie.Need-returns
 returns c = rw (c .if1 .taken) (half-none (c .before .args .w), omega arith)
 
--- src/records.rt:53:16
 mul-result : tie.Need-mul-result
 mul-result c = search needs
 
--- src/records.rt:53:16
 sub-result : tie.Need-sub-result
 sub-result c = search needs
 
--- src/records.rt:53:9
 returns-2 : tie.Need-returns-2
 returns-2 c = rw (eq-eqb _ _ (c .if2 .taken)) (refl, omega arith)
 
--- src/records.rt:55:5
 mul-result-2 : tie.Need-mul-result-2
 mul-result-2 c = search needs
 
--- src/records.rt:45:1
 returns-3 : tie.Need-returns-3
 returns-3 c = rw (ne-eqb _ _ (c .if2 .left)) (refl, omega arith)
 

@@ -7,15 +7,12 @@ use Rattle.euler.proofs.records.is_corner.Lts as lts
 use Rattle.layout.proofs.columns.loop_isolated.Reads as loop-isolated-reads
 use Rattle.layout.proofs.columns.loop_of.Reads as loop-of-reads
 
--- src/records.rt:43:9
 loop-isolated-requires : tie.Need-loop-isolated-requires
 loop-isolated-requires c κs = search needs
 
--- src/records.rt:44:9
 loop-of-requires : tie.Need-loop-of-requires
 loop-of-requires c κs = search needs
 
--- src/records.rt:39:1
 returns : tie.Need-returns
 unfolding corner
 returns c = cc

@@ -10,29 +10,24 @@ use Rattle.euler.proofs.records.item_at.Tie as tie
 use Rattle.euler.proofs.records.item_at.Reads as reads
 use Rattle.euler.proofs.records.item_at.Lts as lts
 
--- src/records.rt:52:13
 mul-a : tie.Need-mul-a
 mul-a c = search needs
 
--- src/records.rt:52:13
 element-copy-out-a : tie.Need-element-copy-out-a
 element-copy-out-a c = search needs
 
--- src/records.rt:54:9
 returns : tie.Need-returns
 returns c =
     let a = c .before .before .args in
     let z = negative (getD (a .args .now) (a .i) (pos 0)) (record { sfits = c .before .a .given }) (c .if1 .taken) in
     (item-negative (a .args .now) (a .i) _ (z .is), omega arith)
 
--- src/records.rt:56:13
 cast-n : tie.Need-cast-n
 cast-n c =
     let a = c .before .before .args in
     let z = positive (getD (a .args .now) (a .i) (pos 0)) (record { sfits = c .before .a .given }) (c .if1 .left) in
     rw (z .held) (tt, record { fits = omega arith })
 
--- src/records.rt:58:9
 returns-2 : tie.Need-returns-2
 returns-2 c =
     let d = c .before .before in
@@ -41,7 +36,6 @@ returns-2 c =
     let h : z .size ≤ 8192 = rw (z .held) at (c .if2 .taken) in
     rw (z .held) (item-is (a .args .now) (a .i) _ (z .is) h, h)
 
--- src/records.rt:46:1
 returns-3 : tie.Need-returns-3
 returns-3 c =
     let d = c .before .before in

@@ -7,15 +7,12 @@ use Rattle.euler.proofs.records.item_of.Reads as reads
 use Rattle.euler.proofs.records.item_of.Lts as lts
 use Rattle.script.proofs.operand.Reads as operand-reads
 
--- src/records.rt:37:9
 operand-requires : tie.Need-operand-requires
 operand-requires c κs = search needs
 
--- src/records.rt:39:9
 returns : tie.Need-returns
 returns c = (rw (← (c .before .operand .ensures .0), le-leb _ _ (c .if1 .taken)), c .if1 .taken)
 
--- src/records.rt:34:1
 returns-2 : tie.Need-returns-2
 returns-2 c = (rw (← (c .before .operand .ensures .0), lt-leb _ _ (c .if1 .left)), omega arith)
 

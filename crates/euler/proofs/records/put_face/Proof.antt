@@ -6,19 +6,15 @@ use Rattle.euler.proofs.records.put_face.Lts as lts
 use Rattle.layout.proofs.columns.set_face_outer.Reads as set-face-outer-reads
 use Rattle.layout.proofs.columns.set_face_solid.Reads as set-face-solid-reads
 
--- src/records.rt:64:5
 set-face-solid-requires : tie.Need-set-face-solid-requires
 set-face-solid-requires c κs = search needs
 
--- src/records.rt:65:5
 set-face-outer-requires : tie.Need-set-face-outer-requires
 set-face-outer-requires c κs = search needs
 
--- src/records.rt:60:1
 same-length : tie.Need-same-length
 same-length c = search needs
 
--- src/records.rt:60:1
 returns : tie.Need-returns
 returns c = cc
 

@@ -8,27 +8,21 @@ use Rattle.layout.proofs.columns.set_next.Reads as set-next-reads
 use Rattle.layout.proofs.columns.set_prev.Reads as set-prev-reads
 use Rattle.layout.proofs.columns.set_start.Reads as set-start-reads
 
--- src/records.rt:91:5
 set-start-requires : tie.Need-set-start-requires
 set-start-requires c κs = search needs
 
--- src/records.rt:92:5
 set-loop-requires : tie.Need-set-loop-requires
 set-loop-requires c κs = search needs
 
--- src/records.rt:93:5
 set-next-requires : tie.Need-set-next-requires
 set-next-requires c κs = search needs
 
--- src/records.rt:94:5
 set-prev-requires : tie.Need-set-prev-requires
 set-prev-requires c κs = search needs
 
--- src/records.rt:87:1
 same-length : tie.Need-same-length
 same-length c = search needs
 
--- src/records.rt:87:1
 returns : tie.Need-returns
 returns c = cc
 

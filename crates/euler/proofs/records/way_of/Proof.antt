@@ -6,11 +6,9 @@ use Rattle.euler.proofs.records.way_of.Tie as tie
 use Rattle.euler.proofs.records.way_of.Reads as reads
 use Rattle.euler.proofs.records.way_of.Lts as lts
 
--- src/records.rt:40:9
 returns : tie.Need-returns
 returns c = rw (eq-eqb _ _ (c .if1 .taken)) (refl, omega arith)
 
--- src/records.rt:36:1
 returns-2 : tie.Need-returns-2
 returns-2 c = rw (ne-eqb _ _ (c .if1 .left)) (refl, omega arith)
 

@@ -17,38 +17,30 @@ Inv-loop links base width n label count₀ i₀ count i = (i ≤ n) × (count �
 abbrev μ-loop : tie.MeasureT-loop
 μ-loop links base width n label count₀ i₀ count i = n - i
 
--- src/scans.rt:17:5
 loop-holds : tie.Need-loop-holds Inv-loop μ-loop
 unfolding sumTo
 loop-holds c = (omega arith, refl, omega arith)
 
--- src/scans.rt:18:9
 add-i : tie.Need-add-i Inv-loop μ-loop
 add-i c = search needs
 
--- src/scans.rt:19:13
 cell-requires : tie.Need-cell-requires Inv-loop μ-loop
 cell-requires c κs = search needs
 
--- src/scans.rt:20:18
 choose-requires : tie.Need-choose-requires Inv-loop μ-loop
 choose-requires c κs = search needs
 
--- src/scans.rt:20:9
 add-count : tie.Need-add-count Inv-loop μ-loop
 add-count c = search needs
 
--- src/scans.rt:17:5
 loop-less : tie.Need-loop-less Inv-loop μ-loop
 loop-less c = search needs
 
--- src/scans.rt:17:5
 loop-again : tie.Need-loop-again Inv-loop μ-loop
 loop-again c =
     let turn = count-turn _ _ _ _ _ _ (c .before .before .before .loop .inv .1) _ _ (c .before .cell .ensures .0) (c .choose .ensures .0) in
     (omega arith, turn .0, turn .1)
 
--- src/scans.rt:11:1
 returns : tie.Need-returns Inv-loop μ-loop
 returns c = (count-end _ _ _ _ _ _ (c .before .loop .inv .1) _ (omega arith) (omega arith), omega arith)
 

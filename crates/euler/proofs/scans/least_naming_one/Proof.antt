@@ -16,31 +16,24 @@ Inv-loop links base width n label i₀ i = (1 ≤ i) × (i ≤ n + 1) × (leastF
 abbrev μ-loop : tie.MeasureT-loop
 μ-loop links base width n label i₀ i = n + 1 - i
 
--- src/scans.rt:31:5
 loop-holds : tie.Need-loop-holds Inv-loop μ-loop
 loop-holds c = (omega arith, omega arith, least-all _ _)
 
--- src/scans.rt:32:13
 cell-requires : tie.Need-cell-requires Inv-loop μ-loop
 cell-requires c κs = search needs
 
--- src/scans.rt:34:13
 returns : tie.Need-returns Inv-loop μ-loop
 returns c = (least-here _ _ _ _ _ _ _ (c .before .before .before .loop .inv .2) (omega arith) _ (c .before .cell .ensures .0) (c .if1 .taken), omega arith)
 
--- src/scans.rt:36:9
 add-i : tie.Need-add-i Inv-loop μ-loop
 add-i c = search needs
 
--- src/scans.rt:31:5
 loop-less : tie.Need-loop-less Inv-loop μ-loop
 loop-less c = search needs
 
--- src/scans.rt:31:5
 loop-again : tie.Need-loop-again Inv-loop μ-loop
 loop-again c = (omega arith, omega arith, least-on _ _ _ _ _ _ _ (c .before .before .before .loop .inv .2) (omega arith) _ (c .before .cell .ensures .0) (c .if1 .left))
 
--- src/scans.rt:26:1
 returns-2 : tie.Need-returns-2 Inv-loop μ-loop
 returns-2 c = (least-past _ _ _ _ _ _ _ (c .before .loop .inv .2) (omega arith), omega arith)
 

@@ -8,31 +8,24 @@ use Rattle.euler.proofs.records.put_half.Reads as put-half-reads
 use Rattle.euler.proofs.surgery.set_between.Reads as set-between-reads
 use Rattle.layout.proofs.mates.mate_of.Reads as mate-of-reads
 
--- src/surgery.rt:35:9
 mate-of-requires : tie.Need-mate-of-requires
 mate-of-requires c κs = search needs
 
--- src/surgery.rt:36:5
 put-half-requires : tie.Need-put-half-requires
 put-half-requires c κs = search needs
 
--- src/surgery.rt:37:5
 put-half-requires-2 : tie.Need-put-half-requires-2
 put-half-requires-2 c κs = search needs
 
--- src/surgery.rt:38:5
 set-between-requires : tie.Need-set-between-requires
 set-between-requires c κs = search needs
 
--- src/surgery.rt:39:5
 set-between-requires-2 : tie.Need-set-between-requires-2
 set-between-requires-2 c κs = search needs
 
--- src/surgery.rt:29:1
 same-length : tie.Need-same-length
 same-length c = search needs
 
--- src/surgery.rt:29:1
 returns : tie.Need-returns
 unfolding edgeIn
 returns c = cc

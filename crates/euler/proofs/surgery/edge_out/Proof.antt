@@ -8,31 +8,24 @@ use Rattle.euler.proofs.records.clear_half.Reads as clear-half-reads
 use Rattle.euler.proofs.surgery.tie_halves.Reads as tie-halves-reads
 use Rattle.layout.proofs.mates.mate_of.Reads as mate-of-reads
 
--- src/surgery.rt:47:9
 mate-of-requires : tie.Need-mate-of-requires
 mate-of-requires c κs = search needs
 
--- src/surgery.rt:48:5
 tie-halves-requires : tie.Need-tie-halves-requires
 tie-halves-requires c κs = search needs
 
--- src/surgery.rt:49:5
 tie-halves-requires-2 : tie.Need-tie-halves-requires-2
 tie-halves-requires-2 c κs = search needs
 
--- src/surgery.rt:50:5
 clear-half-requires : tie.Need-clear-half-requires
 clear-half-requires c κs = search needs
 
--- src/surgery.rt:51:5
 clear-half-requires-2 : tie.Need-clear-half-requires-2
 clear-half-requires-2 c κs = search needs
 
--- src/surgery.rt:43:1
 same-length : tie.Need-same-length
 same-length c = search needs
 
--- src/surgery.rt:43:1
 returns : tie.Need-returns
 unfolding edgeOut
 returns c = cc

@@ -6,19 +6,15 @@ use Rattle.euler.proofs.surgery.set_between.Lts as lts
 use Rattle.layout.proofs.columns.set_next.Reads as set-next-reads
 use Rattle.layout.proofs.columns.set_prev.Reads as set-prev-reads
 
--- src/surgery.rt:24:5
 set-next-requires : tie.Need-set-next-requires
 set-next-requires c κs = search needs
 
--- src/surgery.rt:25:5
 set-prev-requires : tie.Need-set-prev-requires
 set-prev-requires c κs = search needs
 
--- src/surgery.rt:20:1
 same-length : tie.Need-same-length
 same-length c = search needs
 
--- src/surgery.rt:20:1
 returns : tie.Need-returns
 returns c = cc
 

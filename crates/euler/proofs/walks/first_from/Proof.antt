@@ -18,47 +18,36 @@ Inv-loop links sh l low k at₀ best₀ j₀ at best j = (at < 65536) × (best <
 abbrev μ-loop : tie.MeasureT-loop
 μ-loop links sh l low k at₀ best₀ j₀ at best j = k - j
 
--- src/walks.rt:53:9
 next-of-requires : tie.Need-next-of-requires Inv-loop μ-loop
 next-of-requires c κs = search needs
 
--- src/walks.rt:56:5
 loop-holds : tie.Need-loop-holds Inv-loop μ-loop
 loop-holds c = (c .next-of .ensures .1, omega arith, cc)
 
--- src/walks.rt:57:13
 loop-of-requires : tie.Need-loop-of-requires Inv-loop μ-loop
 loop-of-requires c κs = search needs
 
--- src/walks.rt:59:13
 returns : tie.Need-returns Inv-loop μ-loop
 returns c = (seek-here _ _ _ _ _ _ _ _ _ (c .before .before .before .loop .inv .2) (omega arith) _ (c .before .loop-of .ensures .0) (c .if1 .taken), omega arith)
 
--- src/walks.rt:62:13
 returns-2 : tie.Need-returns-2 Inv-loop μ-loop
 returns-2 c = (seek-stop _ _ _ _ _ _ _ _ _ (c .before .before .before .before .loop .inv .2) (omega arith) _ (c .before .before .loop-of .ensures .0) (c .before .if1 .left) (c .if2 .taken), omega arith)
 
--- src/walks.rt:64:9
 choose-requires : tie.Need-choose-requires Inv-loop μ-loop
 choose-requires c κs = search needs
 
--- src/walks.rt:65:9
 next-of-requires-2 : tie.Need-next-of-requires-2 Inv-loop μ-loop
 next-of-requires-2 c κs = search needs
 
--- src/walks.rt:66:9
 add-j : tie.Need-add-j Inv-loop μ-loop
 add-j c = search needs
 
--- src/walks.rt:56:5
 loop-less : tie.Need-loop-less Inv-loop μ-loop
 loop-less c = search needs
 
--- src/walks.rt:56:5
 loop-again : tie.Need-loop-again Inv-loop μ-loop
 loop-again c = (omega arith, omega arith, seek-turn _ _ _ _ _ _ _ _ _ (c .before .before .before .before .before .before .loop .inv .2) (omega arith) _ (c .before .before .before .before .loop-of .ensures .0) (c .before .before .before .if1 .left) (c .before .before .if2 .left) _ _ (c .before .choose .ensures .0) (c .next-of2 .ensures .0))
 
--- src/walks.rt:49:1
 returns-3 : tie.Need-returns-3 Inv-loop μ-loop
 returns-3 c = (seek-out _ _ _ _ _ _ _ _ _ (c .before .loop .inv .2) (omega arith), omega arith)
 

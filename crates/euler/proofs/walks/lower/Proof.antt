@@ -6,15 +6,12 @@ use Rattle.euler.proofs.walks.lower.Reads as reads
 use Rattle.euler.proofs.walks.lower.Lts as lts
 use Rattle.euler.proofs.records.choose.Reads as choose-reads
 
--- src/walks.rt:44:23
 choose-requires : tie.Need-choose-requires
 choose-requires c κs = search needs
 
--- src/walks.rt:44:5
 choose-requires-2 : tie.Need-choose-requires-2
 choose-requires-2 c κs = search needs
 
--- src/walks.rt:40:1
 returns : tie.Need-returns
 returns c = (cc, omega arith)
 

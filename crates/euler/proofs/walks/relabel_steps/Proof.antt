@@ -18,43 +18,33 @@ Inv-loop links₀ sh fuel from stop l k₀ left₀ links k left = (k ≤ 65536) 
 abbrev μ-loop : tie.MeasureT-loop
 μ-loop links₀ sh fuel from stop l k₀ left₀ links k left = left
 
--- src/walks.rt:17:5
 loop-holds : tie.Need-loop-holds Inv-loop μ-loop
 loop-holds c = search needs
 
--- src/walks.rt:19:13
 same-length : tie.Need-same-length Inv-loop μ-loop
 same-length c = search needs
 
--- src/walks.rt:19:13
 returns : tie.Need-returns Inv-loop μ-loop
 returns c = relabel-stop _ _ _ _ _ _ _ (c .before .before .loop .inv .2) (omega arith) (c .if1 .taken)
 
--- src/walks.rt:21:9
 set-loop-requires : tie.Need-set-loop-requires Inv-loop μ-loop
 set-loop-requires c κs = search needs
 
--- src/walks.rt:22:9
 next-of-requires : tie.Need-next-of-requires Inv-loop μ-loop
 next-of-requires c κs = search needs
 
--- src/walks.rt:23:9
 sub-left : tie.Need-sub-left Inv-loop μ-loop
 sub-left c = search needs
 
--- src/walks.rt:17:5
 loop-less : tie.Need-loop-less Inv-loop μ-loop
 loop-less c = search needs
 
--- src/walks.rt:17:5
 loop-again : tie.Need-loop-again Inv-loop μ-loop
 loop-again c = (omega arith, omega arith, relabel-turn _ _ _ _ _ _ _ (c .before .before .before .before .before .before .before .before .loop .inv .2) (omega arith) (c .before .before .before .before .before .before .if1 .left) _ _ (c .before .before .before .before .set-loop .ensures) (c .next-of .ensures .0))
 
--- src/walks.rt:11:1
 same-length-2 : tie.Need-same-length-2 Inv-loop μ-loop
 same-length-2 c = search needs
 
--- src/walks.rt:11:1
 returns-2 : tie.Need-returns-2 Inv-loop μ-loop
 returns-2 c = relabel-out _ _ _ _ _ _ _ (c .before .loop .inv .2) (omega arith)
 

@@ -9,27 +9,21 @@ use Rattle.euler.proofs.walks.first_from.Reads as first-from-reads
 use Rattle.layout.proofs.columns.set_loop_first.Reads as set-loop-first-reads
 use Rattle.layout.proofs.columns.set_loop_isolated.Reads as set-loop-isolated-reads
 
--- src/walks.rt:77:9
 first-from-requires : tie.Need-first-from-requires
 first-from-requires c κs = search needs
 
--- src/walks.rt:78:9
 choose-requires : tie.Need-choose-requires
 choose-requires c κs = search needs
 
--- src/walks.rt:79:5
 set-loop-first-requires : tie.Need-set-loop-first-requires
 set-loop-first-requires c κs = search needs
 
--- src/walks.rt:80:5
 set-loop-isolated-requires : tie.Need-set-loop-isolated-requires
 set-loop-isolated-requires c κs = search needs
 
--- src/walks.rt:73:1
 same-length : tie.Need-same-length
 same-length c = search needs
 
--- src/walks.rt:73:1
 returns : tie.Need-returns
 unfolding renew
 returns c = cc

@@ -9,31 +9,24 @@ use Rattle.layout.proofs.cells.cell.Reads as reads
 use Rattle.layout.proofs.cells.cell.Lts as lts
 use Rattle.layout.proofs.cells.word.Reads as word-reads
 
--- src/cells.rt:40:9
 returns : tie.Need-returns
 returns c = search needs
 
--- src/cells.rt:42:42
 sub-word : tie.Need-sub-word
 sub-word c = search needs
 
--- src/cells.rt:42:33
 mul-word : tie.Need-mul-word
 mul-word c = omega (arith, width-bound (c .before .before .args .width) (c .before .before .args .n - 1) (c .before .before .pre .0))
 
--- src/cells.rt:42:17
 add-word : tie.Need-add-word
 add-word c = omega (arith, width-bound (c .before .before .args .width) (c .before .before .args .n - 1) (c .before .before .pre .0))
 
--- src/cells.rt:42:17
 add-word-2 : tie.Need-add-word-2
 add-word-2 c = omega (arith, width-bound (c .before .before .args .width) (c .before .before .args .n - 1) (c .before .before .pre .0))
 
--- src/cells.rt:42:5
 word-requires : tie.Need-word-requires
 word-requires c κs = search needs
 
--- src/cells.rt:35:1
 returns-2 : tie.Need-returns-2
 returns-2 c = (c .word .ensures .0 ∙ col-at _ _ _ _ (c .before .if1 .left), c .word .ensures .1)
 

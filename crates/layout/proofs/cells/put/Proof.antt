@@ -6,27 +6,21 @@ use Rattle.layout.proofs.cells.put.Tie as tie
 use Rattle.layout.proofs.cells.put.Reads as reads
 use Rattle.layout.proofs.cells.put.Lts as lts
 
--- src/cells.rt:30:20
 cast-links : tie.Need-cast-links
 cast-links c = search needs
 
--- src/cells.rt:30:9
 mul-links : tie.Need-mul-links
 mul-links c = search needs
 
--- src/cells.rt:30:9
 slice-write-links : tie.Need-slice-write-links
 slice-write-links c = search needs
 
--- src/cells.rt:25:1
 same-length : tie.Need-same-length
 same-length c = search needs
 
--- src/cells.rt:25:1
 returns : tie.Need-returns
 returns c = search needs
 
--- src/cells.rt:25:1
 returns-2 : tie.Need-returns-2
 returns-2 c = sym (set-out _ _ _ (c .if1 .left))
 

@@ -9,35 +9,27 @@ use Rattle.layout.proofs.cells.put_cell.Reads as reads
 use Rattle.layout.proofs.cells.put_cell.Lts as lts
 use Rattle.layout.proofs.cells.put.Reads as put-reads
 
--- src/cells.rt:51:9
 returns : tie.Need-returns
 returns c = search needs
 
--- src/cells.rt:53:41
 sub-put : tie.Need-sub-put
 sub-put c = search needs
 
--- src/cells.rt:53:32
 mul-put : tie.Need-mul-put
 mul-put c = omega (arith, width-bound (c .before .before .before .args .width) (c .before .before .before .args .n - 1) (c .before .before .before .pre .0))
 
--- src/cells.rt:53:16
 add-put : tie.Need-add-put
 add-put c = omega (arith, width-bound (c .before .before .before .args .width) (c .before .before .before .args .n - 1) (c .before .before .before .pre .0))
 
--- src/cells.rt:53:16
 add-put-2 : tie.Need-add-put-2
 add-put-2 c = omega (arith, width-bound (c .before .before .before .args .width) (c .before .before .before .args .n - 1) (c .before .before .before .pre .0))
 
--- src/cells.rt:53:5
 put-requires : tie.Need-put-requires
 put-requires c κs = search needs
 
--- src/cells.rt:46:1
 same-length : tie.Need-same-length
 same-length c = search needs
 
--- src/cells.rt:46:1
 returns-2 : tie.Need-returns-2
 returns-2 c = c .before .before .put .ensures ∙ store-at _ _ _ _ _ (c .before .before .before .before .if1 .left)
 

@@ -8,23 +8,18 @@ use Rattle.layout.proofs.cells.word.Reads as reads
 use Rattle.layout.proofs.cells.word.Lts as lts
 use Rattle.layout.proofs.cells.wide.Reads as wide-reads
 
--- src/cells.rt:19:21
 mul-wide : tie.Need-mul-wide
 mul-wide c = search needs
 
--- src/cells.rt:19:21
 shared-slice-read-wide : tie.Need-shared-slice-read-wide
 shared-slice-read-wide c = search needs
 
--- src/cells.rt:19:9
 wide-requires : tie.Need-wide-requires
 wide-requires c κs = search needs
 
--- src/cells.rt:19:9
 returns : tie.Need-returns
 returns c = search needs
 
--- src/cells.rt:15:1
 returns-2 : tie.Need-returns-2
 returns-2 c = (sym (List·getD-eq-default (c .before .before .args .links .now) 0 (c .if1 .left)), omega arith)
 

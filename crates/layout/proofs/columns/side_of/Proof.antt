@@ -7,15 +7,12 @@ use Rattle.layout.proofs.columns.side_of.Lts as lts
 use Rattle.layout.proofs.columns.loop_face.Reads as loop-face-reads
 use Rattle.layout.proofs.columns.loop_of.Reads as loop-of-reads
 
--- src/columns.rt:48:26
 loop-of-requires : tie.Need-loop-of-requires
 loop-of-requires c κs = search needs
 
--- src/columns.rt:48:5
 loop-face-requires : tie.Need-loop-face-requires
 loop-face-requires c κs = search needs
 
--- src/columns.rt:44:1
 returns : tie.Need-returns
 returns c = (cc, omega arith)
 

@@ -8,24 +8,19 @@ use Rattle.layout.proofs.mates.mate_of.Tie as tie
 use Rattle.layout.proofs.mates.mate_of.Reads as reads
 use Rattle.layout.proofs.mates.mate_of.Lts as lts
 
--- src/mates.rt:12:16
 add-result : tie.Need-add-result
 add-result c = search needs
 
--- src/mates.rt:12:9
 returns : tie.Need-returns
 returns c = let e = mate-odd _ (c .if1 .taken) in (sym e, omega arith, omega arith)
 
--- src/mates.rt:15:9
 returns-2 : tie.Need-returns-2
 unfolding mate
 returns-2 c = rw (c .if2 .taken) (refl, omega arith, omega arith)
 
--- src/mates.rt:17:5
 sub-result : tie.Need-sub-result
 sub-result c = search needs
 
--- src/mates.rt:7:1
 returns-3 : tie.Need-returns-3
 returns-3 c = let e = mate-even _ (c .before .if1 .left) in (sym e, omega arith, omega arith)
 

@@ -8,27 +8,21 @@ use Rattle.layout.proofs.points.in_range.Reads as reads
 use Rattle.layout.proofs.points.in_range.Lts as lts
 use Rattle.layout.proofs.points.range_at.Reads as range-at-reads
 
--- src/points.rt:36:9
 returns : tie.Need-returns
 returns c = search needs
 
--- src/points.rt:38:27
 sub-range-at : tie.Need-sub-range-at
 sub-range-at c = search needs
 
--- src/points.rt:38:22
 mul-range-at : tie.Need-mul-range-at
 mul-range-at c = search needs
 
--- src/points.rt:38:22
 add-range-at : tie.Need-add-range-at
 add-range-at c = search needs
 
--- src/points.rt:38:5
 range-at-requires : tie.Need-range-at-requires
 range-at-requires c κs = search needs
 
--- src/points.rt:31:1
 returns-2 : tie.Need-returns-2
 returns-2 c = c .range-at .ensures ∙ ap rangeTest (coordinate-at _ _ _ (c .before .if1 .left))
 

@@ -8,27 +8,21 @@ use Rattle.layout.proofs.points.is_zero.Reads as reads
 use Rattle.layout.proofs.points.is_zero.Lts as lts
 use Rattle.layout.proofs.points.zero_at.Reads as zero-at-reads
 
--- src/points.rt:47:9
 returns : tie.Need-returns
 returns c = search needs
 
--- src/points.rt:49:26
 sub-zero-at : tie.Need-sub-zero-at
 sub-zero-at c = search needs
 
--- src/points.rt:49:21
 mul-zero-at : tie.Need-mul-zero-at
 mul-zero-at c = search needs
 
--- src/points.rt:49:21
 add-zero-at : tie.Need-add-zero-at
 add-zero-at c = search needs
 
--- src/points.rt:49:5
 zero-at-requires : tie.Need-zero-at-requires
 zero-at-requires c κs = search needs
 
--- src/points.rt:42:1
 returns-2 : tie.Need-returns-2
 returns-2 c = c .zero-at .ensures ∙ ap zeroTest (coordinate-at _ _ _ (c .before .if1 .left))
 

@@ -8,19 +8,15 @@ use Rattle.layout.proofs.points.zero_at.Tie as tie
 use Rattle.layout.proofs.points.zero_at.Reads as reads
 use Rattle.layout.proofs.points.zero_at.Lts as lts
 
--- src/points.rt:24:17
 mul-c : tie.Need-mul-c
 mul-c c = search needs
 
--- src/points.rt:24:17
 shared-slice-copy-out-c : tie.Need-shared-slice-copy-out-c
 shared-slice-copy-out-c c = search needs
 
--- src/points.rt:25:9
 returns : tie.Need-returns
 returns c = search needs
 
--- src/points.rt:20:1
 returns-2 : tie.Need-returns-2
 returns-2 c = sym (ap zeroTest (List·getD-eq-default (c .before .args .points .now) (pos 0) (c .if1 .left)))
 

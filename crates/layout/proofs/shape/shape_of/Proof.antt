@@ -6,31 +6,24 @@ use Rattle.layout.proofs.shape.shape_of.Lts as lts
 use Rattle.layout.proofs.cells.word.Reads as word-reads
 use Rattle.layout.proofs.shape.shape_from.Reads as shape-from-reads
 
--- src/shape.rt:45:9
 word-requires : tie.Need-word-requires
 word-requires c κs = search needs
 
--- src/shape.rt:46:9
 word-requires-2 : tie.Need-word-requires-2
 word-requires-2 c κs = search needs
 
--- src/shape.rt:47:9
 word-requires-3 : tie.Need-word-requires-3
 word-requires-3 c κs = search needs
 
--- src/shape.rt:48:9
 word-requires-4 : tie.Need-word-requires-4
 word-requires-4 c κs = search needs
 
--- src/shape.rt:49:9
 word-requires-5 : tie.Need-word-requires-5
 word-requires-5 c κs = search needs
 
--- src/shape.rt:50:5
 shape-from-requires : tie.Need-shape-from-requires
 shape-from-requires c κs = search needs
 
--- src/shape.rt:42:1
 returns : tie.Need-returns
 returns c = cc
 

@@ -6,15 +6,12 @@ use Rattle.runs.proofs.enter.enter.Reads as reads
 use Rattle.runs.proofs.enter.enter.Lts as lts
 use Rattle.table.proofs.check.check.Reads as check-reads
 
--- src/run.rt:29:9
 returns : tie.Need-returns
 returns c = enter-beyond _ _ _ _ (c .if1 .taken)
 
--- src/run.rt:34:5
 check-requires : tie.Need-check-requires
 check-requires c κs = search needs
 
--- src/run.rt:25:1
 returns-2 : tie.Need-returns-2
 returns-2 c = enter-checked _ _ _ _ (c .before .if1 .left) _ (c .check .ensures)
 

@@ -8,15 +8,12 @@ use Rattle.runs.proofs.enter.ranges_of.Lts as lts
 use Rattle.runs.proofs.enter.limits_of.Reads as limits-of-reads
 use Rattle.codec.proofs.operands.largest.Reads as largest-reads
 
--- src/enter.rt:45:13
 limits-of-requires : tie.Need-limits-of-requires
 limits-of-requires c κs = search needs
 
--- src/enter.rt:45:5
 largest-requires : tie.Need-largest-requires
 largest-requires c κs = search needs
 
--- src/enter.rt:41:1
 returns : tie.Need-returns
 returns c = c .largest .ensures ∙ ap largests (c .before .limits-of .ensures)
 

@@ -5,47 +5,38 @@ use Rattle.runs_entry.proofs.run.run.Statement.{statement}
 use Rattle.runs_entry.proofs.run.run.Tie as tie
 use Rattle.runs_entry.proofs.run.run.Reads as reads
 use Rattle.runs_entry.proofs.run.run.Lts as lts
-use Rattle.counts.proofs.counts.fill_counts.Reads as fill-counts-reads
+use Rattle.euler_counts.proofs.counts.fill_counts.Reads as fill-counts-reads
 use Rattle.layout.proofs.shape.shape_of.Reads as shape-of-reads
 use Rattle.runs.proofs.enter.enter.Reads as enter-reads
 use Rattle.runs.proofs.enter.ranges_of.Reads as ranges-of-reads
 use Rattle.runs_entry.proofs.run.run_all.Reads as run-all-reads
 
--- src/run.rt:88:9
 enter-requires : tie.Need-enter-requires
 enter-requires c κs = search needs
 
--- src/run.rt:90:9
 same-length : tie.Need-same-length
 same-length c = search needs
 
--- src/run.rt:90:9
 same-length-2 : tie.Need-same-length-2
 same-length-2 c = search needs
 
--- src/run.rt:90:9
 same-length-3 : tie.Need-same-length-3
 same-length-3 c = search needs
 
--- src/run.rt:90:9
 returns : tie.Need-returns
 returns c = run-refused _ _ _ _ _ (c .before .before .enter .ensures) _ (c .if1 .taken)
 
--- src/run.rt:98:9
 shape-of-requires : tie.Need-shape-of-requires
 shape-of-requires c κs = search needs
 
--- src/run.rt:99:16
 ranges-of-requires : tie.Need-ranges-of-requires
 ranges-of-requires c κs =
     entered-small _ _ _ _ _ (c .before .before .before .before .enter .ensures) (c .before .before .if1 .left) _ (c .shape-of .ensures)
 
--- src/run.rt:101:5
 fill-counts-requires : tie.Need-fill-counts-requires
 fill-counts-requires c κs =
     entered-small _ _ _ _ _ (c .before .before .before .before .before .before .before .enter .ensures) (c .before .before .before .before .before .if1 .left) _ (c .before .before .before .shape-of .ensures)
 
--- src/run.rt:102:5
 run-all-requires : tie.Need-run-all-requires
 run-all-requires c κs =
     let e = c .before .before .before .before .before .before .before .before .before .before .before .before .before .enter .ensures in
@@ -56,19 +47,15 @@ run-all-requires c κs =
       (c .before .before .before .before .before .before .before .before .ranges-of .ensures, entered-start _ _ _ _ _ e z _ h),
     )
 
--- src/run.rt:76:1
 same-length-4 : tie.Need-same-length-4
 same-length-4 c = search needs
 
--- src/run.rt:76:1
 same-length-5 : tie.Need-same-length-5
 same-length-5 c = search needs
 
--- src/run.rt:76:1
 same-length-6 : tie.Need-same-length-6
 same-length-6 c = search needs
 
--- src/run.rt:76:1
 returns-2 : tie.Need-returns-2
 returns-2 c =
     run-entered _ _ _ _ _ (c .before .before .before .before .before .before .before .before .before .before .before .before .before .before .before .before .before .before .before .enter .ensures) (c .before .before .before .before .before .before .before .before .before .before .before .before .before .before .before .before .before .if1 .left) _ (c .before .before .before .before .before .before .before .before .before .before .before .before .before .before .before .shape-of .ensures) _ _

@@ -24,7 +24,6 @@ abbrev μ-loop : tie.MeasureT-loop
 μ-loop links₀ points₀ log₀ counts₀ sh start script most args₀ at₀ done₀ from₀ links points log counts args at done from =
     length script - at
 
--- src/run.rt:40:5
 loop-holds : tie.Need-loop-holds Inv-loop μ-loop
 loop-holds c =
     let b = c .before .before .before in (
@@ -39,40 +38,32 @@ loop-holds c =
       omega arith,
     )
 
--- src/run.rt:41:13
 run-step-requires : tie.Need-run-step-requires Inv-loop μ-loop
 run-step-requires c κs =
     let l = c .before .before .before .before .before .before .loop .inv in (l .5, (c .before .before .before .before .before .before .before .before .before .before .pre .1 .0, l .6))
 
--- src/run.rt:54:13
 same-length : tie.Need-same-length Inv-loop μ-loop
 same-length c = search needs
 
--- src/run.rt:54:13
 same-length-2 : tie.Need-same-length-2 Inv-loop μ-loop
 same-length-2 c = search needs
 
--- src/run.rt:54:13
 same-length-3 : tie.Need-same-length-3 Inv-loop μ-loop
 same-length-3 c = search needs
 
--- src/run.rt:54:13
 returns : tie.Need-returns Inv-loop μ-loop
 returns c =
     run-stop _ _ _ _ _ _ _ (c .before .before .before .before .before .before .before .before .before .before .before .before .before .before .loop .inv .7) (omega arith) (omega arith) _
     (c .before .before .before .before .before .before .before .run-step .ensures .0) (c .if1 .taken)
 
--- src/run.rt:64:9
 add-done : tie.Need-add-done Inv-loop μ-loop
 add-done c =
     let l = c .before .before .before .before .before .before .before .before .before .before .before .before .before .before .loop .inv in omega (arith, l .3, l .8, c .before .before .before .before .before .before .before .before .before .before .before .before .before .loop-test .taken)
 
--- src/run.rt:40:5
 loop-less : tie.Need-loop-less Inv-loop μ-loop
 loop-less c =
     let n = step-next _ _ _ _ _ (c .before .before .before .before .before .before .before .run-step .ensures .0) (c .if1 .left) in omega (arith, n .0, n .1)
 
--- src/run.rt:40:5
 loop-again : tie.Need-loop-again Inv-loop μ-loop
 loop-again c =
     let r = c .before .before .before .before .before .before .before .run-step .ensures in
@@ -89,19 +80,15 @@ loop-again c =
       l .8,
     )
 
--- src/run.rt:19:1
 same-length-4 : tie.Need-same-length-4 Inv-loop μ-loop
 same-length-4 c = search needs
 
--- src/run.rt:19:1
 same-length-5 : tie.Need-same-length-5 Inv-loop μ-loop
 same-length-5 c = search needs
 
--- src/run.rt:19:1
 same-length-6 : tie.Need-same-length-6 Inv-loop μ-loop
 same-length-6 c = search needs
 
--- src/run.rt:19:1
 returns-2 : tie.Need-returns-2 Inv-loop μ-loop
 returns-2 c = run-end _ _ _ _ _ _ _ (c .before .loop .inv .7) (omega arith)
 

@@ -5,43 +5,35 @@ use Rattle.runs_entry.proofs.undo.undo.Statement.{statement}
 use Rattle.runs_entry.proofs.undo.undo.Tie as tie
 use Rattle.runs_entry.proofs.undo.undo.Reads as reads
 use Rattle.runs_entry.proofs.undo.undo.Lts as lts
-use Rattle.counts.proofs.counts.fill_counts.Reads as fill-counts-reads
+use Rattle.euler_counts.proofs.counts.fill_counts.Reads as fill-counts-reads
 use Rattle.layout.proofs.shape.shape_of.Reads as shape-of-reads
 use Rattle.runs.proofs.enter.enter.Reads as enter-reads
 use Rattle.runs.proofs.enter.ranges_of.Reads as ranges-of-reads
 use Rattle.runs_entry.proofs.undo.undo_all.Reads as undo-all-reads
 
--- src/undo.rt:71:9
 enter-requires : tie.Need-enter-requires
 enter-requires c κs = search needs
 
--- src/undo.rt:73:9
 same-length : tie.Need-same-length
 same-length c = search needs
 
--- src/undo.rt:73:9
 same-length-2 : tie.Need-same-length-2
 same-length-2 c = search needs
 
--- src/undo.rt:73:9
 returns : tie.Need-returns
 returns c = undo-refused _ _ _ _ _ (c .before .before .enter .ensures) _ (c .if1 .taken)
 
--- src/undo.rt:80:9
 shape-of-requires : tie.Need-shape-of-requires
 shape-of-requires c κs = search needs
 
--- src/undo.rt:81:16
 ranges-of-requires : tie.Need-ranges-of-requires
 ranges-of-requires c κs =
     entered-small _ _ _ _ _ (c .before .before .before .before .enter .ensures) (c .before .before .if1 .left) _ (c .shape-of .ensures)
 
--- src/undo.rt:83:5
 fill-counts-requires : tie.Need-fill-counts-requires
 fill-counts-requires c κs =
     entered-small _ _ _ _ _ (c .before .before .before .before .before .before .before .enter .ensures) (c .before .before .before .before .before .if1 .left) _ (c .before .before .before .shape-of .ensures)
 
--- src/undo.rt:84:5
 undo-all-requires : tie.Need-undo-all-requires
 undo-all-requires c κs =
     let e = c .before .before .before .before .before .before .before .before .before .before .before .before .enter .ensures in
@@ -50,15 +42,12 @@ undo-all-requires c κs =
     let f = c .before .before .before .before .fill-counts .ensures in
     (record { good = entered-good _ _ _ _ _ e z _ h; size = f .1; counted = f .0 }, c .before .before .before .before .before .before .before .ranges-of .ensures)
 
--- src/undo.rt:66:1
 same-length-3 : tie.Need-same-length-3
 same-length-3 c = search needs
 
--- src/undo.rt:66:1
 same-length-4 : tie.Need-same-length-4
 same-length-4 c = search needs
 
--- src/undo.rt:66:1
 returns-2 : tie.Need-returns-2
 returns-2 c =
     undo-entered _ _ _ _ _ (c .before .before .before .before .before .before .before .before .before .before .before .before .before .before .before .before .enter .ensures) (c .before .before .before .before .before .before .before .before .before .before .before .before .before .before .if1 .left) _ (c .before .before .before .before .before .before .before .before .before .before .before .before .shape-of .ensures) _ _

@@ -21,49 +21,38 @@ Inv-loop links₀ points₀ counts₀ sh log start n most args₀ at₀ undone�
 abbrev μ-loop : tie.MeasureT-loop
 μ-loop links₀ points₀ counts₀ sh log start n most args₀ at₀ undone₀ links points counts args at undone = n - undone
 
--- src/undo.rt:36:5
 loop-holds : tie.Need-loop-holds Inv-loop μ-loop
 loop-holds c = (refl, refl, omega arith, c .before .before .pre .0, undo-begins _ _ _ _ _ _)
 
--- src/undo.rt:38:13
 same-length : tie.Need-same-length Inv-loop μ-loop
 same-length c = search needs
 
--- src/undo.rt:38:13
 same-length-2 : tie.Need-same-length-2 Inv-loop μ-loop
 same-length-2 c = search needs
 
--- src/undo.rt:38:13
 returns : tie.Need-returns Inv-loop μ-loop
 returns c = undo-past _ _ _ _ _ _ _ _ (c .before .before .loop .inv .4) (omega arith) (omega arith)
 
--- src/undo.rt:45:13
 undo-step-requires : tie.Need-undo-step-requires Inv-loop μ-loop
 undo-step-requires c κs = (c .before .before .before .before .before .before .loop .inv .3, c .before .before .before .before .before .before .before .before .before .pre .1)
 
--- src/undo.rt:47:13
 same-length-3 : tie.Need-same-length-3 Inv-loop μ-loop
 same-length-3 c = search needs
 
--- src/undo.rt:47:13
 same-length-4 : tie.Need-same-length-4 Inv-loop μ-loop
 same-length-4 c = search needs
 
--- src/undo.rt:47:13
 returns-2 : tie.Need-returns-2 Inv-loop μ-loop
 returns-2 c =
     let u = c .before .before .before .before .before .undo-step .ensures in
     undo-stop _ _ _ _ _ _ _ _ (c .before .before .before .before .before .before .before .before .before .before .before .before .loop .inv .4) (omega arith) (omega arith) _ (u .0 .0) _ (u .1 .0) (c .if2 .taken)
 
--- src/undo.rt:55:9
 add-undone : tie.Need-add-undone Inv-loop μ-loop
 add-undone c = search needs
 
--- src/undo.rt:36:5
 loop-less : tie.Need-loop-less Inv-loop μ-loop
 loop-less c = omega arith
 
--- src/undo.rt:36:5
 loop-again : tie.Need-loop-again Inv-loop μ-loop
 loop-again c =
     let u = c .before .before .before .before .before .undo-step .ensures in (
@@ -75,15 +64,12 @@ loop-again c =
           (omega arith),
     )
 
--- src/undo.rt:17:1
 same-length-5 : tie.Need-same-length-5 Inv-loop μ-loop
 same-length-5 c = search needs
 
--- src/undo.rt:17:1
 same-length-6 : tie.Need-same-length-6 Inv-loop μ-loop
 same-length-6 c = search needs
 
--- src/undo.rt:17:1
 returns-3 : tie.Need-returns-3 Inv-loop μ-loop
 returns-3 c = undo-end _ _ _ _ _ _ _ _ (c .before .loop .inv .4) (omega arith)
 

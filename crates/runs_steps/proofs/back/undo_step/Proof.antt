@@ -5,36 +5,29 @@ use Rattle.runs_steps.proofs.back.undo_step.Statement.{statement}
 use Rattle.runs_steps.proofs.back.undo_step.Tie as tie
 use Rattle.runs_steps.proofs.back.undo_step.Reads as reads
 use Rattle.runs_steps.proofs.back.undo_step.Lts as lts
-use Rattle.exec_counted.proofs.counted.perform_counted.Reads as perform-counted-reads
+use Rattle.euler_counted.proofs.counted.perform_counted.Reads as perform-counted-reads
 use Rattle.runs_take.proofs.take.take.Reads as take-reads
 
--- src/back.rt:38:9
 take-requires : tie.Need-take-requires
 take-requires c κs = search needs
 
--- src/back.rt:42:9
 same-length : tie.Need-same-length
 same-length c = search needs
 
--- src/back.rt:42:9
 returns : tie.Need-returns
 returns c =
     let t = c .before .before .take .ensures in
     ((t .0, t .1 .0), (back-refused _ _ _ _ _ _ (t .0) (c .if1 .taken), c .before .before .before .before .before .before .before .before .pre .0))
 
--- src/back.rt:47:5
 perform-counted-requires : tie.Need-perform-counted-requires
 perform-counted-requires c κs = search needs
 
--- src/back.rt:18:1
 same-length-2 : tie.Need-same-length-2
 same-length-2 c = search needs
 
--- src/back.rt:18:1
 same-length-3 : tie.Need-same-length-3
 same-length-3 c = search needs
 
--- src/back.rt:18:1
 returns-2 : tie.Need-returns-2
 returns-2 c =
     let e = c .before .before .before .perform-counted .ensures in

@@ -8,15 +8,12 @@ use Rattle.runs_steps.proofs.steps.fits_before.Reads as reads
 use Rattle.runs_steps.proofs.steps.fits_before.Lts as lts
 use Rattle.script.proofs.operator_size.Reads as operator-size-reads
 
--- src/steps.rt:33:9
 returns : tie.Need-returns
 returns c = fits-far _ _ (c .if1 .taken)
 
--- src/steps.rt:35:5
 operator-size-requires : tie.Need-operator-size-requires
 operator-size-requires c κs = search needs
 
--- src/steps.rt:29:1
 returns-2 : tie.Need-returns-2
 returns-2 c = ap (λ n. leb n (c .before .before .args .end)) (c .operator-size .ensures .0)
 

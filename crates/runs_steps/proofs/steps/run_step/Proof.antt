@@ -8,43 +8,35 @@ use Rattle.runs_steps.proofs.steps.run_step.Statement.{statement}
 use Rattle.runs_steps.proofs.steps.run_step.Tie as tie
 use Rattle.runs_steps.proofs.steps.run_step.Reads as reads
 use Rattle.runs_steps.proofs.steps.run_step.Lts as lts
-use Rattle.exec_counted.proofs.counted.perform_counted.Reads as perform-counted-reads
-use Rattle.exec_inverses.proofs.inverses.inverse_of.Reads as inverse-of-reads
+use Rattle.euler_counted.proofs.counted.perform_counted.Reads as perform-counted-reads
+use Rattle.euler_inverses.proofs.inverses.inverse_of.Reads as inverse-of-reads
 use Rattle.runs_steps.proofs.steps.fits_before.Reads as fits-before-reads
 use Rattle.runs_take.proofs.take.take.Reads as take-reads
 use Rattle.script.proofs.put_before.Reads as put-before-reads
 
--- src/steps.rt:61:9
 take-requires : tie.Need-take-requires
 take-requires c κs = search needs
 
--- src/steps.rt:65:9
 same-length : tie.Need-same-length
 same-length c = search needs
 
--- src/steps.rt:65:9
 returns : tie.Need-returns
 returns c =
     let t = c .before .before .take .ensures in
     (step-refused _ _ _ _ _ _ _ _ (t .0) _ (t .1 .0) (c .if1 .taken), (c .before .before .before .before .before .before .before .before .before .pre .0, omega arith))
 
--- src/steps.rt:77:9
 inverse-of-requires : tie.Need-inverse-of-requires
 inverse-of-requires c κs = search needs
 
--- src/steps.rt:78:9
 fits-before-requires : tie.Need-fits-before-requires
 fits-before-requires c κs = search needs
 
--- src/steps.rt:79:9
 same-length-2 : tie.Need-same-length-2
 same-length-2 c = search needs
 
--- src/steps.rt:79:9
 same-length-3 : tie.Need-same-length-3
 same-length-3 c = search needs
 
--- src/steps.rt:79:9
 returns-2 : tie.Need-returns-2
 returns-2 c =
     let d = c .before .before .before .before .before .before in
@@ -55,28 +47,22 @@ returns-2 c =
       (d .before .before .before .before .before .before .before .before .before .pre .0, omega arith),
     )
 
--- src/steps.rt:85:5
 perform-counted-requires : tie.Need-perform-counted-requires
 perform-counted-requires c κs = standing-small (c .before .before .before .before .before .before .before .before .before .before .before .before .before .before .before .before .before .before .before .pre .0)
 
--- src/steps.rt:86:9
 put-before-requires : tie.Need-put-before-requires
 put-before-requires c κs =
     (fits-room _ _ _ (c .before .before .before .before .before .before .before .before .before .before .fits-before .ensures) (not-false _ (c .before .before .before .before .before .before .before .before .before .if2 .left)), c .before .before .before .before .before .before .before .before .before .before .before .before .before .before .before .before .before .before .before .before .before .before .before .before .pre .1 .1)
 
--- src/steps.rt:40:1
 same-length-4 : tie.Need-same-length-4
 same-length-4 c = search needs
 
--- src/steps.rt:40:1
 same-length-5 : tie.Need-same-length-5
 same-length-5 c = search needs
 
--- src/steps.rt:40:1
 same-length-6 : tie.Need-same-length-6
 same-length-6 c = search needs
 
--- src/steps.rt:40:1
 returns-3 : tie.Need-returns-3
 returns-3 c =
     let w = c .before .before .put-before .ensures in

@@ -11,15 +11,12 @@ use Rattle.runs_take.proofs.take.join_refusal.Lts as lts
 use Rattle.euler.proofs.admit.use_refusal.Reads as use-refusal-reads
 use Rattle.codec.proofs.operands.in_range.Reads as in-range-reads
 
--- src/take.rt:40:9
 returns : tie.Need-returns
 returns c = joined-before _ _ _ (omega arith)
 
--- src/take.rt:42:9
 in-range-requires : tie.Need-in-range-requires
 in-range-requires c κs = ap length (c .before .before .pre .1)
 
--- src/take.rt:43:9
 returns-2 : tie.Need-returns-2
 returns-2 c =
     let b = c .before in
@@ -27,7 +24,6 @@ returns-2 c =
     joined-range _ _ _ (λ e. omega arith)
     (range-is _ _ _ _ _ _ (b .before .before .before .pre .1) (b .in-range .ensures) (not-true _ (c .if2 .taken)))
 
--- src/take.rt:46:9
 returns-3 : tie.Need-returns-3
 returns-3 c =
     let b = c .before .before in
@@ -36,7 +32,6 @@ returns-3 c =
     let n = b .before .if1 .left in
     joined-first _ _ _ (λ e. omega arith) t (c .if3 .taken)
 
--- src/take.rt:50:9
 returns-4 : tie.Need-returns-4
 returns-4 c =
     let b = c .before .before in
@@ -45,7 +40,6 @@ returns-4 c =
     let t = range-is _ _ _ _ _ _ p (d .in-range .ensures) (not-false _ (b .if2 .left)) in
     joined-use _ _ _ (c .before .if3 .left) t _ (use-high _ _ _ _ (c .if4 .taken))
 
--- src/take.rt:52:5
 use-refusal-requires : tie.Need-use-refusal-requires
 use-refusal-requires c κs =
     let b = c .before .before in
@@ -54,7 +48,6 @@ use-refusal-requires c κs =
     item-small _ (p .0) _ _ (omega arith)
     (range-is _ _ _ _ _ _ (p .1) (d .in-range .ensures) (not-false _ (b .if2 .left)))
 
--- src/take.rt:34:1
 returns-5 : tie.Need-returns-5
 returns-5 c =
     let b = c .before .before .before in

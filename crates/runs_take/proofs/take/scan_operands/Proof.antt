@@ -24,60 +24,47 @@ Inv-loop links sh script behind most count args₀ kinds i₀ p₀ refusal₀ ar
 abbrev μ-loop : tie.MeasureT-loop
 μ-loop links sh script behind most count args₀ kinds i₀ p₀ refusal₀ args i p refusal = count - i
 
--- src/take.rt:74:5
 loop-holds : tie.Need-loop-holds Inv-loop μ-loop
 loop-holds c = (omega arith, search needs, refl)
 
--- src/take.rt:75:20
 array-read-kind : tie.Need-array-read-kind Inv-loop μ-loop
 array-read-kind c = search needs
 
--- src/take.rt:76:13
 read-number-requires : tie.Need-read-number-requires Inv-loop μ-loop
 read-number-requires c κs = search needs
 
--- src/take.rt:78:22
 enum-known-x : tie.Need-enum-known-x Inv-loop μ-loop
 enum-known-x c = search needs
 
--- src/take.rt:79:17
 join-refusal-requires : tie.Need-join-refusal-requires Inv-loop μ-loop
 join-refusal-requires c κs = search needs
 
--- src/take.rt:80:27
 from-wire-requires : tie.Need-from-wire-requires Inv-loop μ-loop
 from-wire-requires c κs =
     let b = c .before .before in
     let l = b .before .before .before .before in
     number-small (l .before .before .before .args .script .now) (l .loop .p) _ (b .x .given .0 .1 .0) (cc)
 
--- src/take.rt:80:17
 mul-t22 : tie.Need-mul-t22 Inv-loop μ-loop
 mul-t22 c = search needs
 
--- src/take.rt:80:17
 element-set-from-args : tie.Need-element-set-from-args Inv-loop μ-loop
 element-set-from-args c = search needs
 
--- src/take.rt:84:17
 enum-told : tie.Need-enum-told Inv-loop μ-loop
 enum-told c = search needs
 
--- src/take.rt:84:17
 returns : tie.Need-returns Inv-loop μ-loop
 returns c =
     let l = c .before .before .before in
     scan-bad _ _ _ _ _ (omega arith) _ _ _ _ _ (l .before .loop .inv .2) (l .loop-test .taken) (cc)
 
--- src/take.rt:87:9
 add-i : tie.Need-add-i Inv-loop μ-loop
 add-i c = search needs
 
--- src/take.rt:74:5
 loop-less : tie.Need-loop-less Inv-loop μ-loop
 loop-less c = search needs
 
--- src/take.rt:74:5
 loop-again : tie.Need-loop-again Inv-loop μ-loop
 loop-again c =
     let l = c .before .before .before .before .before .before in
@@ -89,7 +76,6 @@ loop-again c =
           _ (c .before .join-refusal .ensures) _ (c .from-wire .ensures),
     )
 
--- src/take.rt:56:1
 returns-2 : tie.Need-returns-2 Inv-loop μ-loop
 returns-2 c = let v = c .before .loop .inv in scan-end _ _ _ _ _ (omega arith) _ _ _ _ _ (v .2) (c .loop-test .left)
 

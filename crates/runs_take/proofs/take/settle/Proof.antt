@@ -5,48 +5,39 @@ use Rattle.runs_take.proofs.take.settle.Statement.{statement}
 use Rattle.runs_take.proofs.take.settle.Tie as tie
 use Rattle.runs_take.proofs.take.settle.Reads as reads
 use Rattle.runs_take.proofs.take.settle.Lts as lts
-use Rattle.exec_admit.proofs.conditions.condition_holds.Reads as condition-holds-reads
+use Rattle.euler_admit.proofs.conditions.condition_holds.Reads as condition-holds-reads
 use Rattle.runs_take.proofs.take.told.Reads as told-reads
 
--- src/take.rt:122:12
 condition-holds-requires : tie.Need-condition-holds-requires
 condition-holds-requires c κs = search needs
 
--- src/take.rt:123:13
 told-requires : tie.Need-told-requires
 told-requires c κs = search needs
 
--- src/take.rt:123:13
 returns : tie.Need-returns
 returns c =
     let b = c .before .before in
     c .told .ensures
     ∙ settled-holds _ _ _ _ _ (b .before .if1 .taken) _ (b .condition-holds .ensures) (c .before .if2 .taken)
 
--- src/take.rt:125:9
 told-requires-2 : tie.Need-told-requires-2
 told-requires-2 c κs = search needs
 
--- src/take.rt:125:9
 returns-2 : tie.Need-returns-2
 returns-2 c =
     let b = c .before .before in
     c .told2 .ensures
     ∙ settled-fails _ _ _ _ _ (b .before .if1 .taken) _ (b .condition-holds .ensures) (c .before .if2 .left)
 
--- src/take.rt:128:9
 told-requires-3 : tie.Need-told-requires-3
 told-requires-3 c κs = search needs
 
--- src/take.rt:128:9
 returns-3 : tie.Need-returns-3
 returns-3 c = c .told3 .ensures ∙ settled-low _ _ _ _ _ (c .before .before .if1 .left) (c .before .if3 .taken)
 
--- src/take.rt:130:5
 told-requires-4 : tie.Need-told-requires-4
 told-requires-4 c κs = search needs
 
--- src/take.rt:105:1
 returns-4 : tie.Need-returns-4
 returns-4 c = c .told4 .ensures ∙ settled-high _ _ _ _ _ (c .before .before .if1 .left) (c .before .if3 .left)
 

@@ -8,47 +8,37 @@ use Rattle.runs_take.proofs.take.take_behind.Reads as take-behind-reads
 use Rattle.runs_take.proofs.take.told.Reads as told-reads
 use Rattle.codec.proofs.number.read_number.Reads as read-number-reads
 
--- src/take.rt:180:9
 read-number-requires : tie.Need-read-number-requires
 read-number-requires c κs = search needs
 
--- src/take.rt:182:18
 enum-known-x : tie.Need-enum-known-x
 enum-known-x c = search needs
 
--- src/take.rt:184:17
 told-requires : tie.Need-told-requires
 told-requires c κs = search needs
 
--- src/take.rt:184:17
 returns : tie.Need-returns
 returns c =
     let g = c .before .before .before .x .given .0 in
     take-none _ _ _ _ _ (g .0) (g .1 .0) (cc) (c .before .if1 .taken) (c .told .ensures) _
 
--- src/take.rt:186:56
 cast-take-behind : tie.Need-cast-take-behind
 cast-take-behind c = search needs
 
--- src/take.rt:186:13
 take-behind-requires : tie.Need-take-behind-requires
 take-behind-requires c κs = search needs
 
--- src/take.rt:188:21
 enum-told : tie.Need-enum-told
 enum-told c = search needs
 
--- src/take.rt:188:21
 told-requires-2 : tie.Need-told-requires-2
 told-requires-2 c κs = search needs
 
--- src/take.rt:163:1
 returns-2 : tie.Need-returns-2
 returns-2 c =
     let g = c .before .before .before .before .x .given .0 in
     take-some _ _ _ _ _ (g .0) (g .1 .0) (cc) _ (c .take-behind .ensures)
 
--- src/take.rt:163:1
 returns-3 : tie.Need-returns-3
 returns-3 c = take-bad _ _ _ _ _ (cc) (c .told2 .ensures) _
 

@@ -9,37 +9,30 @@ use Rattle.runs_take.proofs.take.settle.Reads as settle-reads
 use Rattle.runs_take.proofs.take.told.Reads as told-reads
 use Rattle.codec.proofs.operands.pattern_of.Reads as pattern-of-reads
 
--- src/take.rt:151:9
 pattern-of-requires : tie.Need-pattern-of-requires
 pattern-of-requires c κs = search needs
 
--- src/take.rt:152:17
 cast-count : tie.Need-cast-count
 cast-count c = search needs
 
--- src/take.rt:154:9
 told-requires : tie.Need-told-requires
 told-requires c κs = search needs
 
--- src/take.rt:154:9
 returns : tie.Need-returns
 returns c =
     let b = c .before .before .before in
     let d = b .before .before .before in
     behind-none _ (d .pre .0) _ _ _ _ _ (b .pattern-of .ensures) _ (c .before .if1 .taken) _ (c .told .ensures) _
 
--- src/take.rt:158:9
 scan-operands-requires : tie.Need-scan-operands-requires
 scan-operands-requires c κs =
     let b = c .before .before .before .before .before in
     let d = b .before .before .before in
     (d .pre .0, (d .pre .1 .0, few _ _ (b .pattern-of .ensures)))
 
--- src/take.rt:159:5
 settle-requires : tie.Need-settle-requires
 settle-requires c κs = search needs
 
--- src/take.rt:134:1
 returns-2 : tie.Need-returns-2
 returns-2 c =
     let g = c .before .before in

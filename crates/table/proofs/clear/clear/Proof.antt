@@ -9,35 +9,27 @@ use Rattle.table.proofs.clear.zero_points.Reads as zero-points-reads
 use Rattle.table.proofs.clear.zero_words.Reads as zero-words-reads
 use Rattle.table.proofs.sizes.sizes_fit.Reads as sizes-fit-reads
 
--- src/clear.rt:67:9
 sizes-fit-requires : tie.Need-sizes-fit-requires
 sizes-fit-requires c κs = search needs
 
--- src/clear.rt:68:9
 returns : tie.Need-returns
 returns c = clear-refused _ _ _ _ _ _ _ _ _ (c .before .sizes-fit .ensures) (c .if1 .taken)
 
--- src/clear.rt:70:5
 zero-words-requires : tie.Need-zero-words-requires
 zero-words-requires c κs = search needs
 
--- src/clear.rt:71:5
 put-capacities-requires : tie.Need-put-capacities-requires
 put-capacities-requires c κs = search needs
 
--- src/clear.rt:72:5
 zero-points-requires : tie.Need-zero-points-requires
 zero-points-requires c κs = search needs
 
--- src/clear.rt:50:1
 same-length : tie.Need-same-length
 same-length c = search needs
 
--- src/clear.rt:50:1
 same-length-2 : tie.Need-same-length-2
 same-length-2 c = search needs
 
--- src/clear.rt:50:1
 returns-2 : tie.Need-returns-2
 returns-2 c = clear-done _ _ _ _ _ _ _ _ _ (c .before .before .before .before .before .before .before .before .before .before .before .before .sizes-fit .ensures) (c .before .before .before .before .before .before .before .before .before .before .before .if1 .left) _ _ _ (c .before .before .before .before .before .before .before .before .before .zero-words .ensures) (c .before .before .before .before .before .put-capacities .ensures) (c .before .zero-points .ensures)
 

@@ -5,31 +5,24 @@ use Rattle.table.proofs.clear.put_capacities.Reads as reads
 use Rattle.table.proofs.clear.put_capacities.Lts as lts
 use Rattle.layout.proofs.cells.put.Reads as put-reads
 
--- src/clear.rt:46:5
 put-requires : tie.Need-put-requires
 put-requires c κs = search needs
 
--- src/clear.rt:47:5
 put-requires-2 : tie.Need-put-requires-2
 put-requires-2 c κs = search needs
 
--- src/clear.rt:48:5
 put-requires-3 : tie.Need-put-requires-3
 put-requires-3 c κs = search needs
 
--- src/clear.rt:49:5
 put-requires-4 : tie.Need-put-requires-4
 put-requires-4 c κs = search needs
 
--- src/clear.rt:50:5
 put-requires-5 : tie.Need-put-requires-5
 put-requires-5 c κs = search needs
 
--- src/clear.rt:42:1
 same-length : tie.Need-same-length
 same-length c = search needs
 
--- src/clear.rt:42:1
 returns : tie.Need-returns
 returns c = cc
 

@@ -16,38 +16,30 @@ Inv-loop points₀ i₀ points i = (length points ≡ length points₀) × Fille
 abbrev μ-loop : tie.MeasureT-loop
 μ-loop points₀ i₀ points i = length points - i
 
--- src/clear.rt:36:5
 loop-holds : tie.Need-loop-holds Inv-loop μ-loop
 loop-holds c = (refl, filled-none (pos 0) _)
 
--- src/clear.rt:37:9
 mul-points : tie.Need-mul-points Inv-loop μ-loop
 mul-points c = search needs
 
--- src/clear.rt:37:9
 slice-set-of-points : tie.Need-slice-set-of-points Inv-loop μ-loop
 slice-set-of-points c = search needs
 
--- src/clear.rt:38:9
 add-i : tie.Need-add-i Inv-loop μ-loop
 add-i c = search needs
 
--- src/clear.rt:36:5
 loop-less : tie.Need-loop-less Inv-loop μ-loop
 loop-less c = simp length-set (omega arith)
 
--- src/clear.rt:36:5
 loop-again : tie.Need-loop-again Inv-loop μ-loop
 loop-again c = (
   simp length-set (c .before .loop .inv .0),
   filled-more (pos 0) _ _ _ refl (c .loop-test .taken) (c .before .loop .inv .1),
 )
 
--- src/clear.rt:32:1
 same-length : tie.Need-same-length Inv-loop μ-loop
 same-length c = search needs
 
--- src/clear.rt:32:1
 returns : tie.Need-returns Inv-loop μ-loop
 returns c = filled-all (pos 0) _ _ _ (c .before .loop .inv .0) (omega arith) (c .before .loop .inv .1)
 

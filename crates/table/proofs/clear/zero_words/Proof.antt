@@ -15,38 +15,30 @@ Inv-loop links₀ i₀ links i = (length links ≡ length links₀) × Filled 0 
 abbrev μ-loop : tie.MeasureT-loop
 μ-loop links₀ i₀ links i = length links - i
 
--- src/clear.rt:26:5
 loop-holds : tie.Need-loop-holds Inv-loop μ-loop
 loop-holds c = (refl, filled-none 0 _)
 
--- src/clear.rt:27:9
 mul-links : tie.Need-mul-links Inv-loop μ-loop
 mul-links c = search needs
 
--- src/clear.rt:27:9
 slice-write-links : tie.Need-slice-write-links Inv-loop μ-loop
 slice-write-links c = search needs
 
--- src/clear.rt:28:9
 add-i : tie.Need-add-i Inv-loop μ-loop
 add-i c = search needs
 
--- src/clear.rt:26:5
 loop-less : tie.Need-loop-less Inv-loop μ-loop
 loop-less c = simp length-set (omega arith)
 
--- src/clear.rt:26:5
 loop-again : tie.Need-loop-again Inv-loop μ-loop
 loop-again c = (
   simp length-set (c .before .loop .inv .0),
   filled-more 0 _ _ _ (omega arith) (c .loop-test .taken) (c .before .loop .inv .1),
 )
 
--- src/clear.rt:22:1
 same-length : tie.Need-same-length Inv-loop μ-loop
 same-length c = search needs
 
--- src/clear.rt:22:1
 returns : tie.Need-returns Inv-loop μ-loop
 returns c = filled-all 0 _ _ _ (c .before .loop .inv .0) (omega arith) (c .before .loop .inv .1)
 

@@ -8,23 +8,18 @@ use Rattle.layout.proofs.shape.shape_of.Reads as shape-of-reads
 use Rattle.table.proofs.check.check.Reads as check-reads
 use Rattle.table.proofs.count.tally_of.Reads as tally-of-reads
 
--- src/count.rt:57:9
 check-requires : tie.Need-check-requires
 check-requires c κs = search needs
 
--- src/count.rt:59:9
 returns : tie.Need-returns
 returns c = count-refused _ _ _ (c .before .before .check .ensures) (c .if1 .taken)
 
--- src/count.rt:71:21
 shape-of-requires : tie.Need-shape-of-requires
 shape-of-requires c κs = search needs
 
--- src/count.rt:71:5
 tally-of-requires : tie.Need-tally-of-requires
 tally-of-requires c κs = count-small _ _ _ (c .before .before .before .check .ensures) (c .before .if1 .left) _ (c .shape-of .ensures)
 
--- src/count.rt:54:1
 returns-2 : tie.Need-returns-2
 returns-2 c = count-done _ _ _ (c .before .before .before .before .check .ensures) (c .before .before .if1 .left) _ (c .before .shape-of .ensures) _ (c .tally-of .ensures)
 

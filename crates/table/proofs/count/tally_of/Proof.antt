@@ -7,59 +7,45 @@ use Rattle.table.proofs.count.tally_of.Lts as lts
 use Rattle.table.proofs.count.holes_of.Reads as holes-of-reads
 use Rattle.table.proofs.tally.used_to.Reads as used-to-reads
 
--- src/count.rt:43:50
 cast-used-to : tie.Need-cast-used-to
 cast-used-to c = search needs
 
--- src/count.rt:43:9
 used-to-requires : tie.Need-used-to-requires
 used-to-requires c κs = search needs
 
--- src/count.rt:44:48
 cast-used-to-2 : tie.Need-cast-used-to-2
 cast-used-to-2 c = search needs
 
--- src/count.rt:44:9
 used-to-requires-2 : tie.Need-used-to-requires-2
 used-to-requires-2 c κs = search needs
 
--- src/count.rt:45:48
 cast-used-to-3 : tie.Need-cast-used-to-3
 cast-used-to-3 c = search needs
 
--- src/count.rt:45:9
 used-to-requires-3 : tie.Need-used-to-requires-3
 used-to-requires-3 c κs = search needs
 
--- src/count.rt:46:48
 cast-used-to-4 : tie.Need-cast-used-to-4
 cast-used-to-4 c = search needs
 
--- src/count.rt:46:9
 used-to-requires-4 : tie.Need-used-to-requires-4
 used-to-requires-4 c κs = search needs
 
--- src/count.rt:47:53
 cast-used-to-5 : tie.Need-cast-used-to-5
 cast-used-to-5 c = search needs
 
--- src/count.rt:47:9
 used-to-requires-5 : tie.Need-used-to-requires-5
 used-to-requires-5 c κs = search needs
 
--- src/count.rt:48:48
 cast-used-to-6 : tie.Need-cast-used-to-6
 cast-used-to-6 c = search needs
 
--- src/count.rt:48:9
 used-to-requires-6 : tie.Need-used-to-requires-6
 used-to-requires-6 c κs = c .before .before .before .before .before .before .before .before .before .before .before .before .pre .loops
 
--- src/count.rt:49:9
 holes-of-requires : tie.Need-holes-of-requires
 holes-of-requires c κs = search needs
 
--- src/count.rt:39:1
 returns : tie.Need-returns
 returns c =
     tally-is (c .before .before .before .before .before .before .before .before .before .before .before .before .before .before .args .sh) (c .before .before .before .before .before .before .before .before .before .before .before .before .before .before .args .links .now) _ _ _ _ _ _ _ (c .before .before .before .before .before .before .before .before .before .before .before .used-to .ensures .0) (c .before .before .before .before .before .before .before .before .before .used-to2 .ensures .0) (c .before .before .before .before .before .before .before .used-to3 .ensures .0)

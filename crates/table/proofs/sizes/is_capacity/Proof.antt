@@ -1,16 +1,14 @@
 use native.Mathlib.Omega.{arith}
-use Rattle.items.specs.TestLaws.{as-low}
+use Rattle.check_items.specs.TestLaws.{as-low}
 use Rattle.table.specs.FitLaws.{no-capacity, a-capacity}
 use Rattle.table.proofs.sizes.is_capacity.Statement.{statement}
 use Rattle.table.proofs.sizes.is_capacity.Tie as tie
 use Rattle.table.proofs.sizes.is_capacity.Reads as reads
 use Rattle.table.proofs.sizes.is_capacity.Lts as lts
 
--- src/sizes.rt:11:9
 returns : tie.Need-returns
 returns c = no-capacity (c .before .args .n) (omega arith)
 
--- src/sizes.rt:7:1
 returns-2 : tie.Need-returns-2
 returns-2 c = a-capacity (c .before .args .n) _ (omega arith) (omega (arith, as-low))
 

@@ -7,71 +7,54 @@ use Rattle.table.proofs.sizes.sizes_fit.Reads as reads
 use Rattle.table.proofs.sizes.sizes_fit.Lts as lts
 use Rattle.table.proofs.sizes.is_capacity.Reads as is-capacity-reads
 
--- src/sizes.rt:29:16
 add-long : tie.Need-add-long
 add-long c = search needs
 
--- src/sizes.rt:29:24
 mul-long : tie.Need-mul-long
 mul-long c = search needs
 
--- src/sizes.rt:29:16
 add-long-2 : tie.Need-add-long-2
 add-long-2 c = search needs
 
--- src/sizes.rt:29:32
 mul-long-2 : tie.Need-mul-long-2
 mul-long-2 c = search needs
 
--- src/sizes.rt:29:16
 add-long-3 : tie.Need-add-long-3
 add-long-3 c = search needs
 
--- src/sizes.rt:29:40
 mul-long-3 : tie.Need-mul-long-3
 mul-long-3 c = search needs
 
--- src/sizes.rt:29:16
 add-long-4 : tie.Need-add-long-4
 add-long-4 c = search needs
 
--- src/sizes.rt:29:16
 add-long-5 : tie.Need-add-long-5
 add-long-5 c = search needs
 
--- src/sizes.rt:31:9
 returns : tie.Need-returns
 returns c = links-other _ _ _ _ _ _ _ (omega arith)
 
--- src/sizes.rt:33:23
 mul-if2 : tie.Need-mul-if2
 mul-if2 c = search needs
 
--- src/sizes.rt:34:9
 returns-2 : tie.Need-returns-2
 returns-2 c = points-other _ _ _ _ _ _ _ (omega arith)
 
--- src/sizes.rt:36:5
 is-capacity-requires : tie.Need-is-capacity-requires
 is-capacity-requires c κs = search needs
 
--- src/sizes.rt:36:22
 is-capacity-requires-2 : tie.Need-is-capacity-requires-2
 is-capacity-requires-2 c κs = search needs
 
--- src/sizes.rt:36:39
 is-capacity-requires-3 : tie.Need-is-capacity-requires-3
 is-capacity-requires-3 c κs = search needs
 
--- src/sizes.rt:36:56
 is-capacity-requires-4 : tie.Need-is-capacity-requires-4
 is-capacity-requires-4 c κs = search needs
 
--- src/sizes.rt:36:73
 is-capacity-requires-5 : tie.Need-is-capacity-requires-5
 is-capacity-requires-5 c κs = search needs
 
--- src/sizes.rt:17:1
 returns-3 : tie.Need-returns-3
 returns-3 c =
     lengths-fit _ _ _ _ _ _ _ _ _ _ _ _ (omega arith) (omega arith)

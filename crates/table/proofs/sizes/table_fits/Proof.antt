@@ -7,31 +7,24 @@ use Rattle.table.proofs.sizes.table_fits.Lts as lts
 use Rattle.layout.proofs.cells.word.Reads as word-reads
 use Rattle.table.proofs.sizes.sizes_fit.Reads as sizes-fit-reads
 
--- src/sizes.rt:32:9
 word-requires : tie.Need-word-requires
 word-requires c κs = search needs
 
--- src/sizes.rt:33:9
 word-requires-2 : tie.Need-word-requires-2
 word-requires-2 c κs = search needs
 
--- src/sizes.rt:34:9
 word-requires-3 : tie.Need-word-requires-3
 word-requires-3 c κs = search needs
 
--- src/sizes.rt:35:9
 word-requires-4 : tie.Need-word-requires-4
 word-requires-4 c κs = search needs
 
--- src/sizes.rt:36:9
 word-requires-5 : tie.Need-word-requires-5
 word-requires-5 c κs = search needs
 
--- src/sizes.rt:37:5
 sizes-fit-requires : tie.Need-sizes-fit-requires
 sizes-fit-requires c κs = search needs
 
--- src/sizes.rt:29:1
 returns : tie.Need-returns
 returns c =
     words-fit (c .before .before .before .before .before .before .before .args .links .now)

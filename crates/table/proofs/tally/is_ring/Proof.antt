@@ -6,15 +6,12 @@ use Rattle.table.proofs.tally.is_ring.Lts as lts
 use Rattle.layout.proofs.columns.face_outer.Reads as face-outer-reads
 use Rattle.layout.proofs.columns.loop_face.Reads as loop-face-reads
 
--- src/tally.rt:29:9
 loop-face-requires : tie.Need-loop-face-requires
 loop-face-requires c κs = search needs
 
--- src/tally.rt:30:17
 face-outer-requires : tie.Need-face-outer-requires
 face-outer-requires c κs = search needs
 
--- src/tally.rt:25:1
 returns : tie.Need-returns
 returns c = cc
 

@@ -1,5 +1,5 @@
 use mathlib.Core.Path.{ap}
-use Rattle.items.specs.Rules.{some}
+use Rattle.check_items.specs.Rules.{some}
 use Rattle.table.specs.Count.{itemUsed}
 use Rattle.table.specs.CountLaws.{by-item}
 use borrow.Author.Needs.{needs}
@@ -14,84 +14,65 @@ use Rattle.layout.proofs.columns.start_of.Reads as start-of-reads
 use Rattle.layout.proofs.columns.vertex_used.Reads as vertex-used-reads
 use Rattle.table.proofs.tally.is_ring.Reads as is-ring-reads
 
--- src/tally.rt:39:24
 enum-told : tie.Need-enum-told
 enum-told c = search needs
 
--- src/tally.rt:39:24
 solid-used-requires : tie.Need-solid-used-requires
 solid-used-requires c κs = search needs
 
--- src/tally.rt:40:23
 enum-told-2 : tie.Need-enum-told-2
 enum-told-2 c = search needs
 
--- src/tally.rt:40:23
 face-solid-requires : tie.Need-face-solid-requires
 face-solid-requires c κs = search needs
 
--- src/tally.rt:41:23
 enum-told-3 : tie.Need-enum-told-3
 enum-told-3 c = search needs
 
--- src/tally.rt:41:23
 loop-face-requires : tie.Need-loop-face-requires
 loop-face-requires c κs = search needs
 
--- src/tally.rt:42:43
 enum-told-4 : tie.Need-enum-told-4
 enum-told-4 c = search needs
 
--- src/tally.rt:42:43
 mul-start-of : tie.Need-mul-start-of
 mul-start-of c = search needs
 
--- src/tally.rt:42:23
 start-of-requires : tie.Need-start-of-requires
 start-of-requires c κs = search needs
 
--- src/tally.rt:43:25
 enum-told-5 : tie.Need-enum-told-5
 enum-told-5 c = search needs
 
--- src/tally.rt:43:25
 vertex-used-requires : tie.Need-vertex-used-requires
 vertex-used-requires c κs = search needs
 
--- src/tally.rt:44:23
 enum-told-6 : tie.Need-enum-told-6
 enum-told-6 c = search needs
 
--- src/tally.rt:44:23
 is-ring-requires : tie.Need-is-ring-requires
 is-ring-requires c κs = search needs
 
--- src/tally.rt:34:1
 returns : tie.Need-returns
 unfolding itemUsed
 returns c = by-item _ _ (c .before .enum-told .given .1) _ _ _ _ (ap some (c .solid-used .ensures .0))
 
--- src/tally.rt:34:1
 returns-2 : tie.Need-returns-2
 unfolding itemUsed
 returns-2 c = by-item _ _ (c .before .enum-told2 .given .1) _ _ _ _ (ap some (c .face-solid .ensures .0))
 
--- src/tally.rt:34:1
 returns-3 : tie.Need-returns-3
 unfolding itemUsed
 returns-3 c = by-item _ _ (c .before .enum-told3 .given .1) _ _ _ _ (ap some (c .loop-face .ensures .0))
 
--- src/tally.rt:34:1
 returns-4 : tie.Need-returns-4
 unfolding itemUsed
 returns-4 c = by-item _ _ (c .before .enum-told4 .given .1) _ _ _ _ (ap some (c .start-of .ensures .0))
 
--- src/tally.rt:34:1
 returns-5 : tie.Need-returns-5
 unfolding itemUsed
 returns-5 c = by-item _ _ (c .before .enum-told5 .given .1) _ _ _ _ (ap some (c .vertex-used .ensures .0))
 
--- src/tally.rt:34:1
 returns-6 : tie.Need-returns-6
 unfolding itemUsed
 returns-6 c = by-item _ _ (c .before .enum-told6 .given .1) _ _ _ _ (c .is-ring .ensures)

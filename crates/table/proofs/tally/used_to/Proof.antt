@@ -17,39 +17,30 @@ Inv-loop links sh item n total₀ k₀ total k = (k ≤ n) × (total ≤ k) × (
 abbrev μ-loop : tie.MeasureT-loop
 μ-loop links sh item n total₀ k₀ total k = n - k
 
--- src/tally.rt:64:5
 loop-holds : tie.Need-loop-holds Inv-loop μ-loop
 loop-holds c = (omega arith, omega arith, count-start _ _ _)
 
--- src/tally.rt:65:52
 add-item-used : tie.Need-add-item-used Inv-loop μ-loop
 add-item-used c = search needs
 
--- src/tally.rt:65:25
 item-used-requires : tie.Need-item-used-requires Inv-loop μ-loop
 item-used-requires c κs = search needs
 
--- src/tally.rt:65:18
 one-if-requires : tie.Need-one-if-requires Inv-loop μ-loop
 one-if-requires c κs = search needs
 
--- src/tally.rt:65:9
 add-total : tie.Need-add-total Inv-loop μ-loop
 add-total c = search needs
 
--- src/tally.rt:66:9
 add-k : tie.Need-add-k Inv-loop μ-loop
 add-k c = search needs
 
--- src/tally.rt:64:5
 loop-less : tie.Need-loop-less Inv-loop μ-loop
 loop-less c = search needs
 
--- src/tally.rt:64:5
 loop-again : tie.Need-loop-again Inv-loop μ-loop
 loop-again c = (omega arith, omega arith, count-turn _ _ _ _ _ _ _ (c .before .before .before .loop .inv .2) (c .one-if .ensures .0) (c .before .item-used .ensures))
 
--- src/tally.rt:58:1
 returns : tie.Need-returns Inv-loop μ-loop
 returns c = (count-end _ _ _ _ _ _ (c .before .loop .inv .0) (c .loop-test .left) (c .before .loop .inv .2), omega arith)
 

@@ -9,31 +9,24 @@ use Rattle.takedown_ends.proofs.moves.across_ends.Reads as across-ends-reads
 use Rattle.takedown_across.proofs.across.pass.Reads as pass-reads
 use Rattle.takedown_across.proofs.across.passage_of.Reads as passage-of-reads
 
--- src/across.rt:120:9
 passage-of-requires : tie.Need-passage-of-requires
 passage-of-requires c κs = search needs
 
--- src/across.rt:121:9
 pass-requires : tie.Need-pass-requires
 pass-requires c κs = search needs
 
--- src/across.rt:123:9
 across-ends-requires : tie.Need-across-ends-requires
 across-ends-requires c κs = search needs
 
--- src/across.rt:109:1
 same-length : tie.Need-same-length
 same-length c = search needs
 
--- src/across.rt:109:1
 same-length-2 : tie.Need-same-length-2
 same-length-2 c = search needs
 
--- src/across.rt:109:1
 same-length-3 : tie.Need-same-length-3
 same-length-3 c = search needs
 
--- src/across.rt:109:1
 returns : tie.Need-returns
 returns c = (
   across-is (c .before .before .before .before .before .before .before .before .before .before .before .before .before .before .before .args .sh) _ (c .before .before .before .before .before .before .before .before .before .before .before .before .before .before .before .args .e) _ (c .before .before .before .before .before .before .before .before .before .before .before .passage-of .ensures .0) _ _ _ _ (c .before .before .before .before .before .before .before .pass .ensures .0) (c .before .before .before .before .before .before .before .pass .ensures .1) (c .across-ends .ensures .0),

@@ -13,35 +13,27 @@ use Rattle.takedown_acts.proofs.rings.make_outer.Reads as make-outer-reads
 use Rattle.takedown_acts.proofs.rings.move_rings.Reads as move-rings-reads
 use Rattle.takedown_plans.proofs.operators.kef.Reads as kef-reads
 
--- src/across.rt:99:9
 make-outer-requires : tie.Need-make-outer-requires
 make-outer-requires c κs = search needs
 
--- src/across.rt:100:9
 move-rings-requires : tie.Need-move-rings-requires
 move-rings-requires c κs = search needs
 
--- src/across.rt:101:44
 kef-requires : tie.Need-kef-requires
 kef-requires c κs = search needs
 
--- src/across.rt:101:9
 act-requires : tie.Need-act-requires
 act-requires c κs = search needs
 
--- src/across.rt:87:1
 same-length : tie.Need-same-length
 same-length c = c .before .before .before .before .before .before .links3 .given ∙ c .before .before .before .before .before .before .before .before .before .before .before .before .before .before .before .before .links2 .given ∙ c .before .before .before .before .before .before .before .before .before .before .before .before .before .before .before .before .before .before .before .before .before .before .before .before .before .links .given
 
--- src/across.rt:87:1
 same-length-2 : tie.Need-same-length-2
 same-length-2 c = search needs
 
--- src/across.rt:87:1
 same-length-3 : tie.Need-same-length-3
 same-length-3 c = search needs
 
--- src/across.rt:87:1
 returns : tie.Need-returns
 returns c = (
   passed (c .before .before .before .before .before .before .before .before .before .before .before .before .before .before .before .before .before .before .before .before .before .before .before .before .before .before .before .before .before .before .before .before .args .sh) (c .before .before .before .before .before .before .before .before .before .before .before .before .before .before .before .before .before .before .before .before .before .before .before .before .before .before .before .before .before .before .before .before .args .p) _ _ _ _ (c .before .before .before .before .before .before .before .before .before .before .before .before .before .before .before .before .before .before .before .before .before .before .before .before .before .before .make-outer .ensures .0) (c .before .before .before .before .before .before .before .before .before .before .before .before .before .before .before .before .before .move-rings .ensures .0) _ _ (c .before .before .before .before .before .before .before .before .kef .ensures) (c .before .before .before .before .before .before .before .act .ensures .0),

@@ -15,47 +15,36 @@ use Rattle.takedown_ends.proofs.walks.least_mate.Reads as least-mate-reads
 use Rattle.takedown_search.proofs.seek.seek.Reads as seek-reads
 use Rattle.takedown_across.proofs.across.stray_from.Reads as stray-from-reads
 
--- src/across.rt:56:9
 seek-requires : tie.Need-seek-requires
 seek-requires c κs = search needs
 
--- src/across.rt:57:9
 loop-of-requires : tie.Need-loop-of-requires
 loop-of-requires c κs = search needs
 
--- src/across.rt:58:9
 is-ring-requires : tie.Need-is-ring-requires
 is-ring-requires c κs = search needs
 
--- src/across.rt:59:9
 stray-from-requires : tie.Need-stray-from-requires
 stray-from-requires c κs = search needs
 
--- src/across.rt:60:9
 next-of-requires : tie.Need-next-of-requires
 next-of-requires c κs = search needs
 
--- src/across.rt:61:17
 cast-n : tie.Need-cast-n
 cast-n c = search needs
 
--- src/across.rt:61:13
 mul-n : tie.Need-mul-n
 mul-n c = search needs
 
--- src/across.rt:65:15
 side-of-requires : tie.Need-side-of-requires
 side-of-requires c κs = search needs
 
--- src/across.rt:66:14
 choose-requires : tie.Need-choose-requires
 choose-requires c κs = search needs
 
--- src/across.rt:68:15
 least-mate-requires : tie.Need-least-mate-requires
 least-mate-requires c κs = search needs
 
--- src/across.rt:52:1
 returns : tie.Need-returns
 unfolding passing lastOf
 returns c = (

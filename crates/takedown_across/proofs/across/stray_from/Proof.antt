@@ -8,24 +8,19 @@ use Rattle.takedown_across.proofs.across.stray_from.Reads as reads
 use Rattle.takedown_across.proofs.across.stray_from.Lts as lts
 use Rattle.takedown_search.proofs.seek.seek.Reads as seek-reads
 
--- src/across.rt:45:9
 seek-requires : tie.Need-seek-requires
 seek-requires c κs = search needs
 
--- src/across.rt:47:9
 returns : tie.Need-returns
 unfolding passing lastOf
 returns c = (stray-found (c .before .before .before .args .sh) _ (c .before .before .before .args .e) _ (c .before .seek .ensures .0) (c .if1 .taken), omega (arith, c .before .seek .ensures .1))
 
--- src/across.rt:49:5
 cast-result : tie.Need-cast-result
 cast-result c = search needs
 
--- src/across.rt:49:5
 add-result : tie.Need-add-result
 add-result c = search needs
 
--- src/across.rt:41:1
 returns-2 : tie.Need-returns-2
 unfolding passing lastOf
 returns-2 c = (stray-past (c .before .before .before .before .args .sh) _ (c .before .before .before .before .args .e) _ (c .before .before .seek .ensures .0) (c .before .if1 .left), omega arith)

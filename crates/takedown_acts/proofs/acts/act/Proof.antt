@@ -1,4 +1,4 @@
-use Rattle.exec_effects.specs.Performed.{links-performed, points-performed}
+use Rattle.euler_effects.specs.Performed.{links-performed, points-performed}
 use native.Mathlib.Omega.{arith}
 use Rattle.takedown_acts.specs.ActLaws.{act-is}
 use borrow.Author.Needs.{needs}
@@ -6,49 +6,39 @@ use Rattle.takedown_acts.proofs.acts.act.Statement.{statement}
 use Rattle.takedown_acts.proofs.acts.act.Tie as tie
 use Rattle.takedown_acts.proofs.acts.act.Reads as reads
 use Rattle.takedown_acts.proofs.acts.act.Lts as lts
-use Rattle.exec_effects.proofs.effects.perform.Reads as perform-reads
-use Rattle.exec_inverses.proofs.inverses.inverse_of.Reads as inverse-of-reads
+use Rattle.euler_effects.proofs.effects.perform.Reads as perform-reads
+use Rattle.euler_inverses.proofs.inverses.inverse_of.Reads as inverse-of-reads
 use Rattle.script.proofs.operator_size.Reads as operator-size-reads
 use Rattle.script.proofs.put_operator.Reads as put-operator-reads
 use Rattle.takedown_ends.proofs.numbers.less.Reads as less-reads
 
--- src/acts.rt:43:9
 inverse-of-requires : tie.Need-inverse-of-requires
 inverse-of-requires c κs = search needs
 
--- src/acts.rt:44:9
 operator-size-requires : tie.Need-operator-size-requires
 operator-size-requires c κs = search needs
 
--- src/acts.rt:45:9
 less-requires : tie.Need-less-requires
 less-requires c κs = search needs
 
--- src/acts.rt:46:5
 perform-requires : tie.Need-perform-requires
 perform-requires c κs = search needs
 
--- src/acts.rt:47:5
 put-operator-requires : tie.Need-put-operator-requires
 put-operator-requires c κs = search needs
 
--- src/acts.rt:49:15
 add-t23 : tie.Need-add-t23
 add-t23 c = search needs
 
--- src/acts.rt:32:1
 same-length : tie.Need-same-length
 same-length c = search needs
 
--- src/acts.rt:32:1
 same-length-2 : tie.Need-same-length-2
 same-length-2 c = search needs
 
--- src/acts.rt:32:1
 same-length-3 : tie.Need-same-length-3
 same-length-3 c = search needs
 
--- src/acts.rt:32:1
 returns : tie.Need-returns
 returns c =
     let p = c .before .before .before .before .before .before .before .before in

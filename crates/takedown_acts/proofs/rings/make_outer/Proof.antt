@@ -9,39 +9,30 @@ use Rattle.euler.proofs.faces.is_ring.Reads as is-ring-reads
 use Rattle.takedown_acts.proofs.acts.act.Reads as act-reads
 use Rattle.takedown_plans.proofs.operators.rmov.Reads as rmov-reads
 
--- src/across.rt:85:9
 is-ring-requires : tie.Need-is-ring-requires
 is-ring-requires c κs = search needs
 
--- src/across.rt:87:48
 rmov-requires : tie.Need-rmov-requires
 rmov-requires c κs = search needs
 
--- src/across.rt:87:9
 act-requires : tie.Need-act-requires
 act-requires c κs = search needs
 
--- src/across.rt:87:9
 same-length : tie.Need-same-length
 same-length c = search needs
 
--- src/across.rt:87:9
 same-length-2 : tie.Need-same-length-2
 same-length-2 c = search needs
 
--- src/across.rt:87:9
 same-length-3 : tie.Need-same-length-3
 same-length-3 c = search needs
 
--- src/across.rt:87:9
 returns : tie.Need-returns
 returns c = (outer-made _ _ _ _ _ (c .before .before .before .before .before .before .before .before .before .before .before .is-ring .ensures) (c .before .before .before .before .before .before .before .before .before .before .if1 .taken) _ (c .before .before .before .before .before .before .rmov .ensures) _ (c .before .before .before .before .before .act .ensures .0), omega (arith, c .before .before .before .before .before .act .ensures .1))
 
--- src/across.rt:73:1
 same-length-4 : tie.Need-same-length-4
 same-length-4 c = search needs
 
--- src/across.rt:73:1
 returns-2 : tie.Need-returns-2
 returns-2 c = (outer-kept _ _ _ _ _ (c .before .is-ring .ensures) (c .if1 .left), omega arith)
 

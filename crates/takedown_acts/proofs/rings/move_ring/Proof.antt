@@ -11,39 +11,30 @@ use Rattle.takedown_search.proofs.tests.is_ring_of.Reads as is-ring-of-reads
 use Rattle.takedown_acts.proofs.acts.act.Reads as act-reads
 use Rattle.takedown_plans.proofs.operators.rmov.Reads as rmov-reads
 
--- src/across.rt:106:9
 is-ring-of-requires : tie.Need-is-ring-of-requires
 is-ring-of-requires c κs = search needs
 
--- src/across.rt:108:48
 rmov-requires : tie.Need-rmov-requires
 rmov-requires c κs = search needs
 
--- src/across.rt:108:9
 act-requires : tie.Need-act-requires
 act-requires c κs = search needs
 
--- src/across.rt:108:9
 same-length : tie.Need-same-length
 same-length c = search needs
 
--- src/across.rt:108:9
 same-length-2 : tie.Need-same-length-2
 same-length-2 c = search needs
 
--- src/across.rt:108:9
 same-length-3 : tie.Need-same-length-3
 same-length-3 c = search needs
 
--- src/across.rt:108:9
 returns : tie.Need-returns
 returns c = (ring-moved _ _ _ _ _ _ (c .before .before .before .before .before .before .before .before .before .before .before .is-ring-of .ensures) (c .before .before .before .before .before .before .before .before .before .before .if1 .taken) _ (c .before .before .before .before .before .before .rmov .ensures) _ (c .before .before .before .before .before .act .ensures .0), omega (arith, c .before .before .before .before .before .act .ensures .1))
 
--- src/across.rt:93:1
 same-length-4 : tie.Need-same-length-4
 same-length-4 c = search needs
 
--- src/across.rt:93:1
 returns-2 : tie.Need-returns-2
 returns-2 c = (ring-kept (c .before .before .before .before .before .args .sh) (c .before .before .before .before .before .args .i) (c .before .before .before .before .before .args .g) (c .before .before .before .before .before .args .r) (work (c .before .before .before .before .before .args .at .done) (state (c .before .before .before .before .before .args .links .now) (c .before .before .before .before .before .args .points .now) (c .before .before .before .before .before .args .log .now) (c .before .before .before .before .before .args .at .start))) _ (c .before .is-ring-of .ensures) (c .if1 .left), omega arith)
 

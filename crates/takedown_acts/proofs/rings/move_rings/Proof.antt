@@ -20,27 +20,21 @@ Inv-loop links₀ points₀ log₀ sh low g r n i₀ done₀ start₀ links poin
 abbrev μ-loop : tie.MeasureT-loop
 μ-loop links₀ points₀ log₀ sh low g r n i₀ done₀ start₀ links points log i done start = n + 1 - i
 
--- src/across.rt:127:13
 cast-n : tie.Need-cast-n Inv-loop μ-loop
 cast-n c = search needs
 
--- src/across.rt:131:5
 loop-holds : tie.Need-loop-holds Inv-loop μ-loop
 loop-holds c = (refl, refl, refl, omega arith, omega arith, refl)
 
--- src/across.rt:132:13
 move-ring-requires : tie.Need-move-ring-requires Inv-loop μ-loop
 move-ring-requires c κs = search needs
 
--- src/across.rt:135:9
 add-i : tie.Need-add-i Inv-loop μ-loop
 add-i c = search needs
 
--- src/across.rt:131:5
 loop-less : tie.Need-loop-less Inv-loop μ-loop
 loop-less c = search needs
 
--- src/across.rt:131:5
 loop-again : tie.Need-loop-again Inv-loop μ-loop
 loop-again c =
     let e = c .before .before .before .before .before .move-ring .ensures in (
@@ -52,19 +46,15 @@ loop-again c =
       rings-turn _ _ _ _ _ _ _ (c .before .before .before .before .before .before .before .before .before .before .loop .inv .5) (omega arith) _ (e .0) _ (omega arith),
     )
 
--- src/across.rt:114:1
 same-length : tie.Need-same-length Inv-loop μ-loop
 same-length c = search needs
 
--- src/across.rt:114:1
 same-length-2 : tie.Need-same-length-2 Inv-loop μ-loop
 same-length-2 c = search needs
 
--- src/across.rt:114:1
 same-length-3 : tie.Need-same-length-3 Inv-loop μ-loop
 same-length-3 c = search needs
 
--- src/across.rt:114:1
 returns : tie.Need-returns Inv-loop μ-loop
 returns c = (rings-out _ _ _ _ _ _ _ (c .before .loop .inv .5) (omega arith), omega (arith, c .before .loop .inv .4))
 

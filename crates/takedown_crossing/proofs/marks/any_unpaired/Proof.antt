@@ -16,39 +16,30 @@ Inv-loop links sh n from stop marks k₀ left₀ k left = (k < 65536) × (anyUnp
 abbrev μ-loop : tie.MeasureT-loop
 μ-loop links sh n from stop marks k₀ left₀ k left = left
 
--- src/crossing.rt:68:5
 loop-holds : tie.Need-loop-holds Inv-loop μ-loop
 loop-holds c = (omega arith, refl)
 
--- src/crossing.rt:70:13
 returns : tie.Need-returns Inv-loop μ-loop
 returns c = any-stop _ _ _ _ _ _ _ _ (c .before .before .loop .inv .1) (omega arith) (c .if1 .taken)
 
--- src/crossing.rt:72:13
 is-unpaired-requires : tie.Need-is-unpaired-requires Inv-loop μ-loop
 is-unpaired-requires c κs = search needs
 
--- src/crossing.rt:74:13
 returns-2 : tie.Need-returns-2 Inv-loop μ-loop
 returns-2 c = any-here _ _ _ _ _ _ _ _ (c .before .before .before .before .loop .inv .1) (omega arith) (c .before .before .if1 .left) _ (c .before .is-unpaired .ensures) (c .if2 .taken)
 
--- src/crossing.rt:76:9
 next-of-requires : tie.Need-next-of-requires Inv-loop μ-loop
 next-of-requires c κs = search needs
 
--- src/crossing.rt:77:9
 sub-left : tie.Need-sub-left Inv-loop μ-loop
 sub-left c = search needs
 
--- src/crossing.rt:68:5
 loop-less : tie.Need-loop-less Inv-loop μ-loop
 loop-less c = search needs
 
--- src/crossing.rt:68:5
 loop-again : tie.Need-loop-again Inv-loop μ-loop
 loop-again c = (omega arith, any-turn _ _ _ _ _ _ _ _ (c .before .before .before .before .before .loop .inv .1) (omega arith) (c .before .before .before .if1 .left) _ (c .before .before .is-unpaired .ensures) (c .before .if2 .left) _ (c .next-of .ensures .0))
 
--- src/crossing.rt:55:1
 returns-3 : tie.Need-returns-3 Inv-loop μ-loop
 returns-3 c = any-out _ _ _ _ _ _ _ _ (c .before .loop .inv .1) (omega arith)
 

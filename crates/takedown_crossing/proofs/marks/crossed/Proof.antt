@@ -10,31 +10,24 @@ use Rattle.layout.proofs.mates.mate_of.Reads as mate-of-reads
 use Rattle.takedown_crossing.proofs.marks.any_unpaired.Reads as any-unpaired-reads
 use Rattle.takedown_crossing.proofs.marks.mark_run.Reads as mark-run-reads
 
--- src/crossing.rt:88:9
 next-of-requires : tie.Need-next-of-requires
 next-of-requires c κs = search needs
 
--- src/crossing.rt:89:9
 mate-of-requires : tie.Need-mate-of-requires
 mate-of-requires c κs = search needs
 
--- src/crossing.rt:90:17
 cast-n : tie.Need-cast-n
 cast-n c = search needs
 
--- src/crossing.rt:90:13
 mul-n : tie.Need-mul-n
 mul-n c = search needs
 
--- src/crossing.rt:91:5
 mark-run-requires : tie.Need-mark-run-requires
 mark-run-requires c κs = search needs
 
--- src/crossing.rt:92:5
 any-unpaired-requires : tie.Need-any-unpaired-requires
 any-unpaired-requires c κs = search needs
 
--- src/crossing.rt:83:1
 returns : tie.Need-returns
 returns c = crossed-steps _ _ _ (c .before .before .before .before .before .before .before .before .pre .0 .edges) _ _ _ (c .before .before .before .before .before .before .next-of .ensures .0) (c .before .before .before .before .before .mate-of .ensures .0) refl _ (c .before .before .mark-run .ensures) _ (c .any-unpaired .ensures)
 

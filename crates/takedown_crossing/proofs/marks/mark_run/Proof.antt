@@ -17,31 +17,24 @@ Inv-loop links sh fuel from stop marks₀ k₀ left₀ marks k left = (k < 65536
 abbrev μ-loop : tie.MeasureT-loop
 μ-loop links sh fuel from stop marks₀ k₀ left₀ marks k left = left
 
--- src/crossing.rt:40:5
 loop-holds : tie.Need-loop-holds Inv-loop μ-loop
 loop-holds c = (omega arith, omega arith, refl)
 
--- src/crossing.rt:42:13
 returns : tie.Need-returns Inv-loop μ-loop
 returns c = mark-stop _ _ _ _ _ _ _ (c .before .before .loop .inv .2) (omega arith) (c .if1 .taken)
 
--- src/crossing.rt:44:9
 put-mark-requires : tie.Need-put-mark-requires Inv-loop μ-loop
 put-mark-requires c κs = search needs
 
--- src/crossing.rt:45:9
 next-of-requires : tie.Need-next-of-requires Inv-loop μ-loop
 next-of-requires c κs = search needs
 
--- src/crossing.rt:46:9
 sub-left : tie.Need-sub-left Inv-loop μ-loop
 sub-left c = search needs
 
--- src/crossing.rt:40:5
 loop-less : tie.Need-loop-less Inv-loop μ-loop
 loop-less c = search needs
 
--- src/crossing.rt:40:5
 loop-again : tie.Need-loop-again Inv-loop μ-loop
 loop-again c =
     let inv = c .before .before .before .before .before .loop .inv in
@@ -51,7 +44,6 @@ loop-again c =
       mark-turn _ _ _ _ _ _ _ (inv .2) (omega arith) (c .before .before .before .if1 .left) _ e _ (c .next-of .ensures .0),
     )
 
--- src/crossing.rt:27:1
 returns-2 : tie.Need-returns-2 Inv-loop μ-loop
 returns-2 c = mark-out _ _ _ _ _ _ _ (c .before .loop .inv .2) (omega arith)
 

@@ -7,15 +7,12 @@ use Rattle.takedown_crossing.proofs.marks.put_mark.Tie as tie
 use Rattle.takedown_crossing.proofs.marks.put_mark.Reads as reads
 use Rattle.takedown_crossing.proofs.marks.put_mark.Lts as lts
 
--- src/crossing.rt:22:9
 element-write-marks : tie.Need-element-write-marks
 element-write-marks c = search needs
 
--- src/crossing.rt:17:1
 returns : tie.Need-returns
 returns c = search needs
 
--- src/crossing.rt:17:1
 returns-2 : tie.Need-returns-2
 returns-2 c = sym (set-out _ _ _ (omega arith))
 

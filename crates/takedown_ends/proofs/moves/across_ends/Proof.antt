@@ -7,23 +7,18 @@ use Rattle.takedown_ends.proofs.moves.across_ends.Lts as lts
 use Rattle.takedown_ends.proofs.moves.ends_at.Reads as ends-at-reads
 use Rattle.takedown_ends.proofs.numbers.less.Reads as less-reads
 
--- src/moves.rt:65:9
 less-requires : tie.Need-less-requires
 less-requires c κs = search needs
 
--- src/moves.rt:67:9
 ends-at-requires : tie.Need-ends-at-requires
 ends-at-requires c κs = search needs
 
--- src/moves.rt:67:9
 returns : tie.Need-returns
 returns c = (across-still (c .before .before .before .args .e) _ _ _ (c .before .before .less .ensures) _ (c .before .if1 .taken) _ (c .ends-at .ensures .0), c .ends-at .ensures .1)
 
--- src/moves.rt:69:5
 ends-at-requires-2 : tie.Need-ends-at-requires-2
 ends-at-requires-2 c κs = search needs
 
--- src/moves.rt:61:1
 returns-2 : tie.Need-returns-2
 returns-2 c = (across-moved (c .before .before .before .args .e) _ _ _ (c .before .before .less .ensures) _ (c .before .if1 .left) _ (c .ends-at2 .ensures .0), c .ends-at2 .ensures .1)
 

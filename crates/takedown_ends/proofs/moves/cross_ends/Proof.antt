@@ -10,43 +10,33 @@ use Rattle.layout.proofs.columns.prev_of.Reads as prev-of-reads
 use Rattle.layout.proofs.mates.mate_of.Reads as mate-of-reads
 use Rattle.takedown_ends.proofs.walks.least_run.Reads as least-run-reads
 
--- src/moves.rt:157:17
 cast-n : tie.Need-cast-n
 cast-n c = search needs
 
--- src/moves.rt:157:13
 mul-n : tie.Need-mul-n
 mul-n c = search needs
 
--- src/moves.rt:158:9
 mate-of-requires : tie.Need-mate-of-requires
 mate-of-requires c κs = search needs
 
--- src/moves.rt:159:9
 prev-of-requires : tie.Need-prev-of-requires
 prev-of-requires c κs = search needs
 
--- src/moves.rt:160:9
 prev-of-requires-2 : tie.Need-prev-of-requires-2
 prev-of-requires-2 c κs = search needs
 
--- src/moves.rt:161:9
 next-of-requires : tie.Need-next-of-requires
 next-of-requires c κs = search needs
 
--- src/moves.rt:162:52
 add-least-run : tie.Need-add-least-run
 add-least-run c = search needs
 
--- src/moves.rt:162:9
 least-run-requires : tie.Need-least-run-requires
 least-run-requires c κs = search needs
 
--- src/moves.rt:172:15
 add-t11 : tie.Need-add-t11
 add-t11 c = search needs
 
--- src/moves.rt:153:1
 returns : tie.Need-returns
 returns c =
     let w = c .before .before .before .before .before .before .before .pre .1 in (

@@ -9,55 +9,42 @@ use Rattle.layout.proofs.columns.prev_of.Reads as prev-of-reads
 use Rattle.layout.proofs.mates.mate_of.Reads as mate-of-reads
 use Rattle.takedown_ends.proofs.numbers.lesser.Reads as lesser-reads
 
--- src/moves.rt:101:20
 cast-past : tie.Need-cast-past
 cast-past c = search needs
 
--- src/moves.rt:101:16
 mul-past : tie.Need-mul-past
 mul-past c = search needs
 
--- src/moves.rt:101:16
 add-past : tie.Need-add-past
 add-past c = search needs
 
--- src/moves.rt:103:9
 prev-of-requires : tie.Need-prev-of-requires
 prev-of-requires c κs = search needs
 
--- src/moves.rt:104:36
 mate-of-requires : tie.Need-mate-of-requires
 mate-of-requires c κs = search needs
 
--- src/moves.rt:104:9
 prev-of-requires-2 : tie.Need-prev-of-requires-2
 prev-of-requires-2 c κs = search needs
 
--- src/moves.rt:105:33
 lesser-requires : tie.Need-lesser-requires
 lesser-requires c κs = search needs
 
--- src/moves.rt:105:9
 lesser-requires-2 : tie.Need-lesser-requires-2
 lesser-requires-2 c κs = search needs
 
--- src/moves.rt:113:15
 choose-requires : tie.Need-choose-requires
 choose-requires c κs = search needs
 
--- src/moves.rt:115:15
 choose-requires-2 : tie.Need-choose-requires-2
 choose-requires-2 c κs = search needs
 
--- src/moves.rt:118:15
 choose-requires-3 : tie.Need-choose-requires-3
 choose-requires-3 c κs = search needs
 
--- src/moves.rt:119:15
 choose-requires-4 : tie.Need-choose-requires-4
 choose-requires-4 c κs = search needs
 
--- src/moves.rt:97:1
 returns : tie.Need-returns
 returns c =
     let w = c .before .before .before .before .before .before .before .before .before .before .before .before .pre .1 in (

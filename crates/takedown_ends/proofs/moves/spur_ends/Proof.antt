@@ -8,39 +8,30 @@ use Rattle.euler.proofs.records.choose.Reads as choose-reads
 use Rattle.layout.proofs.columns.prev_of.Reads as prev-of-reads
 use Rattle.takedown_ends.proofs.numbers.greater.Reads as greater-reads
 
--- src/moves.rt:130:20
 cast-past : tie.Need-cast-past
 cast-past c = search needs
 
--- src/moves.rt:130:16
 mul-past : tie.Need-mul-past
 mul-past c = search needs
 
--- src/moves.rt:130:16
 add-past : tie.Need-add-past
 add-past c = search needs
 
--- src/moves.rt:131:9
 prev-of-requires : tie.Need-prev-of-requires
 prev-of-requires c κs = search needs
 
--- src/moves.rt:141:15
 greater-requires : tie.Need-greater-requires
 greater-requires c κs = search needs
 
--- src/moves.rt:143:15
 choose-requires : tie.Need-choose-requires
 choose-requires c κs = search needs
 
--- src/moves.rt:144:15
 choose-requires-2 : tie.Need-choose-requires-2
 choose-requires-2 c κs = search needs
 
--- src/moves.rt:145:15
 choose-requires-3 : tie.Need-choose-requires-3
 choose-requires-3 c κs = search needs
 
--- src/moves.rt:126:1
 returns : tie.Need-returns
 returns c =
     let w = c .before .before .before .before .before .before .before .before .before .before .pre .1 in (

@@ -5,11 +5,9 @@ use Rattle.takedown_ends.proofs.numbers.greater.Tie as tie
 use Rattle.takedown_ends.proofs.numbers.greater.Reads as reads
 use Rattle.takedown_ends.proofs.numbers.greater.Lts as lts
 
--- src/numbers.rt:22:9
 returns : tie.Need-returns
 returns c = (greater-right _ _ (c .if1 .taken), omega arith)
 
--- src/numbers.rt:17:1
 returns-2 : tie.Need-returns-2
 returns-2 c = (greater-left _ _ (c .if1 .left), omega arith)
 

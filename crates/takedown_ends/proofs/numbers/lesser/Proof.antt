@@ -5,11 +5,9 @@ use Rattle.takedown_ends.proofs.numbers.lesser.Tie as tie
 use Rattle.takedown_ends.proofs.numbers.lesser.Reads as reads
 use Rattle.takedown_ends.proofs.numbers.lesser.Lts as lts
 
--- src/numbers.rt:11:9
 returns : tie.Need-returns
 returns c = (lesser-left _ _ (c .if1 .taken), omega arith, omega arith)
 
--- src/numbers.rt:7:1
 returns-2 : tie.Need-returns-2
 returns-2 c = (lesser-right _ _ (c .if1 .left), omega arith, omega arith)
 

@@ -7,35 +7,27 @@ use Rattle.takedown_ends.proofs.tips.least_tip.Reads as reads
 use Rattle.takedown_ends.proofs.tips.least_tip.Lts as lts
 use Rattle.takedown_ends.proofs.tips.with_tip.Reads as with-tip-reads
 
--- src/tips.rt:31:20
 cast-past : tie.Need-cast-past
 cast-past c = search needs
 
--- src/tips.rt:31:16
 mul-past : tie.Need-mul-past
 mul-past c = search needs
 
--- src/tips.rt:31:16
 add-past : tie.Need-add-past
 add-past c = search needs
 
--- src/tips.rt:32:9
 with-tip-requires : tie.Need-with-tip-requires
 with-tip-requires c κs = search needs
 
--- src/tips.rt:33:9
 with-tip-requires-2 : tie.Need-with-tip-requires-2
 with-tip-requires-2 c κs = search needs
 
--- src/tips.rt:34:9
 with-tip-requires-3 : tie.Need-with-tip-requires-3
 with-tip-requires-3 c κs = search needs
 
--- src/tips.rt:35:5
 with-tip-requires-4 : tie.Need-with-tip-requires-4
 with-tip-requires-4 c κs = search needs
 
--- src/tips.rt:27:1
 returns : tie.Need-returns
 returns c = (tips-tried _ _ _ _ _ _ _ (c .before .before .before .with-tip .ensures .0) (c .before .before .with-tip2 .ensures .0) (c .before .with-tip3 .ensures .0) (c .with-tip4 .ensures .0), omega (arith, c .before .before .before .with-tip .ensures .1, c .before .before .with-tip2 .ensures .1, c .before .with-tip3 .ensures .1, c .with-tip4 .ensures .1))
 

@@ -9,32 +9,25 @@ use Rattle.takedown_ends.proofs.tips.spur_from.Lts as lts
 use Rattle.takedown_ends.proofs.tips.least_tip.Reads as least-tip-reads
 use Rattle.takedown_search.proofs.seek.seek.Reads as seek-reads
 
--- src/tips.rt:43:20
 cast-past : tie.Need-cast-past
 cast-past c = search needs
 
--- src/tips.rt:43:16
 mul-past : tie.Need-mul-past
 mul-past c = search needs
 
--- src/tips.rt:43:16
 add-past : tie.Need-add-past
 add-past c = search needs
 
--- src/tips.rt:44:9
 least-tip-requires : tie.Need-least-tip-requires
 least-tip-requires c κs = search needs
 
--- src/tips.rt:46:9
 seek-requires : tie.Need-seek-requires
 seek-requires c κs = search needs
 
--- src/tips.rt:46:9
 returns : tie.Need-returns
 unfolding passing lastOf
 returns c = (spur-sought _ _ _ _ (c .before .before .least-tip .ensures .0) (c .before .if1 .taken) _ (c .seek .ensures .0), omega (arith, c .seek .ensures .1))
 
--- src/tips.rt:39:1
 returns-2 : tie.Need-returns-2
 returns-2 c = (spur-tip _ _ _ _ (c .before .least-tip .ensures .0) (c .if1 .left), omega (arith, c .before .least-tip .ensures .1))
 

@@ -8,19 +8,15 @@ use Rattle.takedown_ends.proofs.tips.with_tip.Lts as lts
 use Rattle.takedown_ends.proofs.numbers.lesser.Reads as lesser-reads
 use Rattle.takedown_search.proofs.tests.is_spur.Reads as is-spur-reads
 
--- src/tips.rt:19:9
 is-spur-requires : tie.Need-is-spur-requires
 is-spur-requires c κs = search needs
 
--- src/tips.rt:21:9
 lesser-requires : tie.Need-lesser-requires
 lesser-requires c κs = search needs
 
--- src/tips.rt:21:9
 returns : tie.Need-returns
 returns c = (tip-taken _ _ _ _ _ _ (c .before .before .before .is-spur .ensures) (c .before .if1 .taken) _ (c .lesser .ensures .0), c .lesser .ensures .2)
 
--- src/tips.rt:15:1
 returns-2 : tie.Need-returns-2
 returns-2 c = (tip-left _ _ _ _ _ _ (c .before .before .is-spur .ensures) (c .if1 .left), omega arith)
 

@@ -18,43 +18,33 @@ Inv-loop links sh fuel from stop best j₀ least₀ left₀ j least left = (j < 
 abbrev μ-loop : tie.MeasureT-loop
 μ-loop links sh fuel from stop best j₀ least₀ left₀ j least left = left
 
--- src/walks.rt:51:5
 loop-holds : tie.Need-loop-holds Inv-loop μ-loop
 loop-holds c = (omega arith, refl)
 
--- src/walks.rt:53:13
 returns : tie.Need-returns Inv-loop μ-loop
 returns c = run-stop _ _ _ _ _ _ _ (c .before .before .loop .inv .1) (omega arith) (c .if1 .taken)
 
--- src/walks.rt:55:34
 mate-of-requires : tie.Need-mate-of-requires Inv-loop μ-loop
 mate-of-requires c κs = search needs
 
--- src/walks.rt:55:24
 lesser-requires : tie.Need-lesser-requires Inv-loop μ-loop
 lesser-requires c κs = search needs
 
--- src/walks.rt:55:9
 lesser-requires-2 : tie.Need-lesser-requires-2 Inv-loop μ-loop
 lesser-requires-2 c κs = search needs
 
--- src/walks.rt:56:9
 next-of-requires : tie.Need-next-of-requires Inv-loop μ-loop
 next-of-requires c κs = search needs
 
--- src/walks.rt:57:9
 sub-left : tie.Need-sub-left Inv-loop μ-loop
 sub-left c = search needs
 
--- src/walks.rt:51:5
 loop-less : tie.Need-loop-less Inv-loop μ-loop
 loop-less c = search needs
 
--- src/walks.rt:51:5
 loop-again : tie.Need-loop-again Inv-loop μ-loop
 loop-again c = (c .next-of .ensures .1, run-turn _ _ _ _ _ _ _ (c .before .before .before .before .before .before .loop .inv .1) (omega arith) (c .before .before .before .before .if1 .left) _ (c .before .before .before .mate-of .ensures .0) _ (c .before .before .lesser .ensures .0) _ (c .before .lesser2 .ensures .0) _ (c .next-of .ensures .0))
 
--- src/walks.rt:37:1
 returns-2 : tie.Need-returns-2 Inv-loop μ-loop
 returns-2 c = run-out _ _ _ _ _ _ _ (c .before .loop .inv .1) (omega arith)
 

@@ -6,39 +6,30 @@ use Rattle.takedown_entry.proofs.invert.bound.Reads as reads
 use Rattle.takedown_entry.proofs.invert.bound.Lts as lts
 use Rattle.takedown_ends.proofs.numbers.less.Reads as less-reads
 
--- src/invert.rt:57:29
 mul-more : tie.Need-mul-more
 mul-more c = search needs
 
--- src/invert.rt:57:16
 add-more : tie.Need-add-more
 add-more c = search needs
 
--- src/invert.rt:57:43
 mul-more-2 : tie.Need-mul-more-2
 mul-more-2 c = search needs
 
--- src/invert.rt:57:16
 add-more-2 : tie.Need-add-more-2
 add-more-2 c = search needs
 
--- src/invert.rt:57:57
 mul-more-3 : tie.Need-mul-more-3
 mul-more-3 c = search needs
 
--- src/invert.rt:57:16
 add-more-3 : tie.Need-add-more-3
 add-more-3 c = search needs
 
--- src/invert.rt:58:16
 mul-less : tie.Need-mul-less
 mul-less c = search needs
 
--- src/invert.rt:58:5
 less-requires : tie.Need-less-requires
 less-requires c κs = search needs
 
--- src/invert.rt:53:1
 returns : tie.Need-returns
 returns c = (omega (arith, c .less .ensures), omega (arith, c .less .ensures))
 

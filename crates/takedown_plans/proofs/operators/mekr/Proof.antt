@@ -6,35 +6,27 @@ use Rattle.takedown_plans.proofs.operators.mekr.Lts as lts
 use Rattle.script.proofs.blank.Reads as blank-reads
 use Rattle.script.proofs.with_number.Reads as with-number-reads
 
--- src/operators.rt:42:25
 blank-requires : tie.Need-blank-requires
 blank-requires c κs = search needs
 
--- src/operators.rt:42:9
 with-number-requires : tie.Need-with-number-requires
 with-number-requires c κs = search needs
 
--- src/operators.rt:43:9
 with-number-requires-2 : tie.Need-with-number-requires-2
 with-number-requires-2 c κs = search needs
 
--- src/operators.rt:44:9
 with-number-requires-3 : tie.Need-with-number-requires-3
 with-number-requires-3 c κs = search needs
 
--- src/operators.rt:45:9
 with-number-requires-4 : tie.Need-with-number-requires-4
 with-number-requires-4 c κs = search needs
 
--- src/operators.rt:46:17
 with-number-requires-5 : tie.Need-with-number-requires-5
 with-number-requires-5 c κs = search needs
 
--- src/operators.rt:46:5
 with-number-requires-6 : tie.Need-with-number-requires-6
 with-number-requires-6 c κs = search needs
 
--- src/operators.rt:38:1
 returns : tie.Need-returns
 returns c = rw (c .with-number6 .ensures, c .before .with-number5 .ensures, c .before .before .with-number4 .ensures, c .before .before .before .with-number3 .ensures, c .before .before .before .before .with-number2 .ensures, c .before .before .before .before .before .with-number .ensures, c .before .before .before .before .before .before .blank .ensures)
 

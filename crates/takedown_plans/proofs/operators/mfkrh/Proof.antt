@@ -6,23 +6,18 @@ use Rattle.takedown_plans.proofs.operators.mfkrh.Lts as lts
 use Rattle.script.proofs.blank.Reads as blank-reads
 use Rattle.script.proofs.with_number.Reads as with-number-reads
 
--- src/operators.rt:54:25
 blank-requires : tie.Need-blank-requires
 blank-requires c κs = search needs
 
--- src/operators.rt:54:9
 with-number-requires : tie.Need-with-number-requires
 with-number-requires c κs = search needs
 
--- src/operators.rt:55:17
 with-number-requires-2 : tie.Need-with-number-requires-2
 with-number-requires-2 c κs = search needs
 
--- src/operators.rt:55:5
 with-number-requires-3 : tie.Need-with-number-requires-3
 with-number-requires-3 c κs = search needs
 
--- src/operators.rt:50:1
 returns : tie.Need-returns
 returns c = cc
 

@@ -11,35 +11,27 @@ use Rattle.takedown_search.proofs.free.free_edge.Reads as free-edge-reads
 use Rattle.takedown_plans.proofs.operators.kev.Reads as kev-reads
 use Rattle.takedown_plans.proofs.operators.mekr.Reads as mekr-reads
 
--- src/plans.rt:107:9
 face-outer-requires : tie.Need-face-outer-requires
 face-outer-requires c κs = search needs
 
--- src/plans.rt:108:9
 free-edge-requires : tie.Need-free-edge-requires
 free-edge-requires c κs = search needs
 
--- src/plans.rt:110:16
 mekr-requires : tie.Need-mekr-requires
 mekr-requires c κs = search needs
 
--- src/plans.rt:111:26
 mul-less : tie.Need-mul-less
 mul-less c = search needs
 
--- src/plans.rt:111:21
 less-requires : tie.Need-less-requires
 less-requires c κs = search needs
 
--- src/plans.rt:111:17
 kev-requires : tie.Need-kev-requires
 kev-requires c κs = search needs
 
--- src/plans.rt:113:15
 bare-ends-requires : tie.Need-bare-ends-requires
 bare-ends-requires c κs = search needs
 
--- src/plans.rt:103:1
 returns : tie.Need-returns
 returns c = (λ w. bridge-planned (c .before .before .before .before .before .before .before .args .sh) _ (c .before .before .before .before .before .before .before .args .e) _ _ _ _ w _ _ _ (c .before .before .before .before .before .face-outer .ensures .0) (c .before .before .before .before .free-edge .ensures .0) (c .before .before .before .mekr .ensures) (c .before .before .less .ensures) (c .before .kev .ensures) (c .bare-ends .ensures .0), c .bare-ends .ensures .1)
 

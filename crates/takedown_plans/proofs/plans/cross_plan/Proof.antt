@@ -8,23 +8,18 @@ use Rattle.takedown_ends.proofs.moves.cross_ends.Reads as cross-ends-reads
 use Rattle.takedown_search.proofs.free.free_loop.Reads as free-loop-reads
 use Rattle.takedown_plans.proofs.operators.kemr.Reads as kemr-reads
 
--- src/plans.rt:75:9
 free-loop-requires : tie.Need-free-loop-requires
 free-loop-requires c κs = search needs
 
--- src/plans.rt:77:16
 kemr-requires : tie.Need-kemr-requires
 kemr-requires c κs = search needs
 
--- src/plans.rt:78:17
 kemr-requires-2 : tie.Need-kemr-requires-2
 kemr-requires-2 c κs = search needs
 
--- src/plans.rt:80:15
 cross-ends-requires : tie.Need-cross-ends-requires
 cross-ends-requires c κs = search needs
 
--- src/plans.rt:71:1
 returns : tie.Need-returns
 returns c = (λ w. cross-planned (c .before .before .before .before .before .args .sh) _ (c .before .before .before .before .before .args .e) _ _ _ (c .before .kemr2 .result) w _ (c .before .before .before .free-loop .ensures .0) (c .before .before .kemr .ensures) (c .cross-ends .ensures .0), c .cross-ends .ensures .1)
 

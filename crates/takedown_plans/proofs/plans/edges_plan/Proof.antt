@@ -12,45 +12,35 @@ use Rattle.takedown_plans.proofs.plans.cross_plan.Reads as cross-plan-r
 use Rattle.takedown_plans.proofs.plans.ring_plan.Reads as ring-plan-reads
 use Rattle.takedown_plans.proofs.plans.spur_plan.Reads as spur-plan-reads
 
--- src/plans.rt:89:9
 with-half-requires : tie.Need-with-half-requires
 with-half-requires c κs = search needs
 
--- src/plans.rt:90:9
 seek-requires : tie.Need-seek-requires
 seek-requires c κs = search needs
 
--- src/plans.rt:92:9
 ring-plan-requires : tie.Need-ring-plan-requires
 ring-plan-requires c κs = search needs
 
--- src/plans.rt:92:9
 returns : tie.Need-returns
 unfolding passing lastOf
 returns c = (λ w. edges-ring (c .before .before .before .before .before .args .sh) _ (c .before .before .before .before .before .args .e) _ _ _ (c .before .before .before .with-half .ensures .0) (c .before .before .seek .ensures .0) w _ (c .before .if1 .taken) (c .ring-plan .ensures .0 w), c .ring-plan .ensures .1)
 
--- src/plans.rt:94:9
 spur-from-requires : tie.Need-spur-from-requires
 spur-from-requires c κs = search needs
 
--- src/plans.rt:96:9
 spur-plan-requires : tie.Need-spur-plan-requires
 spur-plan-requires c κs = search needs
 
--- src/plans.rt:96:9
 returns-2 : tie.Need-returns-2
 unfolding passing lastOf
 returns-2 c = (λ w. edges-spur (c .before .before .before .before .before .before .before .args .sh) _ (c .before .before .before .before .before .before .before .args .e) _ _ _ (c .before .before .before .before .before .with-half .ensures .0) (c .before .before .before .before .seek .ensures .0) w _ (c .before .before .before .if1 .left) _ (c .before .before .spur-from .ensures .0) (c .before .if2 .taken) (c .spur-plan .ensures .0 w), c .spur-plan .ensures .1)
 
--- src/plans.rt:98:9
 seek-requires-2 : tie.Need-seek-requires-2
 seek-requires-2 c κs = search needs
 
--- src/plans.rt:99:5
 cross-plan-requires : tie.Need-cross-plan-requires
 cross-plan-requires c κs = search needs
 
--- src/plans.rt:85:1
 returns-3 : tie.Need-returns-3
 unfolding passing lastOf
 returns-3 c = (λ w. edges-crossed (c .before .before .before .before .before .before .before .before .args .sh) _ (c .before .before .before .before .before .before .before .before .args .e) _ _ _ (c .before .before .before .before .before .before .with-half .ensures .0) (c .before .before .before .before .before .seek .ensures .0) w _ (c .before .before .before .before .if1 .left) _ (c .before .before .before .spur-from .ensures .0) (c .before .before .if2 .left) _ (c .before .seek2 .ensures .0) (c .cross-plan .ensures .0 w), c .cross-plan .ensures .1)

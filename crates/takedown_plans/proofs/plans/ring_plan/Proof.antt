@@ -10,27 +10,21 @@ use Rattle.takedown_search.proofs.free.free_face.Reads as free-face-reads
 use Rattle.takedown_plans.proofs.operators.kef.Reads as kef-reads
 use Rattle.takedown_plans.proofs.operators.mfkrh.Reads as mfkrh-reads
 
--- src/plans.rt:47:9
 loop-of-requires : tie.Need-loop-of-requires
 loop-of-requires c κs = search needs
 
--- src/plans.rt:48:9
 free-face-requires : tie.Need-free-face-requires
 free-face-requires c κs = search needs
 
--- src/plans.rt:50:16
 mfkrh-requires : tie.Need-mfkrh-requires
 mfkrh-requires c κs = search needs
 
--- src/plans.rt:51:17
 kef-requires : tie.Need-kef-requires
 kef-requires c κs = search needs
 
--- src/plans.rt:53:15
 ring-ends-requires : tie.Need-ring-ends-requires
 ring-ends-requires c κs = search needs
 
--- src/plans.rt:43:1
 returns : tie.Need-returns
 returns c = (λ w. ring-planned (c .before .before .before .before .before .before .args .sh) _ (c .before .before .before .before .before .before .args .e) _ _ _ _ w _ _ (c .before .before .before .before .loop-of .ensures .0) (c .before .before .before .free-face .ensures .0) (c .before .before .mfkrh .ensures) (c .before .kef .ensures) (c .ring-ends .ensures .0), c .ring-ends .ensures .1)
 

@@ -7,19 +7,15 @@ use Rattle.takedown_plans.proofs.plans.spur_plan.Lts as lts
 use Rattle.takedown_ends.proofs.moves.spur_ends.Reads as spur-ends-reads
 use Rattle.takedown_plans.proofs.operators.kev.Reads as kev-reads
 
--- src/plans.rt:63:16
 kev-requires : tie.Need-kev-requires
 kev-requires c κs = search needs
 
--- src/plans.rt:64:17
 kev-requires-2 : tie.Need-kev-requires-2
 kev-requires-2 c κs = search needs
 
--- src/plans.rt:66:15
 spur-ends-requires : tie.Need-spur-ends-requires
 spur-ends-requires c κs = search needs
 
--- src/plans.rt:58:1
 returns : tie.Need-returns
 returns c = (λ w. spur-planned (c .before .before .before .before .args .sh) _ (c .before .before .before .before .args .e) _ _ _ (c .before .kev2 .result) w (c .before .before .kev .ensures) (c .spur-ends .ensures .0), c .spur-ends .ensures .1)
 

@@ -19,39 +19,30 @@ Inv-loop links sh n e₀ e = (1 ≤ e) × (e ≤ n + 1) × (leastFrom (n + 1 - e
 abbrev μ-loop : tie.MeasureT-loop
 μ-loop links sh n e₀ e = n + 1 - e
 
--- src/search.rt:56:13
 cast-n : tie.Need-cast-n Inv-loop μ-loop
 cast-n c = search needs
 
--- src/search.rt:58:5
 loop-holds : tie.Need-loop-holds Inv-loop μ-loop
 loop-holds c = (omega arith, omega arith, least-all _ _)
 
--- src/search.rt:59:40
 mul-start-of : tie.Need-mul-start-of Inv-loop μ-loop
 mul-start-of c = search needs
 
--- src/search.rt:59:20
 start-of-requires : tie.Need-start-of-requires Inv-loop μ-loop
 start-of-requires c κs = search needs
 
--- src/search.rt:61:13
 returns : tie.Need-returns Inv-loop μ-loop
 returns c = (found-here _ _ _ _ (c .before .before .before .loop .inv .2) (omega arith) (ap (λ u. eqb u 0) (sym (c .before .start-of .ensures .0)) ∙ c .if1 .taken), omega arith)
 
--- src/search.rt:63:9
 add-e : tie.Need-add-e Inv-loop μ-loop
 add-e c = search needs
 
--- src/search.rt:58:5
 loop-less : tie.Need-loop-less Inv-loop μ-loop
 loop-less c = search needs
 
--- src/search.rt:58:5
 loop-again : tie.Need-loop-again Inv-loop μ-loop
 loop-again c = (omega arith, omega arith, found-on _ _ _ _ (c .before .before .before .loop .inv .2) (omega arith) (ap (λ u. eqb u 0) (sym (c .before .start-of .ensures .0)) ∙ c .if1 .left))
 
--- src/search.rt:52:1
 returns-2 : tie.Need-returns-2 Inv-loop μ-loop
 returns-2 c = (found-none _ _ _ _ (c .before .loop .inv .2) (omega arith), omega arith)
 

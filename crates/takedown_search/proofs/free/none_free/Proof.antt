@@ -7,19 +7,15 @@ use Rattle.takedown_search.proofs.free.free_edge.Reads as free-edge-rea
 use Rattle.takedown_search.proofs.free.free_face.Reads as free-face-reads
 use Rattle.takedown_search.proofs.free.free_loop.Reads as free-loop-reads
 
--- src/search.rt:73:9
 free-face-requires : tie.Need-free-face-requires
 free-face-requires c κs = search needs
 
--- src/search.rt:74:9
 free-loop-requires : tie.Need-free-loop-requires
 free-loop-requires c κs = search needs
 
--- src/search.rt:75:9
 free-edge-requires : tie.Need-free-edge-requires
 free-edge-requires c κs = search needs
 
--- src/search.rt:69:1
 returns : tie.Need-returns
 returns c = cc
 

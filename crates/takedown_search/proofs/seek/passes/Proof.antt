@@ -15,106 +15,82 @@ use Rattle.takedown_search.proofs.tests.is_spur.Reads as is-spur-reads
 use Rattle.takedown_search.proofs.tests.is_stray.Reads as is-stray-reads
 use Rattle.takedown_search.proofs.tests.of_solid.Reads as of-solid-reads
 
--- src/seek.rt:36:26
 enum-told : tie.Need-enum-told
 enum-told c = search needs
 
--- src/seek.rt:36:26
 solid-used-requires : tie.Need-solid-used-requires
 solid-used-requires c κs = search needs
 
--- src/seek.rt:37:27
 enum-told-2 : tie.Need-enum-told-2
 enum-told-2 c = search needs
 
--- src/seek.rt:37:27
 is-outside-requires : tie.Need-is-outside-requires
 is-outside-requires c κs = search needs
 
--- src/seek.rt:38:25
 enum-told-3 : tie.Need-enum-told-3
 enum-told-3 c = search needs
 
--- src/seek.rt:38:25
 of-solid-requires : tie.Need-of-solid-requires
 of-solid-requires c κs = search needs
 
--- src/seek.rt:39:25
 enum-told-4 : tie.Need-enum-told-4
 enum-told-4 c = search needs
 
--- src/seek.rt:39:25
 in-ring-requires : tie.Need-in-ring-requires
 in-ring-requires c κs = search needs
 
--- src/seek.rt:40:25
 enum-told-5 : tie.Need-enum-told-5
 enum-told-5 c = search needs
 
--- src/seek.rt:40:25
 is-spur-requires : tie.Need-is-spur-requires
 is-spur-requires c κs = search needs
 
--- src/seek.rt:41:28
 enum-told-6 : tie.Need-enum-told-6
 enum-told-6 c = search needs
 
--- src/seek.rt:41:28
 is-crossed-requires : tie.Need-is-crossed-requires
 is-crossed-requires c κs = search needs
 
--- src/seek.rt:42:25
 enum-told-7 : tie.Need-enum-told-7
 enum-told-7 c = search needs
 
--- src/seek.rt:42:25
 is-ring-of-requires : tie.Need-is-ring-of-requires
 is-ring-of-requires c κs = search needs
 
--- src/seek.rt:43:26
 enum-told-8 : tie.Need-enum-told-8
 enum-told-8 c = search needs
 
--- src/seek.rt:43:26
 is-stray-requires : tie.Need-is-stray-requires
 is-stray-requires c κs = search needs
 
--- src/seek.rt:31:1
 returns : tie.Need-returns
 unfolding passing
 returns c = by-sought _ _ (c .before .enum-told .given .1) _ _ _ _ _ _ (ap some (c .solid-used .ensures .0))
 
--- src/seek.rt:31:1
 returns-2 : tie.Need-returns-2
 unfolding passing
 returns-2 c = by-sought _ _ (c .before .enum-told2 .given .1) _ _ _ _ _ _ (c .is-outside .ensures)
 
--- src/seek.rt:31:1
 returns-3 : tie.Need-returns-3
 unfolding passing
 returns-3 c = by-sought _ _ (c .before .enum-told3 .given .1) _ _ _ _ _ _ (c .of-solid .ensures)
 
--- src/seek.rt:31:1
 returns-4 : tie.Need-returns-4
 unfolding passing
 returns-4 c = by-sought _ _ (c .before .enum-told4 .given .1) _ _ _ _ _ _ (c .in-ring .ensures)
 
--- src/seek.rt:31:1
 returns-5 : tie.Need-returns-5
 unfolding passing
 returns-5 c = by-sought _ _ (c .before .enum-told5 .given .1) _ _ _ _ _ _ (c .is-spur .ensures)
 
--- src/seek.rt:31:1
 returns-6 : tie.Need-returns-6
 unfolding passing
 returns-6 c = by-sought _ _ (c .before .enum-told6 .given .1) _ _ _ _ _ _ (c .is-crossed .ensures)
 
--- src/seek.rt:31:1
 returns-7 : tie.Need-returns-7
 unfolding passing
 returns-7 c = by-sought _ _ (c .before .enum-told7 .given .1) _ _ _ _ _ _ (c .is-ring-of .ensures)
 
--- src/seek.rt:31:1
 returns-8 : tie.Need-returns-8
 unfolding passing
 returns-8 c = by-sought _ _ (c .before .enum-told8 .given .1) _ _ _ _ _ _ (c .is-stray .ensures)

@@ -19,35 +19,27 @@ Inv-loop links sh what s root low n k₀ k = (n ≤ 8192) × (leastFrom (n + 1 -
 abbrev μ-loop : tie.MeasureT-loop
 μ-loop links sh what s root low n k₀ k = n + 1 - k
 
--- src/seek.rt:64:9
 last-of-requires : tie.Need-last-of-requires Inv-loop μ-loop
 last-of-requires c κs = search needs
 
--- src/seek.rt:66:5
 loop-holds : tie.Need-loop-holds Inv-loop μ-loop
 loop-holds c = (c .last-of .ensures .1, seek-begins _ _ _ _ (c .last-of .ensures .0))
 
--- src/seek.rt:67:13
 passes-requires : tie.Need-passes-requires Inv-loop μ-loop
 passes-requires c κs = search needs
 
--- src/seek.rt:69:13
 returns : tie.Need-returns Inv-loop μ-loop
 returns c = (found-here _ _ _ _ (c .before .before .before .loop .inv .1) (omega arith) (sym (c .before .passes .ensures) ∙ c .if1 .taken), omega arith)
 
--- src/seek.rt:71:9
 add-k : tie.Need-add-k Inv-loop μ-loop
 add-k c = search needs
 
--- src/seek.rt:66:5
 loop-less : tie.Need-loop-less Inv-loop μ-loop
 loop-less c = search needs
 
--- src/seek.rt:66:5
 loop-again : tie.Need-loop-again Inv-loop μ-loop
 loop-again c = (omega arith, found-on _ _ _ _ (c .before .before .before .loop .inv .1) (omega arith) (sym (c .before .passes .ensures) ∙ c .if1 .left))
 
--- src/seek.rt:60:1
 returns-2 : tie.Need-returns-2 Inv-loop μ-loop
 returns-2 c = (found-none _ _ _ _ (c .before .loop .inv .1) (omega arith), omega arith)
 

@@ -8,27 +8,21 @@ use Rattle.layout.proofs.columns.loop_of.Reads as loop-of-reads
 use Rattle.layout.proofs.mates.mate_of.Reads as mate-of-reads
 use Rattle.takedown_search.proofs.tests.of_solid.Reads as of-solid-reads
 
--- src/search.rt:137:9
 of-solid-requires : tie.Need-of-solid-requires
 of-solid-requires c κs = search needs
 
--- src/search.rt:138:9
 loop-of-requires : tie.Need-loop-of-requires
 loop-of-requires c κs = search needs
 
--- src/search.rt:139:9
 is-ring-requires : tie.Need-is-ring-requires
 is-ring-requires c κs = search needs
 
--- src/search.rt:140:36
 mate-of-requires : tie.Need-mate-of-requires
 mate-of-requires c κs = search needs
 
--- src/search.rt:140:9
 loop-of-requires-2 : tie.Need-loop-of-requires-2
 loop-of-requires-2 c κs = search needs
 
--- src/search.rt:133:1
 returns : tie.Need-returns
 returns c = cc
 

@@ -7,19 +7,15 @@ use Rattle.takedown_search.proofs.tests.is_crossed.Lts as lts
 use Rattle.takedown_crossing.proofs.marks.crossed.Reads as crossed-reads
 use Rattle.takedown_search.proofs.tests.of_solid.Reads as of-solid-reads
 
--- src/crossing.rt:94:9
 of-solid-requires : tie.Need-of-solid-requires
 of-solid-requires c κs = search needs
 
--- src/crossing.rt:96:9
 crossed-requires : tie.Need-crossed-requires
 crossed-requires c κs = search needs
 
--- src/crossing.rt:96:9
 returns : tie.Need-returns
 returns c = here-crossed _ _ _ _ _ (c .before .before .of-solid .ensures) (c .before .if1 .taken) _ (c .crossed .ensures)
 
--- src/crossing.rt:90:1
 returns-2 : tie.Need-returns-2
 returns-2 c = not-here (c .before .before .before .args .sh) (c .before .before .before .args .links .now) (c .before .before .before .args .s) (c .before .before .before .args .k) _ (c .before .of-solid .ensures) (c .if1 .left)
 

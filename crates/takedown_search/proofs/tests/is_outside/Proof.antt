@@ -6,19 +6,15 @@ use Rattle.takedown_search.proofs.tests.is_outside.Lts as lts
 use Rattle.layout.proofs.columns.side_of.Reads as side-of-reads
 use Rattle.layout.proofs.mates.mate_of.Reads as mate-of-reads
 
--- src/search.rt:84:36
 mate-of-requires : tie.Need-mate-of-requires
 mate-of-requires c κs = search needs
 
--- src/search.rt:84:9
 side-of-requires : tie.Need-side-of-requires
 side-of-requires c κs = search needs
 
--- src/search.rt:85:9
 side-of-requires-2 : tie.Need-side-of-requires-2
 side-of-requires-2 c κs = search needs
 
--- src/search.rt:80:1
 returns : tie.Need-returns
 returns c = cc
 

@@ -6,15 +6,12 @@ use Rattle.takedown_search.proofs.tests.is_ring_of.Lts as lts
 use Rattle.euler.proofs.faces.is_ring.Reads as is-ring-reads
 use Rattle.layout.proofs.columns.loop_face.Reads as loop-face-reads
 
--- src/search.rt:194:9
 loop-face-requires : tie.Need-loop-face-requires
 loop-face-requires c κs = search needs
 
--- src/search.rt:195:9
 is-ring-requires : tie.Need-is-ring-requires
 is-ring-requires c κs = search needs
 
--- src/search.rt:190:1
 returns : tie.Need-returns
 returns c = cc
 

@@ -7,19 +7,15 @@ use Rattle.layout.proofs.columns.next_of.Reads as next-of-reads
 use Rattle.layout.proofs.mates.mate_of.Reads as mate-of-reads
 use Rattle.takedown_search.proofs.tests.of_solid.Reads as of-solid-reads
 
--- src/search.rt:166:9
 of-solid-requires : tie.Need-of-solid-requires
 of-solid-requires c κs = search needs
 
--- src/search.rt:167:9
 next-of-requires : tie.Need-next-of-requires
 next-of-requires c κs = search needs
 
--- src/search.rt:168:9
 mate-of-requires : tie.Need-mate-of-requires
 mate-of-requires c κs = search needs
 
--- src/search.rt:162:1
 returns : tie.Need-returns
 returns c = cc
 

@@ -7,19 +7,15 @@ use Rattle.euler.proofs.faces.is_ring.Reads as is-ring-reads
 use Rattle.layout.proofs.columns.face_solid.Reads as face-solid-reads
 use Rattle.layout.proofs.columns.loop_face.Reads as loop-face-reads
 
--- src/tests.rt:72:9
 loop-face-requires : tie.Need-loop-face-requires
 loop-face-requires c κs = search needs
 
--- src/tests.rt:73:9
 face-solid-requires : tie.Need-face-solid-requires
 face-solid-requires c κs = search needs
 
--- src/tests.rt:74:9
 is-ring-requires : tie.Need-is-ring-requires
 is-ring-requires c κs = search needs
 
--- src/tests.rt:68:1
 returns : tie.Need-returns
 returns c = cc
 

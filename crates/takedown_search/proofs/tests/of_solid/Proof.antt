@@ -6,15 +6,12 @@ use Rattle.takedown_search.proofs.tests.of_solid.Lts as lts
 use Rattle.layout.proofs.columns.face_solid.Reads as face-solid-reads
 use Rattle.layout.proofs.columns.side_of.Reads as side-of-reads
 
--- src/search.rt:111:9
 side-of-requires : tie.Need-side-of-requires
 side-of-requires c κs = search needs
 
--- src/search.rt:112:5
 face-solid-requires : tie.Need-face-solid-requires
 face-solid-requires c κs = search needs
 
--- src/search.rt:107:1
 returns : tie.Need-returns
 returns c = cc
 

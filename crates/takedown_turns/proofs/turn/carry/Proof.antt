@@ -8,43 +8,33 @@ use Rattle.takedown_turns.proofs.turn.carry.Reads as reads
 use Rattle.takedown_turns.proofs.turn.carry.Lts as lts
 use Rattle.takedown_acts.proofs.acts.act.Reads as act-reads
 
--- src/turn.rt:38:9
 act-requires : tie.Need-act-requires
 act-requires c κs = search needs
 
--- src/turn.rt:40:13
 act-requires-2 : tie.Need-act-requires-2
 act-requires-2 c κs = search needs
 
--- src/turn.rt:41:9
 same-length : tie.Need-same-length
 same-length c = search needs
 
--- src/turn.rt:41:9
 same-length-2 : tie.Need-same-length-2
 same-length-2 c = search needs
 
--- src/turn.rt:41:9
 same-length-3 : tie.Need-same-length-3
 same-length-3 c = search needs
 
--- src/turn.rt:41:9
 returns : tie.Need-returns
 returns c = (carried-two _ _ _ _ (c .before .before .before .before .before .before .before .before .before .before .before .before .before .before .before .act .ensures .0) (c .before .before .before .before .before .before .before .before .before .if1 .taken) _ (c .before .before .before .before .before .act2 .ensures .0), omega (arith, c .before .before .before .before .before .before .before .before .before .before .before .before .before .before .before .act .ensures .1, c .before .before .before .before .before .act2 .ensures .1), refl)
 
--- src/turn.rt:24:1
 same-length-4 : tie.Need-same-length-4
 same-length-4 c = search needs
 
--- src/turn.rt:24:1
 same-length-5 : tie.Need-same-length-5
 same-length-5 c = search needs
 
--- src/turn.rt:24:1
 same-length-6 : tie.Need-same-length-6
 same-length-6 c = search needs
 
--- src/turn.rt:24:1
 returns-2 : tie.Need-returns-2
 returns-2 c = (carried-one _ _ _ _ (c .before .before .before .before .before .before .act .ensures .0) (c .if1 .left), omega (arith, c .before .before .before .before .before .before .act .ensures .1), refl)
 

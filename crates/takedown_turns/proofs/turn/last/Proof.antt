@@ -9,31 +9,24 @@ use Rattle.takedown_ends.proofs.moves.enter.Reads as enter-reads
 use Rattle.takedown_acts.proofs.acts.act.Reads as act-reads
 use Rattle.takedown_plans.proofs.operators.kvsf.Reads as kvsf-reads
 
--- src/turn.rt:58:45
 kvsf-requires : tie.Need-kvsf-requires
 kvsf-requires c κs = search needs
 
--- src/turn.rt:58:9
 act-requires : tie.Need-act-requires
 act-requires c κs = search needs
 
--- src/turn.rt:59:9
 enter-requires : tie.Need-enter-requires
 enter-requires c κs = search needs
 
--- src/turn.rt:47:1
 same-length : tie.Need-same-length
 same-length c = search needs
 
--- src/turn.rt:47:1
 same-length-2 : tie.Need-same-length-2
 same-length-2 c = search needs
 
--- src/turn.rt:47:1
 same-length-3 : tie.Need-same-length-3
 same-length-3 c = search needs
 
--- src/turn.rt:47:1
 returns : tie.Need-returns
 returns c = (last-is _ _ _ _ _ _ (c .before .before .before .before .before .before .before .before .kvsf .ensures) (c .before .before .before .before .before .before .before .act .ensures .0) (c .enter .ensures .0), omega (arith, c .before .before .before .before .before .before .before .act .ensures .1), c .enter .ensures .1)
 

@@ -15,52 +15,40 @@ use Rattle.takedown_across.proofs.across.across.Reads as across-reads
 use Rattle.takedown_turns.proofs.turn.carry.Reads as carry-reads
 use Rattle.takedown_turns.proofs.turn.last.Reads as last-reads
 
--- src/turn.rt:78:9
 across-requires : tie.Need-across-requires
 across-requires c κs = search needs
 
--- src/turn.rt:78:9
 same-length : tie.Need-same-length
 same-length c = search needs
 
--- src/turn.rt:78:9
 same-length-2 : tie.Need-same-length-2
 same-length-2 c = search needs
 
--- src/turn.rt:78:9
 same-length-3 : tie.Need-same-length-3
 same-length-3 c = search needs
 
--- src/turn.rt:78:9
 returns : tie.Need-returns
 unfolding passing lastOf
 returns c = (turn-across _ _ _ _ _ (c .before .before .before .before .before .before .before .before .before .if1 .taken) (c .before .before .before .before .before .across .ensures .0), omega (arith, c .before .before .before .before .before .across .ensures .1), c .before .before .before .before .before .across .ensures .2)
 
--- src/turn.rt:80:9
 seek-requires : tie.Need-seek-requires
 seek-requires c κs = search needs
 
--- src/turn.rt:82:13
 edges-plan-requires : tie.Need-edges-plan-requires
 edges-plan-requires c κs = search needs
 
--- src/turn.rt:83:9
 carry-requires : tie.Need-carry-requires
 carry-requires c κs = search needs
 
--- src/turn.rt:83:9
 same-length-4 : tie.Need-same-length-4
 same-length-4 c = search needs
 
--- src/turn.rt:83:9
 same-length-5 : tie.Need-same-length-5
 same-length-5 c = search needs
 
--- src/turn.rt:83:9
 same-length-6 : tie.Need-same-length-6
 same-length-6 c = search needs
 
--- src/turn.rt:83:9
 returns-2 : tie.Need-returns-2
 unfolding passing lastOf
 returns-2 c = (
@@ -69,31 +57,24 @@ returns-2 c = (
   subst InWords (sym (c .before .before .before .before .before .carry .ensures .2)) (c .before .before .before .before .before .before .before .before .before .edges-plan .ensures .1),
 )
 
--- src/turn.rt:85:9
 seek-requires-2 : tie.Need-seek-requires-2
 seek-requires-2 c κs = search needs
 
--- src/turn.rt:87:13
 bridge-plan-requires : tie.Need-bridge-plan-requires
 bridge-plan-requires c κs = search needs
 
--- src/turn.rt:88:9
 carry-requires-2 : tie.Need-carry-requires-2
 carry-requires-2 c κs = search needs
 
--- src/turn.rt:88:9
 same-length-7 : tie.Need-same-length-7
 same-length-7 c = search needs
 
--- src/turn.rt:88:9
 same-length-8 : tie.Need-same-length-8
 same-length-8 c = search needs
 
--- src/turn.rt:88:9
 same-length-9 : tie.Need-same-length-9
 same-length-9 c = search needs
 
--- src/turn.rt:88:9
 returns-3 : tie.Need-returns-3
 unfolding passing lastOf
 returns-3 c = (
@@ -102,23 +83,18 @@ returns-3 c = (
   subst InWords (sym (c .before .before .before .before .before .carry2 .ensures .2)) (c .before .before .before .before .before .before .before .before .before .bridge-plan .ensures .1),
 )
 
--- src/turn.rt:90:5
 last-requires : tie.Need-last-requires
 last-requires c κs = search needs
 
--- src/turn.rt:66:1
 same-length-10 : tie.Need-same-length-10
 same-length-10 c = search needs
 
--- src/turn.rt:66:1
 same-length-11 : tie.Need-same-length-11
 same-length-11 c = search needs
 
--- src/turn.rt:66:1
 same-length-12 : tie.Need-same-length-12
 same-length-12 c = search needs
 
--- src/turn.rt:66:1
 returns-4 : tie.Need-returns-4
 unfolding passing lastOf
 returns-4 c = (

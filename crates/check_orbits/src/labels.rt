@@ -1,0 +1,71 @@
+// Passes down one column of a table into an array with an entry for each label: the least record that names it, how many do, and
+// the column itself. The arrays are handed in all zero.
+ghost use mathlib.Core.Path.{_≡_};
+ghost use Prim.Native.Nat.{_+_, _<_, _≤_};
+ghost use lib.ListN.{length, getD, set};
+ghost use Rattle.laws.specs.Columns.{col};
+ghost use Rattle.layout.specs.Layout.{kind, loopFirst, loopIsolated};
+ghost use Rattle.check_orbits.specs.Labels.{blank, leastNaming, tally, copied};
+use layout::cells::cell;
+use layout::columns::loop_first;
+use layout::columns::loop_isolated;
+use layout::shape::Shape;
+
+// The entry at i set to v; past the end nothing changes.
+fn put_entry(a: &mut [u16; 4097], i: usize, v: usize)
+    requires { ⌜ (length (now a) ≡ 4097) × (v < 65536) ⌝ }
+    ensures { λ _. ⌜ now (a .exit) ≡ set (now (a .entry)) i v ⌝ }
+{
+    if i < 4097 {
+        a[i] = v as u16;
+    }
+}
+
+// One more at i; past the end nothing changes.
+fn bump(a: &mut [u16; 4097], i: usize)
+    requires { ⌜ (length (now a) ≡ 4097) × (getD (now a) i 0 < 65535) ⌝ }
+    ensures { λ _. ⌜ now (a .exit) ≡ set (now (a .entry)) i (getD (now (a .entry)) i 0 + 1) ⌝ }
+{
+    if i < 4097 {
+        a[i] = a[i] + 1;
+    }
+}
+
+// For each label the least of the records 1 to n whose first word names it. The pass goes down, so that the least is stored last.
+pub fn least_naming(links: &[u16], base: u32, width: usize, n: usize, least: &mut [u16; 4097])
+    requires { ⌜ (width ≤ 4) × (n < 65536) × (now least ≡ blank) ⌝ }
+    ensures { λ _. ⌜ now (least .exit) ≡ leastNaming (col (kind base width) 0 (now (links .entry))) n blank ⌝ }
+{
+    let mut k = n;
+    while k > 0 {
+        let v = cell(links, base, width, 0, k);
+        put_entry(least, v, k);
+        k -= 1;
+    }
+}
+
+// For each vertex in how many loops it is isolated.
+pub fn isolated_counts(links: &[u16], sh: Shape, counts: &mut [u16; 4097])
+    requires { ⌜ (sh .loops < 65536) × (now counts ≡ blank) ⌝ }
+    ensures { λ _. ⌜ now (counts .exit) ≡ tally (loopIsolated sh (now (links .entry))) (sh .loops) blank ⌝ }
+{
+    let mut l = sh.loops as usize;
+    while l > 0 {
+        let v = loop_isolated(links, sh, l);
+        bump(counts, v);
+        l -= 1;
+    }
+}
+
+// For each loop its first half-edge.
+pub fn loop_firsts(links: &[u16], sh: Shape, firsts: &mut [u16; 4097])
+    requires { ⌜ (sh .loops < 65536) × (now firsts ≡ blank) ⌝ }
+    ensures { λ _. ⌜ now (firsts .exit) ≡ copied (loopFirst sh (now (links .entry))) (sh .loops) blank ⌝ }
+{
+    let mut l = sh.loops as usize;
+    while l > 0 {
+        let k = loop_first(links, sh, l);
+        put_entry(firsts, l, k);
+        l -= 1;
+    }
+}

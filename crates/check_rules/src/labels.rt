@@ -1,0 +1,95 @@
+// The tests of one solid and of one vertex that ask what other records name it: a pass over those records has filled an array before.
+ghost use mathlib.Core.Path.{_≡_};
+ghost use Prim.Native.Nat.{ℕ, _<_, _≤_};
+ghost use Rattle.laws.specs.Search.{allTo};
+ghost use Rattle.check_rules.specs.declared.labels.LabelTest.the-variants.{SolidNames, VertexEither};
+ghost use Rattle.check_rules.specs.Labels.{labelTest};
+use layout::columns::solid_used;
+use layout::columns::vertex_used;
+use layout::shape::Shape;
+
+// The tests of one item that read an array too.
+pub enum LabelTest {
+    SolidNames,
+    VertexEither,
+}
+
+fn wide(x: u16) -> usize
+    ensures { λ r. ⌜ r ≡ x ⌝ }
+{
+    x as usize
+}
+
+// Solid n is free or has a least face.
+fn solid_names(links: &[u16], sh: Shape, faces: &[u16; 4097], n: usize) -> bool
+    requires { ⌜ n ≤ 4096 ⌝ }
+    ensures { λ r. ⌜ r ≡ labelTest SolidNames sh (now (links .entry)) (now (faces .entry)) (now (faces .entry)) n ⌝ }
+{
+    if solid_used(links, sh, n) == 0 {
+        return true;
+    }
+    let f = wide(faces[n]);
+    f != 0
+}
+
+// Vertex n is free, or isolated in one loop and starts no half-edge, or isolated in none and starts one.
+fn vertex_either(
+    links: &[u16],
+    sh: Shape,
+    counts: &[u16; 4097],
+    starters: &[u16; 4097],
+    n: usize,
+) -> bool
+    requires { ⌜ n ≤ 4096 ⌝ }
+    ensures { λ r. ⌜ r ≡ labelTest VertexEither sh (now (links .entry)) (now (counts .entry)) (now (starters .entry)) n ⌝ }
+{
+    if vertex_used(links, sh, n) == 0 {
+        return true;
+    }
+    let c = wide(counts[n]);
+    let k = wide(starters[n]);
+    if c == 1 {
+        return k == 0;
+    }
+    (c == 0) & (k != 0)
+}
+
+// The test of item n.
+fn label_test(
+    links: &[u16],
+    sh: Shape,
+    a: &[u16; 4097],
+    b: &[u16; 4097],
+    test: LabelTest,
+    n: usize,
+) -> bool
+    requires { ⌜ n ≤ 4096 ⌝ }
+    ensures { λ r. ⌜ r ≡ labelTest test sh (now (links .entry)) (now (a .entry)) (now (b .entry)) n ⌝ }
+{
+    match test {
+        LabelTest::SolidNames => solid_names(links, sh, a, n),
+        LabelTest::VertexEither => vertex_either(links, sh, a, b, n),
+    }
+}
+
+// The items 1 to n pass the test.
+pub fn all_labels(
+    links: &[u16],
+    sh: Shape,
+    a: &[u16; 4097],
+    b: &[u16; 4097],
+    test: LabelTest,
+    n: usize,
+) -> bool
+    requires { ⌜ n ≤ 4096 ⌝ }
+    ensures { λ r. ⌜ r ≡ allTo n (labelTest test sh (now (links .entry)) (now (a .entry)) (now (b .entry))) ⌝ }
+{
+    let mut k: usize = 0;
+    while k < n {
+        if !label_test(links, sh, a, b, test, k + 1) {
+            return false;
+        }
+        k += 1;
+    }
+    true
+}

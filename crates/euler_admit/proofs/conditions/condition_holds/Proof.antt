@@ -1,0 +1,185 @@
+use mathlib.Core.Path.{refl}
+use mathlib.Core.Logic.{⊎-elim, inl, inr}
+use Rattle.euler_admit.specs.Chosen.{condition-at, condition-none}
+use borrow.Author.Needs.{needs}
+use Rattle.euler_admit.proofs.conditions.condition_holds.Statement.{statement}
+use Rattle.euler_admit.proofs.conditions.condition_holds.Tie as tie
+use Rattle.euler_admit.proofs.conditions.condition_holds.Reads as reads
+use Rattle.euler_admit.proofs.conditions.condition_holds.Lts as lts
+use Rattle.euler_bridges.proofs.kemr_mekr.kemr_fits.Reads as kemr-fits-reads
+use Rattle.euler_bridges.proofs.kemr_mekr.mekr_fits.Reads as mekr-fits-reads
+use Rattle.euler_cuts.proofs.mef_kef.kef_fits.Reads as kef-fits-reads
+use Rattle.euler_cuts.proofs.mef_kef.mef_fits.Reads as mef-fits-reads
+use Rattle.euler_splits.proofs.semv_jekv.jekv_fits.Reads as jekv-fits-reads
+use Rattle.euler_spurs.proofs.mev_kev.kev_fits.Reads as kev-fits-reads
+use Rattle.euler_spurs.proofs.mev_kev.mev_fits.Reads as mev-fits-reads
+use Rattle.euler.proofs.records.item_at.Reads as item-at-reads
+use Rattle.euler_holes.proofs.holes.kfmrh_fits.Reads as kfmrh-fits-reads
+use Rattle.euler_holes.proofs.holes.mfkrh_fits.Reads as mfkrh-fits-reads
+use Rattle.euler_lone.proofs.lone.kvsf_fits.Reads as kvsf-fits-reads
+use Rattle.euler_rings.proofs.rings.rmov_fits.Reads as rmov-fits-reads
+
+item-at-requires : tie.Need-item-at-requires
+item-at-requires c κs = search needs
+
+item-at-requires-2 : tie.Need-item-at-requires-2
+item-at-requires-2 c κs = search needs
+
+kvsf-fits-requires : tie.Need-kvsf-fits-requires
+kvsf-fits-requires c κs = search needs
+
+mev-fits-requires : tie.Need-mev-fits-requires
+mev-fits-requires c κs = search needs
+
+kev-fits-requires : tie.Need-kev-fits-requires
+kev-fits-requires c κs = search needs
+
+item-at-requires-3 : tie.Need-item-at-requires-3
+item-at-requires-3 c κs = search needs
+
+item-at-requires-4 : tie.Need-item-at-requires-4
+item-at-requires-4 c κs = search needs
+
+mef-fits-requires : tie.Need-mef-fits-requires
+mef-fits-requires c κs = search needs
+
+kef-fits-requires : tie.Need-kef-fits-requires
+kef-fits-requires c κs = search needs
+
+kemr-fits-requires : tie.Need-kemr-fits-requires
+kemr-fits-requires c κs = search needs
+
+item-at-requires-5 : tie.Need-item-at-requires-5
+item-at-requires-5 c κs = search needs
+
+item-at-requires-6 : tie.Need-item-at-requires-6
+item-at-requires-6 c κs = search needs
+
+mekr-fits-requires : tie.Need-mekr-fits-requires
+mekr-fits-requires c κs = search needs
+
+kfmrh-fits-requires : tie.Need-kfmrh-fits-requires
+kfmrh-fits-requires c κs = search needs
+
+item-at-requires-7 : tie.Need-item-at-requires-7
+item-at-requires-7 c κs = search needs
+
+mfkrh-fits-requires : tie.Need-mfkrh-fits-requires
+mfkrh-fits-requires c κs = search needs
+
+jekv-fits-requires : tie.Need-jekv-fits-requires
+jekv-fits-requires c κs = search needs
+
+rmov-fits-requires : tie.Need-rmov-fits-requires
+rmov-fits-requires c κs = search needs
+
+returns : tie.Need-returns
+returns c = ⊎-elim (λ e. condition-at _ _ _ 1 _ _ e refl refl) (λ e. condition-at _ _ _ 11 _ _ e refl refl) (c .match .keys1)
+
+returns-2 : tie.Need-returns-2
+returns-2 c = condition-at _ _ _ 2 _ _ (c .before .match .keys2) refl cc
+
+returns-3 : tie.Need-returns-3
+returns-3 c = condition-at _ _ _ 3 _ _ (c .before .match .keys3) refl cc
+
+returns-4 : tie.Need-returns-4
+returns-4 c = condition-at _ _ _ 4 _ _ (c .before .match .keys4) refl cc
+
+returns-5 : tie.Need-returns-5
+returns-5 c = condition-at _ _ _ 5 _ _ (c .before .before .before .match .keys5) refl cc
+
+returns-6 : tie.Need-returns-6
+returns-6 c = condition-at _ _ _ 6 _ _ (c .before .match .keys6) refl cc
+
+returns-7 : tie.Need-returns-7
+returns-7 c = condition-at _ _ _ 7 _ _ (c .before .match .keys7) refl cc
+
+returns-8 : tie.Need-returns-8
+returns-8 c = condition-at _ _ _ 8 _ _ (c .before .before .before .match .keys8) refl cc
+
+returns-9 : tie.Need-returns-9
+returns-9 c = condition-at _ _ _ 9 _ _ (c .before .match .keys9) refl cc
+
+returns-10 : tie.Need-returns-10
+returns-10 c = condition-at _ _ _ 10 _ _ (c .before .before .match .keys10) refl cc
+
+returns-11 : tie.Need-returns-11
+returns-11 c = condition-at _ _ _ 12 _ _ (c .before .match .keys11) refl cc
+
+returns-12 : tie.Need-returns-12
+returns-12 c = condition-at _ _ _ 13 _ _ (c .before .match .keys12) refl cc
+
+returns-13 : tie.Need-returns-13
+returns-13 c =
+    let r = c .match .rest in
+    let two = r .0 .0 .0 .0 .0 .0 .0 .0 .0 .0 .0 .1 in
+    condition-none _ _ _ (
+      r .1,
+      (
+        r .0 .1,
+        (
+          (λ e. two (inr e)),
+          (
+            r .0 .0 .1,
+            (
+              r .0 .0 .0 .1,
+              (
+                r .0 .0 .0 .0 .1,
+                (
+                  r .0 .0 .0 .0 .0 .1,
+                  (
+                    r .0 .0 .0 .0 .0 .0 .1,
+                    (
+                      r .0 .0 .0 .0 .0 .0 .0 .1,
+                      (
+                        r .0 .0 .0 .0 .0 .0 .0 .0 .1,
+                        (
+                          r .0 .0 .0 .0 .0 .0 .0 .0 .0 .1,
+                          (r .0 .0 .0 .0 .0 .0 .0 .0 .0 .0 .1, ((λ e. two (inl e)), tt)),
+                        ),
+                      ),
+                    ),
+                  ),
+                ),
+              ),
+            ),
+          ),
+        ),
+      ),
+    )
+
+pub condition-holds-spec : {M : Type 1} → statement M
+condition-holds-spec =
+    tie.close
+    (tie.spec
+    item-at-requires
+    item-at-requires-2
+    kvsf-fits-requires
+    mev-fits-requires
+    kev-fits-requires
+    item-at-requires-3
+    item-at-requires-4
+    mef-fits-requires
+    kef-fits-requires
+    kemr-fits-requires
+    item-at-requires-5
+    item-at-requires-6
+    mekr-fits-requires
+    kfmrh-fits-requires
+    item-at-requires-7
+    mfkrh-fits-requires
+    jekv-fits-requires
+    rmov-fits-requires
+    returns
+    returns-2
+    returns-3
+    returns-4
+    returns-5
+    returns-6
+    returns-7
+    returns-8
+    returns-9
+    returns-10
+    returns-11
+    returns-12
+    returns-13)

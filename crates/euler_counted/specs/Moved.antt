@@ -1,0 +1,78 @@
+-- The moved loop by code, at a code that is known and at one that moves none; and kvsf, which has all effects at once.
+use mathlib.Core.Path.{_≡_, refl, subst}
+use mathlib.Core.Logic.{_⊎_, inl, ⊎-elim}
+use mathlib.Core.List.{List}
+use Prim.Native.Nat.{ℕ}
+use lib.IntN.{ℤ}
+use lib.ListN.{getD}
+use Rattle.laws.specs.Bools.{split}
+use Rattle.layout.specs.declared.shape.Shape.{Shape}
+use Rattle.layout.specs.Layout.{loopFace, faceOuter}
+use Rattle.euler.specs.ByCode.{by-code, by-none}
+use Rattle.euler.specs.Surgery.{itemIn}
+use Rattle.euler.specs.Operators.{faceIn, kvsfLinks}
+use Rattle.euler.specs.Exec.{operatorBy, onlyLoop, onlyVertex, linksAfter, clearPoint, pointsAfter}
+use Rattle.euler_points.specs.Chosen.{killed-kvsf, points-by, points-cleared}
+use Rattle.euler_counts.specs.Counts.{movedLoops, movedLoop, lowered, raised, countsAfter}
+
+-- the loop that code k moves with these operands
+abbrev pub movedAt : ℕ → Shape → List ℕ → List ℤ → ℕ
+movedAt k sh x args = getD (movedLoops sh x (itemIn args)) k 0
+
+module _ (sh : Shape) (x : List ℕ) (code : ℕ) (args : List ℤ) where
+  pub moved-at : (k r : ℕ) → code ≡ k → r ≡ movedAt k sh x args → r ≡ movedLoop sh x (operatorBy code args)
+  unfolding movedLoop
+  moved-at k r e g = by-code (movedLoops sh x (itemIn args)) 0 code k _ r e refl g
+
+  -- two codes that move the same loop
+  pub moved-either : (j k r : ℕ) → (code ≡ j) ⊎ (code ≡ k) → r ≡ movedAt j sh x args → r ≡ movedAt k sh x args
+      → r ≡ movedLoop sh x (operatorBy code args)
+  moved-either j k r d g h = ⊎-elim (λ e. moved-at j r e g) (λ e. moved-at k r e h) d
+
+  pub moved-kvsf : (a r : ℕ) → code ≡ 2 → a ≡ itemIn args 0 → r ≡ onlyLoop sh x a
+      → r ≡ movedLoop sh x (operatorBy code args)
+  moved-kvsf a r e h g = moved-at 2 r e (subst (λ s. r ≡ onlyLoop sh x s) h g)
+
+  pub moved-kfmrh : (a r : ℕ) → code ≡ 9 → a ≡ itemIn args 1 → r ≡ faceOuter sh x a
+      → r ≡ movedLoop sh x (operatorBy code args)
+  moved-kfmrh a r e h g = moved-at 9 r e (subst (λ f. r ≡ faceOuter sh x f) h g)
+
+  -- mev, kev, semv and jekv move none
+  pub moved-none : (code ≡ 1 → ⊥) → (code ≡ 2 → ⊥) → (code ≡ 5 → ⊥) → (code ≡ 6 → ⊥) → (code ≡ 7 → ⊥) → (code ≡ 8 → ⊥)
+      → (code ≡ 9 → ⊥) → (code ≡ 10 → ⊥) → (code ≡ 13 → ⊥) → 0 ≡ movedLoop sh x (operatorBy code args)
+  unfolding movedLoop
+  moved-none d1 d2 d5 d6 d7 d8 d9 d10 d13 =
+      split code 3 (λ e. rw e) (λ d3.
+      split code 4 (λ e. rw e) (λ d4.
+      split code 11 (λ e. rw e) (λ d11.
+      split code 12 (λ e. rw e) (λ d12.
+      by-none (movedLoops sh x (itemIn args)) 0 code refl refl
+      (d13, (d12, (d11, (d10, (d9, (d8, (d7, (d6, (d5, (d4, (d3, (d2, (d1, tt)))))))))))))))))
+
+-- kvsf of solid s: the links afterwards, and the numbers
+abbrev pub solidKilled : Shape → List ℕ → ℕ → List ℕ
+solidKilled sh x s = kvsfLinks sh x s (faceIn sh x s) (onlyLoop sh x s) (onlyVertex sh x s)
+
+abbrev pub solidUncounted : Shape → List ℕ → List ℕ → ℕ → List ℕ
+solidUncounted sh x c s =
+    raised (lowered c (loopFace sh x (onlyLoop sh x s))) (loopFace sh (solidKilled sh x s) (onlyLoop sh x s))
+
+-- they are those that the definitions say
+module _ (sh : Shape) (x : List ℕ) (code : ℕ) (args : List ℤ) (s : ℕ) (e : code ≡ 2) (a : s ≡ itemIn args 0) where
+  pub killed-points : (p q : List ℤ) → q ≡ clearPoint p (onlyVertex sh x s)
+      → q ≡ pointsAfter sh x p (operatorBy code args)
+  killed-points p q h =
+      let o = operatorBy code args in
+      points-by sh x p o (onlyVertex sh x s) q (killed-kvsf sh x o s _ e a refl)
+      (points-cleared p o (onlyVertex sh x s) q (inl e) h)
+
+  pub killed-counts : (c d : List ℕ) → d ≡ solidUncounted sh x c s → d ≡ countsAfter sh x c (operatorBy code args)
+  unfolding countsAfter linksAfter movedLoop
+  killed-counts c d h = rw (e, ← a) h
+
+-- any other operator, step by step
+pub counts-steps : (sh : Shape) (x c : List ℕ) (code : ℕ) (args : List ℤ) (l f : ℕ) (y d : List ℕ) (g : ℕ) (r : List ℕ)
+    → l ≡ movedLoop sh x (operatorBy code args) → f ≡ loopFace sh x l → y ≡ linksAfter sh x (operatorBy code args)
+    → d ≡ lowered c f → g ≡ loopFace sh y l → r ≡ raised d g → r ≡ countsAfter sh x c (operatorBy code args)
+unfolding countsAfter
+counts-steps sh x c code args l f y d g r el ef ey ed eg er = rw (er, ed, eg, ef, ey, el)

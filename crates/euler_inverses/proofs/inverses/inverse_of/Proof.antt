@@ -1,0 +1,176 @@
+use mathlib.Core.Path.{refl}
+use Rattle.euler_inverses.specs.Chosen.{inverse-at, inverse-kvsf, inverse-none}
+use borrow.Author.Needs.{needs}
+use Rattle.euler_inverses.proofs.inverses.inverse_of.Statement.{statement}
+use Rattle.euler_inverses.proofs.inverses.inverse_of.Tie as tie
+use Rattle.euler_inverses.proofs.inverses.inverse_of.Reads as reads
+use Rattle.euler_inverses.proofs.inverses.inverse_of.Lts as lts
+use Rattle.euler_bridges.proofs.kemr_mekr.kemr_inverse.Reads as kemr-inverse-reads
+use Rattle.euler_bridges.proofs.kemr_mekr.mekr_inverse.Reads as mekr-inverse-reads
+use Rattle.euler_cuts.proofs.mef_kef.kef_inverse.Reads as kef-inverse-reads
+use Rattle.euler_splits.proofs.semv_jekv.semv_inverse.Reads as semv-inverse-reads
+use Rattle.euler_spurs.proofs.mev_kev.kev_inverse.Reads as kev-inverse-reads
+use Rattle.euler_spurs.proofs.mev_kev.mev_inverse.Reads as mev-inverse-reads
+use Rattle.euler.proofs.records.half_by.Reads as half-by-reads
+use Rattle.euler.proofs.records.item_of.Reads as item-of-reads
+use Rattle.euler_inverses.proofs.inverses.edge_again.Reads as edge-again-reads
+use Rattle.euler_inverses.proofs.inverses.solid_again.Reads as solid-again-reads
+use Rattle.euler_inverses.proofs.inverses.vertex_again.Reads as vertex-again-reads
+use Rattle.script.proofs.blank.Reads as blank-reads
+use Rattle.euler_holes.proofs.holes.kfmrh_inverse.Reads as kfmrh-inverse-reads
+use Rattle.euler_holes.proofs.holes.mfkrh_inverse.Reads as mfkrh-inverse-reads
+use Rattle.euler_lone.proofs.lone.mvsf_inverse.Reads as mvsf-inverse-reads
+use Rattle.euler_rings.proofs.rings.rmov_inverse.Reads as rmov-inverse-reads
+
+item-of-requires : tie.Need-item-of-requires
+item-of-requires c κs = search needs
+
+item-of-requires-2 : tie.Need-item-of-requires-2
+item-of-requires-2 c κs = search needs
+
+item-of-requires-3 : tie.Need-item-of-requires-3
+item-of-requires-3 c κs = search needs
+
+item-of-requires-4 : tie.Need-item-of-requires-4
+item-of-requires-4 c κs = search needs
+
+item-of-requires-5 : tie.Need-item-of-requires-5
+item-of-requires-5 c κs = search needs
+
+item-of-requires-6 : tie.Need-item-of-requires-6
+item-of-requires-6 c κs = search needs
+
+item-of-requires-7 : tie.Need-item-of-requires-7
+item-of-requires-7 c κs = search needs
+
+mvsf-inverse-requires : tie.Need-mvsf-inverse-requires
+mvsf-inverse-requires c κs = search needs
+
+solid-again-requires : tie.Need-solid-again-requires
+solid-again-requires c κs = search needs
+
+half-by-requires : tie.Need-half-by-requires
+half-by-requires c κs = search needs
+
+mev-inverse-requires : tie.Need-mev-inverse-requires
+mev-inverse-requires c κs = search needs
+
+kev-inverse-requires : tie.Need-kev-inverse-requires
+kev-inverse-requires c κs = search needs
+
+edge-again-requires : tie.Need-edge-again-requires
+edge-again-requires c κs = search needs
+
+kef-inverse-requires : tie.Need-kef-inverse-requires
+kef-inverse-requires c κs = search needs
+
+kemr-inverse-requires : tie.Need-kemr-inverse-requires
+kemr-inverse-requires c κs = search needs
+
+half-by-requires-2 : tie.Need-half-by-requires-2
+half-by-requires-2 c κs = search needs
+
+mekr-inverse-requires : tie.Need-mekr-inverse-requires
+mekr-inverse-requires c κs = search needs
+
+kfmrh-inverse-requires : tie.Need-kfmrh-inverse-requires
+kfmrh-inverse-requires c κs = search needs
+
+mfkrh-inverse-requires : tie.Need-mfkrh-inverse-requires
+mfkrh-inverse-requires c κs = search needs
+
+semv-inverse-requires : tie.Need-semv-inverse-requires
+semv-inverse-requires c κs = search needs
+
+vertex-again-requires : tie.Need-vertex-again-requires
+vertex-again-requires c κs = search needs
+
+rmov-inverse-requires : tie.Need-rmov-inverse-requires
+rmov-inverse-requires c κs = search needs
+
+blank-requires : tie.Need-blank-requires
+blank-requires c κs = search needs
+
+returns : tie.Need-returns
+returns c = inverse-at _ _ _ _ 1 _ _ (c .before .match .keys1) refl cc
+
+returns-2 : tie.Need-returns-2
+returns-2 c = inverse-kvsf _ _ _ _ _ _ (c .before .match .keys2) (c .before .before .before .before .before .before .before .before .item-of .ensures .0) (c .solid-again .ensures)
+
+returns-3 : tie.Need-returns-3
+returns-3 c = inverse-at _ _ _ _ 3 _ _ (c .before .before .match .keys3) refl cc
+
+returns-4 : tie.Need-returns-4
+returns-4 c = inverse-at _ _ _ _ 4 _ _ (c .before .match .keys4) refl cc
+
+returns-5 : tie.Need-returns-5
+returns-5 c = inverse-at _ _ _ _ 5 _ _ (c .before .match .keys5) refl cc
+
+returns-6 : tie.Need-returns-6
+returns-6 c = inverse-at _ _ _ _ 6 _ _ (c .before .match .keys6) refl cc
+
+returns-7 : tie.Need-returns-7
+returns-7 c = inverse-at _ _ _ _ 7 _ _ (c .before .match .keys7) refl cc
+
+returns-8 : tie.Need-returns-8
+returns-8 c = inverse-at _ _ _ _ 8 _ _ (c .before .before .match .keys8) refl cc
+
+returns-9 : tie.Need-returns-9
+returns-9 c = inverse-at _ _ _ _ 9 _ _ (c .before .match .keys9) refl cc
+
+returns-10 : tie.Need-returns-10
+returns-10 c = inverse-at _ _ _ _ 10 _ _ (c .before .match .keys10) refl cc
+
+returns-11 : tie.Need-returns-11
+returns-11 c = inverse-at _ _ _ _ 11 _ _ (c .before .match .keys11) refl cc
+
+returns-12 : tie.Need-returns-12
+returns-12 c = inverse-at _ _ _ _ 12 _ _ (c .before .match .keys12) refl cc
+
+returns-13 : tie.Need-returns-13
+returns-13 c = inverse-at _ _ _ _ 13 _ _ (c .before .match .keys13) refl cc
+
+returns-14 : tie.Need-returns-14
+returns-14 c = let r = c .before .match .rest in inverse-none _ _ _ _ _ (r .1, (r .0 .1, (r .0 .0 .1, (r .0 .0 .0 .1, (r .0 .0 .0 .0 .1, (r .0 .0 .0 .0 .0 .1, (r .0 .0 .0 .0 .0 .0 .1, (r .0 .0 .0 .0 .0 .0 .0 .1, (r .0 .0 .0 .0 .0 .0 .0 .0 .1, (r .0 .0 .0 .0 .0 .0 .0 .0 .0 .1, (r .0 .0 .0 .0 .0 .0 .0 .0 .0 .0 .1, (r .0 .0 .0 .0 .0 .0 .0 .0 .0 .0 .0 .1, (r .0 .0 .0 .0 .0 .0 .0 .0 .0 .0 .0 .0 .1, tt))))))))))))) (c .blank .ensures)
+
+pub inverse-of-spec : {M : Type 1} → statement M
+inverse-of-spec =
+    tie.close
+    (tie.spec
+    item-of-requires
+    item-of-requires-2
+    item-of-requires-3
+    item-of-requires-4
+    item-of-requires-5
+    item-of-requires-6
+    item-of-requires-7
+    mvsf-inverse-requires
+    solid-again-requires
+    half-by-requires
+    mev-inverse-requires
+    kev-inverse-requires
+    edge-again-requires
+    kef-inverse-requires
+    kemr-inverse-requires
+    half-by-requires-2
+    mekr-inverse-requires
+    kfmrh-inverse-requires
+    mfkrh-inverse-requires
+    semv-inverse-requires
+    vertex-again-requires
+    rmov-inverse-requires
+    blank-requires
+    returns
+    returns-2
+    returns-3
+    returns-4
+    returns-5
+    returns-6
+    returns-7
+    returns-8
+    returns-9
+    returns-10
+    returns-11
+    returns-12
+    returns-13
+    returns-14)

@@ -1,0 +1,47 @@
+-- The checked examples a to h of document 01, one list under one theorem, by computation: what the definitions that
+-- the contracts cite leave is what the rows say, to the word, the coordinate and the byte.
+use mathlib.Core.Path.{refl}
+use mathlib.Core.List.{List, _++_}
+use Rattle.laws.specs.Search.{allTo, leastFrom}
+use Rattle.laws.specs.Sums.{sumTo}
+use Rattle.laws.specs.Walks.{meets}
+use Rattle.laws.specs.Columns.{sweep}
+use Rattle.laws.specs.Closure.{across, pass, rounds, linkedb}
+use Rattle.codec.specs.Number.{third, second, first, readNumber, groups}
+use Rattle.codec.specs.Operands.{pattern, rows, inRanges, inRange, zig, zag, wire, unwire}
+use Rattle.codec.specs.OperandBytes.{readOperand, readOperands, operandBytes, operandsBytes}
+use Rattle.script.specs.Operator.{readBehind, readOperator, operatorBytes, operatorRefusal, putBytes, writeOperator}
+use Rattle.layout.specs.Mate.{mate}
+use Rattle.check_shells.specs.Shells.{within, joins, linkedBy}
+use Rattle.check_items.specs.Rules.{solidRange, faceRange, loopRange, halfRange, vertexRange, rule1, solidNames, faceNames, loopNames, halfNames, rule2, loopEither, rule3, halfLinks, firstNames, halfInLoop, rule4, vertexEither, halfAtVertex, rule5, halfSides, faceLinked, rule6, brokenRule}
+use Rattle.table.specs.Sizes.{sizesFit}
+use Rattle.table.specs.Clear.{clearOf}
+use Rattle.table.specs.Check.{checkOf}
+use Rattle.table.specs.Count.{itemUsed, tallyOf, countOf}
+use Rattle.euler.specs.Surgery.{corner, edgeIn, edgeOut, relabel, seek, renew}
+use Rattle.euler.specs.Operators.{mvsfLinks, kvsfTest, kvsfLinks, mevLinks, kevTest, kevLinks, mefTest, mefEdge, mefLinks, kefTest, kefEdge, kefLinks, kfmrhTest, kfmrhLinks, linkedAfter, mfkrhTest, mfkrhLinks}
+use Rattle.euler.specs.Exec.{admitOf, useRefusals, useRefusal, useWord, condition, linksAfter, pointsAfter, killedVertex, inverse}
+use Rattle.runs.specs.Run.{admitRead, inverseBytes, carryRefusal, runRefusal, stepped, runFrom, entry, runOf, undoFrom, undoOf}
+use Rattle.takedown.specs.Inversion.{act, turnB, turned, invertBy, invertOf}
+use Rattle.evidence_cases.specs.Case.{Row, found, Hold}
+use Rattle.evidence_cases.specs.RowsRuns.{runRows}
+use Rattle.evidence_cases.specs.RowsTakedown.{takedownRows}
+use Rattle.evidence_cases.specs.RowsRefused.{refusedRows}
+use Rattle.evidence_cases.specs.RowsSizes.{sizeRows}
+
+-- all rows
+abbrev pub cases : List Row
+cases = runRows ++ (takedownRows ++ (refusedRows ++ sizeRows))
+
+-- what the definitions leave, step for step, is what the rows say
+pub cases-hold : Hold cases
+unfolding found clearOf runOf undoOf countOf invertOf invertBy turned turnB act readOperator writeOperator entry
+    checkOf sizesFit tallyOf itemUsed brokenRule rule1 rule2 rule3 rule4 rule5 rule6 solidRange faceRange loopRange
+    halfRange vertexRange solidNames faceNames loopNames halfNames loopEither halfLinks firstNames halfInLoop
+    vertexEither halfAtVertex halfSides faceLinked allTo leastFrom sumTo meets linkedb rounds pass across mate within
+    joins linkedBy third second first readNumber groups pattern rows inRanges inRange zig zag wire unwire readOperand
+    readOperands readBehind operandBytes operandsBytes operatorBytes operatorRefusal putBytes admitRead inverseBytes
+    carryRefusal runRefusal stepped runFrom undoFrom admitOf useRefusals useRefusal useWord condition linksAfter pointsAfter
+    killedVertex inverse corner edgeIn edgeOut relabel seek renew sweep mvsfLinks kvsfTest kvsfLinks mevLinks kevTest
+    kevLinks mefTest mefEdge mefLinks kefTest kefEdge kefLinks kfmrhTest kfmrhLinks linkedAfter mfkrhTest mfkrhLinks
+cases-hold = refl

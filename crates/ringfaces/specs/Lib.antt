@@ -1,9 +1,0 @@
-pub mod Regroup
-pub mod Chains
-pub mod MfkrhSound
-pub mod KfmrhSound
-pub mod RingFaceBack
-pub mod RingFaceLinks
-pub mod KfmrhOperator
-pub mod MfkrhOperator
-pub mod RingFacePair

@@ -1,0 +1,87 @@
+-- A corner in the form with dummies: the member before it and the member after it, which are two half-edges of the loop or twice its dummy.
+use mathlib.Core.Path.{_≡_, refl, sym, ap, _∙_}
+use mathlib.Core.Logic.{_≢_, _⊎_, inl, inr, ⊎-elim}
+use Prim.Native.Nat.{ℕ, _+_, _-_, _*_, _≤_, _<_}
+use native.Mathlib.Omega.{arith}
+use Rattle.layout.specs.declared.shape.Shape.{Shape}
+use Rattle.layout.specs.Fields.{Isolated, Start, Loop, Next, Prev, Columns}
+use Rattle.sound_tables.specs.Sound.{In, HalfUsed}
+use Rattle.sound_tables.specs.WithDummies.{upTo-low, upTo-high, extended, Dummy, Member, dummy-of, dummy-loop, dummy-start}
+use Rattle.sound_bridges.specs.Relation.{Corner}
+
+-- member y comes before it and z after it: the dummy, or the two half-edges
+pub record Seat (sh : Shape) (c : Columns) (l k b u P N : ℕ) : Type 0 where
+  pub y : ℕ
+  pub z : ℕ
+  pub member : Member sh c y
+  pub next : extended sh c .next y ≡ z
+  pub prev : extended sh c .prev z ≡ y
+  pub loop : extended sh c .loop y ≡ l
+  pub loop-z : extended sh c .loop z ≡ l
+  pub start : extended sh c .start z ≡ u
+  pub which : ((y ≡ 2 * sh .edges + l) × (z ≡ 2 * sh .edges + l) × (P ≡ b) × (N ≡ k)) ⊎ ((y ≡ P) × (z ≡ N) × HalfUsed sh c P × HalfUsed sh c N × (c Isolated l ≡ 0))
+
+-- of each corner
+pub seat : {sh : Shape} {c : Columns} {l k b u P N : ℕ} → In (sh .loops) l → u ≢ 0 → ((i : ℕ) → HalfUsed sh c i → c Loop (c Next i) ≡ c Loop i) → Corner sh c l k b u P N → Seat sh c l k b u P N
+seat {sh} {c} {l} {P = P} {N} i x keeps = ⊎-elim
+    (λ r. let w = dummy-of sh c l i (λ e. x (sym (r .isolated) ∙ e)) in record {
+      y = 2 * sh .edges + l;
+      z = 2 * sh .edges + l;
+      member = inr w;
+      next = upTo-high (2 * sh .edges) (c Next) (λ j. j) _ (w .0);
+      prev = upTo-high (2 * sh .edges) (c Prev) (λ j. j) _ (w .0);
+      loop = dummy-loop sh c l i;
+      loop-z = dummy-loop sh c l i;
+      start = dummy-start sh c l i ∙ r .isolated;
+      which = inl (refl, refl, r .before, r .after);
+    })
+    (λ r. record {
+      y = P;
+      z = N;
+      member = inl (r .before);
+      next = upTo-low (2 * sh .edges) (c Next) _ P (r .before .1) ∙ r .next;
+      prev = upTo-low (2 * sh .edges) (c Prev) _ N (r .after .1) ∙ r .prev;
+      loop = upTo-low (2 * sh .edges) (c Loop) _ P (r .before .1) ∙ sym (keeps P (r .before)) ∙ ap (c Loop) (r .next) ∙ r .loop;
+      loop-z = upTo-low (2 * sh .edges) (c Loop) _ N (r .after .1) ∙ r .loop;
+      start = upTo-low (2 * sh .edges) (c Start) _ N (r .after .1) ∙ r .start;
+      which = inr (refl, refl, r .before, r .after, r .isolated);
+    })
+
+-- ---- which numbers it can be
+
+-- a half-edge is no dummy
+pub low : (sh : Shape) {l i : ℕ} → In (sh .loops) l → i ≤ 2 * sh .edges → i ≢ 2 * sh .edges + l
+low sh m h e = omega (arith, h, m .0, e)
+
+-- dummies of two loops differ
+pub not-dummy : (sh : Shape) {l i : ℕ} → i - 2 * sh .edges ≢ l → i ≢ 2 * sh .edges + l
+not-dummy sh h e = h (omega (arith, e))
+
+module _ {sh : Shape} {c : Columns} {l k b u P N : ℕ} (t : Seat sh c l k b u P N) where
+  -- a half-edge there is P or N
+  pub seat-P : {i : ℕ} → In (sh .loops) l → HalfUsed sh c i → i ≡ t .y → i ≡ P
+  seat-P m w e = ⊎-elim (λ r. absurd (low sh m (w .1) (e ∙ r .0))) (λ r. e ∙ r .0) (t .which)
+
+  -- after it
+  pub seat-N : {i : ℕ} → In (sh .loops) l → HalfUsed sh c i → i ≡ t .z → i ≡ N
+  seat-N m w e = ⊎-elim (λ r. absurd (low sh m (w .1) (e ∙ r .1))) (λ r. e ∙ r .1) (t .which)
+
+  -- away from there it is neither
+  pub off-P : {i : ℕ} → i ≢ b → i ≢ t .y → i ≢ P
+  off-P f e z = ⊎-elim (λ r. f (z ∙ r .2)) (λ r. e (z ∙ sym (r .0))) (t .which)
+
+  -- after it
+  pub off-N : {i : ℕ} → i ≢ k → i ≢ t .z → i ≢ N
+  off-N f e z = ⊎-elim (λ r. f (z ∙ r .3)) (λ r. e (z ∙ sym (r .1))) (t .which)
+
+  -- a dummy of another loop is not there
+  pub far-y : {i : ℕ} → 2 * sh .edges < i → i - 2 * sh .edges ≢ l → i ≢ t .y
+  far-y w h e = ⊎-elim (λ r. not-dummy sh h (e ∙ r .0)) (λ r. omega (arith, w, r .2 .1, e ∙ r .0)) (t .which)
+
+  -- nor after it
+  pub far-z : {i : ℕ} → 2 * sh .edges < i → i - 2 * sh .edges ≢ l → i ≢ t .z
+  far-z w h e = ⊎-elim (λ r. not-dummy sh h (e ∙ r .1)) (λ r. omega (arith, w, r .3 .1, e ∙ r .1)) (t .which)
+
+  -- a dummy of the loop is there
+  pub dummy-seat : Dummy sh c (2 * sh .edges + l) → (t .y ≡ 2 * sh .edges + l) × (t .z ≡ 2 * sh .edges + l) × (P ≡ b) × (N ≡ k)
+  dummy-seat w = ⊎-elim (λ r. r) (λ r. absurd (w .2 (ap (c Isolated) (omega arith) ∙ r .4))) (t .which)

@@ -1,0 +1,311 @@
+-- mekr and kemr: a good table stays good, and each undoes the other to the word.
+use mathlib.Core.Path.{_≡_, refl, sym, ap, _∙_, subst}
+use mathlib.Core.Logic.{_≢_, inl, inr, ⊎-elim}
+use mathlib.Core.List.{List}
+use Prim.Native.Nat.{ℕ, _*_, _≤_}
+use native.Mathlib.Omega.{arith}
+use lib.Dec.{eqb}
+use lib.IntN.{ℤ}
+use lib.ListN.{length}
+use Rattle.laws.specs.Bools.{pick, eqb-same, eqb-other}
+use Rattle.script.specs.declared.Operator.{Operator}
+use Rattle.layout.specs.declared.shape.Shape.{Shape}
+use Rattle.layout.specs.Mate.{mate, edgeOf}
+use Rattle.layout.specs.MateLaws.{mate-range}
+use Rattle.euler.specs.Surgery.{halfBy, wayOf}
+use Rattle.euler.specs.Exec.{refusalOf}
+use Rattle.sound_tables.specs.EdgeIn.{prev-in, next-prev}
+use Rattle.layout.specs.Fields.{Outer, Face, Isolated, Start, Loop, Next, Prev, VertexUsed, Columns}
+use Rattle.sound_tables.specs.Cells.{Shows, shows-ext}
+use Rattle.sound_tables.specs.Sound.{In, HalfUsed, Sound}
+use Rattle.sound_tables.specs.HalfNumbers.{edge-by, way-by, way-small, half-is, edge-in, second-half}
+use Rattle.sound_tables.specs.Names.{not-isolated, lone-used, free-zero, free-halves}
+use Rattle.sound_tables.specs.Good.{own, Good, good-shows}
+use Rattle.sound_tables.specs.CornerTest.{CornerAt, cornerLeft}
+use Rattle.sound_tables.specs.Undone.{Kept, Undone}
+use Rattle.sound_bridges.specs.Relation.{Corner, Bridged, off-k, off-a, Ends}
+use Rattle.sound_bridges.specs.Unique.{Alike, down-same, up-same}
+use Rattle.sound_bridges.specs.MekrColumns.{mekrColumns, up-bridged}
+use Rattle.sound_bridges.specs.MekrShown.{mekr-sound, mekr-shows, mekr-good}
+use Rattle.sound_bridges.specs.KemrColumns.{kemrColumns, Span, walk, down-bridged}
+use Rattle.sound_bridges.specs.KemrShown.{kemr-sound, kemr-shows, kemr-good}
+use Rattle.sound_bridges.specs.MekrAccepted.{mekrOf, MekrFacts, mekr-said, mekr-accepted, mekr-links, mekr-points}
+use Rattle.sound_bridges.specs.KemrAccepted.{kemrOf, kemr-facts, kemr-accepted, kemr-links, kemr-points, kemr-inverse, mekr-inverse}
+use Rattle.sound_bridges.specs.Lists.{mekrList, kemrList}
+
+-- ---- the corners of mekr
+
+module _ {sh : Shape} {p : List ℤ} {c : Columns} (a : Sound sh p c) {l h : ℕ} (i : In (sh .loops) l) (q : CornerAt sh c l h) where
+  -- a corner as the operator reads it
+  corner-of : (k b : ℕ) → Corner sh c l k b (pick (eqb h 0) (c Isolated l) (c Start h)) (pick (eqb h 0) b (c Prev h)) (pick (eqb h 0) k h)
+  corner-of k b = ⊎-elim
+      (λ r. rw (eqb-same (r .0)) (inl (record { before = refl; after = refl; isolated = refl })))
+      (λ r. let z : h ≢ 0 = λ e. omega (arith, r .0 .0, e) in rw (eqb-other z) (inr (record {
+        before = prev-in (a .rules) h (r .0);
+        after = r .0;
+        next = next-prev (a .rules) h (r .0);
+        prev = refl;
+        loop = r .1;
+        start = refl;
+        isolated = not-isolated a h (r .0) (r .1);
+      }))) q
+
+  -- its vertex is in use
+  corner-vertex : In (sh .vertices) (pick (eqb h 0) (c Isolated l) (c Start h)) × (c VertexUsed (pick (eqb h 0) (c Isolated l) (c Start h)) ≢ 0)
+  corner-vertex = ⊎-elim
+      (λ r. let s = lone-used a l i (r .1) in rw (eqb-same (r .0)) (s .1, s .2))
+      (λ r. let z : h ≢ 0 = λ e. omega (arith, r .0 .0, e) in let s = a .half h (r .0 .0, r .0 .1) (r .0 .2) in rw (eqb-other z) (s .start-in, s .start-used)) q
+
+-- the same bridge, with the numbers said otherwise
+bridged-as : {sh : Shape} {c d : Columns} {k l l2 u1 P1 N1 u2 P2 N2 l′ u1′ P1′ N1′ u2′ P2′ N2′ : ℕ} → Bridged sh c d k l l2 u1 P1 N1 u2 P2 N2 → l ≡ l′ → u1 ≡ u1′ → P1 ≡ P1′ → N1 ≡ N1′ → u2 ≡ u2′ → P2 ≡ P2′ → N2 ≡ N2′
+    → Bridged sh c d k l′ l2 u1′ P1′ N1′ u2′ P2′ N2′
+bridged-as {sh} {c} {d} {k} {l2 = l2} b el e1 f1 g1 e2 f2 g2 = subst (λ (B : Type 0). B) (λ t. Bridged sh c d k (el t) l2 (e1 t) (f1 t) (g1 t) (e2 t) (f2 t) (g2 t)) b
+
+-- ---- mekr
+
+module _ {sh : Shape} {x : List ℕ} {p : List ℤ} (g : Good sh x p) {l h1 l2 h2 e w : ℕ} (r : MekrFacts sh (own sh x) l h1 l2 h2 e w) {k : ℕ} (hk : halfBy e w ≡ k) where
+  -- the columns before
+  abbrev c : Columns
+  c = own sh x
+
+  -- the vertex of the corner of l
+  abbrev u1 : ℕ
+  u1 = pick (eqb h1 0) (own sh x Isolated l) (own sh x Start h1)
+
+  -- what comes before it
+  abbrev P1 : ℕ
+  P1 = pick (eqb h1 0) (mate k) (own sh x Prev h1)
+
+  -- and after it
+  abbrev N1 : ℕ
+  N1 = pick (eqb h1 0) k h1
+
+  -- the vertex of the corner of l2
+  abbrev u2 : ℕ
+  u2 = pick (eqb h2 0) (own sh x Isolated l2) (own sh x Start h2)
+
+  -- what comes before it
+  abbrev P2 : ℕ
+  P2 = pick (eqb h2 0) k (own sh x Prev h2)
+
+  -- and after it
+  abbrev N2 : ℕ
+  N2 = pick (eqb h2 0) (mate k) h2
+
+  -- both halves are free
+  free : In (2 * sh .edges) k × (c Start k ≡ 0) × (c Start (mate k) ≡ 0)
+  free = subst (λ j. In (2 * sh .edges) j × (c Start j ≡ 0) × (c Start (mate j) ≡ 0)) hk (free-halves (g .sound) e w (r .edge-in) (r .edge-free))
+
+  -- so mekr can be done
+  ends : Ends sh (own sh x) k l l2 u1 P1 N1 u2 P2 N2
+  ends =
+      let m = mate-range k (sh .edges) (free .0 .0) (free .0 .1) in
+      let v1 = corner-vertex (g .sound) (r .loop-in) (r .at-1) in
+      let v2 = corner-vertex (g .sound) (r .ring-in) (r .at-2) in
+      record {
+        half-in = free .0;
+        mate-in = m;
+        loop-in = r .loop-in;
+        ring-in = r .ring-in;
+        two = r .two;
+        used = r .loop-used;
+        one-face = sym (r .one-face);
+        ring = r .ring;
+        at-1 = corner-of (g .sound) (r .loop-in) (r .at-1) k (mate k);
+        at-2 = corner-of (g .sound) (r .ring-in) (r .at-2) (mate k) k;
+        in-1 = v1 .0;
+        in-2 = v2 .0;
+        used-1 = v1 .1;
+        used-2 = v2 .1;
+        zero-k = free-zero (g .sound) k (free .0) (free .1);
+        zero-a = free-zero (g .sound) (mate k) m (free .2);
+        keeps = g .sound .rules .loops .keeps;
+      }
+
+  -- the table stays good
+  mekr-kept : Kept sh x p (mekrOf l h1 l2 h2 e w)
+  mekr-kept = rw (mekr-links sh x (g .capacities) r k hk, mekr-points sh x (g .capacities) r p) (mekr-good g ends)
+
+  -- the list afterwards
+  abbrev y : List ℕ
+  y = mekrList sh x k l l2 u1 P1 N1 u2 P2 N2
+
+  -- the columns afterwards
+  abbrev d : Columns
+  d = mekrColumns sh (own sh x) k l l2 u1 P1 N1 u2 P2 N2
+
+  -- before and after
+  b : Bridged sh (own sh x) d k l l2 u1 P1 N1 u2 P2 N2
+  b = up-bridged ends
+
+  -- the list shows them
+  s : Shows sh y d
+  s = mekr-shows g ends
+
+  -- and is good
+  gy : Good sh y p
+  gy = mekr-good g ends
+
+  -- k and its mate are in one loop there
+  span : Span sh (own sh y) k l2
+  span =
+      let hi = b .ends .half-in .1 in
+      let mi = b .ends .mate-in .1 in
+      record {
+        half = (b .ends .half-in .0, hi, λ z. omega (arith, b .ends .in-1 .0, sym (b .start-k) ∙ sym (s .at Start k hi) ∙ z));
+        one = s .at Loop (mate k) mi ∙ b .loop-a ∙ sym (s .at Loop k hi ∙ b .loop-k);
+        ring-in = r .ring-in;
+        free = s .at Face l2 (r .ring-in .1) ∙ b .face-2;
+      }
+
+  -- kemr leads back to the same columns
+  mekr-back : Alike sh (kemrColumns sh (own sh y) k l2 (walk (gy .sound) span .0)) (own sh x)
+  mekr-back =
+      let hi = b .ends .half-in .1 in
+      let mi = b .ends .mate-in .1 in
+      down-same (kemr-sound gy span) (g .sound)
+      (bridged-as (down-bridged (gy .sound) span) (s .at Loop k hi ∙ b .loop-k) (s .at Start k hi ∙ b .start-k) (s .at Prev k hi ∙ b .prev-k) (s .at Next (mate k) mi ∙ b .next-a)
+      (s .at Start (mate k) mi ∙ b .start-a) (s .at Prev (mate k) mi ∙ b .prev-a) (s .at Next k hi ∙ b .next-k)) b (λ F i v h. s .at F i h)
+
+  -- what comes after the two halves is read as the corner
+  behind-as : {m h k′ : ℕ} → CornerAt sh c m h → ((i : ℕ) → HalfUsed sh c i → i ≢ k′) → pick (eqb (pick (eqb h 0) k′ h) k′) 0 (pick (eqb h 0) k′ h) ≡ h
+  behind-as {h = h} {k′ = k′} q off = ⊎-elim (λ v. rw (eqb-same (v .0), eqb-same {m = k′} refl) (sym (v .0))) (λ v. let z : h ≢ 0 = λ j. omega (arith, v .0 .0, j) in rw (eqb-other z, eqb-other (off h (v .0)))) q
+
+  -- kemr gives everything back
+  mekr-undone : Undone sh x p (mekrOf l h1 l2 h2 e w)
+  mekr-undone =
+      let el = mekr-links sh x (g .capacities) r k hk in
+      let ep = mekr-points sh x (g .capacities) r p in
+      let ei = mekr-inverse sh x p (g .capacities) r ∙ ap (λ j. kemrOf j l2) hk in
+      let hi = b .ends .half-in .1 in
+      let mi = b .ends .mate-in .1 in
+      let e-l : own sh y Loop k ≡ l = s .at Loop k hi ∙ b .loop-k in
+      let e-1 : own sh y Next (mate k) ≡ N1 = s .at Next (mate k) mi ∙ b .next-a in
+      let e-2 : own sh y Next k ≡ N2 = s .at Next k hi ∙ b .next-k in
+      record {
+        accepted = rw (el, ei) (kemr-accepted sh y (g .capacities) span);
+        links = rw (el, ei) (kemr-links sh y (g .capacities) span ∙ shows-ext (kemr-shows gy span) (good-shows g) mekr-back);
+        points = rw (el, ep, ei) (kemr-points sh y (g .capacities) span p);
+        again = rw (el, ep, ei) (kemr-inverse sh y (g .capacities) span p ∙ (λ t. mekrOf (e-l t) (pick (eqb (e-1 t) k) 0 (e-1 t)) l2 (pick (eqb (e-2 t) (mate k)) 0 (e-2 t)) (edgeOf k) (wayOf k))
+            ∙ (λ t. mekrOf l (behind-as (r .at-1) (off-k b) t) l2 (behind-as (r .at-2) (off-a b) t) ((ap edgeOf (sym hk) ∙ edge-by e w (r .edge-in .0)) t) ((ap wayOf (sym hk) ∙ way-by e w (r .edge-in .0) (r .way)) t)));
+      }
+
+-- ---- kemr
+
+module _ {sh : Shape} {x : List ℕ} {p : List ℤ} (g : Good sh x p) {k l2 : ℕ} (o : Span sh (own sh x) k l2) where
+  -- the columns before
+  abbrev dₖ : Columns
+  dₖ = own sh x
+
+  -- the columns afterwards
+  abbrev cₖ : Columns
+  cₖ = kemrColumns sh (own sh x) k l2 (walk (g .sound) o .0)
+
+  -- the two corners, 0 where isolated
+  abbrev h₁ : ℕ
+  h₁ = cornerLeft (own sh x) k (mate k)
+
+  -- and the other
+  abbrev h₂ : ℕ
+  h₂ = cornerLeft (own sh x) (mate k) k
+
+  -- the list afterwards
+  abbrev yₖ : List ℕ
+  yₖ = kemrList sh x k l2
+
+  -- before and after
+  bₖ : Bridged sh cₖ (own sh x) k (dₖ Loop k) l2 (dₖ Start k) (dₖ Prev k) (dₖ Next (mate k)) (dₖ Start (mate k)) (dₖ Prev (mate k)) (dₖ Next k)
+  bₖ = down-bridged (g .sound) o
+
+  -- the list shows them
+  sₖ : Shows sh yₖ cₖ
+  sₖ = kemr-shows g o
+
+  -- and is good
+  gₖ : Good sh yₖ p
+  gₖ = kemr-good g o
+
+  -- the table stays good
+  kemr-kept : Kept sh x p (kemrOf k l2)
+  kemr-kept = rw (kemr-links sh x (g .capacities) o, kemr-points sh x (g .capacities) o p) gₖ
+
+  -- a corner is one of the list afterwards
+  corner-at : {m k′ b′ u P N : ℕ} → Corner sh cₖ m k′ b′ u P N → ((i : ℕ) → HalfUsed sh cₖ i → i ≢ k′) → In (sh .loops) m → u ≢ 0 → CornerAt sh (own sh yₖ) m (pick (eqb N k′) 0 N)
+  corner-at {m} {N = N} q off i z = ⊎-elim
+      (λ v. rw (eqb-same (v .after)) (inl (refl, λ t. z (sym (v .isolated) ∙ sym (sₖ .at Isolated m (i .1)) ∙ t))))
+      (λ v. let w = v .after in rw (eqb-other (off N w)) (inr ((w .0, w .1, λ t. w .2 (sym (sₖ .at Start N (w .1)) ∙ t)), sₖ .at Loop N (w .1) ∙ v .loop))) q
+
+  -- and is read there as it was
+  read-back : {m k′ b′ u P N : ℕ} → Corner sh cₖ m k′ b′ u P N → ((i : ℕ) → HalfUsed sh cₖ i → i ≢ k′) → In (sh .loops) m
+      → (pick (eqb (pick (eqb N k′) 0 N) 0) (own sh yₖ Isolated m) (own sh yₖ Start (pick (eqb N k′) 0 N)) ≡ u)
+      × (pick (eqb (pick (eqb N k′) 0 N) 0) b′ (own sh yₖ Prev (pick (eqb N k′) 0 N)) ≡ P)
+      × (pick (eqb (pick (eqb N k′) 0 N) 0) k′ (pick (eqb N k′) 0 N) ≡ N)
+  read-back {m} {N = N} q off i = ⊎-elim
+      (λ v. rw (eqb-same (v .after)) (sₖ .at Isolated m (i .1) ∙ v .isolated, sym (v .before), sym (v .after)))
+      (λ v. let w = v .after in let z : N ≢ 0 = λ t. omega (arith, w .0, t) in rw (eqb-other (off N w), eqb-other z) (sₖ .at Start N (w .1) ∙ v .start, sₖ .at Prev N (w .1) ∙ v .prev, refl)) q
+
+  -- mekr is accepted there
+  facts : MekrFacts sh (own sh yₖ) (dₖ Loop k) h₁ l2 h₂ (edgeOf k) (wayOf k)
+  facts =
+      let hi = bₖ .ends .half-in in
+      let li = bₖ .ends .loop-in in
+      let ri = bₖ .ends .ring-in in
+      let f-1 : own sh yₖ Face (dₖ Loop k) ≡ cₖ Face (dₖ Loop k) = sₖ .at Face (dₖ Loop k) (li .1) in
+      let f-2 : own sh yₖ Face l2 ≡ cₖ Face l2 = sₖ .at Face l2 (ri .1) in
+      let ru : cₖ Face l2 ≢ 0 = λ z. bₖ .ends .used (sym (bₖ .ends .one-face) ∙ z) in
+      let fi = kemr-sound g o .loop l2 ri ru .face-in in
+      let e2 : 2 * edgeOf k ≤ 2 * sh .edges = omega (arith, hi .1) in
+      record {
+        loop-in = li;
+        loop-used = λ z. bₖ .ends .used (sym f-1 ∙ z);
+        at-1 = corner-at (bₖ .ends .at-1) (off-k bₖ) li (λ z. omega (arith, bₖ .ends .in-1 .0, z));
+        ring-in = ri;
+        ring-used = λ z. ru (sym f-2 ∙ z);
+        at-2 = corner-at (bₖ .ends .at-2) (off-a bₖ) ri (λ z. omega (arith, bₖ .ends .in-2 .0, z));
+        edge-in = edge-in k (sh .edges) hi;
+        edge-free = sₖ .at Start (2 * edgeOf k) e2 ∙ ⊎-elim (λ q. ap (cₖ Start) q ∙ bₖ .ends .zero-k .s) (λ q. ap (cₖ Start) q ∙ bₖ .ends .zero-a .s) (second-half k);
+        way = way-small k;
+        two = bₖ .ends .two;
+        one-face = f-1 ∙ sym (f-2 ∙ bₖ .ends .one-face);
+        ring = λ z. bₖ .ends .ring (sym (sₖ .at Outer (cₖ Face l2) (fi .1)) ∙ ap (own sh yₖ Outer) (sym f-2) ∙ z);
+      }
+
+  -- the half that it names is k
+  hₖ : halfBy (edgeOf k) (wayOf k) ≡ k
+  hₖ = half-is k (o .half .0)
+
+  -- mekr leads back to the same columns
+  kemr-back : Alike sh (mekrColumns sh (own sh yₖ) k (dₖ Loop k) l2
+      (pick (eqb h₁ 0) (own sh yₖ Isolated (dₖ Loop k)) (own sh yₖ Start h₁)) (pick (eqb h₁ 0) (mate k) (own sh yₖ Prev h₁)) (pick (eqb h₁ 0) k h₁)
+      (pick (eqb h₂ 0) (own sh yₖ Isolated l2) (own sh yₖ Start h₂)) (pick (eqb h₂ 0) k (own sh yₖ Prev h₂)) (pick (eqb h₂ 0) (mate k) h₂)) (own sh x)
+  kemr-back =
+      let q1 = read-back (bₖ .ends .at-1) (off-k bₖ) (bₖ .ends .loop-in) in
+      let q2 = read-back (bₖ .ends .at-2) (off-a bₖ) (bₖ .ends .ring-in) in
+      up-same (mekr-sound gₖ (ends gₖ facts hₖ)) (g .sound) (bridged-as (up-bridged (ends gₖ facts hₖ)) refl (q1 .0) (q1 .1) (q1 .2) (q2 .0) (q2 .1) (q2 .2)) bₖ (λ F i v h. sₖ .at F i h)
+
+  -- mekr gives everything back
+  kemr-undone : Undone sh x p (kemrOf k l2)
+  kemr-undone =
+      let el = kemr-links sh x (g .capacities) o in
+      let ep = kemr-points sh x (g .capacities) o p in
+      let ei = kemr-inverse sh x (g .capacities) o p in
+      record {
+        accepted = rw (el, ei) (mekr-accepted sh yₖ (g .capacities) facts);
+        links = rw (el, ei) (mekr-links sh yₖ (g .capacities) facts k hₖ ∙ shows-ext (mekr-shows gₖ (ends gₖ facts hₖ)) (good-shows g) kemr-back);
+        points = rw (el, ep, ei) (mekr-points sh yₖ (g .capacities) facts p);
+        again = rw (el, ep, ei) (mekr-inverse sh yₖ p (g .capacities) facts ∙ ap (λ j. kemrOf j l2) hₖ);
+      }
+
+-- ---- as operators
+
+-- both for mekr
+pub mekr-holds : (sh : Shape) (x : List ℕ) (p : List ℤ) (o : Operator) → Good sh x p → length (o .args) ≡ 8 → o .code ≡ 8 → refusalOf sh x o ≡ 0 → Kept sh x p o × Undone sh x p o
+mekr-holds sh x p o g len e h =
+    let r = mekr-said sh x o (g .capacities) len e h in
+    subst (λ q. Kept sh x p q × Undone sh x p q) (sym (r .is)) (mekr-kept g (r .facts) refl, mekr-undone g (r .facts) refl)
+
+-- both for kemr
+pub kemr-holds : (sh : Shape) (x : List ℕ) (p : List ℤ) (o : Operator) → Good sh x p → length (o .args) ≡ 8 → o .code ≡ 7 → refusalOf sh x o ≡ 0 → Kept sh x p o × Undone sh x p o
+kemr-holds sh x p o g len e h =
+    let r = kemr-facts sh x o (g .capacities) len e h in
+    subst (λ q. Kept sh x p q × Undone sh x p q) (sym (r .is)) (kemr-kept g (r .span), kemr-undone g (r .span))

@@ -1,0 +1,356 @@
+-- The columns after kemr: they differ from those before by the bridge. The walk from next of k to its mate meets the half-edges of the new ring.
+use mathlib.Core.Path.{_≡_, refl, sym, ap, _∙_, subst}
+use mathlib.Core.Logic.{_≢_, inl, inr, ⊎-elim}
+use mathlib.Core.List.{List}
+use Prim.Native.Nat.{ℕ, _*_, _<_}
+use native.Mathlib.Omega.{arith}
+use lib.Dec.{eqb}
+use lib.IntN.{ℤ}
+use Rattle.laws.specs.Bools.{pick, split, eqb-same, eqb-other}
+use Rattle.laws.specs.Update.{upd-same, upd-off}
+use Rattle.laws.specs.Permutations.{Perm, inj}
+use Rattle.laws.specs.Cycles.{alone}
+use Rattle.layout.specs.declared.shape.Shape.{Shape}
+use Rattle.layout.specs.Mate.{mate}
+use Rattle.layout.specs.MateLaws.{mate-mate}
+use Rattle.layout.specs.Fields.{Capacity, SolidUsed, Solid, Outer, Face, First, Isolated, Start, Loop, Next, Prev, VertexUsed, Columns, change}
+use Rattle.sound_tables.specs.Mates.{mate-other}
+use Rattle.sound_tables.specs.EdgeIn.{prev-in, next-prev}
+use Rattle.sound_tables.specs.Sound.{In, HalfUsed, firstOf, Sound}
+use Rattle.sound_tables.specs.Names.{not-isolated}
+use Rattle.sound_tables.specs.Walking.{Steps, runColumns, run-met, run-off, run-other}
+use Rattle.sound_tables.specs.Shown.{withoutEdge, withFirst}
+use Rattle.sound_bridges.specs.Relation.{Corner, Bridged}
+use Rattle.sound_bridges.specs.Runs.{Met, met?, run-to, met-in, not-k, not-a, met-next, met-prev, met-last, met-first}
+
+-- all but the firsts: the t half-edges of the run name l2, the edge is out, and l2 lies in the face of k
+abbrev pub cutColumns : Columns → (k l2 t : ℕ) → Columns
+cutColumns d k l2 t =
+    change (change (change (withoutEdge (runColumns d (d Next k) t l2) k (d Prev k) (d Next (mate k)) (d Prev (mate k)) (d Next k)) Face l2 (d Face (d Loop k))) First l2 0) Isolated l2 0
+
+-- the columns afterwards
+abbrev pub kemrColumns : Shape → Columns → (k l2 t : ℕ) → Columns
+kemrColumns sh d k l2 t =
+    withFirst
+    (withFirst (cutColumns d k l2 t) l2 (firstOf sh (cutColumns d k l2 t) l2) (pick (eqb (d Next k) (mate k)) (d Start (mate k)) 0))
+    (d Loop k) (firstOf sh (cutColumns d k l2 t) (d Loop k)) (pick (eqb (d Next (mate k)) k) (d Start k) 0)
+
+-- what is asked of the table before: k and its mate are in one loop, and l2 is free
+pub record Span (sh : Shape) (d : Columns) (k l2 : ℕ) : Type 0 where
+  pub half : HalfUsed sh d k
+  pub one : d Loop (mate k) ≡ d Loop k
+  pub ring-in : In (sh .loops) l2
+  pub free : d Face l2 ≡ 0
+
+module _ {sh : Shape} {p : List ℤ} {d : Columns} (A : Sound sh p d) {k l2 : ℕ} (o : Span sh d k l2) where
+  -- k's mate
+  abbrev a : ℕ
+  a = mate k
+
+  -- the loop of both
+  abbrev l : ℕ
+  l = d Loop k
+
+  -- how many half-edges there are at most
+  abbrev n : ℕ
+  n = 2 * sh .edges
+
+  -- what follows the mate
+  abbrev N1 : ℕ
+  N1 = d Next (mate k)
+
+  -- what follows k
+  abbrev N2 : ℕ
+  N2 = d Next k
+
+  -- what comes before k
+  abbrev P1 : ℕ
+  P1 = d Prev k
+
+  -- what comes before the mate
+  abbrev P2 : ℕ
+  P2 = d Prev (mate k)
+
+  -- next permutes the half-edges in use
+  perm : Perm (2 * sh .edges) (HalfUsed sh d) (d Next)
+  perm = A .rules .loops .perm
+
+  -- ---- around the edge
+
+  -- the mate is in use
+  ua : HalfUsed sh d a
+  ua = A .rules .mate-in k (o .half)
+
+  -- the two halves differ
+  ka : k ≢ a
+  ka = mate-other k (o .half .0)
+
+  -- the same the other way round
+  ak : a ≢ k
+  ak e = ka (sym e)
+
+  -- next of one in use is in use
+  next-in : (i : ℕ) → HalfUsed sh d i → HalfUsed sh d (d Next i)
+  next-in = perm .f-in
+
+  -- neither half is alone in its loop
+  N2k : N2 ≢ k
+  N2k e = ak (alone (A .rules .loops) (o .half) e a ua (o .one))
+
+  -- the mate is not
+  N1a : N1 ≢ a
+  N1a e = ka (alone (A .rules .loops) ua e k (o .half) (sym (o .one)))
+
+  -- nor does k come before itself
+  P1k : P1 ≢ k
+  P1k e = N2k (ap (d Next) (sym e) ∙ next-prev (A .rules) k (o .half))
+
+  -- nor the mate
+  P2a : P2 ≢ a
+  P2a e = N1a (ap (d Next) (sym e) ∙ next-prev (A .rules) a ua)
+
+  -- different half-edges come before the two
+  P12 : P1 ≢ P2
+  P12 e = ka (sym (next-prev (A .rules) k (o .half)) ∙ ap (d Next) e ∙ next-prev (A .rules) a ua)
+
+  -- and different ones follow them
+  N12 : N1 ≢ N2
+  N12 e = ak (inj perm ua (o .half) e)
+
+  -- ---- the walk
+
+  -- how long it is
+  pub walk : (t : ℕ) × (t < 2 * sh .edges) × Steps (d Next) (d Next k) (mate k) t
+  walk = run-to (A .rules .loops) (next-in k (o .half)) ua (A .rules .loops .keeps k (o .half) ∙ sym (o .one))
+
+  -- i is met on the way
+  abbrev OnRun : ℕ → Type 0
+  OnRun i = Met (d Next) (d Next k) (walk .0) i
+
+  -- the columns once the run names l2
+  abbrev e₀ : Columns
+  e₀ = runColumns d (d Next k) (walk .0) l2
+
+  -- the columns afterwards
+  abbrev c : Columns
+  c = kemrColumns sh d k l2 (walk .0)
+
+  -- the loops afterwards
+  loop-met : {i : ℕ} → OnRun i → e₀ Loop i ≡ l2
+  loop-met m = ap (e₀ Loop) (sym (m .2)) ∙ run-met d (walk .0) N2 l2 (m .0) (m .1)
+
+  -- all others name what they named
+  loop-off : {i : ℕ} → (OnRun i → ⊥) → e₀ Loop i ≡ d Loop i
+  loop-off {i} h = run-off d (walk .0) N2 l2 i (λ t b e. h (t, b, e))
+
+  -- by cases: on the run, or not
+  by-run : {C : Type 0} (i : ℕ) → (OnRun i → C) → ((OnRun i → ⊥) → C) → C
+  by-run i f g = ⊎-elim f (λ h. g (λ m. h (m .0) (m .1) (m .2))) (met? (d Next) (walk .0) N2 i)
+
+  -- away from the edge the loop is that of the walk
+  c-loop : (i : ℕ) → i ≢ k → i ≢ a → c Loop i ≡ e₀ Loop i
+  c-loop i e f = upd-off _ 0 f ∙ upd-off _ 0 e
+
+  -- and the start what it was
+  c-start : (i : ℕ) → i ≢ k → i ≢ a → c Start i ≡ d Start i
+  c-start i e f = upd-off _ 0 f ∙ upd-off _ 0 e ∙ run-other d (walk .0) N2 l2 Start refl i
+
+  -- what is in use and not of the edge stays in use
+  half-c : (i : ℕ) → HalfUsed sh d i → i ≢ k → i ≢ a → HalfUsed sh c i
+  half-c i w e f = (w .0, w .1, λ z. w .2 (sym (c-start i e f) ∙ z))
+
+  -- half-edges afterwards are other ones, and were in use
+  c-half : (i : ℕ) → HalfUsed sh c i → (i ≢ k) × (i ≢ a) × HalfUsed sh d i
+  c-half i w =
+      let f : i ≢ a = λ z. w .2 (ap (c Start) z ∙ upd-same _ a 0) in
+      let e : i ≢ k = λ z. w .2 (ap (c Start) z ∙ upd-off _ 0 ka ∙ upd-same _ k 0) in
+      (e, f, (w .0, w .1, λ z. w .2 (c-start i e f ∙ z)))
+
+  -- the loop is in use and the ring is not
+  two : l ≢ l2
+  two e = A .half k (o .half .0, o .half .1) (o .half .2) .loop-used (ap (d Face) e ∙ o .free)
+
+  -- no half-edge named the ring
+  not-l2 : (i : ℕ) → In n i → d Loop i ≢ l2
+  not-l2 i j e = split (d Start i) 0 (λ z. omega (arith, o .ring-in .0, sym e ∙ A .half-free i j z .loop)) (λ z. A .half i j z .loop-used (ap (d Face) e ∙ o .free))
+
+  -- what follows the mate is not met
+  N1-off : OnRun N1 → ⊥
+  N1-off m = ⊎-elim ak (not-a perm (o .half) (walk .2)) (met-prev perm (o .half) (walk .2) ua m)
+
+  -- P1 goes to k, so it is not met
+  P1-off : OnRun P1 → ⊥
+  P1-off m = ⊎-elim (λ e. ka (sym (next-prev (A .rules) k (o .half)) ∙ e)) (λ h. not-k perm (o .half) (walk .2) (subst OnRun (next-prev (A .rules) k (o .half)) h)) (met-next perm (o .half) (walk .2) m)
+
+  -- it names the loop
+  l-N1 : d Loop N1 ≡ l
+  l-N1 = A .rules .loops .keeps a ua ∙ o .one
+
+  -- and so does what comes before k
+  l-P1 : d Loop P1 ≡ l
+  l-P1 = sym (A .rules .loops .keeps P1 (prev-in (A .rules) k (o .half))) ∙ ap (d Loop) (next-prev (A .rules) k (o .half))
+
+  -- away from the edge and its neighbours next is what it was
+  c-next : (i : ℕ) → i ≢ k → i ≢ a → i ≢ P1 → i ≢ P2 → c Next i ≡ d Next i
+  c-next i e f g h = upd-off _ 0 f ∙ upd-off _ 0 e ∙ upd-off _ N2 h ∙ upd-off _ N1 g ∙ run-other d (walk .0) N2 l2 Next refl i
+
+  -- what came before k goes to what followed the mate
+  next-P1 : P1 ≢ a → c Next P1 ≡ N1
+  next-P1 e = upd-off _ 0 e ∙ upd-off _ 0 P1k ∙ upd-off _ N2 P12 ∙ upd-same _ P1 N1
+
+  -- and what came before the mate to what followed k
+  next-P2 : P2 ≢ k → c Next P2 ≡ N2
+  next-P2 e = upd-off _ 0 P2a ∙ upd-off _ 0 e ∙ upd-same _ P2 N2
+
+  -- afterwards next keeps the loops
+  c-keeps : (i : ℕ) → HalfUsed sh c i → c Loop (c Next i) ≡ c Loop i
+  c-keeps i w =
+      let v = c-half i w in
+      split i P1
+      (λ e.
+      let Pa : P1 ≢ a = λ z. v .1 (e ∙ z) in
+      let Nk : N1 ≢ k = λ z. Pa (ap (d Prev) (sym z) ∙ A .rules .undone a ua) in
+      ap (c Loop) (ap (c Next) e ∙ next-P1 Pa) ∙ c-loop N1 Nk N1a ∙ loop-off N1-off ∙ l-N1 ∙ sym (ap (c Loop) e ∙ c-loop P1 P1k Pa ∙ loop-off P1-off ∙ l-P1))
+      (λ e. split i P2
+      (λ f.
+      let Pk : P2 ≢ k = λ z. v .0 (f ∙ z) in
+      let Na : N2 ≢ a = λ z. Pk (ap (d Prev) (sym z) ∙ A .rules .undone k (o .half)) in
+      ap (c Loop) (ap (c Next) f ∙ next-P2 Pk) ∙ c-loop N2 N2k Na ∙ loop-met (met-first perm (o .half) (walk .2) Na)
+      ∙ sym (ap (c Loop) f ∙ c-loop P2 Pk P2a ∙ loop-met (met-last perm (o .half) (walk .2) (prev-in (A .rules) a ua) (next-prev (A .rules) a ua) Na)))
+      (λ f.
+      let nk : d Next i ≢ k = λ z. e (sym (A .rules .undone i (v .2)) ∙ ap (d Prev) z) in
+      let na : d Next i ≢ a = λ z. f (sym (A .rules .undone i (v .2)) ∙ ap (d Prev) z) in
+      ap (c Loop) (c-next i (v .0) (v .1) e f) ∙ c-loop (d Next i) nk na ∙ by-run i
+      (λ m. ⊎-elim (λ z. absurd (na z)) (λ m′. loop-met m′) (met-next perm (o .half) (walk .2) m) ∙ sym (c-loop i (v .0) (v .1) ∙ loop-met m))
+      (λ m. loop-off (λ m′. ⊎-elim (v .0) m (met-prev perm (o .half) (walk .2) (v .2) m′)) ∙ A .rules .loops .keeps i (v .2) ∙ sym (c-loop i (v .0) (v .1) ∙ loop-off m))))
+
+  -- ---- the corners
+
+  -- the isolated vertex of the loop
+  isolated-l : c Isolated l ≡ pick (eqb N1 k) (d Start k) 0
+  isolated-l = upd-same _ l _
+
+  -- and of the ring
+  isolated-l2 : c Isolated l2 ≡ pick (eqb N2 a) (d Start a) 0
+  isolated-l2 = upd-off _ _ (λ e. two (sym e)) ∙ upd-same _ l2 _
+
+  -- the corner of the loop
+  corner-1 : Corner sh c l k a (d Start k) P1 N1
+  corner-1 = split N1 k
+      (λ e. inl (record { before = ap (d Prev) (sym e) ∙ A .rules .undone a ua; after = e; isolated = isolated-l ∙ rw (eqb-same e) }))
+      (λ e.
+      let Pa : P1 ≢ a = λ z. e (ap (d Next) (sym z) ∙ next-prev (A .rules) k (o .half)) in
+      inr (record {
+        before = half-c P1 (prev-in (A .rules) k (o .half)) P1k Pa;
+        after = half-c N1 (next-in a ua) e N1a;
+        next = next-P1 Pa;
+        prev = upd-off _ 0 N1a ∙ upd-off _ 0 e ∙ upd-off _ P2 N12 ∙ upd-same _ N1 P1;
+        loop = c-loop N1 e N1a ∙ loop-off N1-off ∙ l-N1;
+        start = c-start N1 e N1a ∙ A .rules .verts .keeps k (o .half);
+        isolated = isolated-l ∙ rw (eqb-other e);
+      }))
+
+  -- the corner of the ring
+  corner-2 : Corner sh c l2 a k (d Start a) P2 N2
+  corner-2 = split N2 a
+      (λ e. inl (record { before = ap (d Prev) (sym e) ∙ A .rules .undone k (o .half); after = e; isolated = isolated-l2 ∙ rw (eqb-same e) }))
+      (λ e.
+      let Pk : P2 ≢ k = λ z. e (ap (d Next) (sym z) ∙ next-prev (A .rules) a ua) in
+      inr (record {
+        before = half-c P2 (prev-in (A .rules) a ua) Pk P2a;
+        after = half-c N2 (next-in k (o .half)) N2k e;
+        next = next-P2 Pk;
+        prev = upd-off _ 0 e ∙ upd-off _ 0 N2k ∙ upd-same _ N2 P2;
+        loop = c-loop N2 N2k e ∙ loop-met (met-first perm (o .half) (walk .2) e);
+        start = c-start N2 N2k e ∙ ap (λ i. d Start (d Next i)) (sym (mate-mate k)) ∙ A .rules .verts .keeps a ua;
+        isolated = isolated-l2 ∙ rw (eqb-other e);
+      }))
+
+  -- the loop of k has a half-edge
+  l-in : In (sh .loops) l
+  l-in = A .half k (o .half .0, o .half .1) (o .half .2) .loop-in
+
+  -- and lies in a face
+  l-used : d Face l ≢ 0
+  l-used = A .half k (o .half .0, o .half .1) (o .half .2) .loop-used
+
+  -- so it is not isolated
+  l-isolated : d Isolated l ≡ 0
+  l-isolated = not-isolated A k (o .half) refl
+
+  -- its face stays
+  face-l : c Face l ≡ d Face l
+  face-l = upd-off _ _ two ∙ run-other d (walk .0) N2 l2 Face refl l
+
+  -- outer loops stay
+  outer : (i : ℕ) → d Outer i ≡ c Outer i
+  outer i = sym (run-other d (walk .0) N2 l2 Outer refl i)
+
+  -- and so do vertices
+  vertex : (i : ℕ) → d VertexUsed i ≡ c VertexUsed i
+  vertex i = sym (run-other d (walk .0) N2 l2 VertexUsed refl i)
+
+  -- before and after kemr
+  pub down-bridged : Bridged sh (kemrColumns sh d k l2 (walk .0)) d k (d Loop k) l2 (d Start k) (d Prev k) (d Next (mate k)) (d Start (mate k)) (d Prev (mate k)) (d Next k)
+  down-bridged =
+      let hk = A .half k (o .half .0, o .half .1) (o .half .2) in
+      let ha = A .half a (ua .0, ua .1) (ua .2) in
+      let L = A .loop l l-in l-used in
+      record {
+        ends = record {
+          half-in = (o .half .0, o .half .1);
+          mate-in = (ua .0, ua .1);
+          loop-in = l-in;
+          ring-in = o .ring-in;
+          two = two;
+          used = λ z. l-used (sym face-l ∙ z);
+          one-face = upd-same _ l2 _ ∙ sym face-l;
+          ring = λ e. omega (arith, L .face-in .0, sym (A .face (d Face l) (L .face-in) (L .face-used) .outer-face) ∙ ap (d Face) (outer (d Face l) ∙ ap (c Outer) (sym (upd-same _ l2 _)) ∙ e) ∙ o .free);
+          at-1 = corner-1;
+          at-2 = corner-2;
+          in-1 = hk .start-in;
+          in-2 = ha .start-in;
+          used-1 = λ z. hk .start-used (vertex _ ∙ z);
+          used-2 = λ z. ha .start-used (vertex _ ∙ z);
+          zero-k = record { s = upd-off _ 0 ka ∙ upd-same _ k 0; l = upd-off _ 0 ka ∙ upd-same _ k 0; n = upd-off _ 0 ka ∙ upd-same _ k 0; p = upd-off _ 0 ka ∙ upd-same _ k 0 };
+          zero-a = record { s = upd-same _ a 0; l = upd-same _ a 0; n = upd-same _ a 0; p = upd-same _ a 0 };
+          keeps = c-keeps;
+        };
+        start-k = refl;
+        start-a = refl;
+        start-o = λ i e f. sym (c-start i e f);
+        loop-k = refl;
+        loop-a = o .one;
+        loop-2 = λ i j z. split i k (λ e. absurd (omega (arith, o .ring-in .0, sym z ∙ ap (c Loop) e ∙ upd-off _ 0 ka ∙ upd-same _ k 0))) (λ e. split i a (λ f. absurd (omega (arith, o .ring-in .0, sym z ∙ ap (c Loop) f ∙ upd-same _ a 0)))
+            (λ f. by-run i (λ m. met-in (A .rules .loops) (next-in k (o .half)) m .1 ∙ A .rules .loops .keeps k (o .half)) (λ m. absurd (not-l2 i j (sym (c-loop i e f ∙ loop-off m) ∙ z)))));
+        loop-o = λ i e f z. by-run i (λ m. absurd (z (c-loop i e f ∙ loop-met m))) (λ m. sym (c-loop i e f ∙ loop-off m));
+        next-k = refl;
+        next-a = refl;
+        next-1 = next-prev (A .rules) k (o .half);
+        next-2 = next-prev (A .rules) a ua;
+        next-o = λ i e f g h. sym (c-next i e f g h);
+        prev-k = refl;
+        prev-a = refl;
+        prev-1 = A .rules .undone a ua;
+        prev-2 = A .rules .undone k (o .half);
+        prev-o = λ i e f g h. sym (upd-off _ 0 f ∙ upd-off _ 0 e ∙ upd-off _ P2 h ∙ upd-off _ P1 g ∙ run-other d (walk .0) N2 l2 Prev refl i);
+        face-2 = o .free;
+        face-o = λ m e. sym (upd-off _ _ e ∙ run-other d (walk .0) N2 l2 Face refl m);
+        first-o = λ m e f. sym (upd-off _ _ e ∙ upd-off _ _ f ∙ upd-off _ 0 f ∙ run-other d (walk .0) N2 l2 First refl m);
+        isolated-1 = l-isolated;
+        isolated-2 = A .loop-free l2 (o .ring-in) (o .free) .1;
+        isolated-o = λ m e f. sym (upd-off _ _ e ∙ upd-off _ _ f ∙ upd-off _ 0 f ∙ run-other d (walk .0) N2 l2 Isolated refl m);
+        capacity = λ i. sym (run-other d (walk .0) N2 l2 Capacity refl i);
+        solid-used = λ i. sym (run-other d (walk .0) N2 l2 SolidUsed refl i);
+        solid = λ i. sym (run-other d (walk .0) N2 l2 Solid refl i);
+        outer = outer;
+        vertex-used = vertex;
+      }
+
+  -- the firsts of the two
+  pub down-first : c First l ≡ firstOf sh c l
+  down-first = upd-same _ l _
+
+  -- and the other
+  pub down-first-2 : c First l2 ≡ firstOf sh c l2
+  down-first-2 = upd-off _ _ (λ e. two (sym e)) ∙ upd-same _ l2 _

@@ -1,0 +1,206 @@
+-- kemr on the columns: where d is sound, and c has the rules with dummies and the firsts of its two loops, c is sound.
+use mathlib.Core.Path.{_≡_, sym, ap, _∙_, subst}
+use mathlib.Core.Logic.{_≢_, inl, inr, ⊎-elim}
+use mathlib.Core.List.{List}
+use Prim.Native.Nat.{ℕ, _+_, _-_, _*_}
+use native.Mathlib.Omega.{arith}
+use lib.IntN.{ℤ}
+use Rattle.laws.specs.Bools.{split}
+use Rattle.laws.specs.Search.{least-ext}
+use Rattle.laws.specs.Linked.{same, link, map-linked}
+use Rattle.layout.specs.declared.shape.Shape.{Shape}
+use Rattle.layout.specs.Mate.{mate}
+use Rattle.layout.specs.MateLaws.{mate-mate}
+use Rattle.layout.specs.Fields.{Solid, Outer, Face, First, Isolated, Start, Loop, Next, Prev, VertexUsed, SolidUsed, Columns}
+use Rattle.sound_tables.specs.Mates.{mate⁺}
+use Rattle.sound_tables.specs.EdgeIn.{Rules}
+use Rattle.sound_tables.specs.Solids.{Solids}
+use Rattle.sound_tables.specs.Sound.{In, HalfUsed, FaceUsed, side, firstOf, LoopSound, HalfSound, HalfFree, Sound, half-by}
+use Rattle.sound_tables.specs.Names.{lone-kept}
+use Rattle.sound_tables.specs.WithDummies.{upTo-low, upTo-high, extended, Member, Corners, sound-corners, corners-rules, corners-loop, corners-vertex}
+use Rattle.sound_bridges.specs.Relation.{Corner, Bridged, corner-before, corner-after, corner-member, off-k, off-a, half-stays, half-back, dummy-was, side-same, side-k, side-a, same-name}
+
+module _ {sh : Shape} {p : List ℤ} {c d : Columns} {k l l2 u1 P1 N1 u2 P2 N2 : ℕ} (a : Sound sh p d) (b : Bridged sh c d k l l2 u1 P1 N1 u2 P2 N2)
+    (rules⁺ : Rules (2 * sh .edges + sh .loops) (mate⁺ (sh .edges)) (Member sh c) (extended sh c)) (first-1 : c First l ≡ firstOf sh c l) (first-2 : c First l2 ≡ firstOf sh c l2) where
+  -- how many half-edges there are at most
+  abbrev n : ℕ
+  n = 2 * sh .edges
+
+  -- ---- members of loops and vertices
+
+  -- the members at the two corners
+  member-1 : (j : ℕ) × Member sh c j × (extended sh c .loop j ≡ l) × (extended sh c .start j ≡ u1)
+  member-1 = corner-member (b .ends .loop-in) (λ z. omega (arith, b .ends .in-1 .0, z)) (b .ends .at-1)
+
+  -- and at the other
+  member-2 : (j : ℕ) × Member sh c j × (extended sh c .loop j ≡ l2) × (extended sh c .start j ≡ u2)
+  member-2 = corner-member (b .ends .ring-in) (λ z. omega (arith, b .ends .in-2 .0, z)) (b .ends .at-2)
+
+  -- one of another loop of c
+  loop-member : (m : ℕ) → m ≢ l → m ≢ l2 → (i : ℕ) → Member sh d i → extended sh d .loop i ≡ m → (j : ℕ) × Member sh c j × (extended sh c .loop j ≡ m)
+  loop-member m x y i (inl w) e =
+      let f : d Loop i ≡ m = sym (upTo-low n (d Loop) _ i (w .1)) ∙ e in
+      let ik : i ≢ k = λ z. x (sym f ∙ ap (d Loop) z ∙ b .loop-k) in
+      let ia : i ≢ mate k = λ z. x (sym f ∙ ap (d Loop) z ∙ b .loop-a) in
+      (i, inl (half-back b i w ik ia), upTo-low n (c Loop) _ i (w .1) ∙ sym (b .loop-o i ik ia (λ q. x (sym f ∙ b .loop-2 i (w .0, w .1) q))) ∙ f)
+  loop-member m x y i (inr w) e = (i, inr (dummy-was b i w), upTo-high n (c Loop) (λ j. j - n) i (w .0) ∙ sym (upTo-high n (d Loop) (λ j. j - n) i (w .0)) ∙ e)
+
+  -- one of a vertex of c
+  vertex-member : (w : ℕ) → (i : ℕ) → Member sh d i → extended sh d .start i ≡ w → (j : ℕ) × Member sh c j × (extended sh c .start j ≡ w)
+  vertex-member w i (inl x) e =
+      let f : d Start i ≡ w = sym (upTo-low n (d Start) _ i (x .1)) ∙ e in
+      split i k (λ z. (member-1 .0, member-1 .1, member-1 .3 ∙ sym (b .start-k) ∙ ap (d Start) (sym z) ∙ f))
+      (λ z. split i (mate k) (λ z′. (member-2 .0, member-2 .1, member-2 .3 ∙ sym (b .start-a) ∙ ap (d Start) (sym z′) ∙ f))
+      (λ z′. (i, inl (half-back b i x z z′), upTo-low n (c Start) _ i (x .1) ∙ sym (b .start-o i z z′) ∙ f)))
+  vertex-member w i (inr x) e =
+      let y : (i - n ≢ l) × (i - n ≢ l2) = (λ q. x .2 (ap (d Isolated) q ∙ b .isolated-1), λ q. x .2 (ap (d Isolated) q ∙ b .isolated-2)) in
+      (i, inr (dummy-was b i x), upTo-high n (c Start) (λ j. c Isolated (j - n)) i (x .0) ∙ sym (b .isolated-o _ (y .0) (y .1)) ∙ sym (upTo-high n (d Start) (λ j. d Isolated (j - n)) i (x .0)) ∙ e)
+
+  -- another loop in use in c is in use in d
+  face-was : (m : ℕ) → m ≢ l2 → c Face m ≢ 0 → d Face m ≢ 0
+  face-was m x h z = h (sym (b .face-o m x) ∙ z)
+
+  -- the form with dummies
+  c-corners : Corners sh c
+  c-corners = record {
+    rules = rules⁺;
+    loop = λ m i h. split m l (λ e. (member-1 .0, member-1 .1, member-1 .2 ∙ sym e)) (λ e. split m l2 (λ f. (member-2 .0, member-2 .1, member-2 .2 ∙ sym f))
+        (λ f. let r = sound-corners a .loop m i (face-was m f h) in loop-member m e f (r .0) (r .1) (r .2)));
+    vertex = λ w i h. let r = sound-corners a .vertex w i (λ z. h (sym (b .vertex-used w) ∙ z)) in vertex-member w (r .0) (r .1) (r .2);
+  }
+
+  -- ---- loops
+
+  -- a vertex in use in d is so in c
+  used : (w : ℕ) → d VertexUsed w ≢ 0 → c VertexUsed w ≢ 0
+  used w x z = x (b .vertex-used w ∙ z)
+
+  -- and a face
+  solid-back : (f : ℕ) → d Solid f ≢ 0 → c Solid f ≢ 0
+  solid-back f x z = x (b .solid f ∙ z)
+
+  -- at a corner of the two
+  corner-used : {m k′ b′ u P N : ℕ} → Corner sh c m k′ b′ u P N → In (sh .vertices) u → c VertexUsed u ≢ 0 → c Isolated m ≢ 0 → In (sh .vertices) (c Isolated m) × (c VertexUsed (c Isolated m) ≢ 0)
+  corner-used q i x h = ⊎-elim (λ r. (subst (In (sh .vertices)) (sym (r .isolated)) i, λ z. x (ap (c VertexUsed) (sym (r .isolated)) ∙ z))) (λ r. absurd (h (r .isolated))) q
+
+  -- an isolated vertex is in use
+  isolated-used : (m : ℕ) → In (sh .loops) m → c Isolated m ≢ 0 → In (sh .vertices) (c Isolated m) × (c VertexUsed (c Isolated m) ≢ 0)
+  isolated-used m y h = split m l
+      (λ e. subst (λ m. c Isolated m ≢ 0 → In (sh .vertices) (c Isolated m) × (c VertexUsed (c Isolated m) ≢ 0)) (sym e) (corner-used (b .ends .at-1) (b .ends .in-1) (b .ends .used-1)) h)
+      (λ e. split m l2
+      (λ f. subst (λ m. c Isolated m ≢ 0 → In (sh .vertices) (c Isolated m) × (c VertexUsed (c Isolated m) ≢ 0)) (sym f) (corner-used (b .ends .at-2) (b .ends .in-2) (b .ends .used-2)) h)
+      (λ f. lone-kept a c m y (sym (b .isolated-o m e f)) used h))
+
+  -- a free half-edge is all zero
+  c-half-free : (i : ℕ) → In n i → c Start i ≡ 0 → HalfFree sh c i
+  c-half-free i j z = split i k
+      (λ e. record { loop = ap (c Loop) e ∙ b .ends .zero-k .l; next = ap (c Next) e ∙ b .ends .zero-k .n; prev = ap (c Prev) e ∙ b .ends .zero-k .p })
+      (λ e. split i (mate k)
+      (λ f. record { loop = ap (c Loop) f ∙ b .ends .zero-a .l; next = ap (c Next) f ∙ b .ends .zero-a .n; prev = ap (c Prev) f ∙ b .ends .zero-a .p })
+      (λ f.
+      let r = a .half-free i j (b .start-o i e f ∙ z) in
+      let g : c Loop i ≢ l2 = λ q. omega (arith, b .ends .loop-in .0, sym (b .loop-2 i j q) ∙ r .loop) in
+      record {
+        loop = sym (b .loop-o i e f g) ∙ r .loop;
+        next = sym (b .next-o i e f (corner-before (b .ends .at-1) f z) (corner-before (b .ends .at-2) e z)) ∙ r .next;
+        prev = sym (b .prev-o i e f (corner-after (b .ends .at-1) e z) (corner-after (b .ends .at-2) f z)) ∙ r .prev;
+      }))
+
+  -- the face of both loops
+  l-loop : LoopSound sh d l
+  l-loop = a .loop l (b .ends .loop-in) (face-was l (b .ends .two) (b .ends .used))
+
+  -- from a loop of d in the same face
+  loop-by : (m m′ : ℕ) → In (sh .loops) m → c Face m ≢ 0 → c Face m ≡ d Face m′ → LoopSound sh d m′ → c First m ≡ firstOf sh c m → LoopSound sh c m
+  loop-by m m′ y h e r f = record {
+    face-in = subst (In (sh .faces)) (sym e) (r .face-in);
+    face-used = λ z. solid-back _ (r .face-used) (ap (c Solid) (sym e) ∙ z);
+    first = f;
+    either = corners-loop c-corners (λ i j z. c-half-free i j z .loop) m y h f (isolated-used m y);
+  }
+
+  -- a loop in use is sound
+  c-loop : (m : ℕ) → In (sh .loops) m → c Face m ≢ 0 → LoopSound sh c m
+  c-loop m y h = split m l
+      (λ e. loop-by m l y h (ap (c Face) e ∙ sym (b .face-o l (b .ends .two))) l-loop (ap (c First) e ∙ first-1 ∙ ap (firstOf sh c) (sym e)))
+      (λ e. split m l2
+      (λ f. loop-by m l y h (ap (c Face) f ∙ b .ends .one-face ∙ sym (b .face-o l (b .ends .two))) l-loop (ap (c First) f ∙ first-2 ∙ ap (firstOf sh c) (sym f)))
+      (λ f.
+      let r = a .loop m y (face-was m f h) in
+      loop-by m m y h (sym (b .face-o m f)) r (sym (b .first-o m e f) ∙ r .first ∙ sym (least-ext n _ _ (λ i w z. same-name b m y e f i (w, z))))))
+
+  -- ---- half-edges
+
+  -- a half-edge in use is sound
+  c-half : (i : ℕ) → HalfUsed sh c i → HalfSound sh c i
+  c-half i w =
+      let v = half-stays b i w in
+      let r = a .half i (v .0, v .1) (v .2) in
+      let es : d Start i ≡ c Start i = b .start-o i (off-k b i w) (off-a b i w) in
+      let by : (m : ℕ) → c Loop i ≡ m → In (sh .loops) m → c Face m ≢ 0 → HalfSound sh c i = λ m em x y.
+      half-by (d Start i) m (sym es) em (r .start-in) (used _ (r .start-used)) x y in
+      split (c Loop i) l2
+      (λ e. by l2 e (b .ends .ring-in) (λ z. b .ends .used (sym (b .ends .one-face) ∙ z)))
+      (λ e.
+      let f : d Loop i ≡ c Loop i = b .loop-o i (off-k b i w) (off-a b i w) e in
+      by (d Loop i) (sym f) (r .loop-in) (λ z. r .loop-used (b .face-o _ (λ q. e (sym f ∙ q)) ∙ z)))
+
+  -- ---- faces
+
+  -- equal faces have one solid, in either table
+  solid-of : {f g : ℕ} → f ≡ g → c Solid f ≡ d Solid g
+  solid-of {f} {g} e = ap (c Solid) e ∙ sym (b .solid g)
+
+  -- what the bridge has on its sides is one face
+  one-side : (i : ℕ) → (i ≡ k) → side d i ≡ side d (mate i)
+  one-side i e = ap (side d) e ∙ side-k b ∙ sym (side-a b) ∙ ap (λ j. side d (mate j)) (sym e)
+
+  -- from its other half as well
+  other-side : (i : ℕ) → (i ≡ mate k) → side d i ≡ side d (mate i)
+  other-side i e = ap (side d) e ∙ side-a b ∙ sym (side-k b) ∙ ap (side d) (sym (mate-mate k)) ∙ ap (λ j. side d (mate j)) (sym e)
+
+  -- mates of c are of c
+  mate-back : (i : ℕ) → HalfUsed sh c i → HalfUsed sh c (mate i)
+  mate-back i w = half-back b (mate i) (a .rules .mate-in i (half-stays b i w))
+      (λ e. off-a b i w (sym (mate-mate i) ∙ ap mate e)) (λ e. off-k b i w (sym (mate-mate i) ∙ ap mate e ∙ mate-mate k))
+
+  -- rule 6: what the bridge linked was one face already
+  c-solids : Solids (HalfUsed sh c) (FaceUsed sh c) (side c) mate (c Solid)
+  c-solids = record {
+    side-in = λ i w. let f = a .solids .side-in i (half-stays b i w) in subst (FaceUsed sh c) (side-same b i w) (f .0, f .1, solid-back _ (f .2));
+    edge = λ i w. solid-of (sym (side-same b (mate i) (mate-back i w))) ∙ a .solids .edge i (half-stays b i w) ∙ sym (solid-of (sym (side-same b i w)));
+    one = λ f g x y e. map-linked (λ i. i)
+        (λ i j t. split (t .0) k (λ q. same (sym (t .2) ∙ one-side (t .0) q ∙ t .3)) (λ q. split (t .0) (mate k) (λ q′. same (sym (t .2) ∙ other-side (t .0) q′ ∙ t .3))
+        (λ q′. let w = half-back b (t .0) (t .1) q q′ in link (t .0, w, sym (side-same b (t .0) w) ∙ t .2, sym (side-same b (mate (t .0)) (mate-back (t .0) w)) ∙ t .3))))
+        (a .solids .one f g (x .0, x .1, λ z. x .2 (sym (b .solid f) ∙ z)) (y .0, y .1, λ z. y .2 (sym (b .solid g) ∙ z)) (b .solid f ∙ e ∙ sym (b .solid g)));
+  }
+
+  -- the table without the bridge is sound
+  pub down-sound : Sound sh p c
+  down-sound = record {
+    solid-mark = λ s i. rw (← b .solid-used s) (a .solid-mark s i);
+    solid = λ s i h. let r = a .solid s i (λ z. h (sym (b .solid-used s) ∙ z)) in (r .0, r .1, sym (b .solid (r .0)) ∙ r .2);
+    face-free = λ f i h. sym (b .outer f) ∙ a .face-free f i (b .solid f ∙ h);
+    face = λ f i h.
+        let r = a .face f i (λ z. h (sym (b .solid f) ∙ z)) in
+        let o : c Outer f ≢ l2 = λ e. omega (arith, i .0, sym (r .outer-face) ∙ ap (d Face) (b .outer f ∙ e) ∙ b .face-2) in
+        record {
+          solid-in = subst (In (sh .solids)) (b .solid f) (r .solid-in);
+          solid-used = λ z. r .solid-used (b .solid-used _ ∙ ap (c SolidUsed) (b .solid f) ∙ z);
+          outer-in = subst (In (sh .loops)) (b .outer f) (r .outer-in);
+          outer-face = sym (b .face-o _ o) ∙ ap (d Face) (sym (b .outer f)) ∙ r .outer-face;
+        };
+    loop-free = λ m i h.
+        let f : m ≢ l = λ q. b .ends .used (ap (c Face) (sym q) ∙ h) in
+        let e : m ≢ l2 = λ q. b .ends .used (sym (b .ends .one-face) ∙ ap (c Face) (sym q) ∙ h) in
+        let r = a .loop-free m i (b .face-o m e ∙ h) in
+        (sym (b .first-o m f e) ∙ r .0, sym (b .isolated-o m f e) ∙ r .1);
+    loop = c-loop;
+    half-free = c-half-free;
+    half = λ i j h. c-half i (j .0, j .1, h);
+    vertex-mark = λ w i. rw (← b .vertex-used w) (a .vertex-mark w i);
+    vertex = corners-vertex c-corners;
+    point = λ w i. let r = a .point w i in record { range = r .range; zero = λ h. r .zero (b .vertex-used w ∙ h) };
+    rules = corners-rules c-corners;
+    solids = c-solids;
+  }

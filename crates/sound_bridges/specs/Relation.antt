@@ -1,0 +1,197 @@
+-- Two tables that differ by a bridge: in c the loops l and l2 of one face, in d the one loop l with an edge k, a between two of their corners. mekr leads
+-- from c to d and kemr from d to c; what is said of the two together stands here once.
+use mathlib.Core.Path.{_≡_, sym, ap, _∙_, subst}
+use mathlib.Core.Logic.{_≢_, _⊎_, inl, inr, ⊎-elim}
+use Prim.Native.Nat.{ℕ, _+_, _-_, _*_}
+use native.Mathlib.Omega.{arith}
+use lib.Dec.{eqb}
+use Rattle.laws.specs.Bools.{split, eqb-other}
+use Rattle.layout.specs.declared.shape.Shape.{Shape}
+use Rattle.layout.specs.Mate.{mate}
+use Rattle.layout.specs.Fields.{Capacity, SolidUsed, Solid, Outer, Face, First, Isolated, Start, Loop, Next, Prev, VertexUsed, Columns}
+use Rattle.sound_tables.specs.Mates.{mate-other}
+use Rattle.sound_tables.specs.EdgeIn.{Zero}
+use Rattle.sound_tables.specs.Sound.{In, halves, HalfUsed, side}
+use Rattle.sound_tables.specs.WithDummies.{extended, Dummy, Member, upTo-low, dummy-of, dummy-loop, dummy-start}
+
+-- ---- corners
+
+-- the corner of an isolated loop l at vertex u: before it stands b and after it k, the halves of the edge that ends there
+pub record Lone (c : Columns) (l k b u P N : ℕ) : Type 0 where
+  pub before : P ≡ b
+  pub after : N ≡ k
+  pub isolated : c Isolated l ≡ u
+
+-- a corner of loop l at vertex u between the half-edges P and N
+pub record Real (sh : Shape) (c : Columns) (l u P N : ℕ) : Type 0 where
+  pub before : HalfUsed sh c P
+  pub after : HalfUsed sh c N
+  pub next : c Next P ≡ N
+  pub prev : c Prev N ≡ P
+  pub loop : c Loop N ≡ l
+  pub start : c Start N ≡ u
+  pub isolated : c Isolated l ≡ 0
+
+-- one or the other
+abbrev pub Corner : Shape → Columns → ℕ → ℕ → ℕ → ℕ → ℕ → ℕ → Type 0
+Corner sh c l k b u P N = Lone c l k b u P N ⊎ Real sh c l u P N
+
+-- what comes before it is the edge itself or in use
+pub corner-before : {sh : Shape} {c : Columns} {l k b u P N : ℕ} → Corner sh c l k b u P N → {i : ℕ} → i ≢ b → c Start i ≡ 0 → i ≢ P
+corner-before {c = c} q n z e = ⊎-elim (λ r. n (e ∙ r .before)) (λ r. r .before .2 (ap (c Start) (sym e) ∙ z)) q
+
+-- and what comes after it
+pub corner-after : {sh : Shape} {c : Columns} {l k b u P N : ℕ} → Corner sh c l k b u P N → {i : ℕ} → i ≢ k → c Start i ≡ 0 → i ≢ N
+corner-after {c = c} q n z e = ⊎-elim (λ r. n (e ∙ r .after)) (λ r. r .after .2 (ap (c Start) (sym e) ∙ z)) q
+
+-- the member of loop l and of vertex u that it stands for
+pub corner-member : {sh : Shape} {c : Columns} {l k b u P N : ℕ} → In (sh .loops) l → u ≢ 0 → Corner sh c l k b u P N → (j : ℕ) × Member sh c j × (extended sh c .loop j ≡ l) × (extended sh c .start j ≡ u)
+corner-member {sh} {c} {l} {N = N} i z = ⊎-elim
+    (λ r. (2 * sh .edges + l, inr (dummy-of sh c l i (λ e. z (sym (r .isolated) ∙ e))), dummy-loop sh c l i, dummy-start sh c l i ∙ r .isolated))
+    (λ r. (N, inl (r .after), upTo-low (2 * sh .edges) (c Loop) _ N (r .after .1) ∙ r .loop, upTo-low (2 * sh .edges) (c Start) _ N (r .after .1) ∙ r .start))
+
+-- ---- the two tables
+
+-- c has two corners of two loops of a face, one of them a ring, and a free edge
+pub record Ends (sh : Shape) (c : Columns) (k l l2 u1 P1 N1 u2 P2 N2 : ℕ) : Type 0 where
+  pub half-in : In (2 * sh .edges) k
+  pub mate-in : In (2 * sh .edges) (mate k)
+  pub loop-in : In (sh .loops) l
+  pub ring-in : In (sh .loops) l2
+  pub two : l ≢ l2
+  pub used : c Face l ≢ 0
+  pub one-face : c Face l2 ≡ c Face l
+  pub ring : c Outer (c Face l2) ≢ l2
+  pub at-1 : Corner sh c l k (mate k) u1 P1 N1
+  pub at-2 : Corner sh c l2 (mate k) k u2 P2 N2
+  pub in-1 : In (sh .vertices) u1
+  pub in-2 : In (sh .vertices) u2
+  pub used-1 : c VertexUsed u1 ≢ 0
+  pub used-2 : c VertexUsed u2 ≢ 0
+  pub zero-k : Zero (halves c) k
+  pub zero-a : Zero (halves c) (mate k)
+  pub keeps : (i : ℕ) → HalfUsed sh c i → c Loop (c Next i) ≡ c Loop i
+
+-- c has the loops l and l2, d the bridge k between the corner of l, vertex u1, between P1 and N1, and the corner of l2, vertex u2, between P2 and N2
+pub record Bridged (sh : Shape) (c d : Columns) (k l l2 u1 P1 N1 u2 P2 N2 : ℕ) : Type 0 where
+  pub ends : Ends sh c k l l2 u1 P1 N1 u2 P2 N2
+  pub start-k : d Start k ≡ u1
+  pub start-a : d Start (mate k) ≡ u2
+  pub start-o : (i : ℕ) → i ≢ k → i ≢ mate k → d Start i ≡ c Start i
+  pub loop-k : d Loop k ≡ l
+  pub loop-a : d Loop (mate k) ≡ l
+  pub loop-2 : (i : ℕ) → In (2 * sh .edges) i → c Loop i ≡ l2 → d Loop i ≡ l
+  pub loop-o : (i : ℕ) → i ≢ k → i ≢ mate k → c Loop i ≢ l2 → d Loop i ≡ c Loop i
+  pub next-k : d Next k ≡ N2
+  pub next-a : d Next (mate k) ≡ N1
+  pub next-1 : d Next P1 ≡ k
+  pub next-2 : d Next P2 ≡ mate k
+  pub next-o : (i : ℕ) → i ≢ k → i ≢ mate k → i ≢ P1 → i ≢ P2 → d Next i ≡ c Next i
+  pub prev-k : d Prev k ≡ P1
+  pub prev-a : d Prev (mate k) ≡ P2
+  pub prev-1 : d Prev N1 ≡ mate k
+  pub prev-2 : d Prev N2 ≡ k
+  pub prev-o : (i : ℕ) → i ≢ k → i ≢ mate k → i ≢ N1 → i ≢ N2 → d Prev i ≡ c Prev i
+  pub face-2 : d Face l2 ≡ 0
+  pub face-o : (m : ℕ) → m ≢ l2 → d Face m ≡ c Face m
+  pub first-o : (m : ℕ) → m ≢ l → m ≢ l2 → d First m ≡ c First m
+  pub isolated-1 : d Isolated l ≡ 0
+  pub isolated-2 : d Isolated l2 ≡ 0
+  pub isolated-o : (m : ℕ) → m ≢ l → m ≢ l2 → d Isolated m ≡ c Isolated m
+  pub capacity : (i : ℕ) → d Capacity i ≡ c Capacity i
+  pub solid-used : (i : ℕ) → d SolidUsed i ≡ c SolidUsed i
+  pub solid : (i : ℕ) → d Solid i ≡ c Solid i
+  pub outer : (i : ℕ) → d Outer i ≡ c Outer i
+  pub vertex-used : (i : ℕ) → d VertexUsed i ≡ c VertexUsed i
+
+-- ---- what follows
+
+module _ {sh : Shape} {c d : Columns} {k l l2 u1 P1 N1 u2 P2 N2 : ℕ} (b : Bridged sh c d k l l2 u1 P1 N1 u2 P2 N2) where
+  -- the two halves differ
+  pub ka : k ≢ mate k
+  ka = mate-other k (b .ends .half-in .0)
+
+  -- half-edges of c are neither
+  pub off-k : (i : ℕ) → HalfUsed sh c i → i ≢ k
+  off-k i w e = w .2 (ap (c Start) e ∙ b .ends .zero-k .s)
+
+  -- nor its mate
+  pub off-a : (i : ℕ) → HalfUsed sh c i → i ≢ mate k
+  off-a i w e = w .2 (ap (c Start) e ∙ b .ends .zero-a .s)
+
+  -- nor are members of c, dummies included
+  pub mem-k : (i : ℕ) → Member sh c i → i ≢ k
+  mem-k i = ⊎-elim (λ w. off-k i w) (λ w e. omega (arith, w .0, b .ends .half-in .1, e))
+
+  -- the same for the mate
+  pub mem-a : (i : ℕ) → Member sh c i → i ≢ mate k
+  mem-a i = ⊎-elim (λ w. off-a i w) (λ w e. omega (arith, w .0, b .ends .mate-in .1, e))
+
+  -- the dummies of the two loops differ
+  pub D21 : 2 * sh .edges + l2 ≢ 2 * sh .edges + l
+  D21 e = b .ends .two (omega (arith, e))
+
+  -- the same the other way round
+  pub D12 : 2 * sh .edges + l ≢ 2 * sh .edges + l2
+  D12 e = D21 (sym e)
+
+  -- in d all these and the two are in use
+  pub new-k : HalfUsed sh d k
+  new-k = (b .ends .half-in .0, b .ends .half-in .1, λ z. omega (arith, b .ends .in-1 .0, sym (b .start-k) ∙ z))
+
+  -- and the mate
+  pub new-a : HalfUsed sh d (mate k)
+  new-a = (b .ends .mate-in .0, b .ends .mate-in .1, λ z. omega (arith, b .ends .in-2 .0, sym (b .start-a) ∙ z))
+
+  -- each of c is in use in d
+  pub half-stays : (i : ℕ) → HalfUsed sh c i → HalfUsed sh d i
+  half-stays i w = (w .0, w .1, λ z. w .2 (sym (b .start-o i (off-k i w) (off-a i w)) ∙ z))
+
+  -- one of d that is neither was in use in c
+  pub half-back : (i : ℕ) → HalfUsed sh d i → i ≢ k → i ≢ mate k → HalfUsed sh c i
+  half-back i w e f = (w .0, w .1, λ z. w .2 (b .start-o i e f ∙ z))
+
+  -- a statement about each half-edge of d: about the two, about one of c
+  pub half-was : {Q : ℕ → Type 0} → Q k → Q (mate k) → ((i : ℕ) → HalfUsed sh c i → Q i) → (i : ℕ) → HalfUsed sh d i → Q i
+  half-was {Q} qk qa qo i w = split i k (λ e. subst Q (sym e) qk) (λ e. split i (mate k) (λ f. subst Q (sym f) qa) (λ f. qo i (half-back i w e f)))
+
+  -- one that names no loop in c
+  pub free-loop : (i : ℕ) → c Loop i ≡ 0 → c Loop i ≢ l2
+  free-loop i z e = omega (arith, b .ends .ring-in .0, sym e ∙ z)
+
+  -- dummies of other loops are the same
+  pub dummy-stays : (i : ℕ) → i - 2 * sh .edges ≢ l → i - 2 * sh .edges ≢ l2 → Dummy sh c i → Dummy sh d i
+  dummy-stays i e f w = (w .0, w .1, λ z. w .2 (sym (b .isolated-o _ e f) ∙ z))
+
+  -- a dummy of d is of neither loop
+  pub dummy-other : (i : ℕ) → Dummy sh d i → (i - 2 * sh .edges ≢ l) × (i - 2 * sh .edges ≢ l2)
+  dummy-other i w = (λ e. w .2 (ap (d Isolated) e ∙ b .isolated-1), λ e. w .2 (ap (d Isolated) e ∙ b .isolated-2))
+
+  -- and is one of c
+  pub dummy-was : (i : ℕ) → Dummy sh d i → Dummy sh c i
+  dummy-was i w = let e = dummy-other i w in (w .0, w .1, λ z. w .2 (b .isolated-o _ (e .0) (e .1) ∙ z))
+
+  -- the loop of a half-edge of c lies in the same face
+  pub side-same : (i : ℕ) → HalfUsed sh c i → side d i ≡ side c i
+  side-same i w = split (c Loop i) l2
+      (λ e. ap (d Face) (b .loop-2 i (w .0, w .1) e) ∙ b .face-o l (b .ends .two) ∙ sym (b .ends .one-face) ∙ ap (c Face) (sym e))
+      (λ e. ap (d Face) (b .loop-o i (off-k i w) (off-a i w) e) ∙ b .face-o _ e)
+
+  -- the bridge lies in the face of both loops
+  pub side-k : side d k ≡ c Face l
+  side-k = ap (d Face) (b .loop-k) ∙ b .face-o l (b .ends .two)
+
+  -- so does its mate
+  pub side-a : side d (mate k) ≡ c Face l
+  side-a = ap (d Face) (b .loop-a) ∙ b .face-o l (b .ends .two)
+
+  -- another loop is named by the same half-edges
+  pub same-name : (m : ℕ) → In (sh .loops) m → m ≢ l → m ≢ l2 → (i : ℕ) → In (2 * sh .edges) i → eqb (c Loop i) m ≡ eqb (d Loop i) m
+  same-name m y e f i j = split i k
+      (λ z. neither (λ q. omega (arith, y .0, sym q ∙ ap (c Loop) z ∙ b .ends .zero-k .l)) (ap (d Loop) z ∙ b .loop-k))
+      (λ z. split i (mate k) (λ z′. neither (λ q. omega (arith, y .0, sym q ∙ ap (c Loop) z′ ∙ b .ends .zero-a .l)) (ap (d Loop) z′ ∙ b .loop-a))
+      (λ z′. split (c Loop i) l2 (λ q. neither (λ q′. f (sym q′ ∙ q)) (b .loop-2 i j q)) (λ q. ap (λ w. eqb w m) (sym (b .loop-o i z z′ q)))))
+    where
+      -- where neither names m the tests agree
+      neither : c Loop i ≢ m → d Loop i ≡ l → eqb (c Loop i) m ≡ eqb (d Loop i) m
+      neither x z = let x′ : d Loop i ≢ m = λ w. e (sym w ∙ z) in eqb-other x ∙ sym (eqb-other x′)

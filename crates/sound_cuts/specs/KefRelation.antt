@@ -1,0 +1,300 @@
+-- The columns of kef: the table is those with the edge.
+use mathlib.Core.Path.{_≡_, refl, sym, ap, _∙_}
+use mathlib.Core.Logic.{_≢_}
+use mathlib.Core.Bool.{Bool, true, false, _&&_}
+use mathlib.Core.List.{List}
+use Prim.Native.Nat.{ℕ, _*_}
+use native.Mathlib.Omega.{arith}
+use lib.Dec.{eqb}
+use lib.IntN.{ℤ}
+use Rattle.laws.specs.Bools.{pick, pick-ind, split, eqb-same, eqb-other}
+use Rattle.laws.specs.Update.{upd, upd-same, upd-off, relabel-at, relabel-off}
+use Rattle.layout.specs.declared.shape.Shape.{Shape}
+use Rattle.layout.specs.Mate.{mate}
+use Rattle.layout.specs.MateLaws.{mate-mate}
+use Rattle.layout.specs.Fields.{Solid, Outer, Face, First, Isolated, Start, Loop, Next, Prev, Columns}
+use Rattle.sound_tables.specs.Mates.{mate-other}
+use Rattle.sound_tables.specs.EdgeIn.{prev-in, next-prev}
+use Rattle.sound_tables.specs.Sound.{HalfUsed, firstOf, Sound}
+use Rattle.sound_tables.specs.Names.{not-isolated}
+use Rattle.sound_cuts.specs.Relation.{Spot, Near, both, right, left, pair, Cut}
+use Rattle.sound_cuts.specs.KefSolids.{Only}
+use Rattle.sound_cuts.specs.KefPlace.{spotAt, mendColumns, KefPlace}
+
+module _ {sh : Shape} {p : List ℤ} {d : Columns} (t : Sound sh p d) (zero : d Loop 0 ≡ 0) {b : ℕ} (o : KefPlace sh d b) where
+  -- the numbers
+  abbrev q : Spot
+  q = spotAt d b
+
+  -- the columns without the edge
+  abbrev c : Columns
+  c = mendColumns sh d (spotAt d b)
+
+  -- as many half-edges
+  abbrev n : ℕ
+  n = 2 * sh .edges
+
+  -- the mate is in use
+  ua : HalfUsed sh d (mate b)
+  ua = t .rules .mate-in b (o .used)
+
+  -- its mate is b
+  ab : mate (mate b) ≡ b
+  ab = mate-mate b
+
+  -- the two differ
+  b-a : b ≢ mate b
+  b-a = mate-other b (o .used .0)
+
+  -- the same the other way round
+  a-b : mate b ≢ b
+  a-b e = b-a (sym e)
+
+  -- so do their loops
+  l-m : q .l ≢ q .m
+  l-m e = o .other (ap (d Face) e)
+
+  -- the same the other way round
+  m-l : q .m ≢ q .l
+  m-l e = l-m (sym e)
+
+  -- and their faces
+  f0-f : d Face (q .l) ≢ q .f
+  f0-f = o .other
+
+  -- ---- the neighbours
+
+  -- previous of a is in use
+  uP : HalfUsed sh d (q .P)
+  uP = prev-in (t .rules) (mate b) ua
+
+  -- and a follows it
+  nP : d Next (q .P) ≡ mate b
+  nP = next-prev (t .rules) (mate b) ua
+
+  -- previous of b is in use
+  uQ : HalfUsed sh d (q .Q)
+  uQ = prev-in (t .rules) b (o .used)
+
+  -- and b follows it
+  nQ : d Next (q .Q) ≡ b
+  nQ = next-prev (t .rules) b (o .used)
+
+  -- next of a is in use
+  uN : HalfUsed sh d (q .N)
+  uN = t .rules .loops .perm .f-in (mate b) ua
+
+  -- next of b is in use
+  uM : HalfUsed sh d (q .M)
+  uM = t .rules .loops .perm .f-in b (o .used)
+
+  -- their loops
+  lN : d Loop (q .N) ≡ q .l
+  lN = t .rules .loops .keeps (mate b) ua
+
+  -- that of next of b
+  lM : d Loop (q .M) ≡ q .m
+  lM = t .rules .loops .keeps b (o .used)
+
+  -- of previous of a
+  lP : d Loop (q .P) ≡ q .l
+  lP = sym (t .rules .loops .keeps (q .P) uP) ∙ ap (d Loop) nP
+
+  -- of previous of b
+  lQ : d Loop (q .Q) ≡ q .m
+  lQ = sym (t .rules .loops .keeps (q .Q) uQ) ∙ ap (d Loop) nQ
+
+  -- one of l is none of m
+  apart : {i j : ℕ} → d Loop i ≡ q .l → d Loop j ≡ q .m → i ≢ j
+  apart e g z = l-m (sym e ∙ ap (d Loop) z ∙ g)
+
+  -- a is alone on both sides or on none, and so is b
+  P-a : q .N ≡ mate b → q .P ≡ mate b
+  P-a e = ap (d Prev) (sym e) ∙ t .rules .undone (mate b) ua
+
+  -- not alone
+  a-P : q .N ≢ mate b → q .P ≢ mate b
+  a-P e z = e (ap (d Next) (sym z) ∙ nP)
+
+  -- b alone
+  Q-b : q .M ≡ b → q .Q ≡ b
+  Q-b e = ap (d Prev) (sym e) ∙ t .rules .undone b (o .used)
+
+  -- not alone
+  b-Q : q .M ≢ b → q .Q ≢ b
+  b-Q e z = e (ap (d Next) (sym z) ∙ nQ)
+
+  -- next of a half starts where the other does
+  start-M : d Start (q .M) ≡ q .u
+  start-M = ap (λ i. d Start (d Next i)) (sym ab) ∙ t .rules .verts .keeps (mate b) ua
+
+  -- the same of a
+  start-N : d Start (q .N) ≡ q .v
+  start-N = t .rules .verts .keeps b (o .used)
+
+  -- ---- what stands in c away from the edge
+
+  -- start is as it was
+  c-start : (i : ℕ) → i ≢ mate b → i ≢ b → c Start i ≡ d Start i
+  c-start i e g = upd-off _ _ g ∙ upd-off _ _ e
+
+  -- what was in use is
+  c-used : (i : ℕ) → HalfUsed sh d i → i ≢ mate b → i ≢ b → HalfUsed sh c i
+  c-used i w e g = (w .0, w .1, λ z. w .2 (sym (c-start i e g) ∙ z))
+
+  -- what was in m is in l
+  c-new : (i : ℕ) → i ≢ mate b → i ≢ b → d Loop i ≡ q .m → c Loop i ≡ q .l
+  c-new i e g z = upd-off _ _ g ∙ upd-off _ _ e ∙ relabel-at (d Loop) (q .m) (q .l) z
+
+  -- the others stay
+  c-else : (i : ℕ) → i ≢ mate b → i ≢ b → d Loop i ≢ q .m → c Loop i ≡ d Loop i
+  c-else i e g z = upd-off _ _ g ∙ upd-off _ _ e ∙ relabel-off (d Loop) (q .m) (q .l) z
+
+  -- by the two tests
+  next-as : (x y : Bool) → eqb (q .N) (mate b) ≡ x → eqb (q .M) b ≡ y → (i : ℕ) → i ≢ mate b → i ≢ b
+      → c Next i ≡ upd (upd (d Next) (pick x (q .Q) (q .P)) (pick y (q .N) (q .M))) (pick y (q .P) (q .Q)) (pick x (q .M) (q .N)) i
+  next-as x y e g i f h = upd-off _ _ h ∙ upd-off _ _ f ∙ (λ j. upd (upd (d Next) (pick (e j) (q .Q) (q .P)) (pick (g j) (q .N) (q .M))) (pick (g j) (q .P) (q .Q)) (pick (e j) (q .M) (q .N)) i)
+
+  -- the same of previous
+  prev-as : (x y : Bool) → eqb (q .N) (mate b) ≡ x → eqb (q .M) b ≡ y → (i : ℕ) → i ≢ mate b → i ≢ b
+      → c Prev i ≡ upd (upd (d Prev) (pick y (q .N) (q .M)) (pick x (q .Q) (q .P))) (pick x (q .M) (q .N)) (pick y (q .P) (q .Q)) i
+  prev-as x y e g i f h = upd-off _ _ h ∙ upd-off _ _ f ∙ (λ j. upd (upd (d Prev) (pick (g j) (q .N) (q .M)) (pick (e j) (q .Q) (q .P))) (pick (e j) (q .M) (q .N)) (pick (g j) (q .P) (q .Q)) i)
+
+  -- and of the isolated vertex
+  isolated-as : (x y : Bool) → eqb (q .N) (mate b) ≡ x → eqb (q .M) b ≡ y → c Isolated (q .l) ≡ pick (x && y) (q .u) 0
+  isolated-as x y e g = upd-same _ (q .l) _ ∙ (λ j. pick (e j && g j) (q .u) 0)
+
+  -- ---- the corners
+
+  -- which of the four it is
+  near : Near sh c q
+  near = split (q .N) (mate b)
+      (λ e. split (q .M) b
+      (λ g. pair (record {
+        P-a = P-a e;
+        N-a = e;
+        Q-b = Q-b g;
+        M-b = g;
+        start = sym start-M ∙ ap (d Start) g;
+        isolated = isolated-as true true (eqb-same e) (eqb-same g);
+      }))
+      (λ g.
+      let fQ : q .Q ≢ mate b = λ z. apart refl lQ (sym z) in
+      let fM : q .M ≢ mate b = λ z. apart refl lM (sym z) in
+      left (record {
+        Q-b = P-a e;
+        M-b = e;
+        P-in = c-used (q .Q) uQ fQ (b-Q g);
+        N-in = c-used (q .M) uM fM g;
+        next-P = next-as true false (eqb-same e) (eqb-other g) (q .Q) fQ (b-Q g) ∙ upd-same _ (q .Q) (q .M);
+        prev-N = prev-as true false (eqb-same e) (eqb-other g) (q .M) fM g ∙ upd-same _ (q .M) (q .Q);
+        loop-P = c-new (q .Q) fQ (b-Q g) lQ;
+        start-u = c-start (q .M) fM g ∙ start-M ∙ ap (d Start) (sym e) ∙ start-N;
+        start-v = c-start (q .M) fM g ∙ start-M;
+        isolated = isolated-as true false (eqb-same e) (eqb-other g);
+      })))
+      (λ e.
+      let fP : q .P ≢ b = apart lP refl in
+      let fN : q .N ≢ b = apart lN refl in
+      split (q .M) b
+      (λ g. right (record {
+        Q-b = Q-b g;
+        M-b = g;
+        P-in = c-used (q .P) uP (a-P e) fP;
+        N-in = c-used (q .N) uN e fN;
+        next-P = next-as false true (eqb-other e) (eqb-same g) (q .P) (a-P e) fP ∙ upd-same _ (q .P) (q .N);
+        prev-N = prev-as false true (eqb-other e) (eqb-same g) (q .N) e fN ∙ upd-same _ (q .N) (q .P);
+        loop-P = c-else (q .P) (a-P e) fP (λ z. l-m (sym lP ∙ z)) ∙ lP;
+        start-u = c-start (q .N) e fN ∙ start-N ∙ ap (d Start) (sym g) ∙ start-M;
+        start-v = c-start (q .N) e fN ∙ start-N;
+        isolated = isolated-as false true (eqb-other e) (eqb-same g);
+      }))
+      (λ g.
+      let fQ : q .Q ≢ mate b = λ z. apart refl lQ (sym z) in
+      let fM : q .M ≢ mate b = λ z. apart refl lM (sym z) in
+      both (record {
+        P-in = c-used (q .P) uP (a-P e) fP;
+        N-in = c-used (q .N) uN e fN;
+        Q-in = c-used (q .Q) uQ fQ (b-Q g);
+        M-in = c-used (q .M) uM fM g;
+        next-P = next-as false false (eqb-other e) (eqb-other g) (q .P) (a-P e) fP ∙ upd-off _ _ (apart lP lQ) ∙ upd-same _ (q .P) (q .M);
+        next-Q = next-as false false (eqb-other e) (eqb-other g) (q .Q) fQ (b-Q g) ∙ upd-same _ (q .Q) (q .N);
+        prev-M = prev-as false false (eqb-other e) (eqb-other g) (q .M) fM g ∙ upd-off _ _ (λ z. apart lN lM (sym z)) ∙ upd-same _ (q .M) (q .P);
+        prev-N = prev-as false false (eqb-other e) (eqb-other g) (q .N) e fN ∙ upd-same _ (q .N) (q .Q);
+        apart = apart lP lQ;
+        loop-P = c-else (q .P) (a-P e) fP (λ z. l-m (sym lP ∙ z)) ∙ lP;
+        loop-Q = c-new (q .Q) fQ (b-Q g) lQ;
+        start-M = c-start (q .M) fM g ∙ start-M;
+        start-N = c-start (q .N) e fN ∙ start-N;
+        isolated = isolated-as false false (eqb-other e) (eqb-other g);
+      })))
+
+  -- ---- all
+
+  -- the table is those columns with the edge
+  pub kef-cut : Cut sh (mendColumns sh d (spotAt d b)) d (spotAt d b)
+  kef-cut =
+      let ha = t .half (mate b) (ua .0, ua .1) (ua .2) in
+      let hb = t .half b (o .used .0, o .used .1) (o .used .2) in
+      let fb = t .loop (q .m) (hb .loop-in) (hb .loop-used) in
+      let ff = t .face (q .f) (fb .face-in) (fb .face-used) in
+      record {
+        l-in = ha .loop-in;
+        m-in = hb .loop-in;
+        f-in = fb .face-in;
+        a-in = (ua .0, ua .1);
+        b-in = (o .used .0, o .used .1);
+        ab = ab;
+        ba = refl;
+        l-m = l-m;
+        l-used = λ z. ha .loop-used (sym (upd-off (d Face) 0 l-m) ∙ z);
+        u-some = ua .2;
+        v-some = o .used .2;
+        capacity = λ i. refl;
+        solid-used = λ i. refl;
+        vertex-used = λ i. refl;
+        solid-free = upd-same (d Solid) (q .f) 0;
+        solid-new = ap (λ i. d Solid (d Face (d Loop i))) (sym ab) ∙ t .solids .edge (mate b) ua ∙ sym (ap (c Solid) (upd-off (d Face) 0 l-m) ∙ upd-off (d Solid) 0 f0-f);
+        solid-else = λ i e. sym (upd-off (d Solid) 0 e);
+        outer-free = upd-same (d Outer) (q .f) 0;
+        outer-new = o .one (d Outer (q .f)) (ff .outer-in) (ff .outer-face);
+        outer-else = λ i e. sym (upd-off (d Outer) 0 e);
+        face-free = upd-same (d Face) (q .m) 0;
+        face-new = refl;
+        face-else = λ i e. sym (upd-off (d Face) 0 e);
+        first-free = upd-off _ _ m-l ∙ upd-same (d First) (q .m) 0;
+        first-else = λ i e g. sym (upd-off _ _ e ∙ upd-off (d First) 0 g);
+        isolated-free = upd-off _ _ m-l ∙ upd-same (d Isolated) (q .m) 0;
+        isolated-l = not-isolated t (mate b) ua refl;
+        isolated-m = not-isolated t b (o .used) refl;
+        isolated-else = λ i e g. sym (upd-off _ _ e ∙ upd-off (d Isolated) 0 g);
+        zero-a = record { s = upd-off _ _ a-b ∙ upd-same _ (mate b) 0; l = upd-off _ _ a-b ∙ upd-same _ (mate b) 0; n = upd-off _ _ a-b ∙ upd-same _ (mate b) 0; p = upd-off _ _ a-b ∙ upd-same _ (mate b) 0 };
+        zero-b = record { s = upd-same _ b 0; l = upd-same _ b 0; n = upd-same _ b 0; p = upd-same _ b 0 };
+        start-a = refl;
+        start-b = refl;
+        start-else = λ i e g. sym (c-start i e g);
+        loop-a = refl;
+        loop-b = refl;
+        loop-zero = λ z. omega (arith, hb .loop-in .0, sym z ∙ zero);
+        loop-new = λ i h e z. c-new i (λ g. apart refl z (sym g)) e z;
+        loop-else = λ i h e z. sym (c-else i e (λ g. z (ap (d Loop) g)) z);
+        next-a = refl;
+        next-b = refl;
+        next-P = nP;
+        next-Q = nQ;
+        next-else = λ i e g x y. sym (upd-off _ _ g ∙ upd-off _ _ e ∙ upd-off _ _ (pick-ind (λ j. i ≢ j) (eqb (q .M) b) (q .P) (q .Q) x y) ∙ upd-off _ _ (pick-ind (λ j. i ≢ j) (eqb (q .N) (mate b)) (q .Q) (q .P) y x));
+        prev-a = refl;
+        prev-b = refl;
+        prev-N = t .rules .undone (mate b) ua;
+        prev-M = t .rules .undone b (o .used);
+        prev-else = λ i e g x y. sym (upd-off _ _ g ∙ upd-off _ _ e ∙ upd-off _ _ (pick-ind (λ j. i ≢ j) (eqb (q .N) (mate b)) (q .M) (q .N) y x) ∙ upd-off _ _ (pick-ind (λ j. i ≢ j) (eqb (q .M) b) (q .N) (q .M) x y));
+        near = near;
+      }
+
+  -- m is the only loop of its face
+  pub kef-only : Only sh d (spotAt d b)
+  kef-only i j e z = e (o .one i j z)
+
+  -- first of l is the least that names it
+  pub kef-first : mendColumns sh d (spotAt d b) First (d Loop (mate b)) ≡ firstOf sh (mendColumns sh d (spotAt d b)) (d Loop (mate b))
+  kef-first = upd-same _ (q .l) _

@@ -1,0 +1,4 @@
+pub mod Accepted
+pub mod Exact
+pub mod KvsfSound
+pub mod MvsfSound

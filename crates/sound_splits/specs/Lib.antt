@@ -1,0 +1,12 @@
+pub mod CycleMoves
+pub mod Relation
+pub mod Unique
+pub mod SplitRules
+pub mod Carried
+pub mod Sound
+pub mod Firsts
+pub mod SemvColumns
+pub mod JekvColumns
+pub mod Shown
+pub mod Accepted
+pub mod Exact

@@ -1,0 +1,152 @@
+-- The columns after semv, as the stores make them, are a division of k at v.
+use mathlib.Core.Path.{_≡_, refl, sym, ap, _∙_}
+use mathlib.Core.Logic.{_≢_}
+use mathlib.Core.Bool.{true}
+use mathlib.Core.List.{List}
+use Prim.Native.Nat.{ℕ, _*_}
+use native.Mathlib.Omega.{arith}
+use lib.IntN.{ℤ}
+use Rattle.laws.specs.Bools.{split}
+use Rattle.laws.specs.Update.{upd, upd-at, upd-same, upd-off}
+use Rattle.layout.specs.declared.shape.Shape.{Shape}
+use Rattle.layout.specs.Mate.{mate}
+use Rattle.sound_tables.specs.EdgeIn.{prev-in, next-prev}
+use Rattle.layout.specs.Fields.{Field, First, Isolated, Start, Loop, Next, Prev, VertexUsed, Columns, change}
+use Rattle.sound_tables.specs.Sound.{In, HalfUsed, firstOf, HalfFree, Sound}
+use Rattle.sound_tables.specs.Names.{not-isolated}
+use Rattle.sound_tables.specs.Shown.{withHalf, withBetween, withFirst}
+use Rattle.sound_splits.specs.CycleMoves.{swapFor, swap-back}
+use Rattle.sound_splits.specs.Firsts.{clear-zero, far-first, first-set}
+use Rattle.sound_splits.specs.Relation.{Tidy, sound-tidy, plain, by-plain, Place, fore, aft, Split, off-n, off-b, n≢b, n≢k, n≢m, b≢m}
+
+-- half-edge n from v in loop l goes in between k and A
+abbrev pub withAfter : Columns → ℕ → ℕ → ℕ → ℕ → ℕ → Columns
+withAfter c k n v l A = withBetween (withHalf c n v l A k) k n A
+
+-- the half-edges after semv: n after k, then n's mate between q and m, which starts at v
+abbrev pub semvHalves : Columns → ℕ → ℕ → ℕ → ℕ → Columns
+semvHalves c k n v q = change (withAfter (withAfter c k n v (c Loop k) (c Next k)) q (mate n) (c Start (mate k)) (c Loop (mate k)) (mate k)) Start (mate k) v
+
+-- with the firsts of the two loops, and v in use
+abbrev pub semvColumns : Shape → Columns → ℕ → ℕ → ℕ → ℕ → Columns
+semvColumns sh c k n v q =
+    change (withFirst (withFirst (semvHalves c k n v q)
+    (c Loop k) (firstOf sh (semvHalves c k n v q) (c Loop k)) 0)
+    (c Loop (mate k)) (firstOf sh (semvHalves c k n v q) (c Loop (mate k))) 0) VertexUsed v 1
+
+module _ {sh : Shape} {p : List ℤ} {c : Columns} (a : Sound sh p c) {k n v : ℕ} (o : Place sh c k n v) where
+  -- what comes before m once n is in
+  abbrev pub q : ℕ
+  q = aft k n (c Prev (mate k))
+
+  -- the columns afterwards
+  abbrev d : Columns
+  d = semvColumns sh c k n v (aft k n (c Prev (mate k)))
+
+  -- next of one in use is in use
+  pub next-in : (i : ℕ) → HalfUsed sh c i → HalfUsed sh c (c Next i)
+  next-in = a .rules .loops .perm .f-in
+
+  -- what is read for one in use is neither k nor n's mate
+  aft-k : (i : ℕ) → aft k n i ≢ k
+  aft-k i = split i k (λ e z. n≢k o (sym (upd-at (λ j. j) n e) ∙ z)) (λ e z. e (sym (upd-off (λ j. j) n e) ∙ z))
+
+  aft-b : (i : ℕ) → HalfUsed sh c i → aft k n i ≢ mate n
+  aft-b i u = split i k (λ e z. n≢b o (sym (upd-at (λ j. j) n e) ∙ z)) (λ e z. off-b o i u (sym (upd-off (λ j. j) n e) ∙ z))
+
+  -- before n's mate goes in
+  pub first-next : (i : ℕ) → HalfUsed sh c i → upd (upd (c Next) n (c Next k)) k n (aft k n i) ≡ c Next i
+  first-next i u = split i k
+      (λ e. ap (upd (upd (c Next) n (c Next k)) k n) (upd-at (λ j. j) n e) ∙ upd-off _ n (n≢k o) ∙ upd-same (c Next) n (c Next k) ∙ ap (c Next) (sym e))
+      (λ e. ap (upd (upd (c Next) n (c Next k)) k n) (upd-off (λ j. j) n e) ∙ upd-off _ n e ∙ upd-off (c Next) (c Next k) (off-n o i u))
+
+  pub first-prev : (i : ℕ) → HalfUsed sh c i → upd (upd (c Prev) n k) (c Next k) n i ≡ aft k n (c Prev i)
+  first-prev i u = split i (c Next k)
+      (λ e. upd-at _ n e ∙ sym (upd-at (λ j. j) n (ap (c Prev) e ∙ a .rules .undone k (o .k-used))))
+      (λ e. upd-off _ n e ∙ upd-off (c Prev) k (off-n o i u) ∙ sym (upd-off (λ j. j) n (λ z. e (sym (next-prev (a .rules) i u) ∙ ap (c Next) z))))
+
+  -- what follows what is read for one in use
+  semv-next : (i : ℕ) → HalfUsed sh c i → d Next (aft k n i) ≡ fore k n (c Next i)
+  semv-next i u = split (aft k n i) q
+      (λ e.
+      let z : i ≡ c Prev (mate k) = sym (swap-back k n i (off-n o i u)) ∙ ap (swapFor n k) e ∙ swap-back k n _ (off-n o _ (prev-in (a .rules) (mate k) (o .m-used))) in
+      upd-at _ (mate n) e ∙ sym (upd-at (λ j. j) (mate n) (ap (c Next) z ∙ next-prev (a .rules) (mate k) (o .m-used))))
+      (λ e.
+      let z : c Next i ≢ mate k = λ y. e (ap (aft k n) (sym (a .rules .undone i u) ∙ ap (c Prev) y)) in
+      upd-off _ (mate n) e ∙ upd-off _ (mate k) (aft-b i u) ∙ first-next i u ∙ sym (upd-off (λ j. j) (mate n) z))
+
+  -- what precedes what is read for one in use
+  semv-prev : (i : ℕ) → HalfUsed sh c i → d Prev (fore k n i) ≡ aft k n (c Prev i)
+  semv-prev i u = split i (mate k)
+      (λ e. ap (d Prev) (upd-at (λ j. j) (mate n) e) ∙ upd-off _ (mate n) (b≢m o) ∙ upd-same _ (mate n) q ∙ ap (λ j. aft k n (c Prev j)) (sym e))
+      (λ e. ap (d Prev) (upd-off (λ j. j) (mate n) e) ∙ upd-off _ (mate n) e ∙ upd-off _ q (off-b o i u) ∙ first-prev i u)
+
+  -- the other columns stay
+  semv-same : (F : Field) → plain F ≡ true → (i : ℕ) → d F i ≡ c F i
+  semv-same = by-plain (λ F. (i : ℕ) → d F i ≡ c F i) (λ i. refl) (λ i. refl) (λ i. refl) (λ i. refl) (λ i. refl)
+      (clear-zero (c Isolated) (c Loop k) (c Loop (mate k)) (not-isolated a k (o .k-used) refl) (not-isolated a (mate k) (o .m-used) refl))
+
+  -- the loops of the new half-edges
+  loop-n : d Loop n ≡ c Loop k
+  loop-n = upd-off _ _ (n≢b o) ∙ upd-same (c Loop) n (c Loop k)
+
+  loop-b : d Loop (mate n) ≡ c Loop (mate k)
+  loop-b = upd-same _ (mate n) _
+
+  -- and of the others
+  loop-o : (i : ℕ) → i ≢ n → i ≢ mate n → d Loop i ≡ c Loop i
+  loop-o i e f = upd-off _ _ f ∙ upd-off (c Loop) (c Loop k) e
+
+  -- where the others start
+  start-o : (i : ℕ) → i ≢ mate k → i ≢ n → i ≢ mate n → d Start i ≡ c Start i
+  start-o i e f g = upd-off _ v e ∙ upd-off _ _ g ∙ upd-off (c Start) v f
+
+  -- firsts and free half-edges
+  semv-tidy : Tidy sh d
+  semv-tidy = record {
+    first = λ l i. first-set (c First) (firstOf sh d) (c Loop k) (c Loop (mate k)) l (λ e f. sound-tidy a .first l i
+        ∙ far-first sh c d n (a .half-free n (o .n-in) (o .n-free) .loop) (a .half-free (mate n) (o .b-in) (o .b-free) .loop) loop-o l (i .0) (λ z. e (sym z ∙ loop-n)) (λ z. f (sym z ∙ loop-b)));
+    half = free;
+  }
+    where
+      -- a free half-edge was free
+      free : (i : ℕ) → In (2 * sh .edges) i → d Start i ≡ 0 → HalfFree sh d i
+      free i j z =
+          let e : i ≢ mate k = λ y. omega (arith, o .v-in .0, sym (upd-same _ (mate k) v) ∙ ap (d Start) (sym y) ∙ z) in
+          let f : i ≢ n = λ y. omega (arith, o .v-in .0, sym (upd-off _ v (n≢m o) ∙ upd-off _ _ (n≢b o) ∙ upd-same (c Start) n v) ∙ ap (d Start) (sym y) ∙ z) in
+          let g : i ≢ mate n = λ y. o .m-used .2 (sym (upd-off _ v (b≢m o) ∙ upd-same _ (mate n) _) ∙ ap (d Start) (sym y) ∙ z) in
+          let w : c Start i ≡ 0 = sym (start-o i e f g) ∙ z in
+          let r = a .half-free i j w in
+          let x : (h : ℕ) → HalfUsed sh c h → i ≢ h = λ h u y. u .2 (ap (c Start) (sym y) ∙ w) in
+          let y : i ≢ q = split (c Prev (mate k)) k (λ s t. f (t ∙ upd-at (λ j. j) n s)) (λ s t. x (c Prev (mate k)) (prev-in (a .rules) (mate k) (o .m-used)) (t ∙ upd-off (λ j. j) n s)) in
+          record {
+            loop = loop-o i f g ∙ r .loop;
+            next = upd-off _ (mate n) y ∙ upd-off _ (mate k) g ∙ upd-off _ n (x k (o .k-used)) ∙ upd-off (c Next) (c Next k) f ∙ r .next;
+            prev = upd-off _ (mate n) e ∙ upd-off _ q g ∙ upd-off _ n (x (c Next k) (next-in k (o .k-used))) ∙ upd-off (c Prev) k f ∙ r .prev;
+          }
+
+  -- v divides k
+  pub semv-split : Split sh c (semvColumns sh c k n v (aft k n (c Prev (mate k)))) k n v
+  semv-split = record {
+    place = o;
+    same = semv-same;
+    v-used = upd-same (c VertexUsed) v 1;
+    used = λ w e. upd-off (c VertexUsed) 1 e;
+    start-m = upd-same _ (mate k) v;
+    start-n = upd-off _ v (n≢m o) ∙ upd-off _ _ (n≢b o) ∙ upd-same (c Start) n v;
+    start-b = upd-off _ v (b≢m o) ∙ upd-same _ (mate n) _;
+    start = start-o;
+    loop-n = loop-n;
+    loop-b = loop-b;
+    loop = loop-o;
+    next-k = upd-off _ (mate n) (λ z. aft-k _ (sym z)) ∙ upd-off _ (mate k) (off-b o k (o .k-used)) ∙ upd-same _ k n;
+    next-b = upd-off _ (mate n) (λ z. aft-b _ (prev-in (a .rules) (mate k) (o .m-used)) (sym z)) ∙ upd-same _ (mate n) (mate k);
+    next = semv-next;
+    prev-m = upd-same _ (mate k) (mate n);
+    prev-n = upd-off _ (mate n) (n≢m o) ∙ upd-off _ q (n≢b o) ∙ upd-off _ n (λ z. off-n o (c Next k) (next-in k (o .k-used)) (sym z)) ∙ upd-same (c Prev) n k;
+    prev = semv-prev;
+    next-old = λ i u. off-b o (c Next i) (next-in i u);
+    prev-old = λ i u. off-n o (c Prev i) (prev-in (a .rules) i u);
+    tidy-c = sound-tidy a;
+    tidy-d = semv-tidy;
+  }

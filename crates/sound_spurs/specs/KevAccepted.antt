@@ -1,0 +1,132 @@
+-- kev as an operator: what it says that it is accepted, what it does, and that a good table stays good.
+use mathlib.Core.Path.{_≡_, refl, sym, ap, _∙_}
+use mathlib.Core.Logic.{⊎-elim}
+use mathlib.Core.Bool.{true}
+use mathlib.Core.List.{List}
+use Prim.Native.Nat.{ℕ, _*_}
+use native.Mathlib.Omega.{arith}
+use lib.Dec.{eqb→eq, leb}
+use lib.IntN.{ℤ, pos}
+use lib.ListN.{length}
+use borrow.Author.Tests.{le-leb}
+use Rattle.laws.specs.Bools.{true-T, split, eqb-same, eqb-other}
+use Rattle.laws.specs.Update.{upd-off}
+use Rattle.script.specs.declared.Operator.{Operator}
+use Rattle.codec.specs.Operands.{pattern, rows}
+use Rattle.layout.specs.declared.shape.Shape.{Shape}
+use Rattle.layout.specs.Layout.{setVertexUsed}
+use Rattle.layout.specs.Mate.{mate, edgeOf}
+use Rattle.layout.specs.Points.{coordinate}
+use Rattle.euler.specs.Surgery.{wayOf, putPoint, edgeOut, renew}
+use Rattle.euler.specs.Operators.{kevTest, kevLinks}
+use Rattle.euler.specs.Exec.{useWord, condition, refusalOf, linksAfter, killedVertex, pointsAfter, inverse}
+use Rattle.layout.specs.Fields.{First, Start, Loop, Next, Prev, VertexUsed, Columns}
+use Rattle.sound_tables.specs.Cells.{Shows, shows-put}
+use Rattle.sound_tables.specs.Labels.{label-none}
+use Rattle.sound_tables.specs.Sound.{HalfUsed, firstOf, Sound}
+use Rattle.sound_tables.specs.PointLists.{put-length, points-cleared}
+use Rattle.sound_tables.specs.OneOperand.{one-operand}
+use Rattle.sound_tables.specs.Good.{own, Capacities, Good, good-shows, good-after}
+use Rattle.sound_tables.specs.CornerTest.{cornerLeft}
+use Rattle.sound_tables.specs.FirstLow.{first-low}
+use Rattle.sound_tables.specs.Shown.{withFirst, shows-no-edge, shows-first, shows-isolated}
+use Rattle.sound_spurs.specs.MevAccepted.{mevOf}
+use Rattle.sound_spurs.specs.KevAfterMev.{kevOf}
+use Rattle.sound_spurs.specs.Relation.{used-N, in-k, in-b, in-P, in-N, prev-b, Nb, spur-loop-b, spur-loop-N, spur-loop-in, far-in}
+use Rattle.sound_spurs.specs.KevSound.{kevOut, kevColumns, Left, columns-out, half-stays, kev-rules, free-half, none-named, kev-sound}
+
+-- what an accepted kev says
+pub record KevFacts (sh : Shape) (c : Columns) (o : Operator) : Type 0 where
+  pub k : ℕ
+  pub is : o ≡ kevOf k
+  pub used : HalfUsed sh c k
+  pub next : c Next k ≡ mate k
+
+-- all from the refusal 0
+pub kev-facts : (sh : Shape) (x : List ℕ) (o : Operator) → Capacities sh → length (o .args) ≡ 8 → o .code ≡ 4 → refusalOf sh x o ≡ 0 → KevFacts sh (own sh x) o
+unfolding pattern rows useWord condition kevTest
+kev-facts sh x o caps len e h =
+    let a = one-operand sh x 4 9 refl refl refl refl (omega (arith, caps .edges)) refl o len e h in
+    record { k = a .n; is = a .is; used = (a .range .0, a .range .1, a .used); next = eqb→eq _ _ (true-T (rw (a .small) at (a .holds))) }
+
+-- the links afterwards
+abbrev pub kevList : Shape → List ℕ → ℕ → List ℕ
+kevList sh x k =
+    setVertexUsed sh
+    (renew sh (edgeOut sh x k (own sh x Prev k) (own sh x Next (mate k)) k (mate k)) (own sh x Loop k) (own sh x First (own sh x Loop k)) (cornerLeft (own sh x) k (mate k)) (own sh x Start k))
+    (own sh x Start (mate k)) 0
+
+-- the points afterwards
+abbrev pub kevPoints : Shape → List ℕ → List ℤ → ℕ → List ℤ
+kevPoints sh x p k = putPoint p (own sh x Start (mate k)) (pos 0) (pos 0) (pos 0)
+
+module _ {sh : Shape} {x : List ℕ} {p : List ℤ} (g : Good sh x p) {k : ℕ} (uk : HalfUsed sh (own sh x) k) (nk : own sh x Next k ≡ mate k) where
+  -- the columns
+  abbrev c : Columns
+  c = own sh x
+
+  -- the vertex that goes
+  abbrev v : ℕ
+  v = own sh x Start (mate k)
+
+  -- k is read as it stands
+  kn : leb k 8192 ≡ true
+  kn = le-leb k 8192 (omega (arith, uk .1, g .capacities .edges))
+
+  -- what kev does to the links
+  pub kev-links : linksAfter sh x (kevOf k) ≡ kevList sh x k
+  unfolding linksAfter kevLinks
+  kev-links = rw (kn, prev-b (g .sound) uk nk, nk)
+
+  -- to the points
+  pub kev-points : pointsAfter sh x p (kevOf k) ≡ kevPoints sh x p k
+  unfolding pointsAfter killedVertex
+  kev-points = rw kn
+
+  -- and the operator that undoes it
+  pub kev-inverse : inverse sh x p (kevOf k) ≡ mevOf (own sh x Loop k) (cornerLeft (own sh x) k (mate k)) (edgeOf k) (own sh x Start (mate k)) (wayOf k)
+      (coordinate p (own sh x Start (mate k)) 0) (coordinate p (own sh x Start (mate k)) 1) (coordinate p (own sh x Start (mate k)) 2)
+  unfolding inverse
+  kev-inverse = rw kn
+
+  module _ {I : ℕ} (left : Left (own sh x) k I) where
+    -- the columns afterwards
+    abbrev d : Columns
+    d = kevColumns sh (own sh x) k I
+
+    -- the columns are sound
+    d-sound : Sound sh (kevPoints sh x p k) d
+    d-sound = kev-sound (g .sound) uk nk left
+        (points-cleared sh p c d v (g .points) (far-in (g .sound) uk nk) (g .sound .point) (λ w n. upd-off (c VertexUsed) 0 n))
+
+    -- the list once the edge is out
+    out-shows : Shows sh (edgeOut sh x k (c Prev k) (c Next (mate k)) k (mate k)) (kevOut c k)
+    out-shows = let a = g .sound in
+        shows-no-edge (good-shows g) k (c Prev k) (c Next (mate k)) k (mate k) (in-k a uk nk) (in-b a uk nk) (in-P a uk nk) (in-N a uk nk) (in-k a uk nk) (in-b a uk nk)
+
+    -- what names the loop now named it before
+    named : (i : ℕ) → kevOut c k Loop i ≡ c Loop k → c Loop i ≡ c Loop k
+    named i e = let a = g .sound in split i k
+        (λ z. ap (c Loop) z)
+        (λ z. split i (mate k) (λ y. ap (c Loop) y ∙ spur-loop-b a uk nk) (λ y. sym (columns-out a uk nk left .loop i z y) ∙ e))
+
+    -- the loop's first and isolated vertex
+    first-shows : Shows sh (renew sh (edgeOut sh x k (c Prev k) (c Next (mate k)) k (mate k)) (c Loop k) (c First (c Loop k)) (cornerLeft c k (mate k)) (c Start k)) (withFirst (kevOut c k) (c Loop k) (firstOf sh (kevOut c k) (c Loop k)) I)
+    first-shows = let a = g .sound in ⊎-elim
+        (λ w.
+        let z : firstOf sh (kevOut c k) (c Loop k) ≡ 0 = label-none (2 * sh .edges) (d Loop) (c Loop k) (none-named a uk nk left (w .0)) in
+        rw (eqb-same (w .0), w .1, z) (shows-isolated out-shows (c Loop k) (c First (c Loop k)) (c Start k) (spur-loop-in a uk nk)))
+        (λ w.
+        rw (eqb-other (w .0), w .1)
+        (shows-first {U = HalfUsed sh d} out-shows (c Loop k) (c First (c Loop k)) (c Next (mate k)) (c Start k) (spur-loop-in a uk nk) (kev-rules a uk nk left .loops)
+        (half-stays a uk nk left _ ((used-N a uk nk, Nb a uk nk), w .0)) (columns-out a uk nk left .loop _ (w .0) (Nb a uk nk) ∙ spur-loop-N a uk nk)
+        (λ i j e. (j .0, j .1, λ s. omega (arith, spur-loop-in a uk nk .0, sym e ∙ free-half a uk nk left i j s .loop)))
+        (λ i j e. first-low a (c Loop k) i (spur-loop-in a uk nk .0) j (named i e) .1))) left
+
+    -- the list shows these columns
+    pub kev-shows : Shows sh (kevList sh x k) d
+    kev-shows = shows-put first-shows VertexUsed v 0 (far-in (g .sound) uk nk .0) (far-in (g .sound) uk nk .1)
+
+    -- the table is good afterwards
+    pub killed-good : Good sh (kevList sh x k) (kevPoints sh x p k)
+    killed-good = good-after g kev-shows (λ n. refl) (put-length p v (pos 0) (pos 0) (pos 0)) d-sound

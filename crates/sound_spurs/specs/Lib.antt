@@ -1,0 +1,12 @@
+pub mod KevAccepted
+pub mod KevAfterMev
+pub mod KevExact
+pub mod KevSound
+pub mod MevAccepted
+pub mod MevAfterKev
+pub mod MevExact
+pub mod MevFits
+pub mod MevRules
+pub mod MevSound
+pub mod Relation
+pub mod SpurOut
