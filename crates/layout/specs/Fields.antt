@@ -1,12 +1,13 @@
 -- The twelve columns of a table's links, the capacities among them, as one family: what is said of a store to one column is said once for all.
-use mathlib.Core.Path.{_≡_, refl, sym, ap, _∙_}
-use mathlib.Core.Bool.{Bool, _&&_}
+use mathlib.Core.Path.{_≡_, refl, sym, ap, _∙_, subst}
+use mathlib.Core.Logic.{⊎-elim}
+use mathlib.Core.Bool.{Bool, true, false, _&&_, _||_}
 use mathlib.Core.List.{List, [], _∷_}
 use Prim.Native.Nat.{ℕ, zero, suc, _*_, _<_}
 use native.Mathlib.Omega.{arith}
-use lib.Dec.{eqb, lit≤}
+use lib.Dec.{eqb, eqb→eq, lit≤}
 use lib.ListN.{getD}
-use Rattle.laws.specs.Bools.{pick}
+use Rattle.laws.specs.Bools.{pick, true-T, and-T, ask}
 use Rattle.laws.specs.Update.{upd}
 use Rattle.laws.specs.Columns.{Kind, col, store}
 use Rattle.layout.specs.declared.shape.Shape.{Shape}
@@ -173,3 +174,30 @@ field-named sh (suc (suc (suc (suc zero)))) (suc (suc (suc (suc w)))) h = absurd
 field-named sh (suc (suc (suc (suc (suc zero))))) zero h = named VertexUsed
 field-named sh (suc (suc (suc (suc (suc zero))))) (suc w) h = absurd (omega arith)
 field-named sh (suc (suc (suc (suc (suc (suc g)))))) w h = absurd (omega arith)
+
+-- ---- a statement about every field, said once: of some fields each by itself, of all others together
+
+-- a field of the same kind and word is the same
+pub same-field : (F G : Field) → sameField F G ≡ true → F ≡ G
+same-field F G e =
+    let t = and-T (eqb (groupOf F) (groupOf G)) (eqb (wordOf F) (wordOf G)) (true-T e) in
+    field-same F G (eqb→eq (groupOf F) (groupOf G) (t .0)) (eqb→eq (wordOf F) (wordOf G) (t .1))
+
+-- F is one of the fields Fs
+abbrev pub among : List Field → Field → Bool
+among [] F = false
+among (G ∷ Gs) F = sameField G F || among Gs F
+
+-- P of each of the fields Fs
+abbrev pub Each : (Field → Type 0) → List Field → Type 0
+Each P [] = Unit {0}
+Each P (F ∷ Fs) = P F × Each P Fs
+
+-- P of every field: of Fs one by one, of the others at once. A new field is one of the others
+pub by-fields : (Fs : List Field) (P : Field → Type 0) → Each P Fs → ((F : Field) → among Fs F ≡ false → P F) → (F : Field) → P F
+by-fields Fs P each others F = go Fs each (others F)
+  where
+    go : (Gs : List Field) → Each P Gs → (among Gs F ≡ false → P F) → P F
+    go [] each other = other refl
+    go (G ∷ Gs) each other = ⊎-elim (λ e. subst P (same-field G F e) (each .0))
+        (λ e. go Gs (each .1) (λ q. other (ap (λ b. b || among Gs F) e ∙ q))) (ask (sameField G F))

@@ -6,3 +6,4 @@ pub mod MateLaws
 pub mod Points
 pub mod PointsLaws
 pub mod Small
+pub mod Writes

@@ -28,3 +28,4 @@ pub mod FirstLow
 pub mod Walking
 pub mod Shown
 pub mod EdgeInstances
+pub mod WriteLaws
