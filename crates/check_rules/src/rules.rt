@@ -9,12 +9,12 @@ use crate::labels::LabelTest;
 use crate::labels::all_labels;
 use check_items::scan::Test;
 use check_items::scan::all_items;
-use layout::shape::Shape;
 use check_orbits::cycles::one_cycle_each;
 use check_orbits::labels::isolated_counts;
 use check_orbits::labels::least_naming;
 use check_orbits::labels::loop_firsts;
 use check_shells::faces::shells_whole;
+use layout::shape::Shape;
 
 // Marks, numbers and coordinates are in range; free records are zero; both halves of an edge are in use or neither.
 fn rule_1(links: &[u16], points: &[i32], sh: Shape) -> bool

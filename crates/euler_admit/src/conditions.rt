@@ -4,19 +4,19 @@ ghost use Prim.Native.Nat.{ℕ, _≤_};
 ghost use Rattle.euler.specs.Exec.{operatorBy, condition};
 ghost use Rattle.euler_counts.specs.Counts.{Counted};
 ghost use Rattle.layout.specs.Small.{Small};
+use euler::records::item_at;
 use euler_bridges::kemr_mekr::kemr_fits;
 use euler_bridges::kemr_mekr::mekr_fits;
 use euler_cuts::mef_kef::kef_fits;
 use euler_cuts::mef_kef::mef_fits;
-use euler_splits::semv_jekv::jekv_fits;
-use euler_spurs::mev_kev::kev_fits;
-use euler_spurs::mev_kev::mev_fits;
-use euler::records::item_at;
-use layout::shape::Shape;
 use euler_holes::holes::kfmrh_fits;
 use euler_holes::holes::mfkrh_fits;
 use euler_lone::lone::kvsf_fits;
 use euler_rings::rings::rmov_fits;
+use euler_splits::semv_jekv::jekv_fits;
+use euler_spurs::mev_kev::kev_fits;
+use euler_spurs::mev_kev::mev_fits;
+use layout::shape::Shape;
 
 // The condition that document 01 writes for the operator of this code and these operands holds.
 pub fn condition_holds(

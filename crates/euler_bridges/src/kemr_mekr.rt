@@ -2,8 +2,6 @@
 ghost use mathlib.Core.Path.{_≡_};
 ghost use Prim.Native.Nat.{ℕ, _<_, _≤_};
 ghost use Rattle.euler.specs.Operators.{kemrTest, kemrLinks, kemrInverse, mekrTest, mekrEdge, mekrLinks, mekrInverse};
-use euler_edges::parts::half_at;
-use euler_edges::parts::with_three;
 use euler::faces::is_ring;
 use euler::records::Half;
 use euler::records::choose;
@@ -16,6 +14,8 @@ use euler::surgery::edge_out;
 use euler::walks::lower;
 use euler::walks::relabel_run;
 use euler::walks::renew_loop;
+use euler_edges::parts::half_at;
+use euler_edges::parts::with_three;
 use layout::columns::loop_face;
 use layout::columns::loop_first;
 use layout::columns::loop_of;

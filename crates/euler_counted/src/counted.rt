@@ -5,18 +5,18 @@ ghost use Rattle.layout.specs.Small.{Small};
 ghost use Rattle.euler.specs.Exec.{operatorBy, linksAfter, pointsAfter, onlyLoop, onlyVertex, clearPoint};
 ghost use Rattle.euler_counts.specs.Counts.{movedLoop, countsAfter};
 ghost use Rattle.euler_counted.specs.Moved.{solidKilled, solidUncounted};
+use euler::records::item_at;
 use euler_counts::counts::lower_count;
 use euler_counts::counts::raise_count;
-use euler::records::item_at;
 use euler_effects::effects::perform;
+use euler_lone::lone::face_in;
+use euler_lone::lone::kvsf_links;
 use euler_points::points::clear_point;
 use layout::columns::face_outer;
 use layout::columns::loop_face;
 use layout::columns::loop_isolated;
 use layout::columns::loop_of;
 use layout::shape::Shape;
-use euler_lone::lone::face_in;
-use euler_lone::lone::kvsf_links;
 
 // The loop of solid s that kvsf kills.
 fn only_loop(links: &[u16], sh: Shape, s: usize) -> usize

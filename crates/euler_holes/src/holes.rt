@@ -8,10 +8,12 @@ ghost use Rattle.euler_counts.specs.Counts.{Counted};
 ghost use Rattle.euler_holes.specs.Moves.{giveLoop};
 use crate::moves::join_solids;
 use crate::moves::move_shell;
-use euler_counts::counts::loops_kept;
+use check_shells::faces::link_faces;
+use check_shells::faces::linked_faces;
 use euler::faces::is_ring;
 use euler::records::choose;
 use euler::records::put_face;
+use euler_counts::counts::loops_kept;
 use layout::columns::face_outer;
 use layout::columns::face_solid;
 use layout::columns::loop_face;
@@ -21,8 +23,6 @@ use layout::shape::Shape;
 use script::Operator;
 use script::blank;
 use script::with_number;
-use check_shells::faces::link_faces;
-use check_shells::faces::linked_faces;
 
 pub fn kfmrh_fits(links: &[u16], counts: &[u16; 4097], sh: Shape, f1: usize, f2: usize) -> bool
     requires { ⌜ Small sh ⌝ }

@@ -4,12 +4,12 @@ ghost use Prim.Native.Nat.{ℕ, _<_, _≤_};
 ghost use Rattle.euler.specs.Operators.{moveFaces};
 ghost use Rattle.check_shells.specs.Forest.{Forest};
 ghost use Rattle.euler_holes.specs.Moves.{joinSolids, moveShell};
+use check_shells::faces::same_shell;
 use euler::records::choose;
 use layout::columns::face_solid;
 use layout::columns::set_face_solid;
 use layout::columns::set_solid_used;
 use layout::shape::Shape;
-use check_shells::faces::same_shell;
 
 // All faces of solid s pass to solid t. Where the two are one, none is looked at.
 fn move_faces(links: &mut [u16], sh: Shape, s: usize, t: usize)

@@ -8,16 +8,22 @@ ghost use Rattle.euler.specs.Surgery.{halfBy};
 ghost use Rattle.layout.specs.Mate.{mate};
 ghost use Rattle.euler.specs.Exec.{inverse, onlyLoop, onlyVertex};
 ghost use Rattle.layout.specs.Small.{Small};
+use euler::records::half_by;
+use euler::records::item_of;
 use euler_bridges::kemr_mekr::kemr_inverse;
 use euler_bridges::kemr_mekr::mekr_inverse;
 use euler_cuts::mef_kef::kef_inverse;
 use euler_cuts::mef_kef::mef_inverse;
+use euler_holes::holes::kfmrh_inverse;
+use euler_holes::holes::mfkrh_inverse;
+use euler_lone::lone::face_in;
+use euler_lone::lone::kvsf_inverse;
+use euler_lone::lone::mvsf_inverse;
+use euler_rings::rings::rmov_inverse;
 use euler_splits::semv_jekv::jekv_inverse;
 use euler_splits::semv_jekv::semv_inverse;
 use euler_spurs::mev_kev::kev_inverse;
 use euler_spurs::mev_kev::mev_inverse;
-use euler::records::half_by;
-use euler::records::item_of;
 use layout::columns::face_outer;
 use layout::columns::loop_isolated;
 use layout::columns::next_of;
@@ -25,12 +31,6 @@ use layout::mates::mate_of;
 use layout::shape::Shape;
 use script::Operator;
 use script::blank;
-use euler_holes::holes::kfmrh_inverse;
-use euler_holes::holes::mfkrh_inverse;
-use euler_lone::lone::face_in;
-use euler_lone::lone::kvsf_inverse;
-use euler_lone::lone::mvsf_inverse;
-use euler_rings::rings::rmov_inverse;
 
 // mvsf of the solid that kvsf kills.
 fn solid_again(links: &[u16], points: &[i32], sh: Shape, s: usize) -> Operator

@@ -7,13 +7,13 @@ ghost use Rattle.euler.specs.Exec.{operatorBy, onlyVertex, killedVertex, clearP
 ghost use Rattle.euler_points.specs.Chosen.{pointsWith};
 use euler::points::put_point;
 use euler::records::item_at;
+use euler_lone::lone::face_in;
 use layout::columns::face_outer;
 use layout::columns::loop_isolated;
 use layout::columns::next_of;
 use layout::columns::start_of;
 use layout::mates::mate_of;
 use layout::shape::Shape;
-use euler_lone::lone::face_in;
 
 // The vertex that kvsf of solid s kills.
 pub fn only_vertex(links: &[u16], sh: Shape, s: usize) -> usize

@@ -2,8 +2,6 @@
 ghost use mathlib.Core.Path.{_≡_};
 ghost use Prim.Native.Nat.{ℕ, _<_, _≤_};
 ghost use Rattle.euler.specs.Operators.{mevTest, mevLinks, mevInverse, kevTest, kevLinks, kevInverse};
-use euler_edges::parts::half_at;
-use euler_edges::parts::with_three;
 use euler::points::with_point;
 use euler::records::Half;
 use euler::records::choose;
@@ -14,6 +12,8 @@ use euler::surgery::edge_in;
 use euler::surgery::edge_out;
 use euler::walks::lower;
 use euler::walks::renew_loop;
+use euler_edges::parts::half_at;
+use euler_edges::parts::with_three;
 use layout::columns::loop_first;
 use layout::columns::next_of;
 use layout::columns::prev_of;

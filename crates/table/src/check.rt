@@ -2,8 +2,8 @@
 ghost use mathlib.Core.Path.{_≡_};
 ghost use Rattle.table.specs.Check.{checkOf};
 use crate::sizes::table_fits;
-use layout::shape::shape_of;
 use check_rules::rules::broken_rule;
+use layout::shape::shape_of;
 
 #[repr(C)]
 pub struct CheckAnswer {
