@@ -2,7 +2,7 @@
 -- `sh` is the table's shape, `x` its links. Walks carry fuel; on a sound table that cuts nothing off.
 use Prim.Native.Nat.{ℕ, zero, suc, _+_, _-_, _*_, _%_}
 use mathlib.Core.Bool.{Bool, not, _&&_, _||_}
-use mathlib.Core.List.{List}
+use mathlib.Core.List.{List, [], _∷_, _++_}
 use lib.Dec.{eqb, leb, ltb}
 use lib.IntN.{ℤ, pos}
 use lib.ListN.{getD, set}
@@ -10,8 +10,10 @@ use Rattle.laws.specs.Bools.{pick}
 use Rattle.script.specs.declared.Operator.{Operator}
 use Rattle.script.specs.Operator.{natOf}
 use Rattle.layout.specs.declared.shape.Shape.{Shape}
-use Rattle.layout.specs.Layout.{loopFirst, loopIsolated, startOf, loopOf, nextOf, prevOf, setFaceSolid, setFaceOuter, setLoopFace, setLoopFirst, setLoopIsolated, setStart, setLoop, setNext, setPrev}
+use Rattle.layout.specs.Layout.{loopFirst, loopIsolated, startOf, loopOf, nextOf, setLoopFirst, setLoopIsolated, setLoop}
 use Rattle.layout.specs.Mate.{mate}
+use Rattle.layout.specs.Fields.{Solid, Outer, Face, First, Isolated, Start, Loop, Next, Prev}
+use Rattle.layout.specs.Writes.{Write, write, writes}
 use Rattle.layout.specs.Points.{coordinate, setCoordinate}
 
 -- a number is there
@@ -46,16 +48,28 @@ corner sh x l h = (eqb h 0 && some (loopIsolated sh x l)) || (some h && eqb (loo
 abbrev pub cornerVertex : Shape → List ℕ → ℕ → ℕ → ℕ
 cornerVertex sh x l h = pick (eqb h 0) (loopIsolated sh x l) (startOf sh x h)
 
--- ---- whole records
+-- ---- whole records, as writes: field, item, value
+
+-- face f: its solid s, its outer loop l
+abbrev pub faceRecord : ℕ → ℕ → ℕ → List Write
+faceRecord f s l = write Solid f s ∷ write Outer f l ∷ []
+
+-- loop l: its face f, its first k, its isolated vertex v
+abbrev pub loopRecord : ℕ → ℕ → ℕ → ℕ → List Write
+loopRecord l f k v = write Face l f ∷ write First l k ∷ write Isolated l v ∷ []
+
+-- half-edge k: its start v, its loop l, next n, previous p
+abbrev pub halfRecord : ℕ → ℕ → ℕ → ℕ → ℕ → List Write
+halfRecord k v l n p = write Start k v ∷ write Loop k l ∷ write Next k n ∷ write Prev k p ∷ []
 
 abbrev pub putFace : Shape → List ℕ → ℕ → ℕ → ℕ → List ℕ
-putFace sh x f s l = setFaceOuter sh (setFaceSolid sh x f s) f l
+putFace sh x f s l = writes sh (faceRecord f s l) x
 
 abbrev pub putLoop : Shape → List ℕ → ℕ → ℕ → ℕ → ℕ → List ℕ
-putLoop sh x l f k v = setLoopIsolated sh (setLoopFirst sh (setLoopFace sh x l f) l k) l v
+putLoop sh x l f k v = writes sh (loopRecord l f k v) x
 
 abbrev pub putHalf : Shape → List ℕ → ℕ → ℕ → ℕ → ℕ → ℕ → List ℕ
-putHalf sh x k v l n p = setPrev sh (setNext sh (setLoop sh (setStart sh x k v) k l) k n) k p
+putHalf sh x k v l n p = writes sh (halfRecord k v l n p) x
 
 -- the three coordinates of vertex v
 abbrev pub putPoint : List ℤ → ℕ → ℤ → ℤ → ℤ → List ℤ
@@ -80,21 +94,33 @@ withPoint o i p v = withOperand (withOperand (withOperand o i (coordinate p v 0)
 -- ---- an edge goes in, an edge comes out
 
 -- a is followed by b
-abbrev pub tie : Shape → List ℕ → ℕ → ℕ → List ℕ
-tie sh x a b = setPrev sh (setNext sh x a b) b a
+abbrev pub tied : ℕ → ℕ → List Write
+tied a b = write Next a b ∷ write Prev b a ∷ []
 
 -- k stands between p and n, as these see it
-abbrev pub between : Shape → List ℕ → ℕ → ℕ → ℕ → List ℕ
-between sh x p k n = setPrev sh (setNext sh x p k) n k
+abbrev pub seated : ℕ → ℕ → ℕ → List Write
+seated p k n = write Next p k ∷ write Prev n k ∷ []
 
 -- half-edge k from vertex u in loop l between p and n, and its mate from u′ in l′ between p′ and n′
-unfoldable pub edgeIn : Shape → List ℕ → ℕ → ℕ → ℕ → ℕ → ℕ → ℕ → ℕ → ℕ → ℕ → List ℕ
-edgeIn sh x k u l n p u′ l′ n′ p′ =
-    between sh (between sh (putHalf sh (putHalf sh x k u l n p) (mate k) u′ l′ n′ p′) p k n) p′ (mate k) n′
+abbrev pub edgeWrites : ℕ → ℕ → ℕ → ℕ → ℕ → ℕ → ℕ → ℕ → ℕ → List Write
+edgeWrites k u l n p u′ l′ n′ p′ =
+    halfRecord k u l n p ++ (halfRecord (mate k) u′ l′ n′ p′ ++ (seated p k n ++ seated p′ (mate k) n′))
 
 -- the edge of k is killed: p is followed by n, and p′ by n′. (Where these are k or its mate, what is stored is cleared with them.)
+abbrev pub noEdgeWrites : ℕ → ℕ → ℕ → ℕ → ℕ → List Write
+noEdgeWrites k p n p′ n′ = tied p n ++ (tied p′ n′ ++ (halfRecord k 0 0 0 0 ++ halfRecord (mate k) 0 0 0 0))
+
+abbrev pub tie : Shape → List ℕ → ℕ → ℕ → List ℕ
+tie sh x a b = writes sh (tied a b) x
+
+abbrev pub between : Shape → List ℕ → ℕ → ℕ → ℕ → List ℕ
+between sh x p k n = writes sh (seated p k n) x
+
+unfoldable pub edgeIn : Shape → List ℕ → ℕ → ℕ → ℕ → ℕ → ℕ → ℕ → ℕ → ℕ → ℕ → List ℕ
+edgeIn sh x k u l n p u′ l′ n′ p′ = writes sh (edgeWrites k u l n p u′ l′ n′ p′) x
+
 unfoldable pub edgeOut : Shape → List ℕ → ℕ → ℕ → ℕ → ℕ → ℕ → List ℕ
-edgeOut sh x k p n p′ n′ = putHalf sh (putHalf sh (tie sh (tie sh x p n) p′ n′) k 0 0 0 0) (mate k) 0 0 0 0
+edgeOut sh x k p n p′ n′ = writes sh (noEdgeWrites k p n p′ n′) x
 
 -- ---- walks
 
