@@ -2,7 +2,7 @@
 use mathlib.Core.Path.{_≡_, refl, sym, ap, _∙_, subst}
 use mathlib.Core.Logic.{_≢_}
 use mathlib.Core.Bool.{true}
-use mathlib.Core.List.{List}
+use mathlib.Core.List.{List, [], _∷_, _++_}
 use Prim.Native.Nat.{ℕ, _*_}
 use native.Mathlib.Omega.{arith}
 use lib.IntN.{ℤ}
@@ -17,7 +17,9 @@ use Rattle.sound_tables.specs.Mates.{mate-other}
 use Rattle.sound_tables.specs.EdgeIn.{prev-in, next-prev}
 use Rattle.sound_tables.specs.Sound.{In, HalfUsed, firstOf, HalfFree, Sound}
 use Rattle.sound_tables.specs.Names.{not-isolated}
-use Rattle.sound_tables.specs.Shown.{withHalf, withTie, withFirst}
+use Rattle.layout.specs.Writes.{Write, write, changes}
+use Rattle.euler.specs.Surgery.{halfRecord, tied}
+use Rattle.sound_tables.specs.Shown.{withFirst}
 use Rattle.sound_splits.specs.CycleMoves.{swapFor, swap-back}
 use Rattle.sound_splits.specs.Firsts.{clear-zero, far-first, first-set}
 use Rattle.sound_splits.specs.Relation.{Tidy, sound-tidy, plain, by-plain, Place, fore, aft, Split}
@@ -31,8 +33,13 @@ pub record Joint (sh : Shape) (d : Columns) (k n : ℕ) : Type 0 where
   pub next-b : d Next (mate n) ≡ mate k
 
 -- the half-edges after jekv: k is followed by what comes after n, q by k's mate, which starts where n's did; both halves of n's edge are cleared
+abbrev pub jekvWrites : Columns → ℕ → ℕ → ℕ → List Write
+jekvWrites d k n q =
+    tied k (d Next n) ++ (tied q (mate k) ++ (write Start (mate k) (d Start (mate n))
+    ∷ (halfRecord n 0 0 0 0 ++ halfRecord (mate n) 0 0 0 0)))
+
 abbrev pub jekvHalves : Columns → ℕ → ℕ → ℕ → Columns
-jekvHalves d k n q = withHalf (withHalf (change (withTie (withTie d k (d Next n)) q (mate k)) Start (mate k) (d Start (mate n))) n 0 0 0 0) (mate n) 0 0 0 0
+jekvHalves d k n q = changes (jekvWrites d k n q) d
 
 -- with the firsts of the two loops, and n's start free
 abbrev pub jekvColumns : Shape → Columns → ℕ → ℕ → ℕ → Columns

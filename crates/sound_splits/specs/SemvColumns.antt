@@ -2,7 +2,7 @@
 use mathlib.Core.Path.{_≡_, refl, sym, ap, _∙_}
 use mathlib.Core.Logic.{_≢_}
 use mathlib.Core.Bool.{true}
-use mathlib.Core.List.{List}
+use mathlib.Core.List.{List, [], _∷_, _++_}
 use Prim.Native.Nat.{ℕ, _*_}
 use native.Mathlib.Omega.{arith}
 use lib.IntN.{ℤ}
@@ -14,14 +14,19 @@ use Rattle.sound_tables.specs.EdgeIn.{prev-in, next-prev}
 use Rattle.layout.specs.Fields.{Field, First, Isolated, Start, Loop, Next, Prev, VertexUsed, Columns, change}
 use Rattle.sound_tables.specs.Sound.{In, HalfUsed, firstOf, HalfFree, Sound}
 use Rattle.sound_tables.specs.Names.{not-isolated}
-use Rattle.sound_tables.specs.Shown.{withHalf, withBetween, withFirst}
+use Rattle.layout.specs.Writes.{Write, changes}
+use Rattle.euler.specs.Surgery.{halfRecord, seated}
+use Rattle.sound_tables.specs.Shown.{withFirst}
 use Rattle.sound_splits.specs.CycleMoves.{swapFor, swap-back}
 use Rattle.sound_splits.specs.Firsts.{clear-zero, far-first, first-set}
 use Rattle.sound_splits.specs.Relation.{Tidy, sound-tidy, plain, by-plain, Place, fore, aft, Split, off-n, off-b, n≢b, n≢k, n≢m, b≢m}
 
 -- half-edge n from v in loop l goes in between k and A
+abbrev pub afterWrites : ℕ → ℕ → ℕ → ℕ → ℕ → List Write
+afterWrites k n v l A = halfRecord n v l A k ++ seated k n A
+
 abbrev pub withAfter : Columns → ℕ → ℕ → ℕ → ℕ → ℕ → Columns
-withAfter c k n v l A = withBetween (withHalf c n v l A k) k n A
+withAfter c k n v l A = changes (afterWrites k n v l A) c
 
 -- the half-edges after semv: n after k, then n's mate between q and m, which starts at v
 abbrev pub semvHalves : Columns → ℕ → ℕ → ℕ → ℕ → Columns

@@ -18,19 +18,21 @@ use Rattle.sound_tables.specs.Cells.{Shows, shows-put}
 use Rattle.sound_tables.specs.Sound.{In, HalfUsed, firstOf, Sound}
 use Rattle.sound_tables.specs.Names.{start-unnamed}
 use Rattle.sound_tables.specs.FirstLow.{lower-new, first-low}
-use Rattle.sound_tables.specs.Shown.{withFirst, shows-half, shows-tie, shows-between, shows-first}
+use Rattle.euler.specs.Surgery.{tied}
+use Rattle.sound_tables.specs.WriteLaws.{shows-writes}
+use Rattle.sound_tables.specs.Shown.{withFirst, shows-first}
 use Rattle.sound_splits.specs.CycleMoves.{swapFor}
 use Rattle.sound_splits.specs.Relation.{Tidy, Place, aft, off-n, off-b, used-old}
 use Rattle.sound_splits.specs.SplitRules.{split-rules, join-rules}
-use Rattle.sound_splits.specs.SemvColumns.{withAfter, semvColumns, first-next, first-prev, next-in, semv-split}
-use Rattle.sound_splits.specs.JekvColumns.{Joint, jekvColumns, n-used, b-used, m-used, q-used, jekv-split}
+use Rattle.sound_splits.specs.SemvColumns.{afterWrites, withAfter, semvColumns, first-next, first-prev, next-in, semv-split}
+use Rattle.sound_splits.specs.JekvColumns.{Joint, jekvWrites, jekvColumns, n-used, b-used, m-used, q-used, jekv-split}
 
 -- a half-edge goes in after k, which A followed
 shows-after : {sh : Shape} {x : List ℕ} {c : Columns} → Shows sh x c → (k n v l A : ℕ) → c Next k ≡ A → In (2 * sh .edges) k → In (2 * sh .edges) n → In (2 * sh .edges) A
     → Shows sh (insertAfter sh x k n v l) (withAfter c k n v l A)
 shows-after {sh} {x} s k n v l A e ik jn ia =
     let q : nextOf sh x k ≡ A = s .at Next k (ik .1) ∙ e in
-    rw q (shows-between (shows-half s n v l A k jn) k n A ik ia)
+    rw q (shows-writes (afterWrites k n v l A) s (jn, (jn, (jn, (jn, (ik, (ia, tt)))))))
 
 -- two loops get their firsts anew, and a vertex its mark
 shows-close : {sh : Shape} {y : List ℕ} {H : Columns} {U : ℕ → Type 0} → Shows sh y H → (k m l1 low1 l2 low2 v t : ℕ) → In (sh .loops) l1 → In (sh .loops) l2 → In (sh .vertices) v
@@ -90,10 +92,9 @@ jekv-shows {sh} {x} {d = d} {k} {n} s a o =
     let im : In (2 * sh .edges) (mate k) = (mu .0, mu .1) in
     let jn : In (2 * sh .edges) n = (nu .0, nu .1) in
     let ib : In (2 * sh .edges) (mate n) = (bu .0, bu .1) in
-    let s1 = shows-tie s k (d Next n) ik (A .0, A .1) in
-    let s2 = shows-tie s1 q (mate k) (qu .0, qu .1) im in
-    let s3 = shows-put s2 Start (mate k) (d Start (mate n)) (im .0) (im .1) in
-    let s4 = shows-half (shows-half s3 n 0 0 0 0 jn) (mate n) 0 0 0 0 ib in
+    let s1 = shows-writes (tied k (d Next n)) s (ik, ((A .0, A .1), tt)) in
+    let s4 = shows-writes (jekvWrites d k n q) s
+    (ik, ((A .0, A .1), ((qu .0, qu .1), (im, (im, (jn, (jn, (jn, (jn, (ib, (ib, (ib, (ib, tt))))))))))))) in
     let r = jekv-split a o in
     let h1 = a .half k ik (o .k-used .2) in
     let h2 = a .half (mate k) im (mu .2) in

@@ -12,60 +12,43 @@ use Rattle.laws.specs.Cycles.{Cycles}
 use Rattle.layout.specs.declared.shape.Shape.{Shape}
 use Rattle.layout.specs.Layout.{kind}
 use Rattle.layout.specs.Mate.{mate}
-use Rattle.euler.specs.Surgery.{putHalf, tie, between, edgeIn, edgeOut, seek, firstFrom, renew}
-use Rattle.layout.specs.Fields.{Field, Solid, First, Isolated, Start, Loop, Next, Prev, Columns, change, sameField}
+use Rattle.euler.specs.Surgery.{edgeWrites, noEdgeWrites, edgeIn, edgeOut, seek, firstFrom, renew}
+use Rattle.layout.specs.Fields.{Field, Solid, First, Isolated, Loop, Next, Columns, change, sameField}
+use Rattle.layout.specs.Writes.{changes}
 use Rattle.sound_tables.specs.Cells.{Shows, shows-put}
+use Rattle.sound_tables.specs.WriteLaws.{shows-writes}
 use Rattle.sound_tables.specs.Sound.{In, firstOf}
 use Rattle.sound_tables.specs.Walking.{seek-first}
 
--- ---- half-edges
-
--- the record of half-edge k becomes v, l, n, p
-abbrev pub withHalf : Columns → ℕ → ℕ → ℕ → ℕ → ℕ → Columns
-withHalf c k v l n p = change (change (change (change c Start k v) Loop k l) Next k n) Prev k p
-
--- a is followed by b
-abbrev pub withTie : Columns → ℕ → ℕ → Columns
-withTie c a b = change (change c Next a b) Prev b a
-
--- k stands between p and n, as these see it
-abbrev pub withBetween : Columns → ℕ → ℕ → ℕ → Columns
-withBetween c p k n = change (change c Next p k) Prev n k
+-- ---- half-edges: what the surgery of `euler` writes, on columns
 
 -- the columns of `edgeIn`
 abbrev pub withEdge : Columns → ℕ → ℕ → ℕ → ℕ → ℕ → ℕ → ℕ → ℕ → ℕ → Columns
-withEdge c k u l n p u′ l′ n′ p′ = withBetween (withBetween (withHalf (withHalf c k u l n p) (mate k) u′ l′ n′ p′) p k n) p′ (mate k) n′
+withEdge c k u l n p u′ l′ n′ p′ = changes (edgeWrites k u l n p u′ l′ n′ p′) c
 
 -- and of `edgeOut`
 abbrev pub withoutEdge : Columns → ℕ → ℕ → ℕ → ℕ → ℕ → Columns
-withoutEdge c k p n p′ n′ = withHalf (withHalf (withTie (withTie c p n) p′ n′) k 0 0 0 0) (mate k) 0 0 0 0
-
-module _ {sh : Shape} {x : List ℕ} {c : Columns} (s : Shows sh x c) where
-  -- four stores
-  pub shows-half : (k v l n p : ℕ) → In (2 * sh .edges) k → Shows sh (putHalf sh x k v l n p) (withHalf c k v l n p)
-  shows-half k v l n p i = shows-put (shows-put (shows-put (shows-put s Start k v (i .0) (i .1)) Loop k l (i .0) (i .1)) Next k n (i .0) (i .1)) Prev k p (i .0) (i .1)
-
-  -- two stores
-  pub shows-tie : (a b : ℕ) → In (2 * sh .edges) a → In (2 * sh .edges) b → Shows sh (tie sh x a b) (withTie c a b)
-  shows-tie a b i j = shows-put (shows-put s Next a b (i .0) (i .1)) Prev b a (j .0) (j .1)
-
-  -- two stores
-  pub shows-between : (p k n : ℕ) → In (2 * sh .edges) p → In (2 * sh .edges) n → Shows sh (between sh x p k n) (withBetween c p k n)
-  shows-between p k n i j = shows-put (shows-put s Next p k (i .0) (i .1)) Prev n k (j .0) (j .1)
+withoutEdge c k p n p′ n′ = changes (noEdgeWrites k p n p′ n′) c
 
 -- an edge in
-pub shows-edge : {sh : Shape} {x : List ℕ} {c : Columns} → Shows sh x c → (k u l n p u′ l′ n′ p′ : ℕ) → In (2 * sh .edges) k → In (2 * sh .edges) (mate k)
-    → In (2 * sh .edges) n → In (2 * sh .edges) p → In (2 * sh .edges) n′ → In (2 * sh .edges) p′ → Shows sh (edgeIn sh x k u l n p u′ l′ n′ p′) (withEdge c k u l n p u′ l′ n′ p′)
+pub shows-edge : {sh : Shape} {x : List ℕ} {c : Columns} → Shows sh x c → (k u l n p u′ l′ n′ p′ : ℕ)
+    → In (2 * sh .edges) k → In (2 * sh .edges) (mate k) → In (2 * sh .edges) n → In (2 * sh .edges) p
+    → In (2 * sh .edges) n′ → In (2 * sh .edges) p′
+    → Shows sh (edgeIn sh x k u l n p u′ l′ n′ p′) (withEdge c k u l n p u′ l′ n′ p′)
 unfolding edgeIn
 shows-edge s k u l n p u′ l′ n′ p′ ik im jn ip in′ ip′ =
-    shows-between (shows-between (shows-half (shows-half s k u l n p ik) (mate k) u′ l′ n′ p′ im) p k n ip jn) p′ (mate k) n′ ip′ in′
+    shows-writes (edgeWrites k u l n p u′ l′ n′ p′) s
+    (ik, (ik, (ik, (ik, (im, (im, (im, (im, (ip, (jn, (ip′, (in′, tt))))))))))))
 
 -- an edge out
-pub shows-no-edge : {sh : Shape} {x : List ℕ} {c : Columns} → Shows sh x c → (k p n p′ n′ : ℕ) → In (2 * sh .edges) k → In (2 * sh .edges) (mate k)
-    → In (2 * sh .edges) p → In (2 * sh .edges) n → In (2 * sh .edges) p′ → In (2 * sh .edges) n′ → Shows sh (edgeOut sh x k p n p′ n′) (withoutEdge c k p n p′ n′)
+pub shows-no-edge : {sh : Shape} {x : List ℕ} {c : Columns} → Shows sh x c → (k p n p′ n′ : ℕ)
+    → In (2 * sh .edges) k → In (2 * sh .edges) (mate k) → In (2 * sh .edges) p → In (2 * sh .edges) n
+    → In (2 * sh .edges) p′ → In (2 * sh .edges) n′
+    → Shows sh (edgeOut sh x k p n p′ n′) (withoutEdge c k p n p′ n′)
 unfolding edgeOut
 shows-no-edge s k p n p′ n′ ik im ip jn ip′ in′ =
-    shows-half (shows-half (shows-tie (shows-tie s p n ip jn) p′ n′ ip′ in′) k 0 0 0 0 ik) (mate k) 0 0 0 0 im
+    shows-writes (noEdgeWrites k p n p′ n′) s
+    (ip, (jn, (ip′, (in′, (ik, (ik, (ik, (ik, (im, (im, (im, (im, tt))))))))))))
 
 -- ---- a loop's first anew
 
