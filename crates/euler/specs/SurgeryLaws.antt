@@ -14,11 +14,11 @@ use mir.Facts.{toZ-ofZ}
 use borrow.Author.Tests.{eq-eqb, ne-eqb, le-leb, lt-leb}
 use Rattle.laws.specs.Bools.{pick, pick-ind}
 use Rattle.layout.specs.declared.shape.Shape.{Shape}
-use Rattle.layout.specs.Layout.{loopOf, nextOf, setLoop}
+use Rattle.layout.specs.Layout.{loopOf, nextOf, setLoop, setLoopFirst, setLoopIsolated}
 use Rattle.script.specs.declared.Operator.{Operator}
 use Rattle.layout.specs.Points.{coordinate, setCoordinate}
 use Rattle.layout.specs.PointsLaws.{coordinate-at, setCoordinate-at}
-use Rattle.euler.specs.Surgery.{itemIn, halfBy, relabel, seek, withOperand, withPoint}
+use Rattle.euler.specs.Surgery.{itemIn, halfBy, relabel, seek, firstFrom, renew, withOperand, withPoint}
 
 module _ (sh : Shape) (left : ℕ) (x : List ℕ) (k stop l : ℕ) (whole : List ℕ) (rest : relabel sh left x k stop l ≡ whole) where
   pub relabel-stop : 0 < left → k ≡ stop → x ≡ whole
@@ -33,6 +33,11 @@ module _ (sh : Shape) (left : ℕ) (x : List ℕ) (k stop l : ℕ) (whole : List
   pub relabel-out : left ≤ 0 → x ≡ whole
   unfolding relabel
   relabel-out h = let n : left ≡ 0 = omega arith in rw n at rest
+
+-- the search for a loop's first begins at `low`, and with what follows k
+pub seek-from : (sh : Shape) (x : List ℕ) (l low k at : ℕ) → at ≡ nextOf sh x k
+    → seek sh (k - low) x l low at k k ≡ firstFrom sh x l low k
+seek-from sh x l low k at e = rw e
 
 module _ (sh : Shape) (x : List ℕ) (l top j k stop best whole : ℕ) (rest : seek sh (top - j) x l j k stop best ≡ whole) where
   pub seek-here : j < top → (owner : ℕ) → owner ≡ loopOf sh x j → owner ≡ l → j ≡ whole
@@ -77,6 +82,19 @@ point-steps o i p v a b r e f g = rw (g, f, e)
 -- edge 0 has no half
 pub half-none : (w : ℕ) → 0 ≡ halfBy 0 w
 half-none w = pick-ind (λ n. 0 ≡ n) (eqb (w % 2) 0) _ _ refl refl
+
+-- the half of an edge by an even way, and by an odd one
+pub half-even : (e w : ℕ) → w % 2 ≡ 0 → 2 * e - 1 ≡ halfBy e w
+half-even e w h = rw (eq-eqb (w % 2) 0 h)
+
+pub half-odd : (e w : ℕ) → (w % 2 ≡ 0 → ⊥) → 2 * e ≡ halfBy e w
+half-odd e w h = rw (ne-eqb (w % 2) 0 h)
+
+-- a loop's first anew: the least goes in, then the isolated vertex
+pub renew-is : (sh : Shape) (x y z : List ℕ) (l low k u f v : ℕ) → f ≡ firstFrom sh x l low k → v ≡ pick (eqb k 0) u 0
+    → y ≡ setLoopFirst sh x l f → z ≡ setLoopIsolated sh y l v → z ≡ renew sh x l low k u
+unfolding renew
+renew-is sh x y z l low k u f v a b p q = rw (q, p, b, a)
 
 -- ---- an operand as the number of an item
 

@@ -3,7 +3,7 @@ use Prim.Native.Nat.{_<_, _-_}
 use mathlib.Core.Path.{_≡_, refl}
 use native.Mathlib.Omega.{arith}
 use Rattle.euler.specs.Surgery.{seek, firstFrom}
-use Rattle.euler.specs.SurgeryLaws.{seek-here, seek-stop, seek-turn, seek-out}
+use Rattle.euler.specs.SurgeryLaws.{seek-from, seek-here, seek-stop, seek-turn, seek-out}
 use Rattle.euler.proofs.walks.first_from.Statement.{statement}
 use Rattle.euler.proofs.walks.first_from.Tie as tie
 use Rattle.euler.proofs.walks.first_from.Reads as reads
@@ -22,7 +22,8 @@ next-of-requires : tie.Need-next-of-requires Inv-loop μ-loop
 next-of-requires c κs = search needs
 
 loop-holds : tie.Need-loop-holds Inv-loop μ-loop
-loop-holds c = (c .next-of .ensures .1, omega arith, cc)
+loop-holds c =
+    (c .next-of .ensures .1, omega arith, seek-from _ _ _ _ _ _ (c .next-of .ensures .0))
 
 loop-of-requires : tie.Need-loop-of-requires Inv-loop μ-loop
 loop-of-requires c κs = search needs

@@ -1,4 +1,4 @@
-use Rattle.euler.specs.Surgery.{renew}
+use Rattle.euler.specs.SurgeryLaws.{renew-is}
 use borrow.Author.Needs.{needs}
 use Rattle.euler.proofs.walks.renew_loop.Statement.{statement}
 use Rattle.euler.proofs.walks.renew_loop.Tie as tie
@@ -25,8 +25,9 @@ same-length : tie.Need-same-length
 same-length c = search needs
 
 returns : tie.Need-returns
-unfolding renew
-returns c = cc
+returns c =
+    renew-is _ _ _ _ _ _ _ _ _ _ (c .before .before .before .before .before .before .before .before .before .first-from .ensures .0) (c .before .before .before .before .before .before .before .before .choose .ensures .0)
+    (c .before .before .before .before .before .before .set-loop-first .ensures) (c .before .before .set-loop-isolated .ensures)
 
 pub renew-loop-spec : {M : Type 1} → statement M
 renew-loop-spec =
