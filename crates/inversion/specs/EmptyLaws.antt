@@ -1,21 +1,23 @@
 -- Where no solid is in use, nothing is: the table is as clearing leaves it.
-use mathlib.Core.Path.{_≡_, refl, sym, ap, _∙_}
-use mathlib.Core.List.{List, _∷_}
-use Prim.Native.Nat.{ℕ, zero, suc, _+_, _*_, _≤_}
+use mathlib.Core.Path.{_≡_, sym, ap, _∙_, subst}
+use mathlib.Core.Bool.{Bool, true, false, _||_}
+use mathlib.Core.List.{List, [], _∷_}
+use Prim.Native.Nat.{ℕ, zero, suc, _+_, _*_, _≤_, _<_}
 use native.Mathlib.Omega.{arith}
 use lib.IntN.{ℤ, pos}
-use lib.ListN.{length, getD, replicate, length-replicate}
+use lib.ListN.{length, length-replicate}
 use Rattle.laws.specs.Bools.{split, eqb-same}
 use Rattle.laws.specs.Columns.{Chained}
 use Rattle.layout.specs.declared.shape.Shape.{Shape}
-use Rattle.layout.specs.Points.{coordinate}
 use Rattle.euler.specs.Surgery.{some}
 use Rattle.table.specs.Clear.{emptyLinks, emptyPoints}
-use Rattle.layout.specs.Fields.{Field, groups, capOf, Capacity, SolidUsed, Solid, Outer, Face, First, Isolated, Start, Loop, Next, Prev, VertexUsed}
+use Rattle.layout.specs.Fields.{Field, groupOf, groups, groupAt, capOf, fieldAt, field-in, sameField, by-fields}
+use Rattle.layout.specs.Fields.{Capacity, SolidUsed, Solid, Face, Start, Loop, VertexUsed}
+use Rattle.sound_tables.specs.FreeRecords.{of-record, free-zero}
 use Rattle.sound_tables.specs.Sound.{In, VertexSound, alone, joined}
 use Rattle.sound_tables.specs.Cells.{shows-own, shows-ext}
 use Rattle.sound_tables.specs.PointLists.{points-ext}
-use Rattle.sound_tables.specs.ClearSound.{past-head, zero-coordinate}
+use Rattle.sound_tables.specs.ClearSound.{word-0, zero-coordinate}
 use Rattle.sound_tables.specs.Good.{Good, own, good-shows}
 use Rattle.takedown.specs.Inversion.{solidAt}
 use Rattle.inversion.specs.Counts.{count-none}
@@ -27,9 +29,14 @@ use Rattle.inversion.specs.Turn.{Empty, EmptyTable}
 pub words-none : (n : ℕ) (f : ℕ → ℕ) → ((k : ℕ) → In n k → f k ≡ 0) → words n f ≡ 0
 words-none n f h = count-none n (λ k. some (f k)) (λ k a b. rw (eqb-same (h k (a, b))))
 
+-- the empty table of a shape
+abbrev emptyOf : Shape → List ℕ
+emptyOf sh = emptyLinks (sh .solids) (sh .faces) (sh .loops) (sh .edges) (sh .vertices)
+
 module _ (sh : Shape) (x : List ℕ) (p : List ℤ) (g : Good sh x p) (z : solidAt sh x ≡ 0) where
+  -- the empty table of the same capacities
   abbrev y : List ℕ
-  y = emptyLinks (sh .solids) (sh .faces) (sh .loops) (sh .edges) (sh .vertices)
+  y = emptyOf sh
 
   -- ---- nothing is in use
 
@@ -52,47 +59,45 @@ module _ (sh : Shape) (x : List ℕ) (p : List ℤ) (g : Good sh x p) (z : solid
       by (alone l j e u w) = absurd (omega (arith, i .0, sym e ∙ g .sound .loop-free l j (loop-0 l j) .1))
       by (joined w k j e) = absurd (omega (arith, i .0, sym e ∙ half-0 k j))
 
-  -- ---- every word behind the capacities is 0
+  -- no record of any kind is in use, so every word behind the capacities is 0
+  head-0 : (k : ℕ) → 1 ≤ k → k < 6 → (n : ℕ) → In (groupAt sh k .count) n → own sh x (fieldAt k 0) n ≡ 0
+  head-0 zero l u n i = absurd (omega arith)
+  head-0 (suc zero) l u n i = solid-0 n i
+  head-0 (suc (suc zero)) l u n i = face-0 n i
+  head-0 (suc (suc (suc zero))) l u n i = loop-0 n i
+  head-0 (suc (suc (suc (suc zero)))) l u n i = half-0 n i
+  head-0 (suc (suc (suc (suc (suc zero))))) l u n i = vertex-0 n i
+  head-0 (suc (suc (suc (suc (suc (suc k)))))) l u n i = absurd (omega arith)
 
-  -- in the empty table
-  new-0 : (i : ℕ) → 5 ≤ i → getD (emptyLinks (sh .solids) (sh .faces) (sh .loops) (sh .edges) (sh .vertices)) i 0 ≡ 0
-  new-0 i h = past-head (sh .solids) (sh .faces) (sh .loops) (sh .edges) (sh .vertices) (sh .solids + 2 * sh .faces + 3 * sh .loops + 8 * sh .edges + sh .vertices) i h
+  old-0 : (F : Field) → 1 ≤ groupOf F → (n : ℕ) → In (capOf sh F) n → own sh x F n ≡ 0
+  old-0 F h n i = free-zero (g .sound) F h n i (head-0 (groupOf F) h (field-in sh F .1) n i)
 
-  face-base : 5 ≤ sh .face0
-  face-base = omega (arith, g .fit .2 .2 .0)
+  -- as in the empty table
+  new-0 : (F : Field) → 1 ≤ groupOf F → (n : ℕ) → own sh y F n ≡ 0
+  new-0 F h n = subst (λ (e : Shape). own e (emptyOf e) F n ≡ 0) (sym (g .shape)) (word-0 _ _ _ _ _ F h n)
 
-  loop-base : 5 ≤ sh .loop0
-  loop-base = omega (arith, g .fit .2 .2 .2 .0)
+  -- whose capacities are these
+  same-capacity : (n : ℕ) → 1 ≤ n → n ≤ 5 → own sh x Capacity n ≡ own sh y Capacity n
+  same-capacity zero l u = absurd (omega arith)
+  same-capacity (suc zero) l u = sym (ap (λ (h : Shape). h .solids) (g .shape))
+  same-capacity (suc (suc zero)) l u = sym (ap (λ (h : Shape). h .faces) (g .shape))
+  same-capacity (suc (suc (suc zero))) l u = sym (ap (λ (h : Shape). h .loops) (g .shape))
+  same-capacity (suc (suc (suc (suc zero)))) l u = sym (ap (λ (h : Shape). h .edges) (g .shape))
+  same-capacity (suc (suc (suc (suc (suc zero))))) l u = sym (ap (λ (h : Shape). h .vertices) (g .shape))
+  same-capacity (suc (suc (suc (suc (suc (suc n)))))) l u = absurd (omega arith)
 
-  half-base : 5 ≤ sh .half0
-  half-base = omega (arith, g .fit .2 .2 .2 .2 .0)
-
-  vertex-base : 5 ≤ sh .vertex0
-  vertex-base = omega (arith, g .fit .2 .2 .2 .2 .2 .0)
-
-  -- in the old one
-  same-word : (F : Field) (n : ℕ) → 1 ≤ n → n ≤ capOf sh F → own sh x F n ≡ own sh (emptyLinks (sh .solids) (sh .faces) (sh .loops) (sh .edges) (sh .vertices)) F n
-  same-word F zero l u = absurd (omega arith)
-  same-word Capacity (suc zero) l u = sym (ap (λ (h : Shape). h .solids) (g .shape))
-  same-word Capacity (suc (suc zero)) l u = sym (ap (λ (h : Shape). h .faces) (g .shape))
-  same-word Capacity (suc (suc (suc zero))) l u = sym (ap (λ (h : Shape). h .loops) (g .shape))
-  same-word Capacity (suc (suc (suc (suc zero)))) l u = sym (ap (λ (h : Shape). h .edges) (g .shape))
-  same-word Capacity (suc (suc (suc (suc (suc zero))))) l u = sym (ap (λ (h : Shape). h .vertices) (g .shape))
-  same-word Capacity (suc (suc (suc (suc (suc (suc n)))))) l u = absurd (omega arith)
-  same-word SolidUsed (suc n) l u = solid-0 (suc n) (l, u) ∙ sym (new-0 (5 + 1 * n + 0) (omega arith))
-  same-word Solid (suc n) l u = face-0 (suc n) (l, u) ∙ sym (new-0 (sh .face0 + 2 * n + 0) (omega (arith, face-base)))
-  same-word Outer (suc n) l u = g .sound .face-free (suc n) (l, u) (face-0 (suc n) (l, u)) ∙ sym (new-0 (sh .face0 + 2 * n + 1) (omega (arith, face-base)))
-  same-word Face (suc n) l u = loop-0 (suc n) (l, u) ∙ sym (new-0 (sh .loop0 + 3 * n + 0) (omega (arith, loop-base)))
-  same-word First (suc n) l u = g .sound .loop-free (suc n) (l, u) (loop-0 (suc n) (l, u)) .0 ∙ sym (new-0 (sh .loop0 + 3 * n + 1) (omega (arith, loop-base)))
-  same-word Isolated (suc n) l u = g .sound .loop-free (suc n) (l, u) (loop-0 (suc n) (l, u)) .1 ∙ sym (new-0 (sh .loop0 + 3 * n + 2) (omega (arith, loop-base)))
-  same-word Start (suc n) l u = half-0 (suc n) (l, u) ∙ sym (new-0 (sh .half0 + 4 * n + 0) (omega (arith, half-base)))
-  same-word Loop (suc n) l u = g .sound .half-free (suc n) (l, u) (half-0 (suc n) (l, u)) .loop ∙ sym (new-0 (sh .half0 + 4 * n + 1) (omega (arith, half-base)))
-  same-word Next (suc n) l u = g .sound .half-free (suc n) (l, u) (half-0 (suc n) (l, u)) .next ∙ sym (new-0 (sh .half0 + 4 * n + 2) (omega (arith, half-base)))
-  same-word Prev (suc n) l u = g .sound .half-free (suc n) (l, u) (half-0 (suc n) (l, u)) .prev ∙ sym (new-0 (sh .half0 + 4 * n + 3) (omega (arith, half-base)))
-  same-word VertexUsed (suc n) l u = vertex-0 (suc n) (l, u) ∙ sym (new-0 (sh .vertex0 + 1 * n + 0) (omega (arith, vertex-base)))
+  same-word : (F : Field) (n : ℕ) → 1 ≤ n → n ≤ capOf sh F → own sh x F n ≡ own sh y F n
+  same-word = by-fields (Capacity ∷ []) (λ F. (n : ℕ) → 1 ≤ n → n ≤ capOf sh F → own sh x F n ≡ own sh y F n)
+      (same-capacity, tt)
+      (λ F e n l u. let h = of-record sh F (only (sameField Capacity F) e) in old-0 F h n (l, u) ∙ sym (new-0 F h n))
+    where
+      -- the test of a list of one
+      only : (b : Bool) → (b || false) ≡ false → b ≡ false
+      only true e = e
+      only false e = e
 
   -- the empty table is as long
-  fits : Chained 0 (groups sh) (length (emptyLinks (sh .solids) (sh .faces) (sh .loops) (sh .edges) (sh .vertices)))
+  fits : Chained 0 (groups sh) (length (emptyOf sh))
   fits =
       let c = g .fit in
       let n = length-replicate {A = ℕ} (sh .solids + 2 * sh .faces + 3 * sh .loops + 8 * sh .edges + sh .vertices) 0 in
@@ -100,7 +105,7 @@ module _ (sh : Shape) (x : List ℕ) (p : List ℤ) (g : Good sh x p) (z : solid
 
   empty-at : Empty sh x p
   empty-at = record {
-    links = shows-ext (good-shows g) (shows-own sh (emptyLinks (sh .solids) (sh .faces) (sh .loops) (sh .edges) (sh .vertices)) fits) same-word;
+    links = shows-ext (good-shows g) (shows-own sh (emptyOf sh) fits) same-word;
     points = points-ext (sh .vertices) p (emptyPoints (sh .vertices)) (g .points) (length-replicate (3 * sh .vertices) (pos 0))
         (λ v i j h. g .sound .point v i .zero (vertex-0 v i) j h ∙ sym (zero-coordinate (3 * sh .vertices) v j));
     no-solids = solids-is sh x ∙ words-none (sh .solids) _ solid-0;

@@ -66,7 +66,7 @@ module _ (s f l e v : ℕ) where
   base-5 (suc (suc (suc (suc (suc (suc g)))))) h u = absurd (omega arith)
 
   -- so each of their words is 0
-  word-0 : (F : Field) → 1 ≤ groupOf F → (n : ℕ) → own sh x F n ≡ 0
+  pub word-0 : (F : Field) → 1 ≤ groupOf F → (n : ℕ) → own sh x F n ≡ 0
   word-0 F h zero = refl
   word-0 F h (suc n) =
       past-head s f l e v (s + 2 * f + 3 * l + 8 * e + v)

@@ -1,0 +1,83 @@
+"""Rules of the sources that no proof sees: lines are at most 120 columns wide, a record's place is named in crate layout
+alone, and crates.txt lists just the crates that a crate names. Prints 'N passed, M failed'."""
+import os
+import re
+import sys
+
+sys.path.insert(0, os.path.dirname(os.path.abspath(__file__)))
+
+WIDTH = 120
+# where the records of a kind begin: words of `Shape` that only `layout` may look at
+PLACE = re.compile(r"\.\s?(?:face0|loop0|half0|vertex0)\b")
+# a crate, by its definitions or laws (`Rattle.NAME`), or by its code (`NAME::` at the head of a path)
+NAMED = re.compile(r"Rattle·([a-z_]+)|(?<![:\w·.])([a-z_]+)::")
+# types of these are reached by way of others, and the checker wants them listed all the same
+REACHED = {"takedown_entry": {"takedown_across"}, "kernel": {"laws", "layout", "euler"}}
+
+
+def sources(root):
+    """(path, text) of every file of Rattle and of antt, but the rows that the model writes."""
+    for folder, _, names in sorted(os.walk(os.path.join(root, "crates"))):
+        for name in sorted(names):
+            written = os.path.basename(os.path.dirname(folder)) == "evidence_rows" and name.startswith("Rows")
+            if name.endswith((".rt", ".antt")) and not written:
+                path = os.path.join(folder, name)
+                with open(path, encoding="utf-8") as f:
+                    yield os.path.relpath(path, root), f.read()
+
+
+def crate_of(path):
+    return path.split(os.sep)[1]
+
+
+def wide(path, text):
+    """A line for each line that is too wide."""
+    return [f"{path}:{number}: {len(line)} columns" for number, line in enumerate(text.splitlines(), 1) if len(line) > WIDTH]
+
+
+def placed(path, text):
+    """A line for each place of a record that is named outside crate layout."""
+    if crate_of(path) == "layout":
+        return []
+    return [f"{path}:{number}: a record's place" for number, line in enumerate(text.splitlines(), 1) if PLACE.search(line)]
+
+
+def dependencies(root):
+    """What crates.txt lists for each crate."""
+    with open(os.path.join(root, "crates.txt"), encoding="utf-8") as f:
+        lines = [line.split("#")[0].strip() for line in f]
+    return {line.split(":")[0].strip(): set(line.split(":")[1].split()) for line in lines if line}
+
+
+def undue(root, files):
+    """A line for each crate that is listed and not named, or named and not listed."""
+    listed = dependencies(root)
+    named = {name: set() for name in listed}
+    for path, text in files:
+        named.setdefault(crate_of(path), set()).update(a or b for a, b in NAMED.findall(text))
+    bad = []
+    for name, others in sorted(listed.items()):
+        ours = {other for other in named[name] if other in listed and other != name}
+        bad += [f"crates.txt: {name} lists {other} and does not name it"
+                for other in sorted((others & set(listed)) - ours - REACHED.get(name, set()))]
+        bad += [f"crates.txt: {name} names {other} and does not list it" for other in sorted(ours - others)]
+    return bad
+
+
+def faults(root):
+    """How many files and crates were looked at, and a line for each fault."""
+    files = list(sources(root))
+    bad = [line for path, text in files for line in wide(path, text) + placed(path, text)]
+    return len(files) + len(dependencies(root)), bad + undue(root, files)
+
+
+def main(root):
+    looked, bad = faults(root)
+    for line in bad:
+        print(line)
+    print(f"{looked} passed, {len(bad)} failed")
+    return 1 if bad else 0
+
+
+if __name__ == "__main__":
+    sys.exit(main(sys.argv[1]))
