@@ -20,6 +20,7 @@ def steps():
         ("crates are listed", ["tests/gate/listed.py", "."]),
         ("theorems are where the table says", ["tests/gate/theorems.py", "."]),
         ("names are where the architecture says", ["tests/gate/architecture.py", "."]),
+        ("rules of the sources", ["tests/gate/rules.py", "."]),
         ("the gate itself", ["tests/gate/test_gate.py"]),
         ("model", ["tests/model/test_model.py"]),
         ("rows of the examples", ["tests/model/rows.py", "--check"]),

@@ -1,5 +1,6 @@
 """The gate refuses what it must refuse: an unlisted crate, a theorem that is not where the table says, a name that is
-not where the architecture says, a failed step, a step that tested nothing or was cut short."""
+not where the architecture says, a line too wide, a record's place named outside layout, a dependency that is not named
+or not listed, a failed step, a step that tested nothing or was cut short."""
 import os
 import sys
 import tempfile
@@ -8,6 +9,7 @@ sys.path.insert(0, os.path.dirname(os.path.abspath(__file__)))
 import architecture
 import gate
 import listed
+import rules
 import theorems
 
 
@@ -50,6 +52,16 @@ def text_faults(text):
         return architecture.faults(folder)[1]
 
 
+def rule_faults(path, text, lines):
+    """What the rules of the sources say of one file in a repository with these lines in crates.txt."""
+    with tempfile.TemporaryDirectory() as folder:
+        tree(folder, [], lines)
+        os.makedirs(os.path.dirname(os.path.join(folder, path)))
+        with open(os.path.join(folder, path), "w", encoding="utf-8") as f:
+            f.write(text)
+        return rules.faults(folder)[1]
+
+
 ROOT = os.path.dirname(os.path.dirname(os.path.dirname(os.path.abspath(__file__))))
 
 CASES = [
@@ -79,6 +91,22 @@ CASES = [
     ("a file that the architecture invents fails", lambda: text_faults("See `specs/B.antt`.\n")
      == ["docs/ARCHITECTURE.md:1: there is no specs/B.antt"]),
     ("a picture is not looked at", lambda: text_faults("```text\n`proven`\n```\n") == []),
+    ("a line of 120 columns passes", lambda: rule_faults("crates/a/specs/A.antt", "x" * 120 + "\n", ["a:"]) == []),
+    ("a wider line fails", lambda: rule_faults("crates/a/src/lib.rt", "\n" + "x" * 121 + "\n", ["a:"])
+     == ["crates/a/src/lib.rt:2: 121 columns"]),
+    ("a row that the model wrote may be wide", lambda: rule_faults(
+        "crates/evidence_rows/specs/RowsCuts.antt", "x" * 121 + "\n", ["evidence_rows:"]) == []),
+    ("a place in crate layout passes", lambda: rule_faults("crates/layout/src/a.rt", "sh.half0\n", ["layout:"]) == []),
+    ("a place elsewhere fails", lambda: rule_faults("crates/a/specs/A.antt", "kind (sh .half0) 4\n", ["a:"])
+     == ["crates/a/specs/A.antt:1: a record's place"]),
+    ("a shape handed on is no place", lambda: rule_faults(
+        "crates/a/specs/A.antt", "  half0 = sh .half0;\n", ["a:"]) == []),
+    ("a crate that is named has to be listed", lambda: rule_faults(
+        "crates/a/specs/A.antt", "use Rattle.b.specs.B.{c}\n", ["a:", "b:"])
+     == ["crates.txt: a names b and does not list it"]),
+    ("a crate that is listed has to be named", lambda: rule_faults(
+        "crates/a/src/lib.rt", "use b::c;\n", ["a: b c", "b:", "c:"])
+     == ["crates.txt: a lists c and does not name it"]),
     ("a good step counts", lambda: gate.judge(0, "ok\n3 passed, 0 failed\n") == (3, 0)),
     ("a failed test fails the step", lambda: gate.judge(1, "2 passed, 1 failed\n") == (2, 1)),
     ("a bad exit status fails the step", lambda: gate.judge(1, "3 passed, 0 failed\n") == (3, 1)),
