@@ -16,7 +16,7 @@ use Rattle.laws.specs.Bools.{pick, pick-ind}
 use Rattle.layout.specs.declared.shape.Shape.{Shape}
 use Rattle.layout.specs.Layout.{loopOf, nextOf, setLoop, setLoopFirst, setLoopIsolated}
 use Rattle.script.specs.declared.Operator.{Operator}
-use Rattle.layout.specs.Points.{coordinate, setCoordinate}
+use Rattle.layout.specs.Points.{pointWidth, coordinate, setCoordinate}
 use Rattle.layout.specs.PointsLaws.{coordinate-at, setCoordinate-at}
 use Rattle.euler.specs.Surgery.{itemIn, halfBy, relabel, seek, firstFrom, renew, withOperand, withPoint}
 
@@ -60,17 +60,25 @@ module _ (sh : Shape) (x : List ℕ) (l top j k stop best whole : ℕ) (rest : s
   seek-out h = let n : top - j ≡ 0 = omega arith in rw n at rest
 
 -- a coordinate that the machine reads back, stored
-pub stored-coordinate : (p : List ℤ) (v i : ℕ) (z : ℤ) → SFits w32 z → (v ≡ 0 → ⊥) → set p (3 * (v - 1) + i) (toZ w32 (ofZ w32 z)) ≡ setCoordinate p v i z
+pub stored-coordinate : (p : List ℤ) (v i : ℕ) (z : ℤ) → SFits w32 z → (v ≡ 0 → ⊥)
+    → set p (pointWidth * (v - 1) + i) (toZ w32 (ofZ w32 z)) ≡ setCoordinate p v i z
 stored-coordinate p v i z f h = rw (toZ-ofZ f) (setCoordinate-at p v i z h)
 
 -- and read into an operator
-pub read-coordinate : (o : Operator) (i : ℕ) (p : List ℤ) (v j : ℕ) → SFits w32 (getD p (3 * (v - 1) + j) (pos 0)) → (v ≡ 0 → ⊥)
-    → record { code = o .code; count = o .count; args = set (set (o .args) i (pos 0)) i (toZ w32 (ofZ w32 (getD p (3 * (v - 1) + j) (pos 0)))) }
+pub read-coordinate : (o : Operator) (i : ℕ) (p : List ℤ) (v j : ℕ)
+    → SFits w32 (getD p (pointWidth * (v - 1) + j) (pos 0)) → (v ≡ 0 → ⊥)
+    → record {
+      code = o .code;
+      count = o .count;
+      args = set (set (o .args) i (pos 0)) i (toZ w32 (ofZ w32 (getD p (pointWidth * (v - 1) + j) (pos 0))));
+    }
     ≡ withOperand o i (coordinate p v j)
-read-coordinate o i p v j f h = rw (set-set (o .args) i (pos 0) (toZ w32 (ofZ w32 (getD p (3 * (v - 1) + j) (pos 0)))), toZ-ofZ f, coordinate-at p v j h)
+read-coordinate o i p v j f h =
+    let a : ℤ = toZ w32 (ofZ w32 (getD p (pointWidth * (v - 1) + j) (pos 0))) in
+    rw (set-set (o .args) i (pos 0) a, toZ-ofZ f, coordinate-at p v j h)
 
 -- past the end it is 0
-pub no-coordinate : (o : Operator) (i : ℕ) (p : List ℤ) (v j : ℕ) → length p ≤ 3 * (v - 1) + j → (v ≡ 0 → ⊥)
+pub no-coordinate : (o : Operator) (i : ℕ) (p : List ℤ) (v j : ℕ) → length p ≤ pointWidth * (v - 1) + j → (v ≡ 0 → ⊥)
     → record { code = o .code; count = o .count; args = set (o .args) i (pos 0) } ≡ withOperand o i (coordinate p v j)
 no-coordinate o i p v j l h = rw (← coordinate-at p v j h, List·getD-eq-default p (pos 0) l)
 

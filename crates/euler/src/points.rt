@@ -3,20 +3,21 @@ ghost use mathlib.Core.Path.{_≡_};
 ghost use Prim.Native.Nat.{ℕ, _+_, _<_, _≤_};
 ghost use lib.IntN.{ℤ, pos};
 ghost use lib.ListN.{getD};
-ghost use Rattle.layout.specs.Points.{coordinate, setCoordinate};
+ghost use Rattle.layout.specs.Points.{pointWidth, coordinate, setCoordinate};
 ghost use Rattle.euler.specs.Surgery.{pointIn, withOperand, withPoint};
+use layout::points::POINT_WIDTH;
 use script::Operator;
 
 // Coordinate i of vertex v becomes operand j of those lent; total, as for the links.
 fn put_coordinate(points: &mut [i32], v: usize, i: usize, args: &[i32; 8], j: usize)
-    requires { ⌜ (v ≤ 65536) × (i < 3) × (j < 8) ⌝ }
+    requires { ⌜ (v ≤ 65536) × (i < pointWidth) × (j < 8) ⌝ }
     ensures { λ _. ⌜ now (points .exit)
         ≡ setCoordinate (now (points .entry)) v i (getD (now (args .entry)) j (pos 0)) ⌝ }
 {
     if v == 0 {
         return;
     }
-    let at = 3 * (v - 1) + i;
+    let at = POINT_WIDTH * (v - 1) + i;
     if at < points.len() {
         points[at] = args[j];
     }
@@ -34,7 +35,7 @@ pub fn put_point(points: &mut [i32], v: usize, args: &[i32; 8], i: usize)
 
 // The operator with coordinate j of vertex v for operand i.
 fn with_coordinate(op: Operator, i: usize, points: &[i32], v: usize, j: usize) -> Operator
-    requires { ⌜ (v ≤ 65536) × (j < 3) × (i < 8) ⌝ }
+    requires { ⌜ (v ≤ 65536) × (j < pointWidth) × (i < 8) ⌝ }
     ensures { λ r. ⌜ r ≡ withOperand op i (coordinate (now (points .entry)) v j) ⌝ }
 {
     let mut next = op;
@@ -42,7 +43,7 @@ fn with_coordinate(op: Operator, i: usize, points: &[i32], v: usize, j: usize) -
     if v == 0 {
         return next;
     }
-    let at = 3 * (v - 1) + j;
+    let at = POINT_WIDTH * (v - 1) + j;
     if at < points.len() {
         next.args[i] = points[at];
         return next;

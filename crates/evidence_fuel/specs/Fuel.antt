@@ -14,7 +14,7 @@ use Rattle.sound_tables.specs.Walking.{Steps, steps-on}
 
 -- a half-edge that is given another loop is followed by the same one
 next-kept : (sh : Shape) (x : List ℕ) (k l : ℕ) → nextOf sh (setLoop sh x k l) ≡ nextOf sh x
-next-kept sh x k l = λ t n. col-store-other (kind (sh .half0) 4) 2 1 x (lit≤ tt) (lit≤ tt) (omega arith) k l n t
+next-kept sh x k l = λ t n. col-store-other 0 (kind (sh .half0) 4) 2 1 x (lit≤ tt) (lit≤ tt) (omega arith) k l n t
 
 -- a run of d half-edges given another loop
 pub relabel-enough : (sh : Shape) (n d : ℕ) (x : List ℕ) (k stop l : ℕ) → d ≤ n → Steps (nextOf sh x) k stop d

@@ -9,6 +9,7 @@ use lib.ListN.{length, length-replicate}
 use Rattle.laws.specs.Bools.{split, eqb-same}
 use Rattle.laws.specs.Columns.{Chained}
 use Rattle.layout.specs.declared.shape.Shape.{Shape}
+use Rattle.layout.specs.Points.{pointsLength}
 use Rattle.euler.specs.Surgery.{some}
 use Rattle.table.specs.Clear.{emptyLinks, emptyPoints}
 use Rattle.layout.specs.Fields.{Field, groupOf, groups, groupAt, capOf, fieldAt, field-in, sameField, by-fields}
@@ -106,8 +107,9 @@ module _ (sh : Shape) (x : List ℕ) (p : List ℤ) (g : Good sh x p) (z : solid
   empty-at : Empty sh x p
   empty-at = record {
     links = shows-ext (good-shows g) (shows-own sh (emptyOf sh) fits) same-word;
-    points = points-ext (sh .vertices) p (emptyPoints (sh .vertices)) (g .points) (length-replicate (3 * sh .vertices) (pos 0))
-        (λ v i j h. g .sound .point v i .zero (vertex-0 v i) j h ∙ sym (zero-coordinate (3 * sh .vertices) v j));
+    points = points-ext (sh .vertices) p (emptyPoints (sh .vertices)) (g .points)
+        (length-replicate (pointsLength (sh .vertices)) (pos 0))
+        (λ v i j h. g .sound .point v i .zero (vertex-0 v i) j h ∙ sym (zero-coordinate (pointsLength (sh .vertices)) v j));
     no-solids = solids-is sh x ∙ words-none (sh .solids) _ solid-0;
     no-faces = faces-is sh x ∙ words-none (sh .faces) _ face-0;
     no-loops = loops-is sh x ∙ words-none (sh .loops) _ loop-0;

@@ -2,7 +2,7 @@
 -- Here: searches, columns, chains, permutations, the six moves and walks. `LinearInstances` has marks, closure and union.
 use mathlib.Core.Path.{_≡_, refl, sym, ap, _∙_}
 use mathlib.Core.Logic.{_≢_, inl, inr}
-use mathlib.Core.Bool.{Bool, _&&_}
+use mathlib.Core.Bool.{Bool, true, false, _&&_}
 use mathlib.Core.List.{List, [], _∷_}
 use Prim.Native.Nat.{ℕ, zero, suc, _+_, _≤_, _<_}
 use native.Mathlib.Omega.{arith}
@@ -12,7 +12,9 @@ use Rattle.laws.specs.Bools.{pick, eqb-other}
 use Rattle.laws.specs.Search.{allTo, least, leastFrom, least-ext}
 use Rattle.laws.specs.Sums.{sumTo, countTo, sum-change, count-one}
 use Rattle.laws.specs.Update.{upd, relabel, apart, upd-same, upd-off}
-use Rattle.laws.specs.Columns.{Kind, col, store, sweep, col-store, col-store-other, col-store-apart, sweep-at, sweep-above, sweep-other, sweep-apart, col-word, store-word, columns-ext}
+use Rattle.laws.specs.Columns.{Kind, colOf, col, store, sweep, store-same, store-else, col-store, col-store-other}
+use Rattle.laws.specs.Columns.{col-store-apart, sweep-at, sweep-above, sweep-other, sweep-apart}
+use Rattle.laws.specs.Columns.{col-at, store-at, columns-ext}
 use Rattle.laws.specs.Linked.{Linked, link, back, via, map-linked, map-within}
 use Rattle.laws.specs.Permutations.{iter, Twice, pigeonhole, comes-back, soon, redo, undo-in, inverse-same}
 use Rattle.laws.specs.Cycles.{Cycles, agree, birth, death, alone}
@@ -75,13 +77,15 @@ stored-record = col-store pairs 1 words (omega arith) (omega arith) 2 7 1 (omega
 
 -- and another field
 stored-field : col pairs 0 (store pairs 1 words 2 7) 2 ≡ 12
-stored-field = col-store-other pairs 0 1 words (omega arith) (omega arith) (omega arith) 2 7 2
+stored-field = col-store-other 0 pairs 0 1 words (omega arith) (omega arith) (omega arith) 2 7 2
 
 -- and another kind, on either side
 stored-kind : (col single 0 (store pairs 1 words 2 7) 1 ≡ 14) × (col pairs 1 (store single 0 words 1 7) 2 ≡ 13)
 stored-kind = (
-  col-store-apart single pairs 0 1 words (omega arith) (omega arith) (inr (omega arith)) 2 7 1 (omega arith) (omega arith),
-  col-store-apart pairs single 1 0 words (omega arith) (omega arith) (inl (omega arith)) 1 7 2 (omega arith) (omega arith),
+  col-store-apart 0 single pairs 0 1 words
+      (omega arith) (omega arith) (inr (omega arith)) 2 7 1 (omega arith) (omega arith),
+  col-store-apart 0 pairs single 1 0 words
+      (omega arith) (omega arith) (inl (omega arith)) 1 7 2 (omega arith) (omega arith),
 )
 
 -- a sweep over the first record only
@@ -98,20 +102,36 @@ swept-else = (
   sweep-apart single pairs 0 0 2 (λ n w. n + w) words (omega arith) (omega arith) (inr (omega arith)) (omega arith) 1 (omega arith),
 )
 
--- the last kind's base less one record is 4
-as-code : (col single 0 words 1 ≡ getD words 5 0) × (store single 0 words 1 7 ≡ set words 5 7)
-as-code = (col-word single 0 4 words refl 1 (omega arith), store-word single 0 4 words refl 1 7 (omega arith))
+-- record 2 of the pairs begins one width behind their base
+as-code : (getD words 3 0 ≡ col pairs 0 words 2) × (set words 3 7 ≡ store pairs 0 words 2 7)
+as-code = (col-at 0 1 2 0 words 2 (omega arith), store-at 1 2 0 words 2 7 (omega arith))
+
+-- two pairs of another type, behind one word
+abbrev flags : List Bool
+flags = true ∷ true ∷ true ∷ true ∷ true ∷ []
+
+-- there too what is stored is read, and the word beside it is as it was
+flagged : (colOf false pairs 1 (store pairs 1 flags 2 false) 2 ≡ false)
+    × (colOf false pairs 0 (store pairs 1 flags 2 false) 2 ≡ true)
+flagged = (
+  store-same false pairs 1 flags (omega arith) (omega arith) 2 false (omega arith) (omega arith),
+  store-else false pairs 0 1 flags (omega arith) (omega arith) 2 false 2 (inr (omega arith)),
+)
 
 -- a store and its undoing give the list back: by its columns, word by word
 restored : store pairs 1 (store pairs 1 words 2 7) 2 13 ≡ words
-restored = columns-ext 1 (pairs ∷ single ∷ []) _ words refl (refl, omega arith, (refl, omega arith, refl)) head (one, (two, tt))
+restored =
+    columns-ext 0 1 (pairs ∷ single ∷ []) _ words refl (refl, omega arith, (refl, omega arith, refl))
+    head (one, (two, tt))
   where
     head : (k : ℕ) → k < 1 → getD (store pairs 1 (store pairs 1 words 2 7) 2 13) k 0 ≡ getD words k 0
     head zero h = refl
     head (suc k) h = absurd (omega arith)
 
     one : (j n : ℕ) → j < 2 → 1 ≤ n → n ≤ 2 → col pairs j (store pairs 1 (store pairs 1 words 2 7) 2 13) n ≡ col pairs j words n
-    one zero n hj l u = col-store-other pairs 0 1 _ (omega arith) (omega arith) (omega arith) 2 13 n ∙ col-store-other pairs 0 1 words (omega arith) (omega arith) (omega arith) 2 7 n
+    one zero n hj l u =
+        col-store-other 0 pairs 0 1 _ (omega arith) (omega arith) (omega arith) 2 13 n
+        ∙ col-store-other 0 pairs 0 1 words (omega arith) (omega arith) (omega arith) 2 7 n
     one (suc zero) zero hj l u = refl
     one (suc zero) (suc zero) hj l u = refl
     one (suc zero) (suc (suc zero)) hj l u = refl

@@ -1,20 +1,31 @@
--- The points: three coordinates for each vertex, in hundredths of a millimetre.
-use Prim.Native.Nat.{ℕ, zero, suc, _+_, _*_}
+-- The points: a record of three coordinates for each vertex, in hundredths of a millimetre, read and stored as the
+-- words of the links are.
+use Prim.Native.Nat.{ℕ, _*_}
 use mathlib.Core.Bool.{Bool, _&&_}
 use mathlib.Core.List.{List}
 use lib.IntN.{ℤ, pos, negsuc}
 use lib.Signed.{leZ}
-use lib.ListN.{getD, set}
+use Rattle.laws.specs.Columns.{Kind, wordAt, putAt}
+
+-- how many coordinates a point has
+abbrev pub pointWidth : ℕ
+pointWidth = 3
+
+-- how many the points of n vertices have
+abbrev pub pointsLength : ℕ → ℕ
+pointsLength n = pointWidth * n
+
+-- the points of n vertices as a kind of record
+abbrev pub pointKind : ℕ → Kind
+pointKind n = record { base = 0; width = pointWidth; count = n }
 
 -- coordinate i (0 x, 1 y, 2 z) of vertex v; vertex 0 is none and reads 0
 abbrev pub coordinate : List ℤ → ℕ → ℕ → ℤ
-coordinate p zero i = pos 0
-coordinate p (suc v) i = getD p (3 * v + i) (pos 0)
+coordinate p v i = wordAt (pos 0) 0 pointWidth i p v
 
 -- coordinate i of vertex v becomes c; nothing changes for vertex 0
 abbrev pub setCoordinate : List ℤ → ℕ → ℕ → ℤ → List ℤ
-setCoordinate p zero i c = p
-setCoordinate p (suc v) i c = set p (3 * v + i) c
+setCoordinate p v i = putAt 0 pointWidth i p v
 
 -- −50,000 ≤ c ≤ 50,000
 abbrev pub rangeTest : ℤ → Bool

@@ -7,22 +7,12 @@ use Prim.Native.Nat.{ℕ, zero, suc, _+_, _*_, _≤_, _<_}
 use native.Mathlib.Omega.{arith}
 use lib.ListN.{length, getD}
 use Rattle.laws.specs.Bools.{split, le?, eqb-same, eqb-other}
-use Rattle.laws.specs.Update.{upd, upd-ext, upd-same, upd-off}
-use Rattle.laws.specs.Columns.{Kind, col, store, Chained, Agree, columns-ext, store-length, col-store, col-store-other, col-store-apart}
+use Rattle.laws.specs.Update.{upd, upd-same, upd-off}
+use Rattle.laws.specs.Columns.{Kind, Chained, Agree, columns-ext, store-length}
+use Rattle.laws.specs.Columns.{col-store, col-store-other, col-store-apart}
 use Rattle.layout.specs.declared.shape.Shape.{Shape}
-use Rattle.layout.specs.Fields.{Field, groupOf, wordOf, groups, groupAt, bare, cell, putCell, capOf, column, put, Columns, change, field-same, field-in, Named, field-named}
-
--- ---- a column does not depend on the count
-
--- what is read
-pub bare-col : (κ : Kind) (j : ℕ) (l : List ℕ) (n : ℕ) → col (bare κ) j l n ≡ col κ j l n
-bare-col κ j l zero = refl
-bare-col κ j l (suc n) = refl
-
--- what is written
-pub bare-store : (κ : Kind) (j : ℕ) (l : List ℕ) (n v : ℕ) → store (bare κ) j l n v ≡ store κ j l n v
-bare-store κ j l zero v = refl
-bare-store κ j l (suc n) v = refl
+use Rattle.layout.specs.Fields.{Field, groupOf, wordOf, groups, groupAt, cell, putCell, capOf}
+use Rattle.layout.specs.Fields.{column, put, Columns, change, field-same, field-in, Named, field-named}
 
 -- ---- kinds in a chain
 
@@ -75,27 +65,24 @@ shows-agree s e = record { fit = s .fit; at = λ F n h. s .at F n h ∙ e F n h 
 module _ (sh : Shape) (x : List ℕ) (fit : Chained 0 (groups sh) (length x)) (g w : ℕ) (hg : g < 6) (hw : w < groupAt sh g .width) (k v : ℕ) (uk : k ≤ groupAt sh g .count) where
   -- a store keeps the length
   put-length : length (putCell sh g w x k v) ≡ length x
-  put-length = store-length (bare (groupAt sh g)) w x k v
+  put-length = store-length (groupAt sh g) w x k v
 
   -- its own column
   put-same : 1 ≤ k → (n : ℕ) → cell sh g w (putCell sh g w x k v) n ≡ upd (cell sh g w x) k v n
-  put-same lk n =
-      let κ = groupAt sh g in
-      bare-col κ w (putCell sh g w x k v) n ∙ ap (λ l. col κ w l n) (bare-store κ w x k v) ∙ col-store κ w x (chain-in (groups sh) 0 (length x) g fit hg .1) hw k v n lk uk
-      ∙ upd-ext (col κ w x) (cell sh g w x) k v (λ m. sym (bare-col κ w x m)) n
+  put-same lk n = col-store (groupAt sh g) w x (chain-in (groups sh) 0 (length x) g fit hg .1) hw k v n lk uk
 
   -- another column of the kind
   put-word : (w′ : ℕ) → w′ < groupAt sh g .width → w′ ≢ w → (n : ℕ) → cell sh g w′ (putCell sh g w x k v) n ≡ cell sh g w′ x n
-  put-word w′ hw′ d n = col-store-other (bare (groupAt sh g)) w′ w x hw′ hw d k v n
+  put-word w′ hw′ d n = col-store-other 0 (groupAt sh g) w′ w x hw′ hw d k v n
 
   -- a column of another kind
-  put-apart : (g′ w′ : ℕ) → g′ < 6 → w′ < groupAt sh g′ .width → g′ ≢ g → (n : ℕ) → n ≤ groupAt sh g′ .count → cell sh g′ w′ (putCell sh g w x k v) n ≡ cell sh g′ w′ x n
+  put-apart : (g′ w′ : ℕ) → g′ < 6 → w′ < groupAt sh g′ .width → g′ ≢ g → (n : ℕ) → n ≤ groupAt sh g′ .count
+      → cell sh g′ w′ (putCell sh g w x k v) n ≡ cell sh g′ w′ x n
   put-apart g′ w′ hg′ hw′ d n un =
-      let κ = groupAt sh g in
-      let μ = groupAt sh g′ in
-      bare-col μ w′ (putCell sh g w x k v) n ∙ ap (λ l. col μ w′ l n) (bare-store κ w x k v)
-      ∙ col-store-apart μ κ w′ w x hw′ hw (⊎-elim (λ h. inl (chain-apart (groups sh) 0 (length x) g′ g fit hg h)) (λ h. inr (chain-apart (groups sh) 0 (length x) g g′ fit hg′ (omega arith))) (le? (suc g′) g)) k v n uk un
-      ∙ sym (bare-col μ w′ x n)
+      col-store-apart 0 (groupAt sh g′) (groupAt sh g) w′ w x hw′ hw
+      (⊎-elim (λ h. inl (chain-apart (groups sh) 0 (length x) g′ g fit hg h))
+      (λ h. inr (chain-apart (groups sh) 0 (length x) g g′ fit hg′ (omega arith))) (le? (suc g′) g))
+      k v n uk un
 
 -- changes of functions that agree at n agree there
 pub upd-near : (f g : ℕ → ℕ) (k v n : ℕ) → f n ≡ g n → upd f k v n ≡ upd g k v n
@@ -133,15 +120,16 @@ shows-put {sh} {x} {c} s F k v lk uk = record {
 
 pub shows-ext : {sh : Shape} {x y : List ℕ} {c d : Columns} → Shows sh x c → Shows sh y d → ((F : Field) (n : ℕ) → 1 ≤ n → n ≤ capOf sh F → c F n ≡ d F n) → x ≡ y
 shows-ext {sh} {x} {y} {c} {d} s t e =
-    columns-ext 0 (groups sh) x y (chain-end (groups sh) 0 (length x) (length y) (s .fit) (t .fit)) (s .fit) (λ k h. absurd (omega arith))
+    columns-ext 0 0 (groups sh) x y (chain-end (groups sh) 0 (length x) (length y) (s .fit) (t .fit)) (s .fit)
+    (λ k h. absurd (omega arith))
     (group 0, (group 1, (group 2, (group 3, (group 4, (group 5, tt))))))
   where
     by : (g j n : ℕ) → Named g j → 1 ≤ n → n ≤ groupAt sh g .count → cell sh g j x n ≡ cell sh g j y n
     by g j n r l = subst (λ i. n ≤ groupAt sh i .count → cell sh i j x n ≡ cell sh i j y n) (r .group)
         (λ u. subst (λ i. cell sh (groupOf (r .field)) i x n ≡ cell sh (groupOf (r .field)) i y n) (r .word) (s .at (r .field) n u ∙ e (r .field) n l u ∙ sym (t .at (r .field) n u)))
 
-    group : (g : ℕ) → Agree (groupAt sh g) x y
-    group g j n h l u = sym (bare-col (groupAt sh g) j x n) ∙ by g j n (field-named sh g j h) l u ∙ bare-col (groupAt sh g) j y n
+    group : (g : ℕ) → Agree 0 (groupAt sh g) x y
+    group g j n h l u = by g j n (field-named sh g j h) l u
 
 -- ---- a store and the store that undoes it
 

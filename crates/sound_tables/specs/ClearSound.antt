@@ -12,7 +12,7 @@ use Rattle.laws.specs.Bools.{ask}
 use Rattle.laws.specs.Cycles.{Cycles}
 use Rattle.layout.specs.declared.shape.Shape.{Shape}
 use Rattle.layout.specs.Layout.{shapeFrom}
-use Rattle.layout.specs.Points.{coordinate}
+use Rattle.layout.specs.Points.{pointWidth, pointsLength, coordinate}
 use Rattle.table.specs.Sizes.{sizesFit}
 use Rattle.table.specs.SizesLaws.{Sizes, sizes-are}
 use Rattle.table.specs.Clear.{emptyLinks, emptyPoints, clearOf}
@@ -42,7 +42,7 @@ past-head a b c d e n (suc (suc (suc (suc zero)))) h = absurd (omega arith)
 -- and so do its points
 pub zero-coordinate : (n v i : ℕ) → coordinate (replicate n (pos 0)) v i ≡ pos 0
 zero-coordinate n zero i = refl
-zero-coordinate n (suc v) i = same-at (pos 0) n (3 * v + i)
+zero-coordinate n (suc v) i = same-at (pos 0) n (0 + pointWidth * v + i)
 
 module _ (s f l e v : ℕ) where
   -- the empty table, its points and its shape
@@ -113,8 +113,8 @@ module _ (s f l e v : ℕ) where
     vertex-mark = λ n i. omega (arith, word-0 VertexUsed (lit≤ tt) n);
     vertex = λ n i h. absurd (h (word-0 VertexUsed (lit≤ tt) n));
     point = λ n i. record {
-      range = λ j h. rw (zero-coordinate (3 * v) n j) tt;
-      zero = λ h j k. zero-coordinate (3 * v) n j;
+      range = λ j h. rw (zero-coordinate (pointsLength v) n j) tt;
+      zero = λ h j k. zero-coordinate (pointsLength v) n j;
     };
     rules = record {
       mate-in = λ k u. no-half k u;
@@ -131,7 +131,7 @@ module _ (s f l e v : ℕ) where
     shape = refl;
     capacities = sizes-capacities z;
     fit = omega (arith, length-replicate {A = ℕ} (s + 2 * f + 3 * l + 8 * e + v) 0);
-    points = length-replicate (3 * v) (pos 0);
+    points = length-replicate (pointsLength v) (pos 0);
     sound = empty-sound;
   }
 

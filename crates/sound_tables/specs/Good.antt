@@ -1,13 +1,14 @@
 -- A table as the theorems about operators take it: of the right size, and sound in the words of `Sound`.
 use mathlib.Core.Path.{_≡_, _∙_}
 use mathlib.Core.List.{List}
-use Prim.Native.Nat.{ℕ, _*_, _≤_}
+use Prim.Native.Nat.{ℕ, _≤_}
 use lib.IntN.{ℤ}
 use lib.Dec.{lit≤}
 use lib.ListN.{length}
 use Rattle.laws.specs.Columns.{Chained}
 use Rattle.layout.specs.declared.shape.Shape.{Shape}
 use Rattle.layout.specs.Layout.{shapeOf}
+use Rattle.layout.specs.Points.{pointsLength}
 use Rattle.layout.specs.Fields.{Capacity, Columns, groups, column}
 use Rattle.sound_tables.specs.Cells.{Shows, shows-own}
 use Rattle.sound_tables.specs.Sound.{Sound, sound-agree}
@@ -29,7 +30,7 @@ pub record Good (sh : Shape) (x : List ℕ) (p : List ℤ) : Type 0 where
   pub shape : sh ≡ shapeOf x
   pub capacities : Capacities sh
   pub fit : Chained 0 (groups sh) (length x)
-  pub points : length p ≡ 3 * sh .vertices
+  pub points : length p ≡ pointsLength (sh .vertices)
   pub sound : Sound sh p (own sh x)
 
 -- it shows its own columns

@@ -10,7 +10,7 @@ use Rattle.laws.specs.Search.{least, least-ext}
 use Rattle.laws.specs.Linked.{link, map-linked}
 use Rattle.layout.specs.declared.shape.Shape.{Shape}
 use Rattle.layout.specs.Mate.{mate}
-use Rattle.layout.specs.Points.{coordinate, inRange}
+use Rattle.layout.specs.Points.{pointWidth, coordinate, inRange}
 use Rattle.layout.specs.Fields.{Field, SolidUsed, Solid, Outer, Face, First, Isolated, Start, Loop, Next, Prev, VertexUsed, Columns, capOf}
 use Rattle.sound_tables.specs.EdgeIn.{Halves, Rules}
 use Rattle.sound_tables.specs.Dummies.{agree-rules}
@@ -80,8 +80,8 @@ module _ (sh : Shape) (c : Columns) where
 
 -- a point: in range, and zero where its vertex is free
 pub record PointSound (p : List ℤ) (c : Columns) (v : ℕ) : Type 0 where
-  pub range : (i : ℕ) → i < 3 → T (inRange p v i)
-  pub zero : c VertexUsed v ≡ 0 → (i : ℕ) → i < 3 → coordinate p v i ≡ pos 0
+  pub range : (i : ℕ) → i < pointWidth → T (inRange p v i)
+  pub zero : c VertexUsed v ≡ 0 → (i : ℕ) → i < pointWidth → coordinate p v i ≡ pos 0
 
 -- a sound table
 pub record Sound (sh : Shape) (p : List ℤ) (c : Columns) : Type 0 where

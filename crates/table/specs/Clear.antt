@@ -4,6 +4,7 @@ use mathlib.Core.List.{List, _∷_}
 use lib.IntN.{ℤ, pos}
 use lib.ListN.{length, set, replicate}
 use Rattle.laws.specs.Bools.{pick}
+use Rattle.layout.specs.Points.{pointsLength}
 use Rattle.table.specs.declared.clear.ClearAnswer.{ClearAnswer}
 use Rattle.table.specs.Sizes.{sizesFit}
 
@@ -13,7 +14,7 @@ emptyLinks s f l e v = s ∷ f ∷ l ∷ e ∷ v ∷ replicate (s + 2 * f + 3 * 
 
 -- its points
 abbrev pub emptyPoints : ℕ → List ℤ
-emptyPoints v = replicate (3 * v) (pos 0)
+emptyPoints v = replicate (pointsLength v) (pos 0)
 
 -- the five capacities in the first five words
 abbrev pub withCapacities : List ℕ → ℕ → ℕ → ℕ → ℕ → ℕ → List ℕ

@@ -3,7 +3,7 @@ use mathlib.Core.Path.{_≡_, refl, sym, _∙_}
 use mathlib.Core.Logic.{_≢_}
 use mathlib.Core.Bool.{Bool, true, false, _&&_}
 use mathlib.Core.List.{List, [], _∷_}
-use Prim.Native.Nat.{ℕ, _*_}
+use Prim.Native.Nat.{ℕ}
 use native.Mathlib.Omega.{arith}
 use lib.Dec.{eqb, leb, eqb→eq}
 use lib.IntN.{ℤ}
@@ -11,6 +11,7 @@ use lib.ListN.{length, getD}
 use borrow.Author.Tests.{le-leb}
 use Rattle.laws.specs.Bools.{T-false, eqb-same}
 use Rattle.laws.specs.Every.{every, every-T}
+use Rattle.layout.specs.Points.{pointsLength}
 use Rattle.table.specs.Sizes.{capacity, linksLength, sizeTests, sizesFit, tableFits}
 
 -- 0 is no capacity
@@ -34,19 +35,20 @@ module _ (m n s f l e v : ℕ) where
       sym (T-false (λ t. d (eqb→eq m (linksLength s f l e v) (every-T (sizeTests m n s f l e v) t .1 .1 .1 .1 .1 .0))))
 
   -- the points are
-  pub points-other : n ≢ 3 * v → false ≡ sizesFit m n s f l e v
+  pub points-other : n ≢ pointsLength v → false ≡ sizesFit m n s f l e v
   unfolding sizesFit
-  points-other d = sym (T-false (λ t. d (eqb→eq n (3 * v) (every-T (sizeTests m n s f l e v) t .1 .1 .1 .1 .1 .1 .0))))
+  points-other d =
+      sym (T-false (λ t. d (eqb→eq n (pointsLength v) (every-T (sizeTests m n s f l e v) t .1 .1 .1 .1 .1 .1 .0))))
 
   -- both lengths fit, and the capacities are asked
-  pub lengths-fit : (a b c d g : Bool) → m ≡ linksLength s f l e v → n ≡ 3 * v → a ≡ capacity s
+  pub lengths-fit : (a b c d g : Bool) → m ≡ linksLength s f l e v → n ≡ pointsLength v → a ≡ capacity s
       → b ≡ capacity f → c ≡ capacity l → d ≡ capacity e → g ≡ capacity v
       → every (a ∷ b ∷ c ∷ d ∷ g ∷ []) ≡ sizesFit m n s f l e v
   unfolding sizesFit
   lengths-fit a b c d g em en ea eb ec ed eg =
       rw (ea, eb, ec, ed, eg)
       (and-both (every (capacity s ∷ capacity f ∷ capacity l ∷ capacity e ∷ capacity v ∷ []))
-      (eqb m (linksLength s f l e v)) (eqb n (3 * v)) (eqb-same em) (eqb-same en))
+      (eqb m (linksLength s f l e v)) (eqb n (pointsLength v)) (eqb-same em) (eqb-same en))
 
 -- the capacities are the first five words
 pub words-fit : (x : List ℕ) (p : List ℤ) (s f l e v : ℕ) (r : Bool) → s ≡ getD x 0 0 → f ≡ getD x 1 0 → l ≡ getD x 2 0

@@ -6,6 +6,7 @@ use lib.Dec.{eqb, leb}
 use lib.IntN.{ℤ}
 use lib.ListN.{length, getD}
 use Rattle.laws.specs.Every.{every}
+use Rattle.layout.specs.Points.{pointsLength}
 
 -- a capacity is 1 to 4,096
 abbrev pub capacity : ℕ → Bool
@@ -18,7 +19,8 @@ linksLength s f l e v = 5 + s + 2 * f + 3 * l + 8 * e + v
 -- each capacity is one, and m words and n coordinates are as many as the capacities say
 abbrev pub sizeTests : ℕ → ℕ → ℕ → ℕ → ℕ → ℕ → ℕ → List Bool
 sizeTests m n s f l e v =
-    capacity s ∷ capacity f ∷ capacity l ∷ capacity e ∷ capacity v ∷ eqb m (linksLength s f l e v) ∷ eqb n (3 * v) ∷ []
+    capacity s ∷ capacity f ∷ capacity l ∷ capacity e ∷ capacity v
+    ∷ eqb m (linksLength s f l e v) ∷ eqb n (pointsLength v) ∷ []
 
 -- m words and n coordinates are the links and points of a table of these capacities
 unfoldable pub sizesFit : ℕ → ℕ → ℕ → ℕ → ℕ → ℕ → ℕ → Bool

@@ -2,12 +2,13 @@
 use mathlib.Core.Path.{_≡_}
 use mathlib.Core.Bool.{true}
 use mathlib.Core.List.{List}
-use Prim.Native.Nat.{ℕ, _*_, _≤_}
+use Prim.Native.Nat.{ℕ, _≤_}
 use lib.Dec.{T, leb, leb→le, eqb→eq}
 use lib.IntN.{ℤ}
 use Rattle.laws.specs.Bools.{true-T, and-T}
 use Rattle.laws.specs.Every.{every-T}
 use Rattle.layout.specs.Layout.{shapeOf}
+use Rattle.layout.specs.Points.{pointsLength}
 use Rattle.layout.specs.Small.{Small}
 use Rattle.table.specs.Sizes.{capacity, linksLength, sizeTests, sizesFit, tableFits}
 
@@ -22,7 +23,7 @@ pub record Sizes (m n s f l e v : ℕ) : Type 0 where
   pub edges : Capacity e
   pub vertices : Capacity v
   pub links : m ≡ linksLength s f l e v
-  pub points : n ≡ 3 * v
+  pub points : n ≡ pointsLength v
 
 capacity-is : (n : ℕ) → T (capacity n) → Capacity n
 capacity-is n t = let h = and-T (leb 1 n) (leb n 4096) t in record { low = leb→le 1 n (h .0); high = leb→le n 4096 (h .1) }

@@ -3,6 +3,7 @@ ghost use mathlib.Core.Path.{_≡_};
 ghost use Prim.Native.Nat.{ℕ, _<_};
 ghost use Rattle.table.specs.Sizes.{capacity, sizesFit, tableFits};
 use layout::cells::word;
+use layout::points::POINT_WIDTH;
 
 fn is_capacity(n: usize) -> bool
     ensures { λ r. ⌜ r ≡ capacity n ⌝ }
@@ -30,7 +31,7 @@ pub fn sizes_fit(
     if words != long {
         return false;
     }
-    if coordinates != 3 * v {
+    if coordinates != POINT_WIDTH * v {
         return false;
     }
     is_capacity(s) & is_capacity(f) & is_capacity(l) & is_capacity(e) & is_capacity(v)

@@ -1,7 +1,8 @@
 use mathlib.Core.Path.{_∙_}
 use Prim.Native.Nat.{_-_}
 use native.Mathlib.Omega.{arith}
-use Rattle.layout.specs.LayoutLaws.{width-bound, col-at}
+use Rattle.layout.specs.LayoutLaws.{width-bound}
+use Rattle.laws.specs.Columns.{col-at}
 use borrow.Author.Needs.{needs}
 use Rattle.layout.proofs.cells.cell.Statement.{statement}
 use Rattle.layout.proofs.cells.cell.Tie as tie
@@ -28,7 +29,7 @@ word-requires : tie.Need-word-requires
 word-requires c κs = search needs
 
 returns-2 : tie.Need-returns-2
-returns-2 c = (c .word .ensures .0 ∙ col-at _ _ _ _ (c .before .if1 .left), c .word .ensures .1)
+returns-2 c = (c .word .ensures .0 ∙ col-at _ _ _ _ _ _ (c .before .if1 .left), c .word .ensures .1)
 
 pub cell-spec : {M : Type 1} → statement M
 cell-spec =

@@ -1,7 +1,8 @@
 use mathlib.Core.Path.{_∙_}
 use Prim.Native.Nat.{_-_}
 use native.Mathlib.Omega.{arith}
-use Rattle.layout.specs.LayoutLaws.{width-bound, store-at}
+use Rattle.layout.specs.LayoutLaws.{width-bound}
+use Rattle.laws.specs.Columns.{store-at}
 use borrow.Author.Needs.{needs}
 use Rattle.layout.proofs.cells.put_cell.Statement.{statement}
 use Rattle.layout.proofs.cells.put_cell.Tie as tie
@@ -31,7 +32,7 @@ same-length : tie.Need-same-length
 same-length c = search needs
 
 returns-2 : tie.Need-returns-2
-returns-2 c = c .before .before .put .ensures ∙ store-at _ _ _ _ _ (c .before .before .before .before .if1 .left)
+returns-2 c = c .before .before .put .ensures ∙ store-at _ _ _ _ _ _ (c .before .before .before .before .if1 .left)
 
 pub put-cell-spec : {M : Type 1} → statement M
 put-cell-spec =
