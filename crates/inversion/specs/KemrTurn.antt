@@ -54,10 +54,10 @@ module _ {sh : Shape} {x : List ℕ} {p : List ℤ} (g : Good sh x p) {k l2 : �
   -- ---- what stays
 
   pub solid-same : (n : ℕ) → In (sh .faces) n → own sh (kemrList sh x k l2) Solid n ≡ own sh x Solid n
-  solid-same n i = v .at Solid n (i .1) ∙ sym (b .solid n)
+  solid-same n i = v .at Solid n (i .1) ∙ sym (b .others Solid refl n)
 
   pub mark-same : (n : ℕ) → In (sh .solids) n → own sh (kemrList sh x k l2) SolidUsed n ≡ own sh x SolidUsed n
-  mark-same n i = v .at SolidUsed n (i .1) ∙ sym (b .solid-used n)
+  mark-same n i = v .at SolidUsed n (i .1) ∙ sym (b .others SolidUsed refl n)
 
   pub face-same : (n : ℕ) → In (sh .loops) n → n ≢ l2 → own sh (kemrList sh x k l2) Face n ≡ own sh x Face n
   face-same n i d = v .at Face n (i .1) ∙ sym (b .face-o n d)
@@ -92,7 +92,7 @@ module _ {sh : Shape} {x : List ℕ} {p : List ℤ} (g : Good sh x p) {k l2 : �
       (λ i j d e. v .at Start i (j .1) ∙ sym (b .start-o i d e))
 
   pub kemr-vertices : vertices sh (kemrList sh x k l2) ≡ vertices sh x
-  kemr-vertices = vertices-is sh _ ∙ words-same (sh .vertices) _ _ (λ n i. v .at VertexUsed n (i .1) ∙ sym (b .vertex-used n)) ∙ sym (vertices-is sh x)
+  kemr-vertices = vertices-is sh _ ∙ words-same (sh .vertices) _ _ (λ n i. v .at VertexUsed n (i .1) ∙ sym (b .others VertexUsed refl n)) ∙ sym (vertices-is sh x)
 
   -- ---- the ring and the rest
 
@@ -147,7 +147,7 @@ module _ {sh : Shape} {x : List ℕ} {p : List ℤ} (g : Good sh x p) {k l2 : �
         let l = run-loop (q .j) (r .0) (r .1) (r .2) (q .range) d a in
         let m = rest-loop (mate (q .j)) off im (λ e. a (sym (mate-mate (q .j)) ∙ ap mate e)) (λ e. d (sym (mate-mate (q .j)) ∙ ap mate e ∙ mate-mate k)) in
         least-there n (inRing sh (kemrList sh x k l2) s) (q .j) (q .range)
-        (rw (l, m, face-new, solid-same f inf, ks, eqb-same {m = s} refl, v .at Outer f (inf .1) ∙ sym (b .outer f), eqb-other not-outer, eqb-other (loop-unnamed (g .sound) l2 (o .ring-in) (o .free) (mate (q .j)) im)))
+        (rw (l, m, face-new, solid-same f inf, ks, eqb-same {m = s} refl, v .at Outer f (inf .1) ∙ sym (b .others Outer refl f), eqb-other not-outer, eqb-other (loop-unnamed (g .sound) l2 (o .ring-in) (o .free) (mate (q .j)) im)))
       where
         f : ℕ
         f = own sh x Face (own sh x Loop k)

@@ -127,7 +127,7 @@ module _ {sh : Shape} {x : List ℕ} {p : List ℤ} (g : Good sh x p) {o l e u1 
   -- ---- what is counted
 
   solid₂ : (n : ℕ) → In (sh .faces) n → own sh y Solid n ≡ own sh x Solid n
-  solid₂ n i = law .solid n i ∙ v .at Solid n (i .1) ∙ b .solid n
+  solid₂ n i = law .solid n i ∙ v .at Solid n (i .1) ∙ b .others Solid refl n
 
   face-gone : own sh y Face l ≡ 0
   face-gone = law .face l (r .ring-in) ∙ v .at Face l (r .ring-in .1) ∙ b .face-2
@@ -150,11 +150,11 @@ module _ {sh : Shape} {x : List ℕ} {p : List ℤ} (g : Good sh x p) {o l e u1 
 
   pub bridge-change : (RingAt sh x → ⊥) → Change sh x y 2 0
   bridge-change never =
-      let cs : solids sh x₁ ≡ solids sh x = solids-is sh _ ∙ words-same (sh .solids) _ _ (λ n i. v .at SolidUsed n (i .1) ∙ b .solid-used n) ∙ sym (solids-is sh x) in
-      let cf : faces sh x₁ ≡ faces sh x = faces-is sh _ ∙ words-same (sh .faces) _ _ (λ n i. v .at Solid n (i .1) ∙ b .solid n) ∙ sym (faces-is sh x) in
+      let cs : solids sh x₁ ≡ solids sh x = solids-is sh _ ∙ words-same (sh .solids) _ _ (λ n i. v .at SolidUsed n (i .1) ∙ b .others SolidUsed refl n) ∙ sym (solids-is sh x) in
+      let cf : faces sh x₁ ≡ faces sh x = faces-is sh _ ∙ words-same (sh .faces) _ _ (λ n i. v .at Solid n (i .1) ∙ b .others Solid refl n) ∙ sym (faces-is sh x) in
       let cl : suc (loops sh x₁) ≡ loops sh x = ap suc (loops-is sh _)
       ∙ words-fewer (sh .loops) _ _ l (r .ring-in) (v .at Face l (r .ring-in .1) ∙ b .face-2) (r .ring-used) (λ n i d. v .at Face n (i .1) ∙ b .face-o n d) ∙ sym (loops-is sh x) in
-      let cv : vertices sh x₁ ≡ vertices sh x = vertices-is sh _ ∙ words-same (sh .vertices) _ _ (λ n i. v .at VertexUsed n (i .1) ∙ b .vertex-used n) ∙ sym (vertices-is sh x) in
+      let cv : vertices sh x₁ ≡ vertices sh x = vertices-is sh _ ∙ words-same (sh .vertices) _ _ (λ n i. v .at VertexUsed n (i .1) ∙ b .others VertexUsed refl n) ∙ sym (vertices-is sh x) in
       let K = law in
       record {
         euler = omega (arith, cs, cf, cl, cv, edges₁, K .same-solids, K .same-faces, K .same-loops, K .fewer-edges, K .fewer-vertices);
@@ -183,11 +183,11 @@ module _ {sh : Shape} {x : List ℕ} {p : List ℤ} (g : Good sh x p) {o l e u1 
   -- what is known of it
   pub bridge-bare : Bare sh x y l
   bridge-bare = record {
-    mark = λ n i. law .mark n i ∙ v .at SolidUsed n (i .1) ∙ b .solid-used n;
+    mark = λ n i. law .mark n i ∙ v .at SolidUsed n (i .1) ∙ b .others SolidUsed refl n;
     solid = solid₂;
     face-gone = face-gone;
     face = face₂;
-    outer = λ n i. kev-outer good₁ used₁ next₁ n i ∙ v .at Outer n (i .1) ∙ b .outer n;
+    outer = λ n i. kev-outer good₁ used₁ next₁ n i ∙ v .at Outer n (i .1) ∙ b .others Outer refl n;
     half-free = λ i j z. path-good g bridge-path .sound .half-free i j z .loop;
     half = λ i w.
         let c = kev-goes good₁ used₁ next₁ .edge .used i w in

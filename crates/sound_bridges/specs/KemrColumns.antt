@@ -1,7 +1,8 @@
 -- The columns after kemr: they differ from those before by the bridge. The walk from next of k to its mate meets the half-edges of the new ring.
 use mathlib.Core.Path.{_≡_, refl, sym, ap, _∙_, subst}
 use mathlib.Core.Logic.{_≢_, inl, inr, ⊎-elim}
-use mathlib.Core.List.{List}
+use mathlib.Core.Bool.{false}
+use mathlib.Core.List.{List, [], _∷_, _++_}
 use Prim.Native.Nat.{ℕ, _*_, _<_}
 use native.Mathlib.Omega.{arith}
 use lib.Dec.{eqb}
@@ -13,14 +14,17 @@ use Rattle.laws.specs.Cycles.{alone}
 use Rattle.layout.specs.declared.shape.Shape.{Shape}
 use Rattle.layout.specs.Mate.{mate}
 use Rattle.layout.specs.MateLaws.{mate-mate}
-use Rattle.layout.specs.Fields.{Capacity, SolidUsed, Solid, Outer, Face, First, Isolated, Start, Loop, Next, Prev, VertexUsed, Columns, change}
+use Rattle.euler.specs.Surgery.{noEdgeWrites}
+use Rattle.layout.specs.Writes.{write}
+use Rattle.sound_tables.specs.WriteLaws.{not-among, others-stay}
+use Rattle.layout.specs.Fields.{Field, Outer, Face, First, Isolated, Start, Loop, Next, Prev, VertexUsed, Columns, change, among}
 use Rattle.sound_tables.specs.Mates.{mate-other}
 use Rattle.sound_tables.specs.EdgeIn.{prev-in, next-prev}
 use Rattle.sound_tables.specs.Sound.{In, HalfUsed, firstOf, Sound}
 use Rattle.sound_tables.specs.Names.{not-isolated}
 use Rattle.sound_tables.specs.Walking.{Steps, runColumns, run-met, run-off, run-other}
 use Rattle.sound_tables.specs.Shown.{withoutEdge, withFirst}
-use Rattle.sound_bridges.specs.Relation.{Corner, Bridged}
+use Rattle.sound_bridges.specs.Relation.{Corner, Bridged, touched}
 use Rattle.sound_bridges.specs.Runs.{Met, met?, run-to, met-in, not-k, not-a, met-next, met-prev, met-last, met-first}
 
 -- all but the firsts: the t half-edges of the run name l2, the edge is out, and l2 lies in the face of k
@@ -282,13 +286,10 @@ module _ {sh : Shape} {p : List ℤ} {d : Columns} (A : Sound sh p d) {k l2 : �
   face-l : c Face l ≡ d Face l
   face-l = upd-off _ _ two ∙ run-other d (walk .0) N2 l2 Face refl l
 
-  -- outer loops stay
-  outer : (i : ℕ) → d Outer i ≡ c Outer i
-  outer i = sym (run-other d (walk .0) N2 l2 Outer refl i)
-
-  -- and so do vertices
-  vertex : (i : ℕ) → d VertexUsed i ≡ c VertexUsed i
-  vertex i = sym (run-other d (walk .0) N2 l2 VertexUsed refl i)
+  -- the fields that a bridge does not touch
+  others : (F : Field) → among touched F ≡ false → (i : ℕ) → d F i ≡ c F i
+  others F e i = sym (others-stay touched (noEdgeWrites k P1 N1 P2 N2 ++ (write Face l2 _ ∷ write First l2 0 ∷ write Isolated l2 0 ∷ write First l2 _ ∷ write Isolated l2 _ ∷ write First l _ ∷ write Isolated l _ ∷ [])) e₀ F refl e i
+      ∙ run-other d (walk .0) N2 l2 F (not-among touched Loop F refl e) i)
 
   -- before and after kemr
   pub down-bridged : Bridged sh (kemrColumns sh d k l2 (walk .0)) d k (d Loop k) l2 (d Start k) (d Prev k) (d Next (mate k)) (d Start (mate k)) (d Prev (mate k)) (d Next k)
@@ -305,13 +306,13 @@ module _ {sh : Shape} {p : List ℤ} {d : Columns} (A : Sound sh p d) {k l2 : �
           two = two;
           used = λ z. l-used (sym face-l ∙ z);
           one-face = upd-same _ l2 _ ∙ sym face-l;
-          ring = λ e. omega (arith, L .face-in .0, sym (A .face (d Face l) (L .face-in) (L .face-used) .outer-face) ∙ ap (d Face) (outer (d Face l) ∙ ap (c Outer) (sym (upd-same _ l2 _)) ∙ e) ∙ o .free);
+          ring = λ e. omega (arith, L .face-in .0, sym (A .face (d Face l) (L .face-in) (L .face-used) .outer-face) ∙ ap (d Face) (others Outer refl (d Face l) ∙ ap (c Outer) (sym (upd-same _ l2 _)) ∙ e) ∙ o .free);
           at-1 = corner-1;
           at-2 = corner-2;
           in-1 = hk .start-in;
           in-2 = ha .start-in;
-          used-1 = λ z. hk .start-used (vertex _ ∙ z);
-          used-2 = λ z. ha .start-used (vertex _ ∙ z);
+          used-1 = λ z. hk .start-used (others VertexUsed refl _ ∙ z);
+          used-2 = λ z. ha .start-used (others VertexUsed refl _ ∙ z);
           zero-k = record { s = upd-off _ 0 ka ∙ upd-same _ k 0; l = upd-off _ 0 ka ∙ upd-same _ k 0; n = upd-off _ 0 ka ∙ upd-same _ k 0; p = upd-off _ 0 ka ∙ upd-same _ k 0 };
           zero-a = record { s = upd-same _ a 0; l = upd-same _ a 0; n = upd-same _ a 0; p = upd-same _ a 0 };
           keeps = c-keeps;
@@ -340,11 +341,7 @@ module _ {sh : Shape} {p : List ℤ} {d : Columns} (A : Sound sh p d) {k l2 : �
         isolated-1 = l-isolated;
         isolated-2 = A .loop-free l2 (o .ring-in) (o .free) .1;
         isolated-o = λ m e f. sym (upd-off _ _ e ∙ upd-off _ _ f ∙ upd-off _ 0 f ∙ run-other d (walk .0) N2 l2 Isolated refl m);
-        capacity = λ i. sym (run-other d (walk .0) N2 l2 Capacity refl i);
-        solid-used = λ i. sym (run-other d (walk .0) N2 l2 SolidUsed refl i);
-        solid = λ i. sym (run-other d (walk .0) N2 l2 Solid refl i);
-        outer = outer;
-        vertex-used = vertex;
+        others = others;
       }
 
   -- the firsts of the two

@@ -14,7 +14,7 @@ use Rattle.layout.specs.declared.shape.Shape.{Shape}
 use Rattle.layout.specs.Mate.{mate}
 use Rattle.euler.specs.Surgery.{relabelRun, renew}
 use Rattle.sound_tables.specs.EdgeIn.{prev-in}
-use Rattle.layout.specs.Fields.{Face, First, Isolated, Start, Loop, Next, Prev, Columns}
+use Rattle.layout.specs.Fields.{Capacity, Face, First, Isolated, Start, Loop, Next, Prev, Columns}
 use Rattle.sound_tables.specs.Cells.{Shows, shows-put}
 use Rattle.sound_tables.specs.Sound.{In, HalfUsed, firstOf, Sound}
 use Rattle.sound_tables.specs.Labels.{label-none}
@@ -117,4 +117,4 @@ module _ {sh : Shape} {x : List ℕ} {p : List ℤ} (g : Good sh x p) {k l2 : �
 
   -- the table is good afterwards
   pub kemr-good : Good sh (kemrList sh x k l2) p
-  kemr-good = good-after g kemr-shows (λ i. sym (b .capacity i)) refl kemr-sound
+  kemr-good = good-after g kemr-shows (λ i. sym (b .others Capacity refl i)) refl kemr-sound

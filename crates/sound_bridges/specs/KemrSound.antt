@@ -1,5 +1,5 @@
 -- kemr on the columns: where d is sound, and c has the rules with dummies and the firsts of its two loops, c is sound.
-use mathlib.Core.Path.{_≡_, sym, ap, _∙_, subst}
+use mathlib.Core.Path.{_≡_, refl, sym, ap, _∙_, subst}
 use mathlib.Core.Logic.{_≢_, inl, inr, ⊎-elim}
 use mathlib.Core.List.{List}
 use Prim.Native.Nat.{ℕ, _+_, _-_, _*_}
@@ -66,18 +66,18 @@ module _ {sh : Shape} {p : List ℤ} {c d : Columns} {k l l2 u1 P1 N1 u2 P2 N2 :
     rules = rules⁺;
     loop = λ m i h. split m l (λ e. (member-1 .0, member-1 .1, member-1 .2 ∙ sym e)) (λ e. split m l2 (λ f. (member-2 .0, member-2 .1, member-2 .2 ∙ sym f))
         (λ f. let r = sound-corners a .loop m i (face-was m f h) in loop-member m e f (r .0) (r .1) (r .2)));
-    vertex = λ w i h. let r = sound-corners a .vertex w i (λ z. h (sym (b .vertex-used w) ∙ z)) in vertex-member w (r .0) (r .1) (r .2);
+    vertex = λ w i h. let r = sound-corners a .vertex w i (λ z. h (sym (b .others VertexUsed refl w) ∙ z)) in vertex-member w (r .0) (r .1) (r .2);
   }
 
   -- ---- loops
 
   -- a vertex in use in d is so in c
   used : (w : ℕ) → d VertexUsed w ≢ 0 → c VertexUsed w ≢ 0
-  used w x z = x (b .vertex-used w ∙ z)
+  used w x z = x (b .others VertexUsed refl w ∙ z)
 
   -- and a face
   solid-back : (f : ℕ) → d Solid f ≢ 0 → c Solid f ≢ 0
-  solid-back f x z = x (b .solid f ∙ z)
+  solid-back f x z = x (b .others Solid refl f ∙ z)
 
   -- at a corner of the two
   corner-used : {m k′ b′ u P N : ℕ} → Corner sh c m k′ b′ u P N → In (sh .vertices) u → c VertexUsed u ≢ 0 → c Isolated m ≢ 0 → In (sh .vertices) (c Isolated m) × (c VertexUsed (c Isolated m) ≢ 0)
@@ -149,7 +149,7 @@ module _ {sh : Shape} {p : List ℤ} {c d : Columns} {k l l2 u1 P1 N1 u2 P2 N2 :
 
   -- equal faces have one solid, in either table
   solid-of : {f g : ℕ} → f ≡ g → c Solid f ≡ d Solid g
-  solid-of {f} {g} e = ap (c Solid) e ∙ sym (b .solid g)
+  solid-of {f} {g} e = ap (c Solid) e ∙ sym (b .others Solid refl g)
 
   -- what the bridge has on its sides is one face
   one-side : (i : ℕ) → (i ≡ k) → side d i ≡ side d (mate i)
@@ -172,23 +172,23 @@ module _ {sh : Shape} {p : List ℤ} {c d : Columns} {k l l2 u1 P1 N1 u2 P2 N2 :
     one = λ f g x y e. map-linked (λ i. i)
         (λ i j t. split (t .0) k (λ q. same (sym (t .2) ∙ one-side (t .0) q ∙ t .3)) (λ q. split (t .0) (mate k) (λ q′. same (sym (t .2) ∙ other-side (t .0) q′ ∙ t .3))
         (λ q′. let w = half-back b (t .0) (t .1) q q′ in link (t .0, w, sym (side-same b (t .0) w) ∙ t .2, sym (side-same b (mate (t .0)) (mate-back (t .0) w)) ∙ t .3))))
-        (a .solids .one f g (x .0, x .1, λ z. x .2 (sym (b .solid f) ∙ z)) (y .0, y .1, λ z. y .2 (sym (b .solid g) ∙ z)) (b .solid f ∙ e ∙ sym (b .solid g)));
+        (a .solids .one f g (x .0, x .1, λ z. x .2 (sym (b .others Solid refl f) ∙ z)) (y .0, y .1, λ z. y .2 (sym (b .others Solid refl g) ∙ z)) (b .others Solid refl f ∙ e ∙ sym (b .others Solid refl g)));
   }
 
   -- the table without the bridge is sound
   pub down-sound : Sound sh p c
   down-sound = record {
-    solid-mark = λ s i. rw (← b .solid-used s) (a .solid-mark s i);
-    solid = λ s i h. let r = a .solid s i (λ z. h (sym (b .solid-used s) ∙ z)) in (r .0, r .1, sym (b .solid (r .0)) ∙ r .2);
-    face-free = λ f i h. sym (b .outer f) ∙ a .face-free f i (b .solid f ∙ h);
+    solid-mark = λ s i. rw (← b .others SolidUsed refl s) (a .solid-mark s i);
+    solid = λ s i h. let r = a .solid s i (λ z. h (sym (b .others SolidUsed refl s) ∙ z)) in (r .0, r .1, sym (b .others Solid refl (r .0)) ∙ r .2);
+    face-free = λ f i h. sym (b .others Outer refl f) ∙ a .face-free f i (b .others Solid refl f ∙ h);
     face = λ f i h.
-        let r = a .face f i (λ z. h (sym (b .solid f) ∙ z)) in
-        let o : c Outer f ≢ l2 = λ e. omega (arith, i .0, sym (r .outer-face) ∙ ap (d Face) (b .outer f ∙ e) ∙ b .face-2) in
+        let r = a .face f i (λ z. h (sym (b .others Solid refl f) ∙ z)) in
+        let o : c Outer f ≢ l2 = λ e. omega (arith, i .0, sym (r .outer-face) ∙ ap (d Face) (b .others Outer refl f ∙ e) ∙ b .face-2) in
         record {
-          solid-in = subst (In (sh .solids)) (b .solid f) (r .solid-in);
-          solid-used = λ z. r .solid-used (b .solid-used _ ∙ ap (c SolidUsed) (b .solid f) ∙ z);
-          outer-in = subst (In (sh .loops)) (b .outer f) (r .outer-in);
-          outer-face = sym (b .face-o _ o) ∙ ap (d Face) (sym (b .outer f)) ∙ r .outer-face;
+          solid-in = subst (In (sh .solids)) (b .others Solid refl f) (r .solid-in);
+          solid-used = λ z. r .solid-used (b .others SolidUsed refl _ ∙ ap (c SolidUsed) (b .others Solid refl f) ∙ z);
+          outer-in = subst (In (sh .loops)) (b .others Outer refl f) (r .outer-in);
+          outer-face = sym (b .face-o _ o) ∙ ap (d Face) (sym (b .others Outer refl f)) ∙ r .outer-face;
         };
     loop-free = λ m i h.
         let f : m ≢ l = λ q. b .ends .used (ap (c Face) (sym q) ∙ h) in
@@ -198,9 +198,9 @@ module _ {sh : Shape} {p : List ℤ} {c d : Columns} {k l l2 u1 P1 N1 u2 P2 N2 :
     loop = c-loop;
     half-free = c-half-free;
     half = λ i j h. c-half i (j .0, j .1, h);
-    vertex-mark = λ w i. rw (← b .vertex-used w) (a .vertex-mark w i);
+    vertex-mark = λ w i. rw (← b .others VertexUsed refl w) (a .vertex-mark w i);
     vertex = corners-vertex c-corners;
-    point = λ w i. let r = a .point w i in record { range = r .range; zero = λ h. r .zero (b .vertex-used w ∙ h) };
+    point = λ w i. let r = a .point w i in record { range = r .range; zero = λ h. r .zero (b .others VertexUsed refl w ∙ h) };
     rules = corners-rules c-corners;
     solids = c-solids;
   }

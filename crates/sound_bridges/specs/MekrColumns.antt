@@ -1,21 +1,30 @@
 -- The columns after mekr: they differ from those before by the bridge.
 use mathlib.Core.Path.{_≡_, refl, sym, ap, _∙_}
 use mathlib.Core.Logic.{_≢_, ⊎-elim}
+use mathlib.Core.Bool.{false}
+use mathlib.Core.List.{[], _∷_}
 use Prim.Native.Nat.{ℕ}
 use native.Mathlib.Omega.{arith}
 use Rattle.laws.specs.Bools.{pick}
 use Rattle.laws.specs.Update.{upd, upd-same, upd-at, upd-off, relabel, relabel-at, relabel-off}
 use Rattle.layout.specs.declared.shape.Shape.{Shape}
 use Rattle.layout.specs.Mate.{mate}
-use Rattle.layout.specs.Fields.{Face, First, Isolated, Start, Loop, Columns, change, sameField}
+use Rattle.euler.specs.Surgery.{edgeWrites}
+use Rattle.layout.specs.Writes.{write}
+use Rattle.sound_tables.specs.WriteLaws.{not-among, others-stay}
+use Rattle.layout.specs.Fields.{Field, Face, First, Isolated, Start, Loop, Columns, change, sameField}
 use Rattle.sound_tables.specs.Mates.{mate-other}
 use Rattle.sound_tables.specs.Sound.{HalfUsed, firstOf}
 use Rattle.sound_tables.specs.Shown.{withEdge, withFirst}
-use Rattle.sound_bridges.specs.Relation.{Bridged, Ends}
+use Rattle.sound_bridges.specs.Relation.{Bridged, Ends, touched}
 
 -- the loop column is f
 abbrev pub withLoops : Columns → (ℕ → ℕ) → Columns
 withLoops c f F = pick (sameField Loop F) f (c F)
+
+-- no other column changes
+pub loops-other : (c : Columns) (f : ℕ → ℕ) (F : Field) → sameField Loop F ≡ false → (i : ℕ) → withLoops c f F i ≡ c F i
+loops-other c f F e i = rw e
 
 -- the loops once l2 has joined l, and the edge with them
 abbrev pub joinedLoops : Columns → ℕ → ℕ → ℕ → ℕ → ℕ
@@ -122,11 +131,8 @@ module _ {sh : Shape} {c : Columns} {k l l2 u1 P1 N1 u2 P2 N2 : ℕ} (o : Ends s
     isolated-1 = upd-same _ l 0;
     isolated-2 = upd-off _ 0 l2l ∙ upd-same _ l2 0;
     isolated-o = λ m e f. upd-off _ 0 e ∙ upd-off _ 0 f;
-    capacity = λ i. refl;
-    solid-used = λ i. refl;
-    solid = λ i. refl;
-    outer = λ i. refl;
-    vertex-used = λ i. refl;
+    others = λ F e i. others-stay touched (write Face l2 0 ∷ write First l2 0 ∷ write Isolated l2 0 ∷ write First l _ ∷ write Isolated l 0 ∷ []) (withLoops (withEdge c k u1 l N2 P1 u2 l N1 P2) (joinedLoops c k l l2)) F refl e i
+        ∙ loops-other (withEdge c k u1 l N2 P1 u2 l N1 P2) (joinedLoops c k l l2) F (not-among touched Loop F refl e) i ∙ others-stay touched (edgeWrites k u1 l N2 P1 u2 l N1 P2) c F refl e i;
   }
 
   -- the firsts of the two

@@ -1,7 +1,7 @@
 -- mekr on the list: what it leaves shows the columns with the bridge. The walk that gives the ring its new loop meets the ring's half-edges and no others.
 use mathlib.Core.Path.{_≡_, refl, sym, ap, _∙_, subst}
 use mathlib.Core.Logic.{_≢_, inl, inr, ⊎-elim}
-use mathlib.Core.List.{List}
+use mathlib.Core.List.{List, [], _∷_}
 use Prim.Native.Nat.{ℕ, zero, suc, _*_, _≤_, _<_}
 use native.Mathlib.Omega.{arith}
 use lib.IntN.{ℤ}
@@ -12,7 +12,8 @@ use Rattle.laws.specs.Cycles.{forwards}
 use Rattle.layout.specs.declared.shape.Shape.{Shape}
 use Rattle.layout.specs.Mate.{mate}
 use Rattle.euler.specs.Surgery.{edgeIn, relabelRun, lower}
-use Rattle.layout.specs.Fields.{Field, Capacity, SolidUsed, Solid, Outer, Face, First, Isolated, Start, Loop, Next, Prev, VertexUsed, Columns, capOf}
+use Rattle.layout.specs.Fields.{Field, Face, First, Isolated, Start, Loop, Next, Columns, capOf, by-fields}
+use Rattle.sound_tables.specs.WriteLaws.{not-among}
 use Rattle.sound_tables.specs.Cells.{Shows, shows-put, shows-agree}
 use Rattle.sound_tables.specs.Sound.{In, HalfUsed, Sound}
 use Rattle.sound_tables.specs.Names.{lone-unnamed}
@@ -23,7 +24,7 @@ use Rattle.sound_tables.specs.Good.{own, Good, good-shows, good-after}
 use Rattle.sound_bridges.specs.Relation.{Corner, Bridged, new-k, new-a, Ends}
 use Rattle.sound_bridges.specs.MekrSound.{up-sound}
 use Rattle.sound_bridges.specs.MekrRules.{up-rules}
-use Rattle.sound_bridges.specs.MekrColumns.{withLoops, joinedLoops, mekrColumns, up-bridged, up-first, up-first-2}
+use Rattle.sound_bridges.specs.MekrColumns.{withLoops, loops-other, joinedLoops, mekrColumns, up-bridged, up-first, up-first-2}
 use Rattle.sound_bridges.specs.Runs.{Met, met?, run-to, met-in, met-next, met-first}
 use Rattle.sound_bridges.specs.Lists.{mekrList}
 
@@ -116,18 +117,8 @@ module _ {sh : Shape} {x : List ℕ} {p : List ℤ} (g : Good sh x p) {k l l2 u1
 
   -- and all other columns
   run-agree : (F : Field) (i : ℕ) → i ≤ capOf sh F → runColumns e₀ (d Next k) (run .0) l F i ≡ withLoops e₀ (joinedLoops c k l l2) F i
-  run-agree Capacity i h = run-other e₀ (run .0) (d Next k) l Capacity refl i
-  run-agree SolidUsed i h = run-other e₀ (run .0) (d Next k) l SolidUsed refl i
-  run-agree Solid i h = run-other e₀ (run .0) (d Next k) l Solid refl i
-  run-agree Outer i h = run-other e₀ (run .0) (d Next k) l Outer refl i
-  run-agree Face i h = run-other e₀ (run .0) (d Next k) l Face refl i
-  run-agree First i h = run-other e₀ (run .0) (d Next k) l First refl i
-  run-agree Isolated i h = run-other e₀ (run .0) (d Next k) l Isolated refl i
-  run-agree Start i h = run-other e₀ (run .0) (d Next k) l Start refl i
-  run-agree Loop i h = loop-agree i h
-  run-agree Next i h = run-other e₀ (run .0) (d Next k) l Next refl i
-  run-agree Prev i h = run-other e₀ (run .0) (d Next k) l Prev refl i
-  run-agree VertexUsed i h = run-other e₀ (run .0) (d Next k) l VertexUsed refl i
+  run-agree = by-fields (Loop ∷ []) (λ F. (i : ℕ) → i ≤ capOf sh F → runColumns e₀ (d Next k) (run .0) l F i ≡ withLoops e₀ (joinedLoops c k l l2) F i) (loop-agree, tt)
+      (λ F q i h. let f = not-among (Loop ∷ []) Loop F refl q in run-other e₀ (run .0) (d Next k) l F f i ∙ sym (loops-other e₀ (joinedLoops c k l l2) F f i))
 
   -- where the first of l is looked for: what names l is new, or named l or l2 before
   from : (i : ℕ) → In n i → d Loop i ≡ l → lower (c First l) (lower (c First l2) (lower k a)) ≤ i

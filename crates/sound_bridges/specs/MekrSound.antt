@@ -1,5 +1,5 @@
 -- mekr on the columns: where c is sound, and d has the rules with dummies and the first of its loop, d is sound.
-use mathlib.Core.Path.{_≡_, sym, ap, _∙_, subst}
+use mathlib.Core.Path.{_≡_, refl, sym, ap, _∙_, subst}
 use mathlib.Core.Logic.{_≢_, inl, inr, ⊎-elim}
 use mathlib.Core.List.{List}
 use Prim.Native.Nat.{ℕ, _+_, _-_, _*_}
@@ -63,18 +63,18 @@ module _ {sh : Shape} {p : List ℤ} {c d : Columns} {k l l2 u1 P1 N1 u2 P2 N2 :
   d-corners = record {
     rules = rules⁺;
     loop = λ m i h. let x = face-was m h in let r = sound-corners a .loop m i (x .1) in loop-member m (x .0) (r .0) (r .1) (r .2);
-    vertex = λ w i h. let r = sound-corners a .vertex w i (λ z. h (b .vertex-used w ∙ z)) in vertex-member w i (r .0) (r .1) (r .2);
+    vertex = λ w i h. let r = sound-corners a .vertex w i (λ z. h (b .others VertexUsed refl w ∙ z)) in vertex-member w i (r .0) (r .1) (r .2);
   }
 
   -- ---- loops
 
   -- a vertex in use stays so
   used : (w : ℕ) → c VertexUsed w ≢ 0 → d VertexUsed w ≢ 0
-  used w x z = x (sym (b .vertex-used w) ∙ z)
+  used w x z = x (sym (b .others VertexUsed refl w) ∙ z)
 
   -- a face in use stays so
   solid-stays : (f : ℕ) → c Solid f ≢ 0 → d Solid f ≢ 0
-  solid-stays f x z = x (sym (b .solid f) ∙ z)
+  solid-stays f x z = x (sym (b .others Solid refl f) ∙ z)
 
   -- an isolated vertex is in use
   isolated-used : (m : ℕ) → In (sh .loops) m → d Isolated m ≢ 0 → In (sh .vertices) (d Isolated m) × (d VertexUsed (d Isolated m) ≢ 0)
@@ -143,7 +143,7 @@ module _ {sh : Shape} {p : List ℤ} {c d : Columns} {k l l2 u1 P1 N1 u2 P2 N2 :
 
   -- equal faces have one solid, in either table
   solid-of : {f g : ℕ} → f ≡ g → d Solid f ≡ c Solid g
-  solid-of {f} {g} e = ap (d Solid) e ∙ b .solid g
+  solid-of {f} {g} e = ap (d Solid) e ∙ b .others Solid refl g
 
   -- rule 6: the new edge has one face on both sides
   d-solids : Solids (HalfUsed sh d) (FaceUsed sh d) (side d) mate (d Solid)
@@ -155,23 +155,23 @@ module _ {sh : Shape} {p : List ℤ} {c d : Columns} {k l l2 u1 P1 N1 u2 P2 N2 :
         (λ i w. solid-of (side-same b (mate i) (a .rules .mate-in i w)) ∙ a .solids .edge i w ∙ sym (solid-of (side-same b i w)));
     one = λ f g x y e. map-linked (λ i. i)
         (λ i j t. link (t .0, half-stays b (t .0) (t .1), side-same b (t .0) (t .1) ∙ t .2, side-same b (mate (t .0)) (a .rules .mate-in (t .0) (t .1)) ∙ t .3))
-        (a .solids .one f g (x .0, x .1, λ z. x .2 (b .solid f ∙ z)) (y .0, y .1, λ z. y .2 (b .solid g ∙ z)) (sym (b .solid f) ∙ e ∙ b .solid g));
+        (a .solids .one f g (x .0, x .1, λ z. x .2 (b .others Solid refl f ∙ z)) (y .0, y .1, λ z. y .2 (b .others Solid refl g ∙ z)) (sym (b .others Solid refl f) ∙ e ∙ b .others Solid refl g));
   }
 
   -- the table with the bridge is sound
   pub up-sound : Sound sh p d
   up-sound = record {
-    solid-mark = λ s i. rw (b .solid-used s) (a .solid-mark s i);
-    solid = λ s i h. let r = a .solid s i (λ z. h (b .solid-used s ∙ z)) in (r .0, r .1, b .solid (r .0) ∙ r .2);
-    face-free = λ f i h. b .outer f ∙ a .face-free f i (sym (b .solid f) ∙ h);
+    solid-mark = λ s i. rw (b .others SolidUsed refl s) (a .solid-mark s i);
+    solid = λ s i h. let r = a .solid s i (λ z. h (b .others SolidUsed refl s ∙ z)) in (r .0, r .1, b .others Solid refl (r .0) ∙ r .2);
+    face-free = λ f i h. b .others Outer refl f ∙ a .face-free f i (sym (b .others Solid refl f) ∙ h);
     face = λ f i h.
-        let r = a .face f i (λ z. h (b .solid f ∙ z)) in
+        let r = a .face f i (λ z. h (b .others Solid refl f ∙ z)) in
         let o : c Outer f ≢ l2 = λ e. b .ends .ring (ap (c Outer) (ap (c Face) (sym e) ∙ r .outer-face) ∙ e) in
         record {
-          solid-in = subst (In (sh .solids)) (sym (b .solid f)) (r .solid-in);
-          solid-used = λ z. r .solid-used (sym (b .solid-used _) ∙ ap (d SolidUsed) (sym (b .solid f)) ∙ z);
-          outer-in = subst (In (sh .loops)) (sym (b .outer f)) (r .outer-in);
-          outer-face = ap (d Face) (b .outer f) ∙ b .face-o _ o ∙ r .outer-face;
+          solid-in = subst (In (sh .solids)) (sym (b .others Solid refl f)) (r .solid-in);
+          solid-used = λ z. r .solid-used (sym (b .others SolidUsed refl _) ∙ ap (d SolidUsed) (sym (b .others Solid refl f)) ∙ z);
+          outer-in = subst (In (sh .loops)) (sym (b .others Outer refl f)) (r .outer-in);
+          outer-face = ap (d Face) (b .others Outer refl f) ∙ b .face-o _ o ∙ r .outer-face;
         };
     loop-free = λ m i h. split m l2
         (λ e. (ap (d First) e ∙ first-2, ap (d Isolated) e ∙ b .isolated-2))
@@ -183,9 +183,9 @@ module _ {sh : Shape} {p : List ℤ} {c d : Columns} {k l l2 u1 P1 N1 u2 P2 N2 :
     loop = d-loop;
     half-free = d-half-free;
     half = λ i j h. d-half i (j .0, j .1, h);
-    vertex-mark = λ w i. rw (b .vertex-used w) (a .vertex-mark w i);
+    vertex-mark = λ w i. rw (b .others VertexUsed refl w) (a .vertex-mark w i);
     vertex = corners-vertex d-corners;
-    point = λ w i. let r = a .point w i in record { range = r .range; zero = λ h. r .zero (sym (b .vertex-used w) ∙ h) };
+    point = λ w i. let r = a .point w i in record { range = r .range; zero = λ h. r .zero (sym (b .others VertexUsed refl w) ∙ h) };
     rules = corners-rules d-corners;
     solids = d-solids;
   }

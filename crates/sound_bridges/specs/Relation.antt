@@ -2,13 +2,15 @@
 -- from c to d and kemr from d to c; what is said of the two together stands here once.
 use mathlib.Core.Path.{_≡_, sym, ap, _∙_, subst}
 use mathlib.Core.Logic.{_≢_, _⊎_, inl, inr, ⊎-elim}
+use mathlib.Core.Bool.{false}
+use mathlib.Core.List.{List, [], _∷_}
 use Prim.Native.Nat.{ℕ, _+_, _-_, _*_}
 use native.Mathlib.Omega.{arith}
 use lib.Dec.{eqb}
 use Rattle.laws.specs.Bools.{split, eqb-other}
 use Rattle.layout.specs.declared.shape.Shape.{Shape}
 use Rattle.layout.specs.Mate.{mate}
-use Rattle.layout.specs.Fields.{Capacity, SolidUsed, Solid, Outer, Face, First, Isolated, Start, Loop, Next, Prev, VertexUsed, Columns}
+use Rattle.layout.specs.Fields.{Field, Outer, Face, First, Isolated, Start, Loop, Next, Prev, VertexUsed, Columns, among}
 use Rattle.sound_tables.specs.Mates.{mate-other}
 use Rattle.sound_tables.specs.EdgeIn.{Zero}
 use Rattle.sound_tables.specs.Sound.{In, halves, HalfUsed, side}
@@ -72,6 +74,10 @@ pub record Ends (sh : Shape) (c : Columns) (k l l2 u1 P1 N1 u2 P2 N2 : ℕ) : Ty
   pub zero-a : Zero (halves c) (mate k)
   pub keeps : (i : ℕ) → HalfUsed sh c i → c Loop (c Next i) ≡ c Loop i
 
+-- the fields that a bridge changes
+abbrev pub touched : List Field
+touched = Start ∷ Loop ∷ Next ∷ Prev ∷ Face ∷ First ∷ Isolated ∷ []
+
 -- c has the loops l and l2, d the bridge k between the corner of l, vertex u1, between P1 and N1, and the corner of l2, vertex u2, between P2 and N2
 pub record Bridged (sh : Shape) (c d : Columns) (k l l2 u1 P1 N1 u2 P2 N2 : ℕ) : Type 0 where
   pub ends : Ends sh c k l l2 u1 P1 N1 u2 P2 N2
@@ -98,11 +104,7 @@ pub record Bridged (sh : Shape) (c d : Columns) (k l l2 u1 P1 N1 u2 P2 N2 : ℕ)
   pub isolated-1 : d Isolated l ≡ 0
   pub isolated-2 : d Isolated l2 ≡ 0
   pub isolated-o : (m : ℕ) → m ≢ l → m ≢ l2 → d Isolated m ≡ c Isolated m
-  pub capacity : (i : ℕ) → d Capacity i ≡ c Capacity i
-  pub solid-used : (i : ℕ) → d SolidUsed i ≡ c SolidUsed i
-  pub solid : (i : ℕ) → d Solid i ≡ c Solid i
-  pub outer : (i : ℕ) → d Outer i ≡ c Outer i
-  pub vertex-used : (i : ℕ) → d VertexUsed i ≡ c VertexUsed i
+  pub others : (F : Field) → among touched F ≡ false → (i : ℕ) → d F i ≡ c F i
 
 -- ---- what follows
 

@@ -11,10 +11,10 @@ use Rattle.laws.specs.Search.{least-ext}
 use Rattle.laws.specs.Linked.{linked-same}
 use Rattle.layout.specs.declared.shape.Shape.{Shape}
 use Rattle.layout.specs.Mate.{mate}
-use Rattle.layout.specs.Fields.{Field, Capacity, SolidUsed, Solid, Outer, Face, First, Isolated, Start, Loop, Next, Prev, VertexUsed, Columns, capOf}
+use Rattle.layout.specs.Fields.{Field, Face, First, Isolated, Start, Loop, Next, Prev, Columns, capOf, by-fields}
 use Rattle.sound_tables.specs.Sound.{In, HalfUsed, Sound}
 use Rattle.sound_tables.specs.Names.{lone-unnamed}
-use Rattle.sound_bridges.specs.Relation.{Corner, Bridged, off-k, off-a}
+use Rattle.sound_bridges.specs.Relation.{Corner, Bridged, touched, off-k, off-a}
 
 -- two tables agree up to the capacities
 abbrev pub Alike : Shape → Columns → Columns → Type 0
@@ -96,20 +96,26 @@ loop-same {sh} {c = c} {c′} {k = k} {l2 = l2} s s′ b b′ e = each s s′ b 
 -- the table without the bridge is settled
 pub down-same : {sh : Shape} {p p′ : List ℤ} {c c′ d d′ : Columns} {k l l2 u1 P1 N1 u2 P2 N2 : ℕ} → Sound sh p c → Sound sh p′ c′ → Bridged sh c d k l l2 u1 P1 N1 u2 P2 N2 → Bridged sh c′ d′ k l l2 u1 P1 N1 u2 P2 N2
     → Alike sh d d′ → Alike sh c c′
-down-same s s′ b b′ e Capacity i x y = sym (b .capacity i) ∙ e Capacity i x y ∙ b′ .capacity i
-down-same s s′ b b′ e SolidUsed i x y = sym (b .solid-used i) ∙ e SolidUsed i x y ∙ b′ .solid-used i
-down-same s s′ b b′ e Solid i x y = sym (b .solid i) ∙ e Solid i x y ∙ b′ .solid i
-down-same s s′ b b′ e Outer i x y = sym (b .outer i) ∙ e Outer i x y ∙ b′ .outer i
-down-same s s′ b b′ e Face i x y = face-same s s′ b b′ e i (x, y)
-down-same s s′ b b′ e First i x y = first-same s s′ (face-same s s′ b b′ e) (loop-same s s′ b b′ e) i (x, y)
-down-same {c = c} {c′} {l = l} {l2} s s′ b b′ e Isolated i x y = split i l
-    (λ z. rw z (isolated-same s s′ b b′ e (off-k b) (off-k b′) (b .ends .at-1) (b′ .ends .at-1)))
-    (λ z. split i l2 (λ t. rw t (isolated-same s s′ b b′ e (off-a b) (off-a b′) (b .ends .at-2) (b′ .ends .at-2))) (λ t. sym (b .isolated-o i z t) ∙ e Isolated i x y ∙ b′ .isolated-o i z t))
-down-same s s′ b b′ e Start i x y = start-same s s′ b b′ e i (x, y)
-down-same s s′ b b′ e Loop i x y = loop-same s s′ b b′ e i (x, y)
-down-same s s′ b b′ e Next i x y = next-same s s′ b b′ e i (x, y)
-down-same s s′ b b′ e Prev i x y = prev-same s s′ b b′ e i (x, y)
-down-same s s′ b b′ e VertexUsed i x y = sym (b .vertex-used i) ∙ e VertexUsed i x y ∙ b′ .vertex-used i
+down-same {sh} {c = c} {c′} {l = l} {l2} s s′ b b′ e = by-fields touched (λ F. (i : ℕ) → 1 ≤ i → i ≤ capOf sh F → c F i ≡ c′ F i) (
+  λ i x y. start-same s s′ b b′ e i (x, y),
+  (
+    λ i x y. loop-same s s′ b b′ e i (x, y),
+    (
+      λ i x y. next-same s s′ b b′ e i (x, y),
+      (
+        λ i x y. prev-same s s′ b b′ e i (x, y),
+        (λ i x y. face-same s s′ b b′ e i (x, y), (λ i x y. first-same s s′ (face-same s s′ b b′ e) (loop-same s s′ b b′ e) i (x, y), (isolated, tt))),
+      ),
+    ),
+  ),
+)
+    (λ F q i x y. sym (b .others F q i) ∙ e F i x y ∙ b′ .others F q i)
+  where
+    -- the isolated vertices
+    isolated : (i : ℕ) → 1 ≤ i → i ≤ sh .loops → c Isolated i ≡ c′ Isolated i
+    isolated i x y = split i l
+        (λ z. rw z (isolated-same s s′ b b′ e (off-k b) (off-k b′) (b .ends .at-1) (b′ .ends .at-1)))
+        (λ z. split i l2 (λ t. rw t (isolated-same s s′ b b′ e (off-a b) (off-a b′) (b .ends .at-2) (b′ .ends .at-2))) (λ t. sym (b .isolated-o i z t) ∙ e Isolated i x y ∙ b′ .isolated-o i z t))
 
 -- ---- from the two loops to the loop with the bridge
 
@@ -124,20 +130,38 @@ module _ {sh : Shape} {p p′ : List ℤ} {c c′ d d′ : Columns} {k l l2 u1 P
   loop-again i j = split i k (λ z. rw z (b .loop-k ∙ sym (b′ .loop-k))) (λ x. split i (mate k) (λ z. rw z (b .loop-a ∙ sym (b′ .loop-a)))
       (λ y. let f = e Loop i (j .0) (j .1) in split (c Loop i) l2 (λ z. b .loop-2 i j z ∙ sym (b′ .loop-2 i j (sym f ∙ z))) (λ z. b .loop-o i x y z ∙ f ∙ sym (b′ .loop-o i x y (λ t. z (f ∙ t))))))
 
+  -- the starts
+  start-again : (i : ℕ) → In (2 * sh .edges) i → d Start i ≡ d′ Start i
+  start-again i j = split i k (λ z. rw z (b .start-k ∙ sym (b′ .start-k))) (λ z. split i (mate k) (λ t. rw t (b .start-a ∙ sym (b′ .start-a))) (λ t. b .start-o i z t ∙ e Start i (j .0) (j .1) ∙ sym (b′ .start-o i z t)))
+
+  -- next
+  next-again : (i : ℕ) → In (2 * sh .edges) i → d Next i ≡ d′ Next i
+  next-again i j = split i k (λ z. rw z (b .next-k ∙ sym (b′ .next-k))) (λ f. split i (mate k) (λ z. rw z (b .next-a ∙ sym (b′ .next-a)))
+      (λ g. split i P1 (λ z. rw z (b .next-1 ∙ sym (b′ .next-1))) (λ h. split i P2 (λ z. rw z (b .next-2 ∙ sym (b′ .next-2))) (λ m. b .next-o i f g h m ∙ e Next i (j .0) (j .1) ∙ sym (b′ .next-o i f g h m)))))
+
+  -- previous
+  prev-again : (i : ℕ) → In (2 * sh .edges) i → d Prev i ≡ d′ Prev i
+  prev-again i j = split i k (λ z. rw z (b .prev-k ∙ sym (b′ .prev-k))) (λ f. split i (mate k) (λ z. rw z (b .prev-a ∙ sym (b′ .prev-a)))
+      (λ g. split i N1 (λ z. rw z (b .prev-1 ∙ sym (b′ .prev-1))) (λ h. split i N2 (λ z. rw z (b .prev-2 ∙ sym (b′ .prev-2))) (λ m. b .prev-o i f g h m ∙ e Prev i (j .0) (j .1) ∙ sym (b′ .prev-o i f g h m)))))
+
+  -- the isolated vertices
+  isolated-again : (m : ℕ) → In (sh .loops) m → d Isolated m ≡ d′ Isolated m
+  isolated-again m i = split m l (λ z. rw z (b .isolated-1 ∙ sym (b′ .isolated-1)))
+      (λ z. split m l2 (λ t. rw t (b .isolated-2 ∙ sym (b′ .isolated-2))) (λ t. b .isolated-o m z t ∙ e Isolated m (i .0) (i .1) ∙ sym (b′ .isolated-o m z t)))
+
   -- the table with the bridge is settled
   pub up-same : Alike sh d d′
-  up-same Capacity i x y = b .capacity i ∙ e Capacity i x y ∙ sym (b′ .capacity i)
-  up-same SolidUsed i x y = b .solid-used i ∙ e SolidUsed i x y ∙ sym (b′ .solid-used i)
-  up-same Solid i x y = b .solid i ∙ e Solid i x y ∙ sym (b′ .solid i)
-  up-same Outer i x y = b .outer i ∙ e Outer i x y ∙ sym (b′ .outer i)
-  up-same Face i x y = face-again i (x, y)
-  up-same First i x y = first-same s s′ face-again loop-again i (x, y)
-  up-same Isolated i x y = split i l (λ z. rw z (b .isolated-1 ∙ sym (b′ .isolated-1)))
-      (λ z. split i l2 (λ t. rw t (b .isolated-2 ∙ sym (b′ .isolated-2))) (λ t. b .isolated-o i z t ∙ e Isolated i x y ∙ sym (b′ .isolated-o i z t)))
-  up-same Start i x y = split i k (λ z. rw z (b .start-k ∙ sym (b′ .start-k))) (λ z. split i (mate k) (λ t. rw t (b .start-a ∙ sym (b′ .start-a))) (λ t. b .start-o i z t ∙ e Start i x y ∙ sym (b′ .start-o i z t)))
-  up-same Loop i x y = loop-again i (x, y)
-  up-same Next i x y = split i k (λ z. rw z (b .next-k ∙ sym (b′ .next-k))) (λ f. split i (mate k) (λ z. rw z (b .next-a ∙ sym (b′ .next-a)))
-      (λ g. split i P1 (λ z. rw z (b .next-1 ∙ sym (b′ .next-1))) (λ h. split i P2 (λ z. rw z (b .next-2 ∙ sym (b′ .next-2))) (λ m. b .next-o i f g h m ∙ e Next i x y ∙ sym (b′ .next-o i f g h m)))))
-  up-same Prev i x y = split i k (λ z. rw z (b .prev-k ∙ sym (b′ .prev-k))) (λ f. split i (mate k) (λ z. rw z (b .prev-a ∙ sym (b′ .prev-a)))
-      (λ g. split i N1 (λ z. rw z (b .prev-1 ∙ sym (b′ .prev-1))) (λ h. split i N2 (λ z. rw z (b .prev-2 ∙ sym (b′ .prev-2))) (λ m. b .prev-o i f g h m ∙ e Prev i x y ∙ sym (b′ .prev-o i f g h m)))))
-  up-same VertexUsed i x y = b .vertex-used i ∙ e VertexUsed i x y ∙ sym (b′ .vertex-used i)
+  up-same = by-fields touched (λ F. (i : ℕ) → 1 ≤ i → i ≤ capOf sh F → d F i ≡ d′ F i) (
+    λ i x y. start-again i (x, y),
+    (
+      λ i x y. loop-again i (x, y),
+      (
+        λ i x y. next-again i (x, y),
+        (
+          λ i x y. prev-again i (x, y),
+          (λ i x y. face-again i (x, y), (λ i x y. first-same s s′ face-again loop-again i (x, y), (λ i x y. isolated-again i (x, y), tt))),
+        ),
+      ),
+    ),
+  )
+      (λ F q i x y. b .others F q i ∙ e F i x y ∙ sym (b′ .others F q i))
