@@ -17,15 +17,14 @@ use Rattle.layout.specs.declared.shape.Shape.{Shape}
 use Rattle.layout.specs.Mate.{mate}
 use Rattle.layout.specs.MateLaws.{mate-mate, mate-range}
 use Rattle.euler.specs.Operators.{faceIn}
-use Rattle.layout.specs.Fields.{Columns, SolidUsed, Solid, Outer, Face, Start, Loop, Next, Prev, VertexUsed}
+use Rattle.layout.specs.Fields.{Columns, SolidUsed, Solid, Outer, Face, Start, Loop, Next, VertexUsed}
 use Rattle.sound_tables.specs.Mates.{mate-other}
 use Rattle.sound_tables.specs.Cells.{Shows}
 use Rattle.sound_tables.specs.Sound.{In, HalfUsed}
 use Rattle.sound_tables.specs.Walking.{runColumns, run-met, run-off}
 use Rattle.sound_tables.specs.Good.{Good, own}
 use Rattle.sound_bridges.specs.Relation.{Bridged}
-use Rattle.sound_bridges.specs.Lists.{kemrList}
-use Rattle.sound_bridges.specs.KemrColumns.{Span, walk, kemrColumns, down-bridged}
+use Rattle.sound_bridges.specs.KemrColumns.{spanBridge, kemrList, Span, walk, kemrColumns, down-bridged}
 use Rattle.sound_bridges.specs.KemrShown.{kemr-shows}
 use Rattle.takedown.specs.Inversion.{inRing, ringHalf}
 use Rattle.inversion.specs.Counts.{solids, faces, loops, edges, vertices, isStray, strays, count-same}
@@ -48,7 +47,7 @@ module _ {sh : Shape} {x : List ℕ} {p : List ℤ} (g : Good sh x p) {k l2 : �
   v = kemr-shows g o
 
   -- before and after
-  pub b : Bridged sh (kemrColumns sh (own sh x) k l2 (walk (g .sound) o .0)) (own sh x) k (own sh x Loop k) l2 (own sh x Start k) (own sh x Prev k) (own sh x Next (mate k)) (own sh x Start (mate k)) (own sh x Prev (mate k)) (own sh x Next k)
+  pub b : Bridged sh (kemrColumns sh (own sh x) k l2 (walk (g .sound) o .0)) (own sh x) (spanBridge (own sh x) k l2)
   b = down-bridged (g .sound) o
 
   -- ---- what stays

@@ -19,9 +19,8 @@ use Rattle.sound_tables.specs.Names.{free-zero}
 use Rattle.sound_tables.specs.Cells.{Shows}
 use Rattle.sound_tables.specs.Good.{Good, own}
 use Rattle.sound_spurs.specs.KevAccepted.{kevList, kevPoints, kev-links, kev-points}
-use Rattle.sound_bridges.specs.Relation.{Ends, Bridged}
-use Rattle.sound_bridges.specs.Lists.{mekrList}
-use Rattle.sound_bridges.specs.MekrColumns.{mekrColumns, up-bridged}
+use Rattle.sound_bridges.specs.Relation.{Bridge, Ends, Bridged}
+use Rattle.sound_bridges.specs.MekrColumns.{mekrList, mekrColumns, up-bridged}
 use Rattle.sound_bridges.specs.MekrShown.{mekr-shows, mekr-good}
 use Rattle.sound_bridges.specs.MekrAccepted.{MekrFacts, mekr-accepted, mekr-links, mekr-points}
 use Rattle.takedown.specs.Inversion.{solidAt, freeEdge, edgesLeft, isRingOf, ringOf, mekr, kev}
@@ -74,7 +73,21 @@ module _ {sh : Shape} {x : List ℕ} {p : List ℤ} (g : Good sh x p) {o l e u1 
   free-k : own sh x Start (2 * e - 1) ≡ 0
   free-k = split (own sh x Start (2 * e - 1)) 0 (λ z. z) (λ d. absurd (g .sound .rules .mate-in (2 * e - 1) (range .0 .0, range .0 .1, d) .2 free-m))
 
-  ends : Ends sh (own sh x) (2 * e - 1) o l u1 (mate (2 * e - 1)) (2 * e - 1) u2 (2 * e - 1) (mate (2 * e - 1))
+  -- the bridge: both its corners are isolated
+  abbrev bridge : Bridge
+  bridge = record {
+    k = 2 * e - 1;
+    l = o;
+    l2 = l;
+    u1 = u1;
+    P1 = mate (2 * e - 1);
+    N1 = 2 * e - 1;
+    u2 = u2;
+    P2 = 2 * e - 1;
+    N2 = mate (2 * e - 1);
+  }
+
+  ends : Ends sh (own sh x) bridge
   ends = record {
     half-in = range .0;
     mate-in = range .1;
@@ -97,18 +110,18 @@ module _ {sh : Shape} {x : List ℕ} {p : List ℤ} (g : Good sh x p) {o l e u1 
 
   -- the table between
   abbrev x₁ : List ℕ
-  x₁ = mekrList sh x (2 * e - 1) o l u1 (mate (2 * e - 1)) (2 * e - 1) u2 (2 * e - 1) (mate (2 * e - 1))
+  x₁ = mekrList sh x bridge
 
-  links₁ : linksAfter sh x (mekr o l e) ≡ mekrList sh x (2 * e - 1) o l u1 (mate (2 * e - 1)) (2 * e - 1) u2 (2 * e - 1) (mate (2 * e - 1))
+  links₁ : linksAfter sh x (mekr o l e) ≡ mekrList sh x bridge
   links₁ = mekr-links sh x (g .capacities) r (2 * e - 1) refl ∙ rw (i1, i2)
 
-  good₁ : Good sh (mekrList sh x (2 * e - 1) o l u1 (mate (2 * e - 1)) (2 * e - 1) u2 (2 * e - 1) (mate (2 * e - 1))) p
+  good₁ : Good sh (mekrList sh x bridge) p
   good₁ = mekr-good g ends
 
-  v : Shows sh (mekrList sh x (2 * e - 1) o l u1 (mate (2 * e - 1)) (2 * e - 1) u2 (2 * e - 1) (mate (2 * e - 1))) (mekrColumns sh (own sh x) (2 * e - 1) o l u1 (mate (2 * e - 1)) (2 * e - 1) u2 (2 * e - 1) (mate (2 * e - 1)))
+  v : Shows sh (mekrList sh x bridge) (mekrColumns sh (own sh x) bridge)
   v = mekr-shows g ends
 
-  b : Bridged sh (own sh x) (mekrColumns sh (own sh x) (2 * e - 1) o l u1 (mate (2 * e - 1)) (2 * e - 1) u2 (2 * e - 1) (mate (2 * e - 1))) (2 * e - 1) o l u1 (mate (2 * e - 1)) (2 * e - 1) u2 (2 * e - 1) (mate (2 * e - 1))
+  b : Bridged sh (own sh x) (mekrColumns sh (own sh x) bridge) bridge
   b = up-bridged ends
 
   -- k is a spur there

@@ -7,45 +7,50 @@ use Rattle.layout.specs.declared.shape.Shape.{Shape}
 use Rattle.layout.specs.Fields.{Isolated, Start, Loop, Next, Prev, Columns}
 use Rattle.sound_tables.specs.Sound.{In, HalfUsed}
 use Rattle.sound_tables.specs.WithDummies.{upTo-low, upTo-high, extended, Dummy, Member, dummy-of, dummy-loop, dummy-start}
-use Rattle.sound_bridges.specs.Relation.{Corner}
+use Rattle.sound_bridges.specs.Relation.{Spot, Corner}
 
 -- member y comes before it and z after it: the dummy, or the two half-edges
-pub record Seat (sh : Shape) (c : Columns) (l k b u P N : ℕ) : Type 0 where
+pub record Seat (sh : Shape) (c : Columns) (s : Spot) : Type 0 where
   pub y : ℕ
   pub z : ℕ
   pub member : Member sh c y
   pub next : extended sh c .next y ≡ z
   pub prev : extended sh c .prev z ≡ y
-  pub loop : extended sh c .loop y ≡ l
-  pub loop-z : extended sh c .loop z ≡ l
-  pub start : extended sh c .start z ≡ u
-  pub which : ((y ≡ 2 * sh .edges + l) × (z ≡ 2 * sh .edges + l) × (P ≡ b) × (N ≡ k)) ⊎ ((y ≡ P) × (z ≡ N) × HalfUsed sh c P × HalfUsed sh c N × (c Isolated l ≡ 0))
+  pub loop : extended sh c .loop y ≡ s .l
+  pub loop-z : extended sh c .loop z ≡ s .l
+  pub start : extended sh c .start z ≡ s .u
+  pub which : ((y ≡ 2 * sh .edges + s .l) × (z ≡ 2 * sh .edges + s .l) × (s .P ≡ s .b) × (s .N ≡ s .k))
+      ⊎ ((y ≡ s .P) × (z ≡ s .N) × HalfUsed sh c (s .P) × HalfUsed sh c (s .N) × (c Isolated (s .l) ≡ 0))
 
--- of each corner
-pub seat : {sh : Shape} {c : Columns} {l k b u P N : ℕ} → In (sh .loops) l → u ≢ 0 → ((i : ℕ) → HalfUsed sh c i → c Loop (c Next i) ≡ c Loop i) → Corner sh c l k b u P N → Seat sh c l k b u P N
-seat {sh} {c} {l} {P = P} {N} i x keeps = ⊎-elim
-    (λ r. let w = dummy-of sh c l i (λ e. x (sym (r .isolated) ∙ e)) in record {
-      y = 2 * sh .edges + l;
-      z = 2 * sh .edges + l;
-      member = inr w;
-      next = upTo-high (2 * sh .edges) (c Next) (λ j. j) _ (w .0);
-      prev = upTo-high (2 * sh .edges) (c Prev) (λ j. j) _ (w .0);
-      loop = dummy-loop sh c l i;
-      loop-z = dummy-loop sh c l i;
-      start = dummy-start sh c l i ∙ r .isolated;
-      which = inl (refl, refl, r .before, r .after);
-    })
-    (λ r. record {
-      y = P;
-      z = N;
-      member = inl (r .before);
-      next = upTo-low (2 * sh .edges) (c Next) _ P (r .before .1) ∙ r .next;
-      prev = upTo-low (2 * sh .edges) (c Prev) _ N (r .after .1) ∙ r .prev;
-      loop = upTo-low (2 * sh .edges) (c Loop) _ P (r .before .1) ∙ sym (keeps P (r .before)) ∙ ap (c Loop) (r .next) ∙ r .loop;
-      loop-z = upTo-low (2 * sh .edges) (c Loop) _ N (r .after .1) ∙ r .loop;
-      start = upTo-low (2 * sh .edges) (c Start) _ N (r .after .1) ∙ r .start;
-      which = inr (refl, refl, r .before, r .after, r .isolated);
-    })
+module _ {sh : Shape} {c : Columns} {s : Spot} (i : In (sh .loops) (s .l)) (x : s .u ≢ 0)
+    (keeps : (i : ℕ) → HalfUsed sh c i → c Loop (c Next i) ≡ c Loop i) where
+  open Spot s using (l, P, N)
+
+  -- of each corner
+  pub seat : Corner sh c s → Seat sh c s
+  seat = ⊎-elim
+      (λ r. let w = dummy-of sh c l i (λ e. x (sym (r .isolated) ∙ e)) in record {
+        y = 2 * sh .edges + l;
+        z = 2 * sh .edges + l;
+        member = inr w;
+        next = upTo-high (2 * sh .edges) (c Next) (λ j. j) _ (w .0);
+        prev = upTo-high (2 * sh .edges) (c Prev) (λ j. j) _ (w .0);
+        loop = dummy-loop sh c l i;
+        loop-z = dummy-loop sh c l i;
+        start = dummy-start sh c l i ∙ r .isolated;
+        which = inl (refl, refl, r .before, r .after);
+      })
+      (λ r. record {
+        y = P;
+        z = N;
+        member = inl (r .before);
+        next = upTo-low (2 * sh .edges) (c Next) _ P (r .before .1) ∙ r .next;
+        prev = upTo-low (2 * sh .edges) (c Prev) _ N (r .after .1) ∙ r .prev;
+        loop = upTo-low (2 * sh .edges) (c Loop) _ P (r .before .1) ∙ sym (keeps P (r .before)) ∙ ap (c Loop) (r .next) ∙ r .loop;
+        loop-z = upTo-low (2 * sh .edges) (c Loop) _ N (r .after .1) ∙ r .loop;
+        start = upTo-low (2 * sh .edges) (c Start) _ N (r .after .1) ∙ r .start;
+        which = inr (refl, refl, r .before, r .after, r .isolated);
+      })
 
 -- ---- which numbers it can be
 
@@ -57,7 +62,9 @@ low sh m h e = omega (arith, h, m .0, e)
 pub not-dummy : (sh : Shape) {l i : ℕ} → i - 2 * sh .edges ≢ l → i ≢ 2 * sh .edges + l
 not-dummy sh h e = h (omega (arith, e))
 
-module _ {sh : Shape} {c : Columns} {l k b u P N : ℕ} (t : Seat sh c l k b u P N) where
+module _ {sh : Shape} {c : Columns} {s : Spot} (t : Seat sh c s) where
+  open Spot s using (l, P, N, k, b)
+
   -- a half-edge there is P or N
   pub seat-P : {i : ℕ} → In (sh .loops) l → HalfUsed sh c i → i ≡ t .y → i ≡ P
   seat-P m w e = ⊎-elim (λ r. absurd (low sh m (w .1) (e ∙ r .0))) (λ r. e ∙ r .0) (t .which)

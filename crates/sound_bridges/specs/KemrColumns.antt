@@ -1,4 +1,5 @@
--- The columns after kemr: they differ from those before by the bridge. The walk from next of k to its mate meets the half-edges of the new ring.
+-- What kemr leaves, as a list and as columns, and: these columns differ from those before by the bridge. The walk from next
+-- of k to its mate meets the half-edges of the new ring.
 use mathlib.Core.Path.{_≡_, refl, sym, ap, _∙_, subst}
 use mathlib.Core.Logic.{_≢_, inl, inr, ⊎-elim}
 use mathlib.Core.Bool.{false}
@@ -14,30 +15,73 @@ use Rattle.laws.specs.Cycles.{alone}
 use Rattle.layout.specs.declared.shape.Shape.{Shape}
 use Rattle.layout.specs.Mate.{mate}
 use Rattle.layout.specs.MateLaws.{mate-mate}
-use Rattle.euler.specs.Surgery.{noEdgeWrites}
-use Rattle.layout.specs.Writes.{write}
+use Rattle.euler.specs.Surgery.{noEdgeWrites, loopRecord, edgeOut, putLoop, relabelRun, renew}
+use Rattle.layout.specs.Writes.{Write, write, changes}
 use Rattle.sound_tables.specs.WriteLaws.{not-among, others-stay}
-use Rattle.layout.specs.Fields.{Field, Outer, Face, First, Isolated, Start, Loop, Next, Prev, VertexUsed, Columns, change, among}
+use Rattle.layout.specs.Fields.{Field, Outer, Face, First, Isolated, Start, Loop, Next, Prev, VertexUsed, Columns, among}
 use Rattle.sound_tables.specs.Mates.{mate-other}
 use Rattle.sound_tables.specs.EdgeIn.{prev-in, next-prev}
 use Rattle.sound_tables.specs.Sound.{In, HalfUsed, firstOf, Sound}
 use Rattle.sound_tables.specs.Names.{not-isolated}
 use Rattle.sound_tables.specs.Walking.{Steps, runColumns, run-met, run-off, run-other}
-use Rattle.sound_tables.specs.Shown.{withoutEdge, withFirst}
-use Rattle.sound_bridges.specs.Relation.{Corner, Bridged, touched}
+use Rattle.sound_tables.specs.Good.{own}
+use Rattle.sound_tables.specs.CornerTest.{cornerLeft}
+use Rattle.sound_bridges.specs.Relation.{Corner, Bridge, spot1, spot2, touched, Bridged}
 use Rattle.sound_bridges.specs.Runs.{Met, met?, run-to, met-in, not-k, not-a, met-next, met-prev, met-last, met-first}
 
--- all but the firsts: the t half-edges of the run name l2, the edge is out, and l2 lies in the face of k
+-- ---- what kemr leaves
+
+-- the bridge k of the table d, whose far side becomes the ring l2
+abbrev pub spanBridge : Columns → (k l2 : ℕ) → Bridge
+spanBridge d k l2 = record {
+  k = k;
+  l = d Loop k;
+  l2 = l2;
+  u1 = d Start k;
+  P1 = d Prev k;
+  N1 = d Next (mate k);
+  u2 = d Start (mate k);
+  P2 = d Prev (mate k);
+  N2 = d Next k;
+}
+
+-- the list, before the two loops have their firsts
+abbrev pub partedList : Shape → List ℕ → (k l2 : ℕ) → List ℕ
+partedList sh x k l2 =
+    putLoop sh
+    (edgeOut sh (relabelRun sh x (own sh x Next k) (mate k) l2) k
+    (own sh x Prev k) (own sh x Next (mate k)) (own sh x Prev (mate k)) (own sh x Next k))
+    l2 (own sh x Face (own sh x Loop k)) 0 0
+
+-- and once they have
+abbrev pub kemrList : Shape → List ℕ → (k l2 : ℕ) → List ℕ
+kemrList sh x k l2 =
+    renew sh
+    (renew sh (partedList sh x k l2) l2 (own sh x First (own sh x Loop k))
+    (cornerLeft (own sh x) (mate k) k) (own sh x Start (mate k)))
+    (own sh x Loop k) (own sh x First (own sh x Loop k)) (cornerLeft (own sh x) k (mate k)) (own sh x Start k)
+
+-- the edge comes out, and l2 lies in the face of k
+abbrev pub cutWrites : Columns → (k l2 : ℕ) → List Write
+cutWrites d k l2 =
+    noEdgeWrites k (d Prev k) (d Next (mate k)) (d Prev (mate k)) (d Next k) ++ loopRecord l2 (d Face (d Loop k)) 0 0
+
+-- the columns, before the two loops have their firsts: the t half-edges of the run name l2
 abbrev pub cutColumns : Columns → (k l2 t : ℕ) → Columns
-cutColumns d k l2 t =
-    change (change (change (withoutEdge (runColumns d (d Next k) t l2) k (d Prev k) (d Next (mate k)) (d Prev (mate k)) (d Next k)) Face l2 (d Face (d Loop k))) First l2 0) Isolated l2 0
+cutColumns d k l2 t = changes (cutWrites d k l2) (runColumns d (d Next k) t l2)
+
+-- the firsts and the isolated vertices of the two loops
+abbrev pub firstWrites : Shape → Columns → (k l2 t : ℕ) → List Write
+firstWrites sh d k l2 t =
+    write First l2 (firstOf sh (cutColumns d k l2 t) l2)
+    ∷ write Isolated l2 (pick (eqb (d Next k) (mate k)) (d Start (mate k)) 0)
+    ∷ write First (d Loop k) (firstOf sh (cutColumns d k l2 t) (d Loop k))
+    ∷ write Isolated (d Loop k) (pick (eqb (d Next (mate k)) k) (d Start k) 0)
+    ∷ []
 
 -- the columns afterwards
 abbrev pub kemrColumns : Shape → Columns → (k l2 t : ℕ) → Columns
-kemrColumns sh d k l2 t =
-    withFirst
-    (withFirst (cutColumns d k l2 t) l2 (firstOf sh (cutColumns d k l2 t) l2) (pick (eqb (d Next k) (mate k)) (d Start (mate k)) 0))
-    (d Loop k) (firstOf sh (cutColumns d k l2 t) (d Loop k)) (pick (eqb (d Next (mate k)) k) (d Start k) 0)
+kemrColumns sh d k l2 t = changes (firstWrites sh d k l2 t) (cutColumns d k l2 t)
 
 -- what is asked of the table before: k and its mate are in one loop, and l2 is free
 pub record Span (sh : Shape) (d : Columns) (k l2 : ℕ) : Type 0 where
@@ -47,33 +91,19 @@ pub record Span (sh : Shape) (d : Columns) (k l2 : ℕ) : Type 0 where
   pub free : d Face l2 ≡ 0
 
 module _ {sh : Shape} {p : List ℤ} {d : Columns} (A : Sound sh p d) {k l2 : ℕ} (o : Span sh d k l2) where
+  -- the bridge
+  abbrev B : Bridge
+  B = spanBridge d k l2
+
+  open Bridge B using (l, u1, P1, N1, u2, P2, N2)
+
   -- k's mate
   abbrev a : ℕ
   a = mate k
 
-  -- the loop of both
-  abbrev l : ℕ
-  l = d Loop k
-
   -- how many half-edges there are at most
   abbrev n : ℕ
   n = 2 * sh .edges
-
-  -- what follows the mate
-  abbrev N1 : ℕ
-  N1 = d Next (mate k)
-
-  -- what follows k
-  abbrev N2 : ℕ
-  N2 = d Next k
-
-  -- what comes before k
-  abbrev P1 : ℕ
-  P1 = d Prev k
-
-  -- what comes before the mate
-  abbrev P2 : ℕ
-  P2 = d Prev (mate k)
 
   -- next permutes the half-edges in use
   perm : Perm (2 * sh .edges) (HalfUsed sh d) (d Next)
@@ -239,7 +269,7 @@ module _ {sh : Shape} {p : List ℤ} {d : Columns} (A : Sound sh p d) {k l2 : �
   isolated-l2 = upd-off _ _ (λ e. two (sym e)) ∙ upd-same _ l2 _
 
   -- the corner of the loop
-  corner-1 : Corner sh c l k a (d Start k) P1 N1
+  corner-1 : Corner sh c (spot1 B)
   corner-1 = split N1 k
       (λ e. inl (record { before = ap (d Prev) (sym e) ∙ A .rules .undone a ua; after = e; isolated = isolated-l ∙ rw (eqb-same e) }))
       (λ e.
@@ -255,7 +285,7 @@ module _ {sh : Shape} {p : List ℤ} {d : Columns} (A : Sound sh p d) {k l2 : �
       }))
 
   -- the corner of the ring
-  corner-2 : Corner sh c l2 a k (d Start a) P2 N2
+  corner-2 : Corner sh c (spot2 B)
   corner-2 = split N2 a
       (λ e. inl (record { before = ap (d Prev) (sym e) ∙ A .rules .undone k (o .half); after = e; isolated = isolated-l2 ∙ rw (eqb-same e) }))
       (λ e.
@@ -288,11 +318,11 @@ module _ {sh : Shape} {p : List ℤ} {d : Columns} (A : Sound sh p d) {k l2 : �
 
   -- the fields that a bridge does not touch
   others : (F : Field) → among touched F ≡ false → (i : ℕ) → d F i ≡ c F i
-  others F e i = sym (others-stay touched (noEdgeWrites k P1 N1 P2 N2 ++ (write Face l2 _ ∷ write First l2 0 ∷ write Isolated l2 0 ∷ write First l2 _ ∷ write Isolated l2 _ ∷ write First l _ ∷ write Isolated l _ ∷ [])) e₀ F refl e i
+  others F e i = sym (others-stay touched (cutWrites d k l2 ++ firstWrites sh d k l2 (walk .0)) e₀ F refl e i
       ∙ run-other d (walk .0) N2 l2 F (not-among touched Loop F refl e) i)
 
   -- before and after kemr
-  pub down-bridged : Bridged sh (kemrColumns sh d k l2 (walk .0)) d k (d Loop k) l2 (d Start k) (d Prev k) (d Next (mate k)) (d Start (mate k)) (d Prev (mate k)) (d Next k)
+  pub down-bridged : Bridged sh (kemrColumns sh d k l2 (walk .0)) d (spanBridge d k l2)
   down-bridged =
       let hk = A .half k (o .half .0, o .half .1) (o .half .2) in
       let ha = A .half a (ua .0, ua .1) (ua .2) in

@@ -16,7 +16,7 @@ use Rattle.sound_tables.specs.Dummies.{added, add-rules}
 use Rattle.sound_tables.specs.Sound.{HalfUsed, Sound}
 use Rattle.sound_tables.specs.WithDummies.{upTo-low, extended, Dummy, Member, sound-corners}
 use Rattle.sound_bridges.specs.CornerMembers.{low}
-use Rattle.sound_bridges.specs.Relation.{Bridged, ka, D21, D12, new-k, new-a, half-was, dummy-other}
+use Rattle.sound_bridges.specs.Relation.{Bridge, Ends, Bridged, ka, D21, D12, new-k, new-a, half-was, dummy-other}
 
 -- the columns with the loop's dummy after the mate
 abbrev pub oneIn : Shape → Columns → (k l : ℕ) → Halves
@@ -30,7 +30,10 @@ bothIn sh d k l l2 = added (oneIn sh d k l) (2 * sh .edges + l2) k
 abbrev pub Wide : Shape → Columns → (l l2 : ℕ) → ℕ → Type 0
 Wide sh d l l2 = Or (2 * sh .edges + l2) (Or (2 * sh .edges + l) (Member sh d))
 
-module _ {sh : Shape} {pt : List ℤ} {c d : Columns} {k l l2 u1 P1 N1 u2 P2 N2 : ℕ} (A : Sound sh pt d) (b : Bridged sh c d k l l2 u1 P1 N1 u2 P2 N2) where
+module _ {sh : Shape} {pt : List ℤ} {c d : Columns} {B : Bridge} (A : Sound sh pt d) (b : Bridged sh c d B) where
+  open Bridge B using (k, l, l2, N1, N2)
+  open Ends (b .ends) using (half-in, mate-in, loop-in, ring-in)
+
   -- how many half-edges there are at most
   abbrev n : ℕ
   n = 2 * sh .edges
@@ -71,11 +74,11 @@ module _ {sh : Shape} {pt : List ℤ} {c d : Columns} {k l l2 u1 P1 N1 u2 P2 N2 
 
   -- a half-edge is not the first dummy
   pub low-1 : {i : ℕ} → i ≤ n → i ≢ D1
-  low-1 h = low sh (b .ends .loop-in) h
+  low-1 h = low sh loop-in h
 
   -- nor the second
   pub low-2 : {i : ℕ} → i ≤ n → i ≢ D2
-  low-2 h = low sh (b .ends .ring-in) h
+  low-2 h = low sh ring-in h
 
   -- the same the other way round
   pub high-1 : {i : ℕ} → i ≤ n → D1 ≢ i
@@ -87,11 +90,11 @@ module _ {sh : Shape} {pt : List ℤ} {c d : Columns} {k l l2 u1 P1 N1 u2 P2 N2 
 
   -- k is a half-edge
   pub kn : k ≤ n
-  kn = b .ends .half-in .1
+  kn = half-in .1
 
   -- and its mate
   pub an : a ≤ n
-  an = b .ends .mate-in .1
+  an = mate-in .1
 
   -- what follows the mate is in use
   pub N1-in : HalfUsed sh d N1
@@ -121,16 +124,16 @@ module _ {sh : Shape} {pt : List ℤ} {c d : Columns} {k l l2 u1 P1 N1 u2 P2 N2 
 
   -- a dummy is its own mate
   pub own-1 : mate⁺ (sh .edges) D1 ≡ D1
-  own-1 = mate⁺-high (sh .edges) D1 (omega (arith, b .ends .loop-in .0))
+  own-1 = mate⁺-high (sh .edges) D1 (omega (arith, loop-in .0))
 
   -- so is the second
   pub own-2 : mate⁺ (sh .edges) D2 ≡ D2
-  own-2 = mate⁺-high (sh .edges) D2 (omega (arith, b .ends .ring-in .0))
+  own-2 = mate⁺-high (sh .edges) D2 (omega (arith, ring-in .0))
 
   -- the rules with both
   pub R : Rules (2 * sh .edges + sh .loops) (mate⁺ (sh .edges)) W G
-  R = add-rules (add-rules (sound-corners A .rules) (mate⁺-mate⁺ (sh .edges)) D1 a own-1 (inl (new-a b)) gone-1 (omega (arith, b .ends .loop-in .0)) (omega (arith, b .ends .loop-in .1)))
-      (mate⁺-mate⁺ (sh .edges)) D2 k own-2 (inr (inl (new-k b))) gone-2 (omega (arith, b .ends .ring-in .0)) (omega (arith, b .ends .ring-in .1))
+  R = add-rules (add-rules (sound-corners A .rules) (mate⁺-mate⁺ (sh .edges)) D1 a own-1 (inl (new-a b)) gone-1 (omega (arith, loop-in .0)) (omega (arith, loop-in .1)))
+      (mate⁺-mate⁺ (sh .edges)) D2 k own-2 (inr (inl (new-k b))) gone-2 (omega (arith, ring-in .0)) (omega (arith, ring-in .1))
 
   -- with the first dummy next of k is what it was
   pub G1-k : G1 .next k ≡ N2

@@ -23,9 +23,13 @@ use Rattle.sound_bridges.specs.PassedOver.{passed, pass-off, pass-one, p
 use Rattle.sound_bridges.specs.CornerMembers.{Seat, seat, not-dummy, seat-N, off-P, off-N, far-y, dummy-seat}
 use Rattle.sound_bridges.specs.KemrDummies.{oneIn, bothIn, Wide, low-1, low-2, high-1, high-2, kn, an, N1-in, N2-in, H-a, own-1, own-2, R, G1-k, next-k, next-a, next-D1, next-D2, next-o, loop-k, loop-a, loop-D1, loop-D2, loop-o, each}
 use Rattle.sound_bridges.specs.Runs.{till-same}
-use Rattle.sound_bridges.specs.Relation.{Bridged, ka, off-k, off-a, mem-k, mem-a, D21, D12, new-k, new-a, half-stays, half-back, dummy-stays, dummy-was}
+use Rattle.sound_bridges.specs.Relation.{Bridge, Ends, spot1, spot2, Bridged, ka, off-k, off-a, mem-k, mem-a, D21, D12, new-k, new-a, half-stays, half-back, dummy-stays, dummy-was}
 
-module _ {sh : Shape} {pt : List ℤ} {c d : Columns} {k l l2 u1 P1 N1 u2 P2 N2 : ℕ} (A : Sound sh pt d) (b : Bridged sh c d k l l2 u1 P1 N1 u2 P2 N2) where
+module _ {sh : Shape} {pt : List ℤ} {c d : Columns} {B : Bridge} (A : Sound sh pt d) (b : Bridged sh c d B) where
+  open Bridge B using (k, l, l2, P1, N1, P2, N2)
+  open Ends (b .ends) using (loop-in, ring-in, two, at-1, at-2, in-1, in-2, keeps)
+  open Bridged b using (start-k, start-a, start-o, loop-2, next-1, next-2, prev-o, face-2, isolated-o)
+
   -- how many half-edges there are at most
   abbrev n : ℕ
   n = 2 * sh .edges
@@ -50,7 +54,7 @@ module _ {sh : Shape} {pt : List ℤ} {c d : Columns} {k l l2 u1 P1 N1 u2 P2 N2 
   abbrev W : ℕ → Type 0
   W = Wide sh d l l2
 
-  module _ (t1 : Seat sh c l k (mate k) u1 P1 N1) (t2 : Seat sh c l2 (mate k) k u2 P2 N2) where
+  module _ (t1 : Seat sh c (spot1 B)) (t2 : Seat sh c (spot2 B)) where
     -- what comes before the corner of the loop
     abbrev p : ℕ
     p = t1 .y
@@ -77,11 +81,11 @@ module _ {sh : Shape} {pt : List ℤ} {c d : Columns} {k l l2 u1 P1 N1 u2 P2 N2 
 
     -- of the first dummy
     lab-D1 : lab D1 ≡ l
-    lab-D1 = lab-o D1 (high-1 A b (kn A b)) (high-1 A b (an A b)) ∙ dummy-loop sh c l (b .ends .loop-in)
+    lab-D1 = lab-o D1 (high-1 A b (kn A b)) (high-1 A b (an A b)) ∙ dummy-loop sh c l loop-in
 
     -- of the second
     lab-D2 : lab D2 ≡ l2
-    lab-D2 = lab-o D2 (high-2 A b (kn A b)) (high-2 A b (an A b)) ∙ dummy-loop sh c l2 (b .ends .ring-in)
+    lab-D2 = lab-o D2 (high-2 A b (kn A b)) (high-2 A b (an A b)) ∙ dummy-loop sh c l2 ring-in
 
     -- of a half-edge that stays
     lab-half : (i : ℕ) → HalfUsed sh c i → lab i ≡ c Loop i
@@ -98,12 +102,12 @@ module _ {sh : Shape} {pt : List ℤ} {c d : Columns} {k l l2 u1 P1 N1 u2 P2 N2 
     -- p goes to k
     next-p : G .next p ≡ k
     next-p = ⊎-elim (λ r. ap (G .next) (r .0) ∙ next-D1 A b ∙ r .3)
-        (λ r. ap (G .next) (r .0) ∙ next-o A b P1 (off-k b P1 (r .2)) (off-a b P1 (r .2)) (low-1 A b (r .2 .1)) (low-2 A b (r .2 .1)) ∙ upTo-low n (d Next) _ P1 (r .2 .1) ∙ b .next-1) (t1 .which)
+        (λ r. ap (G .next) (r .0) ∙ next-o A b P1 (off-k b P1 (r .2)) (off-a b P1 (r .2)) (low-1 A b (r .2 .1)) (low-2 A b (r .2 .1)) ∙ upTo-low n (d Next) _ P1 (r .2 .1) ∙ next-1) (t1 .which)
 
     -- q to the mate
     next-q : G .next q ≡ a
     next-q = ⊎-elim (λ r. ap (G .next) (r .0) ∙ next-D2 A b ∙ r .3)
-        (λ r. ap (G .next) (r .0) ∙ next-o A b P2 (off-k b P2 (r .2)) (off-a b P2 (r .2)) (low-1 A b (r .2 .1)) (low-2 A b (r .2 .1)) ∙ upTo-low n (d Next) _ P2 (r .2 .1) ∙ b .next-2) (t2 .which)
+        (λ r. ap (G .next) (r .0) ∙ next-o A b P2 (off-k b P2 (r .2)) (off-a b P2 (r .2)) (low-1 A b (r .2 .1)) (low-2 A b (r .2 .1)) ∙ upTo-low n (d Next) _ P2 (r .2 .1) ∙ next-2) (t2 .which)
 
     -- they differ
     pq : p ≢ q
@@ -128,7 +132,7 @@ module _ {sh : Shape} {pt : List ℤ} {c d : Columns} {k l l2 u1 P1 N1 u2 P2 N2 
         (λ e f. ap lab (next-D2 A b) ∙ ⊎-elim (λ r. absurd (f (sym (r .0)))) (λ r. ap lab (sym (r .1)) ∙ lab-z2 r) (t2 .which) ∙ sym lab-D2)
         (λ i w e f. split i p
         (λ z. ap lab (ap (G .next) z ∙ next-p) ∙ lab-k ∙ sym (ap lab z ∙ lab-o p (mem-k b p (t1 .member)) (mem-a b p (t1 .member)) ∙ t1 .loop))
-        (λ z. let s = step i w z f in ap lab (s .0) ∙ lab-half _ (s .2) ∙ ap (c Loop) (s .1) ∙ b .ends .keeps i w ∙ sym (lab-half i w)))
+        (λ z. let s = step i w z f in ap lab (s .0) ∙ lab-half _ (s .2) ∙ ap (c Loop) (s .1) ∙ keeps i w ∙ sym (lab-half i w)))
         (λ i w x y e f. ap lab (next-o A b i e (λ z. omega (arith, w .0, an A b, z)) (not-dummy sh x) (not-dummy sh y) ∙ upTo-high n (d Next) (λ j. j) i (w .0)))
       where
         -- the label after the corner of the loop
@@ -141,8 +145,8 @@ module _ {sh : Shape} {pt : List ℤ} {c d : Columns} {k l l2 u1 P1 N1 u2 P2 N2 
 
     -- the new loop has a new label
     fresh : (i : ℕ) → W i → G .loop i ≢ l2
-    fresh = each A b (λ i. G .loop i ≢ l2) (λ e. b .ends .two (sym (loop-k A b) ∙ e)) (λ e. b .ends .two (sym (loop-a A b) ∙ e)) (λ e. b .ends .two (sym (loop-D1 A b) ∙ e)) (λ e. b .ends .two (sym (loop-D2 A b) ∙ e))
-        (λ i w e. let v = half-stays b i w in A .half i (v .0, v .1) (v .2) .loop-used (ap (d Face) (sym (loop-o A b i (low-1 A b (w .1)) (low-2 A b (w .1)) ∙ upTo-low n (d Loop) _ i (w .1)) ∙ e) ∙ b .face-2))
+    fresh = each A b (λ i. G .loop i ≢ l2) (λ e. two (sym (loop-k A b) ∙ e)) (λ e. two (sym (loop-a A b) ∙ e)) (λ e. two (sym (loop-D1 A b) ∙ e)) (λ e. two (sym (loop-D2 A b) ∙ e))
+        (λ i w e. let v = half-stays b i w in A .half i (v .0, v .1) (v .2) .loop-used (ap (d Face) (sym (loop-o A b i (low-1 A b (w .1)) (low-2 A b (w .1)) ∙ upTo-low n (d Loop) _ i (w .1)) ∙ e) ∙ face-2))
         (λ i w x y e. y (sym (loop-o A b i (not-dummy sh x) (not-dummy sh y) ∙ upTo-high n (d Loop) (λ j. j - n) i (w .0)) ∙ e))
 
     -- other loops keep theirs
@@ -151,7 +155,7 @@ module _ {sh : Shape} {pt : List ℤ} {c d : Columns} {k l l2 u1 P1 N1 u2 P2 N2 
         (λ e. absurd (e refl)) (λ e. absurd (e (loop-a A b ∙ sym (loop-k A b)))) (λ e. absurd (e (loop-D1 A b ∙ sym (loop-k A b)))) (λ e. absurd (e (loop-D2 A b ∙ sym (loop-k A b))))
         (λ i w e.
         let g : G .loop i ≡ d Loop i = loop-o A b i (low-1 A b (w .1)) (low-2 A b (w .1)) ∙ upTo-low n (d Loop) _ i (w .1) in
-        lab-half i w ∙ sym (g ∙ b .loop-o i (off-k b i w) (off-a b i w) (λ z. e (g ∙ b .loop-2 i (w .0, w .1) z ∙ sym (loop-k A b)))))
+        lab-half i w ∙ sym (g ∙ b .loop-o i (off-k b i w) (off-a b i w) (λ z. e (g ∙ loop-2 i (w .0, w .1) z ∙ sym (loop-k A b)))))
         (λ i w x y e. lab-o i (λ z. omega (arith, w .0, kn A b, z)) (λ z. omega (arith, w .0, an A b, z)) ∙ upTo-high n (c Loop) (λ j. j - n) i (w .0)
         ∙ sym (loop-o A b i (not-dummy sh x) (not-dummy sh y) ∙ upTo-high n (d Loop) (λ j. j - n) i (w .0)))
 
@@ -266,11 +270,11 @@ module _ {sh : Shape} {pt : List ℤ} {c d : Columns} {k l l2 u1 P1 N1 u2 P2 N2 
     -- start comes out as c has it
     at-start : (i : ℕ) → Member sh c i → extended sh c .start i ≡ passed Q D1 D2 .start i
     at-start = all (λ i. extended sh c .start i ≡ passed Q D1 D2 .start i)
-        (λ i w. upTo-low n (c Start) _ i (w .1) ∙ sym (upd-off _ _ (off-a b i w) ∙ upd-off _ _ (off-k b i w) ∙ upd-off _ _ (low-2 A b (w .1)) ∙ upd-off _ _ (low-1 A b (w .1)) ∙ upTo-low n (d Start) _ i (w .1) ∙ b .start-o i (off-k b i w) (off-a b i w)))
-        (λ e f g. ap (extended sh c .start) (sym f) ∙ t1 .start ∙ sym (upd-off _ _ (high-1 A b (an A b)) ∙ upd-off _ _ (high-1 A b (kn A b)) ∙ upd-off _ _ (D12 b) ∙ upd-same _ D1 _ ∙ ap (extended sh d .start) (H-a A b ∙ g) ∙ upTo-low n (d Start) _ k (kn A b) ∙ b .start-k))
-        (λ e f g. ap (extended sh c .start) (sym f) ∙ t2 .start ∙ sym (upd-off _ _ (high-2 A b (an A b)) ∙ upd-off _ _ (high-2 A b (kn A b)) ∙ upd-same _ D2 _ ∙ ap (oneIn sh d k l .start) (G1-k A b ∙ g) ∙ upd-off _ _ (low-1 A b (an A b)) ∙ upTo-low n (d Start) _ a (an A b) ∙ b .start-a))
+        (λ i w. upTo-low n (c Start) _ i (w .1) ∙ sym (upd-off _ _ (off-a b i w) ∙ upd-off _ _ (off-k b i w) ∙ upd-off _ _ (low-2 A b (w .1)) ∙ upd-off _ _ (low-1 A b (w .1)) ∙ upTo-low n (d Start) _ i (w .1) ∙ start-o i (off-k b i w) (off-a b i w)))
+        (λ e f g. ap (extended sh c .start) (sym f) ∙ t1 .start ∙ sym (upd-off _ _ (high-1 A b (an A b)) ∙ upd-off _ _ (high-1 A b (kn A b)) ∙ upd-off _ _ (D12 b) ∙ upd-same _ D1 _ ∙ ap (extended sh d .start) (H-a A b ∙ g) ∙ upTo-low n (d Start) _ k (kn A b) ∙ start-k))
+        (λ e f g. ap (extended sh c .start) (sym f) ∙ t2 .start ∙ sym (upd-off _ _ (high-2 A b (an A b)) ∙ upd-off _ _ (high-2 A b (kn A b)) ∙ upd-same _ D2 _ ∙ ap (oneIn sh d k l .start) (G1-k A b ∙ g) ∙ upd-off _ _ (low-1 A b (an A b)) ∙ upTo-low n (d Start) _ a (an A b) ∙ start-a))
         (λ i w e f. upTo-high n (c Start) (λ j. c Isolated (j - n)) i (w .0) ∙ sym (upd-off _ _ (λ z. omega (arith, w .0, an A b, z)) ∙ upd-off _ _ (λ z. omega (arith, w .0, kn A b, z))
-        ∙ upd-off _ _ (not-dummy sh f) ∙ upd-off _ _ (not-dummy sh e) ∙ upTo-high n (d Start) (λ j. d Isolated (j - n)) i (w .0) ∙ b .isolated-o _ e f))
+        ∙ upd-off _ _ (not-dummy sh f) ∙ upd-off _ _ (not-dummy sh e) ∙ upTo-high n (d Start) (λ j. d Isolated (j - n)) i (w .0) ∙ isolated-o _ e f))
 
     -- so does the loop
     at-loop : (i : ℕ) → Member sh c i → extended sh c .loop i ≡ passed Q D1 D2 .loop i
@@ -308,15 +312,15 @@ module _ {sh : Shape} {pt : List ℤ} {c d : Columns} {k l l2 u1 P1 N1 u2 P2 N2 
         (λ i w.
         let back : Q .prev i ≡ G .prev i = Q-prev i (off-k b i w) (off-a b i w) (low-1 A b (w .1)) (low-2 A b (w .1)) in
         split i (t1 .z)
-        (λ e. ap (extended sh c .prev) e ∙ t1 .prev ∙ sym (pass-one D1 D2 (Q .prev) (back ∙ ap (G .prev) (seat-N t1 (b .ends .loop-in) w e) ∙ G-N1) (λ y. ⊎-elim (λ r. low-1 A b (w .1) (e ∙ r .1)) (λ r. low-2 A b (r .2 .1) (sym (r .0) ∙ sym prev-D1 ∙ y)) (t1 .which)) ∙ prev-D1))
+        (λ e. ap (extended sh c .prev) e ∙ t1 .prev ∙ sym (pass-one D1 D2 (Q .prev) (back ∙ ap (G .prev) (seat-N t1 loop-in w e) ∙ G-N1) (λ y. ⊎-elim (λ r. low-1 A b (w .1) (e ∙ r .1)) (λ r. low-2 A b (r .2 .1) (sym (r .0) ∙ sym prev-D1 ∙ y)) (t1 .which)) ∙ prev-D1))
         (λ e. split i (t2 .z)
-        (λ f. ap (extended sh c .prev) f ∙ t2 .prev ∙ sym (pass-two D1 D2 (Q .prev) (D21 b) (back ∙ ap (G .prev) (seat-N t2 (b .ends .ring-in) w f) ∙ G-N2) (λ y. ⊎-elim (λ r. low-2 A b (w .1) (f ∙ r .1)) (λ r. low-1 A b (r .2 .1) (sym (r .0) ∙ sym prev-D2 ∙ y)) (t2 .which)) ∙ prev-D2))
+        (λ f. ap (extended sh c .prev) f ∙ t2 .prev ∙ sym (pass-two D1 D2 (Q .prev) (D21 b) (back ∙ ap (G .prev) (seat-N t2 ring-in w f) ∙ G-N2) (λ y. ⊎-elim (λ r. low-2 A b (w .1) (f ∙ r .1)) (λ r. low-1 A b (r .2 .1) (sym (r .0) ∙ sym prev-D2 ∙ y)) (t2 .which)) ∙ prev-D2))
         (λ f.
         let x : i ≢ N1 = off-N t1 (off-k b i w) e in
         let y : i ≢ N2 = off-N t2 (off-a b i w) f in
         let g : Q .prev i ≡ d Prev i = back ∙ G-prev i x y (low-1 A b (w .1)) (low-2 A b (w .1)) ∙ upTo-low n (d Prev) _ i (w .1) in
         let v = prev-in (A .rules) i (half-stays b i w) in
-        upTo-low n (c Prev) _ i (w .1) ∙ sym (b .prev-o i (off-k b i w) (off-a b i w) x y) ∙ sym (pass-off D1 D2 (Q .prev) (λ z. low-1 A b (v .1) (sym g ∙ z)) (λ z. low-2 A b (v .1) (sym g ∙ z)) ∙ g))))
+        upTo-low n (c Prev) _ i (w .1) ∙ sym (prev-o i (off-k b i w) (off-a b i w) x y) ∙ sym (pass-off D1 D2 (Q .prev) (λ z. low-1 A b (v .1) (sym g ∙ z)) (λ z. low-2 A b (v .1) (sym g ∙ z)) ∙ g))))
         (λ e f g. let h : Q .prev D1 ≡ D1 = prev-D1 ∙ e in ap (extended sh c .prev) (sym f) ∙ t1 .prev ∙ e ∙ sym (pass-one D1 D2 (Q .prev) h (λ y. D12 b (sym h ∙ y)) ∙ h))
         (λ e f g. let h : Q .prev D2 ≡ D2 = prev-D2 ∙ e in ap (extended sh c .prev) (sym f) ∙ t2 .prev ∙ e ∙ sym (pass-two D1 D2 (Q .prev) (D21 b) h (λ y. D21 b (sym h ∙ y)) ∙ h))
         (λ i w e f.
@@ -332,4 +336,4 @@ module _ {sh : Shape} {pt : List ℤ} {c d : Columns} {k l l2 u1 P1 N1 u2 P2 N2 
 
   -- the rules with dummies afterwards
   pub down-rules : Rules (2 * sh .edges + sh .loops) (mate⁺ (sh .edges)) (Member sh c) (extended sh c)
-  down-rules = by-seats (seat (b .ends .loop-in) (λ e. omega (arith, b .ends .in-1 .0, e)) (b .ends .keeps) (b .ends .at-1)) (seat (b .ends .ring-in) (λ e. omega (arith, b .ends .in-2 .0, e)) (b .ends .keeps) (b .ends .at-2))
+  down-rules = by-seats (seat loop-in (λ e. omega (arith, in-1 .0, e)) keeps at-1) (seat ring-in (λ e. omega (arith, in-2 .0, e)) keeps at-2)

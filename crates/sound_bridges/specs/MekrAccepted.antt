@@ -24,11 +24,41 @@ use Rattle.sound_tables.specs.Sound.{In}
 use Rattle.sound_tables.specs.Accepted.{by-place, eight, accepted-back, ranges-cons, item-cons, use-old, old-use, use-new, new-use, use-none, in-range, Number, number, number-or-none, unused-range, unused-use, in-range-or-none}
 use Rattle.sound_tables.specs.Good.{own, Capacities}
 use Rattle.sound_tables.specs.CornerTest.{CornerAt, corner-most, test-corner, corner-test, corner-use}
-use Rattle.sound_bridges.specs.Lists.{mekrList}
+use Rattle.sound_bridges.specs.Relation.{Spot, Bridge}
+use Rattle.sound_bridges.specs.MekrColumns.{mekrList}
 
 -- mekr l h1 l2 h2 e w
 abbrev pub mekrOf : ℕ → ℕ → ℕ → ℕ → ℕ → ℕ → Operator
 mekrOf l h1 l2 h2 e w = record { code = 8; count = 6; args = pos l ∷ pos h1 ∷ pos l2 ∷ pos h2 ∷ pos e ∷ pos w ∷ pos 0 ∷ pos 0 ∷ [] }
+
+-- the corner before half-edge h of loop l, or where h is 0 the isolated one, for an edge that leaves by k and comes by b
+abbrev pub spotOf : Columns → (l h k b : ℕ) → Spot
+spotOf c l h k b = record {
+  l = l;
+  u = pick (eqb h 0) (c Isolated l) (c Start h);
+  P = pick (eqb h 0) b (c Prev h);
+  N = pick (eqb h 0) k h;
+  k = k;
+  b = b;
+}
+
+-- the bridge k from one corner to another
+abbrev pub bridgeOf : ℕ → Spot → Spot → Bridge
+bridgeOf k s s2 = record {
+  k = k;
+  l = s .l;
+  l2 = s2 .l;
+  u1 = s .u;
+  P1 = s .P;
+  N1 = s .N;
+  u2 = s2 .u;
+  P2 = s2 .P;
+  N2 = s2 .N;
+}
+
+-- the bridge that mekr makes of half-edge k
+abbrev pub mekrBridge : Columns → (k l h1 l2 h2 : ℕ) → Bridge
+mekrBridge c k l h1 l2 h2 = bridgeOf k (spotOf c l h1 k (mate k)) (spotOf c l2 h2 (mate k) k)
 
 -- what is asked of an accepted mekr
 pub record MekrFacts (sh : Shape) (c : Columns) (l h1 l2 h2 e w : ℕ) : Type 0 where
@@ -183,9 +213,7 @@ module _ (sh : Shape) (x : List ℕ) {l h1 l2 h2 e w : ℕ} (caps : Capacities s
 
   -- what it does to the list; k is the half that the way names
   pub mekr-links : (k : ℕ) → halfBy e w ≡ k → linksAfter sh x (mekrOf l h1 l2 h2 e w)
-      ≡ mekrList sh x k l l2
-      (pick (eqb h1 0) (own sh x Isolated l) (own sh x Start h1)) (pick (eqb h1 0) (mate k) (own sh x Prev h1)) (pick (eqb h1 0) k h1)
-      (pick (eqb h2 0) (own sh x Isolated l2) (own sh x Start h2)) (pick (eqb h2 0) k (own sh x Prev h2)) (pick (eqb h2 0) (mate k) h2)
+      ≡ mekrList sh x (mekrBridge (own sh x) k l h1 l2 h2)
   unfolding linksAfter mekrLinks mekrEdge
   mekr-links k q = rw (le-leb l 8192 l-small, le-leb h1 8192 h1-small, le-leb l2 8192 l2-small, le-leb h2 8192 h2-small, le-leb e 8192 e-small, le-leb w 8192 w-small, q)
 
