@@ -4,7 +4,7 @@ use mathlib.Core.Logic.{_≢_, _⊎_, inl, inr, ⊎-elim}
 use Prim.Native.Nat.{ℕ, _+_, _-_, _*_, _≤_, _<_}
 use native.Mathlib.Omega.{arith}
 use Rattle.layout.specs.declared.shape.Shape.{Shape}
-use Rattle.layout.specs.Fields.{Isolated, Start, Loop, Next, Prev, Columns}
+use Rattle.layout.specs.Fields.{Isolated, Start, Loop, Next, Columns}
 use Rattle.sound_tables.specs.Sound.{In, HalfUsed}
 use Rattle.sound_tables.specs.WithDummies.{upTo-low, upTo-high, extended, Dummy, Member, dummy-of, dummy-loop, dummy-start}
 use Rattle.sound_bridges.specs.Relation.{Spot, Corner}
@@ -15,7 +15,6 @@ pub record Seat (sh : Shape) (c : Columns) (s : Spot) : Type 0 where
   pub z : ℕ
   pub member : Member sh c y
   pub next : extended sh c .next y ≡ z
-  pub prev : extended sh c .prev z ≡ y
   pub loop : extended sh c .loop y ≡ s .l
   pub loop-z : extended sh c .loop z ≡ s .l
   pub start : extended sh c .start z ≡ s .u
@@ -34,7 +33,6 @@ module _ {sh : Shape} {c : Columns} {s : Spot} (i : In (sh .loops) (s .l)) (x : 
         z = 2 * sh .edges + l;
         member = inr w;
         next = upTo-high (2 * sh .edges) (c Next) (λ j. j) _ (w .0);
-        prev = upTo-high (2 * sh .edges) (c Prev) (λ j. j) _ (w .0);
         loop = dummy-loop sh c l i;
         loop-z = dummy-loop sh c l i;
         start = dummy-start sh c l i ∙ r .isolated;
@@ -45,7 +43,6 @@ module _ {sh : Shape} {c : Columns} {s : Spot} (i : In (sh .loops) (s .l)) (x : 
         z = N;
         member = inl (r .before);
         next = upTo-low (2 * sh .edges) (c Next) _ P (r .before .1) ∙ r .next;
-        prev = upTo-low (2 * sh .edges) (c Prev) _ N (r .after .1) ∙ r .prev;
         loop = upTo-low (2 * sh .edges) (c Loop) _ P (r .before .1) ∙ sym (keeps P (r .before)) ∙ ap (c Loop) (r .next) ∙ r .loop;
         loop-z = upTo-low (2 * sh .edges) (c Loop) _ N (r .after .1) ∙ r .loop;
         start = upTo-low (2 * sh .edges) (c Start) _ N (r .after .1) ∙ r .start;
@@ -69,25 +66,13 @@ module _ {sh : Shape} {c : Columns} {s : Spot} (t : Seat sh c s) where
   pub seat-P : {i : ℕ} → In (sh .loops) l → HalfUsed sh c i → i ≡ t .y → i ≡ P
   seat-P m w e = ⊎-elim (λ r. absurd (low sh m (w .1) (e ∙ r .0))) (λ r. e ∙ r .0) (t .which)
 
-  -- after it
-  pub seat-N : {i : ℕ} → In (sh .loops) l → HalfUsed sh c i → i ≡ t .z → i ≡ N
-  seat-N m w e = ⊎-elim (λ r. absurd (low sh m (w .1) (e ∙ r .1))) (λ r. e ∙ r .1) (t .which)
-
   -- away from there it is neither
   pub off-P : {i : ℕ} → i ≢ b → i ≢ t .y → i ≢ P
   off-P f e z = ⊎-elim (λ r. f (z ∙ r .2)) (λ r. e (z ∙ sym (r .0))) (t .which)
 
-  -- after it
-  pub off-N : {i : ℕ} → i ≢ k → i ≢ t .z → i ≢ N
-  off-N f e z = ⊎-elim (λ r. f (z ∙ r .3)) (λ r. e (z ∙ sym (r .1))) (t .which)
-
   -- a dummy of another loop is not there
   pub far-y : {i : ℕ} → 2 * sh .edges < i → i - 2 * sh .edges ≢ l → i ≢ t .y
   far-y w h e = ⊎-elim (λ r. not-dummy sh h (e ∙ r .0)) (λ r. omega (arith, w, r .2 .1, e ∙ r .0)) (t .which)
-
-  -- nor after it
-  pub far-z : {i : ℕ} → 2 * sh .edges < i → i - 2 * sh .edges ≢ l → i ≢ t .z
-  far-z w h e = ⊎-elim (λ r. not-dummy sh h (e ∙ r .1)) (λ r. omega (arith, w, r .3 .1, e ∙ r .1)) (t .which)
 
   -- a dummy of the loop is there
   pub dummy-seat : Dummy sh c (2 * sh .edges + l) → (t .y ≡ 2 * sh .edges + l) × (t .z ≡ 2 * sh .edges + l) × (P ≡ b) × (N ≡ k)

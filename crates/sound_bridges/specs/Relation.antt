@@ -4,10 +4,11 @@ use mathlib.Core.Path.{_≡_, sym, ap, _∙_, subst}
 use mathlib.Core.Logic.{_≢_, _⊎_, inl, inr, ⊎-elim}
 use mathlib.Core.Bool.{false}
 use mathlib.Core.List.{List, [], _∷_}
-use Prim.Native.Nat.{ℕ, _+_, _-_, _*_}
+use Prim.Native.Nat.{ℕ, _+_, _-_, _*_, _≤_}
 use native.Mathlib.Omega.{arith}
 use lib.Dec.{eqb}
 use Rattle.laws.specs.Bools.{split, eqb-other}
+use Rattle.laws.specs.Permutations.{Perm, inj}
 use Rattle.layout.specs.declared.shape.Shape.{Shape}
 use Rattle.layout.specs.Mate.{mate}
 use Rattle.layout.specs.Fields.{Field, Outer, Face, First, Isolated, Start, Loop, Next, Prev, VertexUsed, Columns, among}
@@ -59,18 +60,22 @@ module _ {sh : Shape} {c : Columns} {s : Spot} (q : Corner sh c s) where
   pub corner-after : {i : ℕ} → i ≢ k → c Start i ≡ 0 → i ≢ N
   corner-after n z e = ⊎-elim (λ r. n (e ∙ r .after)) (λ r. r .after .2 (ap (c Start) (sym e) ∙ z)) q
 
-  -- where the edge does not stand before it, its half-edges follow each other
-  pub corner-next : P ≢ b → c Next P ≡ N
-  corner-next n = ⊎-elim (λ r. absurd (n (r .before))) (λ r. r .next) q
+  -- where the edge does not stand before it, it lies between half-edges
+  pub real-before : P ≢ b → Real sh c s
+  real-before n = ⊎-elim (λ r. absurd (n (r .before))) (λ r. r) q
 
-  -- and backwards
-  pub corner-prev : N ≢ k → c Prev N ≡ P
-  corner-prev n = ⊎-elim (λ r. absurd (n (r .after))) (λ r. r .prev) q
+  -- nor after it
+  pub real-after : N ≢ k → Real sh c s
+  real-after n = ⊎-elim (λ r. absurd (n (r .after))) (λ r. r) q
 
   -- a half-edge of another loop does not come before it
   pub corner-away : ((i : ℕ) → HalfUsed sh c i → c Loop (c Next i) ≡ c Loop i) → {i : ℕ} → i ≢ b → c Loop i ≢ l → i ≢ P
   corner-away keeps n z e = ⊎-elim (λ r. n (e ∙ r .before))
       (λ r. z (ap (c Loop) e ∙ sym (keeps P (r .before)) ∙ ap (c Loop) (r .next) ∙ r .loop)) q
+
+  -- what follows it is followed by nothing but what comes before it
+  pub corner-ahead : Perm (2 * sh .edges) (HalfUsed sh c) (c Next) → {i : ℕ} → HalfUsed sh c i → c Next i ≢ k → i ≢ P → c Next i ≢ N
+  corner-ahead perm w n z e = ⊎-elim (λ r. n (e ∙ r .after)) (λ r. z (inj perm w (r .before) (e ∙ sym (r .next)))) q
 
   -- its neighbours are half-edges of the table
   pub before-in : In (2 * sh .edges) b → In (2 * sh .edges) P
@@ -203,6 +208,14 @@ module _ {sh : Shape} {c d : Columns} {B : Bridge} (b : Bridged sh c d B) where
   -- the same for the mate
   pub mem-a : (i : ℕ) → Member sh c i → i ≢ mate k
   mem-a i = ⊎-elim (λ w. off-a i w) (λ w e. omega (arith, w .0, mate-in .1, e))
+
+  -- a half-edge is not the dummy of l
+  pub low-1 : {i : ℕ} → i ≤ 2 * sh .edges → i ≢ 2 * sh .edges + l
+  low-1 h e = omega (arith, h, loop-in .0, e)
+
+  -- nor that of l2
+  pub low-2 : {i : ℕ} → i ≤ 2 * sh .edges → i ≢ 2 * sh .edges + l2
+  low-2 h e = omega (arith, h, ring-in .0, e)
 
   -- the dummies of the two loops differ
   pub D21 : 2 * sh .edges + l2 ≢ 2 * sh .edges + l

@@ -15,7 +15,7 @@ use Rattle.layout.specs.Mate.{mate}
 use Rattle.layout.specs.Fields.{Field, Face, First, Isolated, Start, Loop, Next, Prev, Columns, capOf, by-fields}
 use Rattle.sound_tables.specs.Sound.{In, HalfUsed, Sound}
 use Rattle.sound_tables.specs.Names.{lone-unnamed}
-use Rattle.sound_bridges.specs.Relation.{Spot, Corner, corner-next, corner-prev, Bridge, Ends, Bridged, touched, off-k, off-a}
+use Rattle.sound_bridges.specs.Relation.{Spot, Corner, real-before, real-after, Bridge, Ends, Bridged, touched, off-k, off-a}
 
 -- two tables agree in field F up to its capacity
 abbrev pub AlikeIn : Shape → Columns → Columns → Field → Type 0
@@ -41,11 +41,11 @@ first-same {sh} {c = c} {c′} s s′ f g m x y = split (c Face m) 0
 module _ {sh : Shape} {c c′ : Columns} {s : Spot} (q : Corner sh c s) (q′ : Corner sh c′ s) where
   -- what comes before it goes to the same, unless it is the edge
   next-there : {i : ℕ} → i ≡ s .P → i ≢ s .b → c Next i ≡ c′ Next i
-  next-there z n = rw z (corner-next q (λ t. n (z ∙ t)) ∙ sym (corner-next q′ (λ t. n (z ∙ t))))
+  next-there z n = rw z (real-before q (λ t. n (z ∙ t)) .next ∙ sym (real-before q′ (λ t. n (z ∙ t)) .next))
 
   -- and backwards
   prev-there : {i : ℕ} → i ≡ s .N → i ≢ s .k → c Prev i ≡ c′ Prev i
-  prev-there z n = rw z (corner-prev q (λ t. n (z ∙ t)) ∙ sym (corner-prev q′ (λ t. n (z ∙ t))))
+  prev-there z n = rw z (real-after q (λ t. n (z ∙ t)) .prev ∙ sym (real-after q′ (λ t. n (z ∙ t)) .prev))
 
   -- it is isolated in both, or in neither
   isolated-same : ((i : ℕ) → HalfUsed sh c i → i ≢ s .k) → ((i : ℕ) → HalfUsed sh c′ i → i ≢ s .k)
