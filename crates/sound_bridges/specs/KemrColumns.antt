@@ -26,7 +26,7 @@ use Rattle.sound_tables.specs.Names.{not-isolated}
 use Rattle.sound_tables.specs.Walking.{Steps, runColumns, run-met, run-off, run-other}
 use Rattle.sound_tables.specs.Good.{own}
 use Rattle.sound_tables.specs.CornerTest.{cornerLeft}
-use Rattle.sound_bridges.specs.Relation.{Corner, Bridge, spot1, spot2, touched, Bridged}
+use Rattle.sound_bridges.specs.Relation.{Corner, Bridge, Numbers, numbers, spot1, spot2, touched, Bridged}
 use Rattle.sound_bridges.specs.Runs.{Met, met?, run-to, met-in, not-k, not-a, met-next, met-prev, met-last, met-first}
 
 -- ---- what kemr leaves
@@ -95,15 +95,8 @@ module _ {sh : Shape} {p : List ℤ} {d : Columns} (A : Sound sh p d) {k l2 : �
   abbrev B : Bridge
   B = spanBridge d k l2
 
+  open Numbers (numbers sh B) using (n, a)
   open Bridge B using (l, u1, P1, N1, u2, P2, N2)
-
-  -- k's mate
-  abbrev a : ℕ
-  a = mate k
-
-  -- how many half-edges there are at most
-  abbrev n : ℕ
-  n = 2 * sh .edges
 
   -- next permutes the half-edges in use
   perm : Perm (2 * sh .edges) (HalfUsed sh d) (d Next)

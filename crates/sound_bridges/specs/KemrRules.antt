@@ -23,28 +23,13 @@ use Rattle.sound_bridges.specs.PassedOver.{passed, pass-off, pass-one, p
 use Rattle.sound_bridges.specs.CornerMembers.{Seat, seat, not-dummy, off-P, far-y, dummy-seat}
 use Rattle.sound_bridges.specs.KemrDummies.{oneIn, bothIn, Wide, high-1, high-2, N1-low, N2-low, own-1, own-2, went-a, went-k, goes-k, goes-a, goes-D1, goes-D2, goes-o, names-k, names-a, names-D1, names-D2, names-o, wide-rules, each}
 use Rattle.sound_bridges.specs.Runs.{till-same}
-use Rattle.sound_bridges.specs.Relation.{Spot, real-before, Bridge, Ends, spot1, spot2, Bridged, ka, off-k, off-a, mem-k, mem-a, low-1, low-2, D21, D12, new-k, new-a, half-stays, half-back, dummy-stays, dummy-was}
+use Rattle.sound_bridges.specs.Relation.{Spot, real-before, Bridge, Ends, Numbers, numbers, spot1, spot2, Bridged, ka, off-k, off-a, mem-k, mem-a, low-1, low-2, D21, D12, new-k, new-a, half-stays, half-back, dummy-stays, dummy-was}
 
 module _ {sh : Shape} {pt : List ℤ} {c d : Columns} {B : Bridge} (A : Sound sh pt d) (b : Bridged sh c d B) where
+  open Numbers (numbers sh B) using (n, a, D1, D2)
   open Bridge B using (k, l, l2, P1, N1, P2, N2)
   open Ends (b .ends) using (half-in, mate-in, loop-in, ring-in, two, at-1, at-2, in-1, in-2, keeps)
   open Bridged b using (start-k, start-a, start-o, loop-2, loop-o, next-k, next-a, next-1, next-2, next-o, prev-k, prev-a, prev-o, face-2, isolated-o)
-
-  -- how many half-edges there are at most
-  abbrev n : ℕ
-  n = 2 * sh .edges
-
-  -- k's mate
-  abbrev a : ℕ
-  a = mate k
-
-  -- the dummy of the loop
-  abbrev D1 : ℕ
-  D1 = 2 * sh .edges + l
-
-  -- the dummy of the ring
-  abbrev D2 : ℕ
-  D2 = 2 * sh .edges + l2
 
   -- the columns with dummies afterwards
   abbrev H : Halves

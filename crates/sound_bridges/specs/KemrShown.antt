@@ -24,7 +24,7 @@ use Rattle.sound_tables.specs.Walking.{runColumns, shows-relabel}
 use Rattle.sound_tables.specs.FirstLow.{first-low}
 use Rattle.sound_tables.specs.Shown.{withFirst, shows-no-edge, shows-first, shows-isolated}
 use Rattle.sound_tables.specs.Good.{own, Good, good-shows, good-after}
-use Rattle.sound_bridges.specs.Relation.{Spot, Corner, Bridge, spot1, spot2, Ends, Bridged, off-k, off-a, new-a}
+use Rattle.sound_bridges.specs.Relation.{Spot, Corner, Bridge, Numbers, numbers, spot1, spot2, Ends, Bridged, off-k, off-a, new-a}
 use Rattle.sound_bridges.specs.KemrSound.{down-sound}
 use Rattle.sound_bridges.specs.KemrRules.{down-rules}
 use Rattle.sound_bridges.specs.KemrColumns.{spanBridge, partedList, kemrList, cutColumns, kemrColumns, Span, walk, down-bridged, down-first, down-first-2}
@@ -34,25 +34,16 @@ module _ {sh : Shape} {x : List ℕ} {p : List ℤ} (g : Good sh x p) {k l2 : �
   abbrev d : Columns
   d = own sh x
 
-  -- k's mate
-  abbrev a : ℕ
-  a = mate k
-
-  -- how many half-edges there are at most
-  abbrev n : ℕ
-  n = 2 * sh .edges
-
   -- the length of the walk
   abbrev t : ℕ
   t = walk (g .sound) o .0
 
-  -- the loop of both halves
-  abbrev l : ℕ
-  l = own sh x Loop k
-
   -- the bridge
   abbrev B : Bridge
   B = spanBridge (own sh x) k l2
+
+  open Numbers (numbers sh B) using (n, a)
+  open Bridge B using (l)
 
   -- the columns before the two loops have their firsts
   abbrev cut : Columns

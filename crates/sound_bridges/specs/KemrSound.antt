@@ -18,17 +18,14 @@ use Rattle.sound_tables.specs.Solids.{Solids}
 use Rattle.sound_tables.specs.Sound.{In, HalfUsed, FaceUsed, side, firstOf, LoopSound, HalfSound, HalfFree, Sound, half-by}
 use Rattle.sound_tables.specs.Names.{lone-kept}
 use Rattle.sound_tables.specs.WithDummies.{upTo-low, upTo-high, extended, Member, Corners, sound-corners, corners-rules, corners-loop, corners-vertex}
-use Rattle.sound_bridges.specs.Relation.{Spot, Bridge, Ends, Corner, Bridged, corner-before, corner-after, corner-member, off-k, off-a, half-stays, half-back, dummy-was, side-same, side-k, side-a, same-name}
+use Rattle.sound_bridges.specs.Relation.{Spot, Bridge, Numbers, numbers, Ends, Corner, Bridged, corner-before, corner-after, corner-member, off-k, off-a, half-stays, half-back, dummy-was, side-same, side-k, side-a, same-name}
 
 module _ {sh : Shape} {p : List ℤ} {c d : Columns} {B : Bridge} (a : Sound sh p d) (b : Bridged sh c d B)
     (rules⁺ : Rules (2 * sh .edges + sh .loops) (mate⁺ (sh .edges)) (Member sh c) (extended sh c)) (first-1 : c First (B .l) ≡ firstOf sh c (B .l)) (first-2 : c First (B .l2) ≡ firstOf sh c (B .l2)) where
+  open Numbers (numbers sh B) using (n)
   open Bridge B using (k, l, l2, u1, u2)
   open Ends (b .ends) using (loop-in, ring-in, two, one-face, at-1, at-2, in-1, in-2, used-1, used-2, zero-k, zero-a)
   open Bridged b using (start-k, start-a, start-o, loop-k, loop-a, loop-2, loop-o, next-o, prev-o, face-2, face-o, first-o, isolated-1, isolated-2, isolated-o, others)
-
-  -- how many half-edges there are at most
-  abbrev n : ℕ
-  n = 2 * sh .edges
 
   -- ---- members of loops and vertices
 

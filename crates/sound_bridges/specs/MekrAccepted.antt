@@ -169,29 +169,18 @@ mekr-said sh x o caps len e h =
     }
 
 module _ (sh : Shape) (x : List ℕ) {l h1 l2 h2 e w : ℕ} (caps : Capacities sh) (r : MekrFacts sh (own sh x) l h1 l2 h2 e w) where
-  -- all numbers are read as they stand
-  l-small : l ≤ 8192
-  l-small = omega (arith, r .loop-in .1, caps .loops)
-
-  -- the first corner
-  h1-small : h1 ≤ 8192
-  h1-small = let m : h1 ≤ 2 * sh .edges = corner-most sh (own sh x) l h1 (r .at-1) in omega (arith, m, caps .edges)
-
-  -- the ring
-  l2-small : l2 ≤ 8192
-  l2-small = omega (arith, r .ring-in .1, caps .loops)
-
-  -- the second corner
-  h2-small : h2 ≤ 8192
-  h2-small = let m : h2 ≤ 2 * sh .edges = corner-most sh (own sh x) l2 h2 (r .at-2) in omega (arith, m, caps .edges)
-
-  -- the edge
-  e-small : e ≤ 8192
-  e-small = omega (arith, r .edge-in .1, caps .edges)
-
-  -- the way
-  w-small : w ≤ 8192
-  w-small = omega (arith, r .way)
+  -- all numbers are small enough to be read as they stand
+  small : (l ≤ 8192) × (h1 ≤ 8192) × (l2 ≤ 8192) × (h2 ≤ 8192) × (e ≤ 8192) × (w ≤ 8192)
+  small =
+      let m1 : h1 ≤ 2 * sh .edges = corner-most sh (own sh x) l h1 (r .at-1) in
+      let m2 : h2 ≤ 2 * sh .edges = corner-most sh (own sh x) l2 h2 (r .at-2) in (
+        omega (arith, r .loop-in .1, caps .loops),
+        omega (arith, m1, caps .edges),
+        omega (arith, r .ring-in .1, caps .loops),
+        omega (arith, m2, caps .edges),
+        omega (arith, r .edge-in .1, caps .edges),
+        omega (arith, r .way),
+      )
 
   -- it is accepted
   pub mekr-accepted : refusalOf sh x (mekrOf l h1 l2 h2 e w) ≡ 0
@@ -205,17 +194,17 @@ module _ (sh : Shape) (x : List ℕ) {l h1 l2 h2 e w : ℕ} (caps : Capacities s
         range = ranges-cons lim 6 _ (pos l) (pos h1 ∷ pos l2 ∷ pos h2 ∷ pos e ∷ pos w ∷ replicate 2 (pos 0)) (in-range lim 6 l refl refl (r .loop-in)) (ranges-cons lim 10 _ (pos h1) (pos l2 ∷ pos h2 ∷ pos e ∷ pos w ∷ replicate 2 (pos 0)) (in-range-or-none lim 10 h1 refl refl (corner-most sh (own sh x) l h1 (r .at-1)))
             (ranges-cons lim 6 _ (pos l2) (pos h2 ∷ pos e ∷ pos w ∷ replicate 2 (pos 0)) (in-range lim 6 l2 refl refl (r .ring-in)) (ranges-cons lim 10 _ (pos h2) (pos e ∷ pos w ∷ replicate 2 (pos 0)) (in-range-or-none lim 10 h2 refl refl (corner-most sh (own sh x) l2 h2 (r .at-2)))
             (ranges-cons lim 8 _ (pos e) (pos w ∷ replicate 2 (pos 0)) (in-range lim 8 e refl refl (r .edge-in)) (ranges-cons lim 12 _ (pos w) (replicate 2 (pos 0)) (in-range-or-none lim 12 w refl refl (r .way)) (unused-range lim 2))))));
-        used = item-cons sh x o 6 _ 0 l-small (old-use sh x 6 l (omega (arith, r .loop-in .0)) refl (r .loop-used)) (item-cons sh x o 10 _ 1 h1-small (corner-use sh x l h1 (r .at-1))
-            (item-cons sh x o 6 _ 2 l2-small (old-use sh x 6 l2 (omega (arith, r .ring-in .0)) refl (r .ring-used)) (item-cons sh x o 10 _ 3 h2-small (corner-use sh x l2 h2 (r .at-2))
-            (item-cons sh x o 8 _ 4 e-small (new-use sh x 8 e (omega (arith, r .edge-in .0)) refl (r .edge-free)) (item-cons sh x o 12 _ 5 w-small (use-none sh x 12 w refl refl) (unused-use sh x o 2 6))))));
-        holds = rw (le-leb l 8192 l-small, le-leb h1 8192 h1-small, le-leb l2 8192 l2-small, le-leb h2 8192 h2-small) (test-mekr sh x r);
+        used = item-cons sh x o 6 _ 0 (small .0) (old-use sh x 6 l (omega (arith, r .loop-in .0)) refl (r .loop-used)) (item-cons sh x o 10 _ 1 (small .1) (corner-use sh x l h1 (r .at-1))
+            (item-cons sh x o 6 _ 2 (small .2) (old-use sh x 6 l2 (omega (arith, r .ring-in .0)) refl (r .ring-used)) (item-cons sh x o 10 _ 3 (small .3) (corner-use sh x l2 h2 (r .at-2))
+            (item-cons sh x o 8 _ 4 (small .4) (new-use sh x 8 e (omega (arith, r .edge-in .0)) refl (r .edge-free)) (item-cons sh x o 12 _ 5 (small .5) (use-none sh x 12 w refl refl) (unused-use sh x o 2 6))))));
+        holds = rw (le-leb l 8192 (small .0), le-leb h1 8192 (small .1), le-leb l2 8192 (small .2), le-leb h2 8192 (small .3)) (test-mekr sh x r);
       })
 
   -- what it does to the list; k is the half that the way names
   pub mekr-links : (k : ℕ) → halfBy e w ≡ k → linksAfter sh x (mekrOf l h1 l2 h2 e w)
       ≡ mekrList sh x (mekrBridge (own sh x) k l h1 l2 h2)
   unfolding linksAfter mekrLinks mekrEdge
-  mekr-links k q = rw (le-leb l 8192 l-small, le-leb h1 8192 h1-small, le-leb l2 8192 l2-small, le-leb h2 8192 h2-small, le-leb e 8192 e-small, le-leb w 8192 w-small, q)
+  mekr-links k q = rw (le-leb l 8192 (small .0), le-leb h1 8192 (small .1), le-leb l2 8192 (small .2), le-leb h2 8192 (small .3), le-leb e 8192 (small .4), le-leb w 8192 (small .5), q)
 
   -- to the points
   pub mekr-points : (p : List ℤ) → pointsAfter sh x p (mekrOf l h1 l2 h2 e w) ≡ p

@@ -15,32 +15,17 @@ use Rattle.layout.specs.Mate.{mate}
 use Rattle.layout.specs.Fields.{Isolated, Start, Loop, Next, Prev, Columns}
 use Rattle.sound_tables.specs.Mates.{mate⁺-low, mate⁺-high, mate⁺-mate⁺}
 use Rattle.sound_tables.specs.EdgeIn.{Halves, joined, merged, merged-loops, joined-rules}
-use Rattle.sound_tables.specs.Sound.{HalfUsed, Sound}
+use Rattle.sound_tables.specs.Sound.{In, HalfUsed, Sound}
 use Rattle.sound_tables.specs.WithDummies.{upTo-low, upTo-high, extended, Dummy, Member, sound-corners}
 use Rattle.sound_bridges.specs.PassedOver.{pass, passed, pass-off, pass-one, pass-two, Left, pass-rules, Rules⁺, Undoes, undoes, table-rules}
 use Rattle.sound_bridges.specs.CornerMembers.{Seat, seat, not-dummy, seat-P, off-P, far-y, dummy-seat}
-use Rattle.sound_bridges.specs.Relation.{corner-ahead, after-in, Bridge, Ends, spot1, spot2, Bridged, ka, off-k, off-a, mem-k, mem-a, low-1, low-2, D21, new-k, new-a, half-stays, half-was, dummy-stays, dummy-other, dummy-was}
+use Rattle.sound_bridges.specs.Relation.{Spot, corner-ahead, after-in, Bridge, Ends, Numbers, numbers, spot1, spot2, Bridged, ka, off-k, off-a, mem-k, mem-a, low-1, low-2, D21, new-k, new-a, half-stays, half-was, dummy-stays, dummy-other, dummy-was}
 
 module _ {sh : Shape} {pt : List ℤ} {c d : Columns} {B : Bridge} (A : Sound sh pt c) (b : Bridged sh c d B) where
+  open Numbers (numbers sh B) using (n, a, D1, D2)
   open Bridge B using (k, l, l2, P1, P2)
   open Ends (b .ends) using (half-in, mate-in, loop-in, ring-in, two, at-1, at-2, in-1, in-2, keeps)
   open Bridged b using (start-k, start-a, start-o, loop-k, loop-a, loop-2, loop-o, next-k, next-a, next-1, next-2, next-o, prev-k, prev-a, prev-1, prev-2, prev-o, isolated-o)
-
-  -- how many half-edges there are at most
-  abbrev n : ℕ
-  n = 2 * sh .edges
-
-  -- k's mate
-  abbrev a : ℕ
-  a = mate k
-
-  -- the dummy of the loop
-  abbrev D1 : ℕ
-  D1 = 2 * sh .edges + l
-
-  -- the dummy of the ring
-  abbrev D2 : ℕ
-  D2 = 2 * sh .edges + l2
 
   -- the columns with dummies before
   abbrev H : Halves
@@ -126,15 +111,10 @@ module _ {sh : Shape} {pt : List ℤ} {c d : Columns} {B : Bridge} (A : Sound sh
     high-member h = ⊎-elim (λ e. absurd (omega (arith, h, mate-in .1, e)))
         (⊎-elim (λ e. absurd (omega (arith, h, half-in .1, e))) (⊎-elim (λ w. absurd (omega (arith, h, w .1))) (λ w. w)))
 
-    -- the first dummy is there or not
-    there-1 : U D1 ⊎ (¬ U D1)
-    there-1 = ⊎-elim (λ r. inl (inr (inr (subst (Member sh c) (r .0) (t1 .member)))))
-        (λ r. inr (λ w. high-member (omega (arith, loop-in .0)) w .2 (ap (c Isolated) (omega arith) ∙ r .4))) (t1 .which)
-
-    -- and the second
-    there-2 : U D2 ⊎ (¬ U D2)
-    there-2 = ⊎-elim (λ r. inl (inr (inr (subst (Member sh c) (r .0) (t2 .member)))))
-        (λ r. inr (λ w. high-member (omega (arith, ring-in .0)) w .2 (ap (c Isolated) (omega arith) ∙ r .4))) (t2 .which)
+    -- the dummy of a corner's loop is there or not
+    there : {s : Spot} → In (sh .loops) (s .l) → Seat sh c s → U (n + s .l) ⊎ (¬ U (n + s .l))
+    there i t = ⊎-elim (λ r. inl (inr (inr (subst (Member sh c) (r .0) (t .member)))))
+        (λ r. inr (λ w. high-member (omega (arith, i .0)) w .2 (ap (c Isolated) (omega arith) ∙ r .4))) (t .which)
 
     -- the second does not go to the first
     goes-D2 : G .next D2 ≢ D1
@@ -152,7 +132,7 @@ module _ {sh : Shape} {pt : List ℤ} {c d : Columns} {B : Bridge} (A : Sound sh
     -- the rules without the dummies
     passed⁺ : Rules⁺ sh Rest (passed G D1 D2)
     passed⁺ = pass-rules joined⁺ (mate⁺-mate⁺ (sh .edges)) D1 D2 (mate⁺-high (sh .edges) D1 (omega (arith, loop-in .0)))
-        (mate⁺-high (sh .edges) D2 (omega (arith, ring-in .0))) there-1 there-2 (D21 b) goes-D2
+        (mate⁺-high (sh .edges) D2 (omega (arith, ring-in .0))) (there loop-in t1) (there ring-in t2) (D21 b) goes-D2
 
     -- who is left is a member of d
     to-member : (i : ℕ) → Rest i → Member sh d i

@@ -23,27 +23,20 @@ use Rattle.sound_tables.specs.Walking.{Steps, runColumns, shows-relabel, run-me
 use Rattle.sound_tables.specs.FirstLow.{lower-one, lower-other, lower-new, first-low}
 use Rattle.sound_tables.specs.Shown.{shows-edge, shows-first}
 use Rattle.sound_tables.specs.Good.{own, Good, good-shows, good-after}
-use Rattle.sound_bridges.specs.Relation.{corner-away, before-in, after-in, Bridge, Ends, Bridged, off-k, off-a, new-k, new-a, half-stays}
+use Rattle.sound_bridges.specs.Relation.{corner-away, before-in, after-in, Bridge, Numbers, numbers, Ends, Bridged, off-k, off-a, new-k, new-a, half-stays}
 use Rattle.sound_bridges.specs.MekrSound.{up-sound}
 use Rattle.sound_bridges.specs.MekrRules.{up-rules}
 use Rattle.sound_bridges.specs.MekrColumns.{edgeList, mekrList, withLoops, loops-other, bridgeWrites, joinedLoops, mekrColumns, up-bridged, up-first, up-first-2}
 use Rattle.sound_bridges.specs.Runs.{Met, met?, run-to, met-in, met-next, met-first}
 
 module _ {sh : Shape} {x : List ℕ} {p : List ℤ} (g : Good sh x p) {B : Bridge} (o : Ends sh (own sh x) B) where
+  open Numbers (numbers sh B) using (n, a)
   open Bridge B using (k, l, l2, u1, P1, N1, u2, P2, N2)
   open Ends o using (half-in, mate-in, loop-in, ring-in, two, at-1, at-2, in-2, keeps)
 
   -- the columns before
   abbrev c : Columns
   c = own sh x
-
-  -- k's mate
-  abbrev a : ℕ
-  a = mate k
-
-  -- how many half-edges there are at most
-  abbrev n : ℕ
-  n = 2 * sh .edges
 
   -- the columns with the edge, before the ring has its new loop
   abbrev e₀ : Columns

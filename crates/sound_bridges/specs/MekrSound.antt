@@ -18,17 +18,14 @@ use Rattle.sound_tables.specs.Solids.{Solids}
 use Rattle.sound_tables.specs.Sound.{In, HalfUsed, FaceUsed, side, firstOf, LoopSound, HalfSound, HalfFree, Sound, half-by}
 use Rattle.sound_tables.specs.Names.{lone-kept}
 use Rattle.sound_tables.specs.WithDummies.{upTo-low, upTo-high, extended, Member, Corners, sound-corners, corners-rules, corners-loop, corners-vertex}
-use Rattle.sound_bridges.specs.Relation.{Spot, Bridge, Ends, Corner, Bridged, corner-before, corner-after, off-k, off-a, new-k, new-a, half-stays, half-was, free-loop, dummy-stays, side-same, side-k, side-a, same-name}
+use Rattle.sound_bridges.specs.Relation.{Spot, Bridge, Numbers, numbers, Ends, Corner, Bridged, corner-before, corner-after, off-k, off-a, new-k, new-a, half-stays, half-was, free-loop, dummy-stays, side-same, side-k, side-a, same-name}
 
 module _ {sh : Shape} {p : List ℤ} {c d : Columns} {B : Bridge} (a : Sound sh p c) (b : Bridged sh c d B)
     (rules⁺ : Rules (2 * sh .edges + sh .loops) (mate⁺ (sh .edges)) (Member sh d) (extended sh d)) (first-1 : d First (B .l) ≡ firstOf sh d (B .l)) (first-2 : d First (B .l2) ≡ 0) where
+  open Numbers (numbers sh B) using (n)
   open Bridge B using (k, l, l2, u1, u2)
   open Ends (b .ends) using (half-in, mate-in, loop-in, two, ring, at-1, at-2, in-1, in-2, used-1, used-2)
   open Bridged b using (start-k, start-a, start-o, loop-k, loop-a, loop-2, loop-o, next-o, prev-o, face-2, face-o, first-o, isolated-1, isolated-2, isolated-o, others)
-
-  -- how many half-edges there are at most
-  abbrev n : ℕ
-  n = 2 * sh .edges
 
   -- ---- members of loops and vertices
 

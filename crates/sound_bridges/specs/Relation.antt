@@ -125,6 +125,17 @@ spot1 B = record { l = B .l; u = B .u1; P = B .P1; N = B .N1; k = B .k; b = mate
 abbrev pub spot2 : Bridge → Spot
 spot2 B = record { l = B .l2; u = B .u2; P = B .P2; N = B .N2; k = mate (B .k); b = B .k }
 
+-- numbers that go with it: how many half-edges there are at most, k's mate, the dummies of l and of l2
+pub record Numbers : Type 0 where
+  pub n : ℕ
+  pub a : ℕ
+  pub D1 : ℕ
+  pub D2 : ℕ
+
+-- of a bridge
+abbrev pub numbers : Shape → Bridge → Numbers
+numbers sh B = record { n = 2 * sh .edges; a = mate (B .k); D1 = 2 * sh .edges + B .l; D2 = 2 * sh .edges + B .l2 }
+
 -- the fields that a bridge changes
 abbrev pub touched : List Field
 touched = Start ∷ Loop ∷ Next ∷ Prev ∷ Face ∷ First ∷ Isolated ∷ []
