@@ -23,7 +23,7 @@ use Rattle.sound_tables.specs.Names.{not-isolated, lone-used, free-zero, free-h
 use Rattle.sound_tables.specs.Good.{own, Good, good-shows}
 use Rattle.sound_tables.specs.CornerTest.{CornerAt, cornerLeft}
 use Rattle.sound_tables.specs.Undone.{Kept, Undone}
-use Rattle.sound_bridges.specs.Relation.{Spot, Corner, Bridge, Ends, Bridged, off-k, off-a}
+use Rattle.sound_bridges.specs.Relation.{Spot, Corner, foundAt, spot1, spot2, Bridge, Ends, Bridged, off-k, off-a}
 use Rattle.sound_bridges.specs.Unique.{Alike, down-same, up-same}
 use Rattle.sound_bridges.specs.MekrColumns.{mekrList, mekrColumns, up-bridged}
 use Rattle.sound_bridges.specs.MekrShown.{mekr-sound, mekr-shows, mekr-good}
@@ -120,42 +120,41 @@ module _ {sh : Shape} {x : List ℕ} {p : List ℤ} (g : Good sh x p) {l h1 l2 h
   gy : Good sh y p
   gy = mekr-good g ends
 
+  open Ends ends using (half-in, mate-in, in-1)
+  open Bridged b using (start-k, start-a, loop-k, loop-a, next-k, next-a, prev-k, prev-a, face-2)
+
   -- k and its mate are in one loop there
   span : Span sh (own sh y) k l2
-  span =
-      let hi = b .ends .half-in .1 in
-      let mi = b .ends .mate-in .1 in
-      record {
-        half = (b .ends .half-in .0, hi, λ z. omega (arith, b .ends .in-1 .0, sym (b .start-k) ∙ sym (s .at Start k hi) ∙ z));
-        one = s .at Loop (mate k) mi ∙ b .loop-a ∙ sym (s .at Loop k hi ∙ b .loop-k);
-        ring-in = r .ring-in;
-        free = s .at Face l2 (r .ring-in .1) ∙ b .face-2;
-      }
+  span = record {
+    half = (half-in .0, half-in .1, λ z. omega (arith, in-1 .0, sym start-k ∙ sym (s .at Start k (half-in .1)) ∙ z));
+    one = s .at Loop (mate k) (mate-in .1) ∙ loop-a ∙ sym (s .at Loop k (half-in .1) ∙ loop-k);
+    ring-in = r .ring-in;
+    free = s .at Face l2 (r .ring-in .1) ∙ face-2;
+  }
 
   -- the bridge is read there as it was made
   read-up : spanBridge (own sh y) k l2 ≡ B
-  read-up =
-      let hi = b .ends .half-in .1 in
-      let mi = b .ends .mate-in .1 in
-      λ t. record {
-        k = k;
-        l = (s .at Loop k hi ∙ b .loop-k) t;
-        l2 = l2;
-        u1 = (s .at Start k hi ∙ b .start-k) t;
-        P1 = (s .at Prev k hi ∙ b .prev-k) t;
-        N1 = (s .at Next (mate k) mi ∙ b .next-a) t;
-        u2 = (s .at Start (mate k) mi ∙ b .start-a) t;
-        P2 = (s .at Prev (mate k) mi ∙ b .prev-a) t;
-        N2 = (s .at Next k hi ∙ b .next-k) t;
-      }
+  read-up = λ t. record {
+    k = k;
+    l = (s .at Loop k (half-in .1) ∙ loop-k) t;
+    l2 = l2;
+    u1 = (s .at Start k (half-in .1) ∙ start-k) t;
+    P1 = (s .at Prev k (half-in .1) ∙ prev-k) t;
+    N1 = (s .at Next (mate k) (mate-in .1) ∙ next-a) t;
+    u2 = (s .at Start (mate k) (mate-in .1) ∙ start-a) t;
+    P2 = (s .at Prev (mate k) (mate-in .1) ∙ prev-a) t;
+    N2 = (s .at Next k (half-in .1) ∙ next-k) t;
+  }
 
   -- kemr leads back to the same columns
   mekr-back : Alike sh (kemrColumns sh (own sh y) k l2 (walk (gy .sound) span .0)) (own sh x)
   mekr-back = down-same (kemr-sound gy span) (g .sound) (subst (Bridged sh _ _) read-up (down-bridged (gy .sound) span)) b (λ F i v h. s .at F i h)
 
-  -- what comes after the two halves is read as the corner
-  behind-as : {m h k′ : ℕ} → CornerAt sh c m h → ((i : ℕ) → HalfUsed sh c i → i ≢ k′) → pick (eqb (pick (eqb h 0) k′ h) k′) 0 (pick (eqb h 0) k′ h) ≡ h
-  behind-as {h = h} {k′ = k′} q off = ⊎-elim (λ v. rw (eqb-same (v .0), eqb-same {m = k′} refl) (sym (v .0))) (λ v. let z : h ≢ 0 = λ j. omega (arith, v .0 .0, j) in rw (eqb-other z, eqb-other (off h (v .0)))) q
+  -- each corner is found where it was said
+  found-at : {m h k′ : ℕ} (b′ : ℕ) → CornerAt sh c m h → ((i : ℕ) → HalfUsed sh c i → i ≢ k′) → foundAt (spotOf c m h k′ b′) ≡ h
+  found-at {h = h} {k′ = k′} b′ q off = ⊎-elim
+      (λ v. rw (eqb-same (v .0), eqb-same {m = k′} refl) (sym (v .0)))
+      (λ v. let z : h ≢ 0 = λ j. omega (arith, v .0 .0, j) in rw (eqb-other z, eqb-other (off h (v .0)))) q
 
   -- kemr gives everything back
   mekr-undone : Undone sh x p (mekrOf l h1 l2 h2 e w)
@@ -168,8 +167,9 @@ module _ {sh : Shape} {x : List ℕ} {p : List ℤ} (g : Good sh x p) {l h1 l2 h
         links = rw (el, ei) (kemr-links sh y (g .capacities) span ∙ shows-ext (kemr-shows gy span) (good-shows g) mekr-back);
         points = rw (el, ep, ei) (kemr-points sh y (g .capacities) span p);
         again = rw (el, ep, ei) (kemr-inverse sh y (g .capacities) span p
-            ∙ ap (λ Z. mekrOf (Z .l) (pick (eqb (Z .N1) k) 0 (Z .N1)) l2 (pick (eqb (Z .N2) (mate k)) 0 (Z .N2)) (edgeOf k) (wayOf k)) read-up
-            ∙ (λ t. mekrOf l (behind-as (r .at-1) (off-k b) t) l2 (behind-as (r .at-2) (off-a b) t) ((ap edgeOf (sym hk) ∙ edge-by e w (r .edge-in .0)) t) ((ap wayOf (sym hk) ∙ way-by e w (r .edge-in .0) (r .way)) t)));
+            ∙ ap (λ Z. mekrOf (Z .l) (foundAt (spot1 Z)) (Z .l2) (foundAt (spot2 Z)) (edgeOf (Z .k)) (wayOf (Z .k))) read-up
+            ∙ (λ t. mekrOf l (found-at (mate k) (r .at-1) (off-k b) t) l2 (found-at k (r .at-2) (off-a b) t)
+            ((ap edgeOf (sym hk) ∙ edge-by e w (r .edge-in .0)) t) ((ap wayOf (sym hk) ∙ way-by e w (r .edge-in .0) (r .way)) t)));
       }
 
 -- ---- kemr
@@ -199,6 +199,8 @@ module _ {sh : Shape} {x : List ℕ} {p : List ℤ} (g : Good sh x p) {k l2 : �
   bₖ : Bridged sh cₖ (own sh x) (spanBridge (own sh x) k l2)
   bₖ = down-bridged (g .sound) o
 
+  open Ends (bₖ .ends) using (half-in, loop-in, ring-in, two, used, one-face, ring, at-1, at-2, in-1, in-2, zero-k, zero-a)
+
   -- the list shows them
   sₖ : Shows sh yₖ cₖ
   sₖ = kemr-shows g o
@@ -213,14 +215,14 @@ module _ {sh : Shape} {x : List ℕ} {p : List ℤ} (g : Good sh x p) {k l2 : �
 
   -- a corner is one of the list afterwards
   corner-at : {s : Spot} → Corner sh cₖ s → ((i : ℕ) → HalfUsed sh cₖ i → i ≢ s .k) → In (sh .loops) (s .l) → s .u ≢ 0
-      → CornerAt sh (own sh yₖ) (s .l) (pick (eqb (s .N) (s .k)) 0 (s .N))
+      → CornerAt sh (own sh yₖ) (s .l) (foundAt s)
   corner-at {s} q off i z = ⊎-elim
       (λ v. rw (eqb-same (v .after)) (inl (refl, λ t. z (sym (v .isolated) ∙ sym (sₖ .at Isolated (s .l) (i .1)) ∙ t))))
       (λ v. let w = v .after in rw (eqb-other (off (s .N) w)) (inr ((w .0, w .1, λ t. w .2 (sym (sₖ .at Start (s .N) (w .1)) ∙ t)), sₖ .at Loop (s .N) (w .1) ∙ v .loop))) q
 
   -- and is read there as it was
   read-back : {s : Spot} → Corner sh cₖ s → ((i : ℕ) → HalfUsed sh cₖ i → i ≢ s .k) → In (sh .loops) (s .l)
-      → spotOf (own sh yₖ) (s .l) (pick (eqb (s .N) (s .k)) 0 (s .N)) (s .k) (s .b) ≡ s
+      → spotOf (own sh yₖ) (s .l) (foundAt s) (s .k) (s .b) ≡ s
   read-back {s} q off i = ⊎-elim
       (λ v. rw (eqb-same (v .after)) (spot-is (sₖ .at Isolated (s .l) (i .1) ∙ v .isolated) (sym (v .before)) (sym (v .after))))
       (λ v. let w = v .after in let z : s .N ≢ 0 = λ t. omega (arith, w .0, t) in rw (eqb-other (off (s .N) w), eqb-other z)
@@ -233,27 +235,24 @@ module _ {sh : Shape} {x : List ℕ} {p : List ℤ} (g : Good sh x p) {k l2 : �
   -- mekr is accepted there
   facts : MekrFacts sh (own sh yₖ) (dₖ Loop k) h₁ l2 h₂ (edgeOf k) (wayOf k)
   facts =
-      let hi = bₖ .ends .half-in in
-      let li = bₖ .ends .loop-in in
-      let ri = bₖ .ends .ring-in in
-      let f-1 : own sh yₖ Face (dₖ Loop k) ≡ cₖ Face (dₖ Loop k) = sₖ .at Face (dₖ Loop k) (li .1) in
-      let f-2 : own sh yₖ Face l2 ≡ cₖ Face l2 = sₖ .at Face l2 (ri .1) in
-      let ru : cₖ Face l2 ≢ 0 = λ z. bₖ .ends .used (sym (bₖ .ends .one-face) ∙ z) in
-      let fi = kemr-sound g o .loop l2 ri ru .face-in in
-      let e2 : 2 * edgeOf k ≤ 2 * sh .edges = omega (arith, hi .1) in
+      let f-1 : own sh yₖ Face (dₖ Loop k) ≡ cₖ Face (dₖ Loop k) = sₖ .at Face (dₖ Loop k) (loop-in .1) in
+      let f-2 : own sh yₖ Face l2 ≡ cₖ Face l2 = sₖ .at Face l2 (ring-in .1) in
+      let ru : cₖ Face l2 ≢ 0 = λ z. used (sym one-face ∙ z) in
+      let fi = kemr-sound g o .loop l2 ring-in ru .face-in in
+      let e2 : 2 * edgeOf k ≤ 2 * sh .edges = omega (arith, half-in .1) in
       record {
-        loop-in = li;
-        loop-used = λ z. bₖ .ends .used (sym f-1 ∙ z);
-        at-1 = corner-at (bₖ .ends .at-1) (off-k bₖ) li (λ z. omega (arith, bₖ .ends .in-1 .0, z));
-        ring-in = ri;
+        loop-in = loop-in;
+        loop-used = λ z. used (sym f-1 ∙ z);
+        at-1 = corner-at at-1 (off-k bₖ) loop-in (λ z. omega (arith, in-1 .0, z));
+        ring-in = ring-in;
         ring-used = λ z. ru (sym f-2 ∙ z);
-        at-2 = corner-at (bₖ .ends .at-2) (off-a bₖ) ri (λ z. omega (arith, bₖ .ends .in-2 .0, z));
-        edge-in = edge-in k (sh .edges) hi;
-        edge-free = sₖ .at Start (2 * edgeOf k) e2 ∙ ⊎-elim (λ q. ap (cₖ Start) q ∙ bₖ .ends .zero-k .s) (λ q. ap (cₖ Start) q ∙ bₖ .ends .zero-a .s) (second-half k);
+        at-2 = corner-at at-2 (off-a bₖ) ring-in (λ z. omega (arith, in-2 .0, z));
+        edge-in = edge-in k (sh .edges) half-in;
+        edge-free = sₖ .at Start (2 * edgeOf k) e2 ∙ ⊎-elim (λ q. ap (cₖ Start) q ∙ zero-k .s) (λ q. ap (cₖ Start) q ∙ zero-a .s) (second-half k);
         way = way-small k;
-        two = bₖ .ends .two;
-        one-face = f-1 ∙ sym (f-2 ∙ bₖ .ends .one-face);
-        ring = λ z. bₖ .ends .ring (sym (sₖ .at Outer (cₖ Face l2) (fi .1)) ∙ ap (own sh yₖ Outer) (sym f-2) ∙ z);
+        two = two;
+        one-face = f-1 ∙ sym (f-2 ∙ one-face);
+        ring = λ z. ring (sym (sₖ .at Outer (cₖ Face l2) (fi .1)) ∙ ap (own sh yₖ Outer) (sym f-2) ∙ z);
       }
 
   -- the half that it names is k
@@ -263,8 +262,8 @@ module _ {sh : Shape} {x : List ℕ} {p : List ℤ} (g : Good sh x p) {k l2 : �
   -- mekr leads back to the same columns
   kemr-back : Alike sh (mekrColumns sh (own sh yₖ) (mekrBridge (own sh yₖ) k (dₖ Loop k) h₁ l2 h₂)) (own sh x)
   kemr-back =
-      let q1 = read-back (bₖ .ends .at-1) (off-k bₖ) (bₖ .ends .loop-in) in
-      let q2 = read-back (bₖ .ends .at-2) (off-a bₖ) (bₖ .ends .ring-in) in
+      let q1 = read-back at-1 (off-k bₖ) loop-in in
+      let q2 = read-back at-2 (off-a bₖ) ring-in in
       up-same (mekr-sound gₖ (ends gₖ facts hₖ)) (g .sound)
       (subst (Bridged sh _ _) (λ t. bridgeOf k (q1 t) (q2 t)) (up-bridged (ends gₖ facts hₖ))) bₖ (λ F i v h. sₖ .at F i h)
 

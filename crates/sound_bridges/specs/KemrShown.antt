@@ -24,7 +24,7 @@ use Rattle.sound_tables.specs.Walking.{runColumns, shows-relabel}
 use Rattle.sound_tables.specs.FirstLow.{first-low}
 use Rattle.sound_tables.specs.Shown.{withFirst, shows-no-edge, shows-first, shows-isolated}
 use Rattle.sound_tables.specs.Good.{own, Good, good-shows, good-after}
-use Rattle.sound_bridges.specs.Relation.{Spot, Corner, Bridge, Numbers, numbers, spot1, spot2, Ends, Bridged, off-k, off-a, new-a}
+use Rattle.sound_bridges.specs.Relation.{Spot, Corner, foundAt, Bridge, Numbers, numbers, spot1, spot2, Ends, Bridged, off-k, off-a, new-a}
 use Rattle.sound_bridges.specs.KemrSound.{down-sound}
 use Rattle.sound_bridges.specs.KemrRules.{down-rules}
 use Rattle.sound_bridges.specs.KemrColumns.{spanBridge, partedList, kemrList, cutColumns, kemrColumns, Span, walk, down-bridged, down-first, down-first-2}
@@ -97,7 +97,7 @@ module _ {sh : Shape} {x : List ℕ} {p : List ℤ} (g : Good sh x p) {k l2 : �
   renewed : {y : List ℕ} {e : Columns} (s : Spot) → Shows sh y e → Cycles (2 * sh .edges) (HalfUsed sh c) (e Next) (e Loop)
       → ((i : ℕ) → e Loop i ≡ c Loop i) → Corner sh c s → In (sh .loops) (s .l) → In (sh .vertices) (s .u)
       → ((i : ℕ) → HalfUsed sh c i → i ≢ s .k) → (s .l ≡ l2) ⊎ (s .l ≡ l)
-      → Shows sh (renew sh y (s .l) (own sh x First (own sh x Loop k)) (pick (eqb (s .N) (s .k)) 0 (s .N)) (s .u))
+      → Shows sh (renew sh y (s .l) (own sh x First (own sh x Loop k)) (foundAt s) (s .u))
       (withFirst e (s .l) (firstOf sh e (s .l)) (pick (eqb (s .N) (s .k)) (s .u) 0))
   renewed {e = e} s v cy el q i h off which = ⊎-elim
       (λ r.

@@ -7,7 +7,7 @@ use mathlib.Core.List.{List, [], _∷_}
 use Prim.Native.Nat.{ℕ, _+_, _-_, _*_, _≤_}
 use native.Mathlib.Omega.{arith}
 use lib.Dec.{eqb}
-use Rattle.laws.specs.Bools.{split, eqb-other}
+use Rattle.laws.specs.Bools.{pick, split, eqb-other}
 use Rattle.laws.specs.Permutations.{Perm, inj}
 use Rattle.layout.specs.declared.shape.Shape.{Shape}
 use Rattle.layout.specs.Mate.{mate}
@@ -48,6 +48,10 @@ pub record Real (sh : Shape) (c : Columns) (s : Spot) : Type 0 where
 -- one or the other
 abbrev pub Corner : Shape → Columns → Spot → Type 0
 Corner sh c s = Lone c s ⊎ Real sh c s
+
+-- the half-edge at which an operator finds it without the edge: the one after it, 0 where it is isolated
+abbrev pub foundAt : Spot → ℕ
+foundAt s = pick (eqb (s .N) (s .k)) 0 (s .N)
 
 module _ {sh : Shape} {c : Columns} {s : Spot} (q : Corner sh c s) where
   open Spot s using (l, u, P, N, k, b)
