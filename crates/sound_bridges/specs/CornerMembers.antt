@@ -77,3 +77,54 @@ module _ {sh : Shape} {c : Columns} {s : Spot} (t : Seat sh c s) where
   -- a dummy of the loop is there
   pub dummy-seat : Dummy sh c (2 * sh .edges + l) → (t .y ≡ 2 * sh .edges + l) × (t .z ≡ 2 * sh .edges + l) × (P ≡ b) × (N ≡ k)
   dummy-seat w = ⊎-elim (λ r. r) (λ r. absurd (w .2 (ap (c Isolated) (omega arith) ∙ r .4))) (t .which)
+
+-- ---- members of a loop and of a vertex
+
+-- loop m has a member
+abbrev pub LoopMember : Shape → Columns → ℕ → Type 0
+LoopMember sh c m = (j : ℕ) × Member sh c j × (extended sh c .loop j ≡ m)
+
+-- vertex v has one
+abbrev pub VertexMember : Shape → Columns → ℕ → Type 0
+VertexMember sh c v = (j : ℕ) × Member sh c j × (extended sh c .start j ≡ v)
+
+module _ (sh : Shape) (c : Columns) where
+  -- how many half-edges there are at most
+  abbrev n : ℕ
+  n = 2 * sh .edges
+
+  -- a half-edge of the loop
+  pub half-loop : (i : ℕ) {m : ℕ} → HalfUsed sh c i → c Loop i ≡ m → LoopMember sh c m
+  half-loop i w e = (i, inl w, upTo-low n (c Loop) _ i (w .1) ∙ e)
+
+  -- its dummy
+  pub lone-loop : (i : ℕ) {m : ℕ} → Dummy sh c i → i - n ≡ m → LoopMember sh c m
+  lone-loop i w e = (i, inr w, upTo-high n (c Loop) (λ j. j - n) i (w .0) ∙ e)
+
+  -- there is no other
+  pub of-loop : {A : Type 0} {m : ℕ} → LoopMember sh c m → ((i : ℕ) → HalfUsed sh c i → c Loop i ≡ m → A)
+      → ((i : ℕ) → Dummy sh c i → i - n ≡ m → A) → A
+  of-loop (i, q, e) f g = ⊎-elim (λ w. f i w (sym (upTo-low n (c Loop) _ i (w .1)) ∙ e))
+      (λ w. g i w (sym (upTo-high n (c Loop) (λ j. j - n) i (w .0)) ∙ e)) q
+
+  -- a half-edge that starts at the vertex
+  pub half-vertex : (i : ℕ) {v : ℕ} → HalfUsed sh c i → c Start i ≡ v → VertexMember sh c v
+  half-vertex i w e = (i, inl w, upTo-low n (c Start) _ i (w .1) ∙ e)
+
+  -- the dummy of a loop that is isolated there
+  pub lone-vertex : (i : ℕ) {v : ℕ} → Dummy sh c i → c Isolated (i - n) ≡ v → VertexMember sh c v
+  lone-vertex i w e = (i, inr w, upTo-high n (c Start) (λ j. c Isolated (j - n)) i (w .0) ∙ e)
+
+  -- there is no other
+  pub of-vertex : {A : Type 0} {v : ℕ} → VertexMember sh c v → ((i : ℕ) → HalfUsed sh c i → c Start i ≡ v → A)
+      → ((i : ℕ) → Dummy sh c i → c Isolated (i - n) ≡ v → A) → A
+  of-vertex (i, q, e) f g = ⊎-elim (λ w. f i w (sym (upTo-low n (c Start) _ i (w .1)) ∙ e))
+      (λ w. g i w (sym (upTo-high n (c Start) (λ j. c Isolated (j - n)) i (w .0)) ∙ e)) q
+
+  -- a corner is a member of its loop and of its vertex
+  pub corner-members : {s : Spot} → In (sh .loops) (s .l) → s .u ≢ 0 → Corner sh c s → LoopMember sh c (s .l) × VertexMember sh c (s .u)
+  corner-members {s} i x = ⊎-elim
+      (λ r.
+      let w = dummy-of sh c (s .l) i (λ e. x (sym (r .isolated) ∙ e)) in
+      (lone-loop (n + s .l) w (omega arith), lone-vertex (n + s .l) w (ap (c Isolated) (omega arith) ∙ r .isolated)))
+      (λ r. (half-loop (s .N) (r .after) (r .loop), half-vertex (s .N) (r .after) (r .start)))

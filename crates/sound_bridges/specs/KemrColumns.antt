@@ -97,7 +97,6 @@ module _ {sh : Shape} {p : List â„¤} {d : Columns} (A : Sound sh p d) {k l2 : â„
 
   open Numbers (numbers sh B) using (n, a)
   open Bridge B using (l, u1, P1, N1, u2, P2, N2)
-
   open Span o using (half, one, ring-in, free)
   open Sound A using (rules)
   open Rules (A .rules) using (undone, loops, verts)

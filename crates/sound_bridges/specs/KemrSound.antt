@@ -17,8 +17,9 @@ use Rattle.sound_tables.specs.EdgeIn.{Rules}
 use Rattle.sound_tables.specs.Solids.{Solids}
 use Rattle.sound_tables.specs.Sound.{In, HalfUsed, FaceUsed, side, firstOf, LoopSound, HalfSound, HalfFree, Sound, half-by}
 use Rattle.sound_tables.specs.Names.{lone-kept}
-use Rattle.sound_tables.specs.WithDummies.{upTo-low, upTo-high, extended, Member, Corners, sound-corners, corners-rules, corners-loop, corners-vertex}
-use Rattle.sound_bridges.specs.Relation.{Spot, Bridge, Numbers, numbers, Ends, Corner, Bridged, corner-before, corner-after, corner-member, off-k, off-a, half-stays, half-back, dummy-was, side-same, side-k, side-a, same-name}
+use Rattle.sound_tables.specs.WithDummies.{extended, Member, Corners, sound-corners, corners-rules, corners-loop, corners-vertex}
+use Rattle.sound_bridges.specs.CornerMembers.{LoopMember, VertexMember, half-loop, lone-loop, of-loop, half-vertex, lone-vertex, of-vertex, corner-members}
+use Rattle.sound_bridges.specs.Relation.{Spot, Bridge, Numbers, numbers, Ends, Corner, Bridged, corner-before, corner-after, off-k, off-a, half-stays, half-back, dummy-other, dummy-was, side-same, side-k, side-a, same-name}
 
 module _ {sh : Shape} {p : List ℤ} {c d : Columns} {B : Bridge} (a : Sound sh p d) (b : Bridged sh c d B)
     (rules⁺ : Rules (2 * sh .edges + sh .loops) (mate⁺ (sh .edges)) (Member sh c) (extended sh c)) (first-1 : c First (B .l) ≡ firstOf sh c (B .l)) (first-2 : c First (B .l2) ≡ firstOf sh c (B .l2)) where
@@ -30,32 +31,31 @@ module _ {sh : Shape} {p : List ℤ} {c d : Columns} {B : Bridge} (a : Sound sh 
   -- ---- members of loops and vertices
 
   -- the members at the two corners
-  member-1 : (j : ℕ) × Member sh c j × (extended sh c .loop j ≡ l) × (extended sh c .start j ≡ u1)
-  member-1 = corner-member at-1 loop-in (λ z. omega (arith, in-1 .0, z))
+  members-1 : LoopMember sh c l × VertexMember sh c u1
+  members-1 = corner-members sh c loop-in (λ z. omega (arith, in-1 .0, z)) at-1
 
   -- and at the other
-  member-2 : (j : ℕ) × Member sh c j × (extended sh c .loop j ≡ l2) × (extended sh c .start j ≡ u2)
-  member-2 = corner-member at-2 ring-in (λ z. omega (arith, in-2 .0, z))
+  members-2 : LoopMember sh c l2 × VertexMember sh c u2
+  members-2 = corner-members sh c ring-in (λ z. omega (arith, in-2 .0, z)) at-2
 
-  -- one of another loop of c
-  loop-member : (m : ℕ) → m ≢ l → m ≢ l2 → (i : ℕ) → Member sh d i → extended sh d .loop i ≡ m → (j : ℕ) × Member sh c j × (extended sh c .loop j ≡ m)
-  loop-member m x y i (inl w) e =
-      let f : d Loop i ≡ m = sym (upTo-low n (d Loop) _ i (w .1)) ∙ e in
+  -- another loop of c has a member
+  loop-member : (m : ℕ) → m ≢ l → LoopMember sh d m → LoopMember sh c m
+  loop-member m x q = of-loop sh d q
+      (λ i w f.
       let ik : i ≢ k = λ z. x (sym f ∙ ap (d Loop) z ∙ loop-k) in
       let ia : i ≢ mate k = λ z. x (sym f ∙ ap (d Loop) z ∙ loop-a) in
-      (i, inl (half-back b i w ik ia), upTo-low n (c Loop) _ i (w .1) ∙ sym (loop-o i ik ia (λ q. x (sym f ∙ loop-2 i (w .0, w .1) q))) ∙ f)
-  loop-member m x y i (inr w) e = (i, inr (dummy-was b i w), upTo-high n (c Loop) (λ j. j - n) i (w .0) ∙ sym (upTo-high n (d Loop) (λ j. j - n) i (w .0)) ∙ e)
+      let i2 : c Loop i ≢ l2 = λ z. x (sym f ∙ loop-2 i (w .0, w .1) z) in
+      half-loop sh c i (half-back b i w ik ia) (sym (loop-o i ik ia i2) ∙ f))
+      (λ i w f. lone-loop sh c i (dummy-was b i w) f)
 
-  -- one of a vertex of c
-  vertex-member : (w : ℕ) → (i : ℕ) → Member sh d i → extended sh d .start i ≡ w → (j : ℕ) × Member sh c j × (extended sh c .start j ≡ w)
-  vertex-member w i (inl x) e =
-      let f : d Start i ≡ w = sym (upTo-low n (d Start) _ i (x .1)) ∙ e in
-      split i k (λ z. (member-1 .0, member-1 .1, member-1 .3 ∙ sym start-k ∙ ap (d Start) (sym z) ∙ f))
-      (λ z. split i (mate k) (λ z′. (member-2 .0, member-2 .1, member-2 .3 ∙ sym start-a ∙ ap (d Start) (sym z′) ∙ f))
-      (λ z′. (i, inl (half-back b i x z z′), upTo-low n (c Start) _ i (x .1) ∙ sym (start-o i z z′) ∙ f)))
-  vertex-member w i (inr x) e =
-      let y : (i - n ≢ l) × (i - n ≢ l2) = (λ q. x .2 (ap (d Isolated) q ∙ isolated-1), λ q. x .2 (ap (d Isolated) q ∙ isolated-2)) in
-      (i, inr (dummy-was b i x), upTo-high n (c Start) (λ j. c Isolated (j - n)) i (x .0) ∙ sym (isolated-o _ (y .0) (y .1)) ∙ sym (upTo-high n (d Start) (λ j. d Isolated (j - n)) i (x .0)) ∙ e)
+  -- a vertex of c has one
+  vertex-member : (v : ℕ) → VertexMember sh d v → VertexMember sh c v
+  vertex-member v q = of-vertex sh d q
+      (λ i w f. split i k (λ z. subst (VertexMember sh c) (sym start-k ∙ ap (d Start) (sym z) ∙ f) (members-1 .1))
+      (λ z. split i (mate k) (λ y. subst (VertexMember sh c) (sym start-a ∙ ap (d Start) (sym y) ∙ f) (members-2 .1))
+      (λ y. half-vertex sh c i (half-back b i w z y) (sym (start-o i z y) ∙ f))))
+      (λ i w f. let e = dummy-other b i w in
+      lone-vertex sh c i (dummy-was b i w) (sym (isolated-o _ (e .0) (e .1)) ∙ f))
 
   -- another loop in use in c is in use in d
   face-was : (m : ℕ) → m ≢ l2 → c Face m ≢ 0 → d Face m ≢ 0
@@ -65,9 +65,10 @@ module _ {sh : Shape} {p : List ℤ} {c d : Columns} {B : Bridge} (a : Sound sh 
   c-corners : Corners sh c
   c-corners = record {
     rules = rules⁺;
-    loop = λ m i h. split m l (λ e. (member-1 .0, member-1 .1, member-1 .2 ∙ sym e)) (λ e. split m l2 (λ f. (member-2 .0, member-2 .1, member-2 .2 ∙ sym f))
-        (λ f. let r = sound-corners a .loop m i (face-was m f h) in loop-member m e f (r .0) (r .1) (r .2)));
-    vertex = λ w i h. let r = sound-corners a .vertex w i (λ z. h (sym (others VertexUsed refl w) ∙ z)) in vertex-member w (r .0) (r .1) (r .2);
+    loop = λ m i h. split m l (λ e. subst (LoopMember sh c) (sym e) (members-1 .0))
+        (λ e. split m l2 (λ f. subst (LoopMember sh c) (sym f) (members-2 .0))
+        (λ f. loop-member m e (sound-corners a .loop m i (face-was m f h))));
+    vertex = λ w i h. vertex-member w (sound-corners a .vertex w i (λ z. h (sym (others VertexUsed refl w) ∙ z)));
   }
 
   -- ---- loops

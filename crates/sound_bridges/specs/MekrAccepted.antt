@@ -5,7 +5,7 @@ use mathlib.Core.Bool.{Bool, true, not}
 use mathlib.Core.List.{List, [], _∷_}
 use Prim.Native.Nat.{ℕ, _*_, _≤_}
 use native.Mathlib.Omega.{arith}
-use lib.Dec.{T, eqb, eqb→eq, lit≤, T-not, not-T}
+use lib.Dec.{T, eqb, leb, eqb→eq, lit≤, T-not, not-T}
 use lib.IntN.{ℤ, pos}
 use lib.ListN.{length, getD, replicate}
 use borrow.Author.Tests.{le-leb}
@@ -59,6 +59,10 @@ bridgeOf k s s2 = record {
 -- the bridge that mekr makes of half-edge k
 abbrev pub mekrBridge : Columns → (k l h1 l2 h2 : ℕ) → Bridge
 mekrBridge c k l h1 l2 h2 = bridgeOf k (spotOf c l h1 k (mate k)) (spotOf c l2 h2 (mate k) k)
+
+-- a small number is read as it stands
+read : {m : ℕ} → m ≤ 8192 → leb m 8192 ≡ true
+read {m} = le-leb m 8192
 
 -- what is asked of an accepted mekr
 pub record MekrFacts (sh : Shape) (c : Columns) (l h1 l2 h2 e w : ℕ) : Type 0 where
@@ -126,41 +130,42 @@ pub record MekrSaid (sh : Shape) (x : List ℕ) (o : Operator) : Type 0 where
 pub mekr-said : (sh : Shape) (x : List ℕ) (o : Operator) → Capacities sh → length (o .args) ≡ 8 → o .code ≡ 8 → refusalOf sh x o ≡ 0 → MekrSaid sh x o
 unfolding pattern rows useWord condition
 mekr-said sh x o caps len e h =
+    let v = operandOf o in
     let a = by-place sh x o 8 len refl e h in
     let r = a .range in
     let u = a .used in
     let n0 : Number (sh .loops) (getD (o .args) 0 (pos 0)) = number (limits sh) 6 _ refl refl (omega (arith, caps .loops)) (r 0 (lit≤ tt)) in
-    let n1 : (getD (o .args) 1 (pos 0) ≡ pos (operandOf o 1)) × (operandOf o 1 ≤ 2 * sh .edges) = number-or-none (limits sh) 10 _ refl (omega (arith, caps .edges)) (r 1 (lit≤ tt)) in
+    let n1 : (getD (o .args) 1 (pos 0) ≡ pos (v 1)) × (operandOf o 1 ≤ 2 * sh .edges) = number-or-none (limits sh) 10 _ refl (omega (arith, caps .edges)) (r 1 (lit≤ tt)) in
     let n2 : Number (sh .loops) (getD (o .args) 2 (pos 0)) = number (limits sh) 6 _ refl refl (omega (arith, caps .loops)) (r 2 (lit≤ tt)) in
-    let n3 : (getD (o .args) 3 (pos 0) ≡ pos (operandOf o 3)) × (operandOf o 3 ≤ 2 * sh .edges) = number-or-none (limits sh) 10 _ refl (omega (arith, caps .edges)) (r 3 (lit≤ tt)) in
+    let n3 : (getD (o .args) 3 (pos 0) ≡ pos (v 3)) × (operandOf o 3 ≤ 2 * sh .edges) = number-or-none (limits sh) 10 _ refl (omega (arith, caps .edges)) (r 3 (lit≤ tt)) in
     let n4 : Number (sh .edges) (getD (o .args) 4 (pos 0)) = number (limits sh) 8 _ refl refl (omega (arith, caps .edges)) (r 4 (lit≤ tt)) in
-    let n5 : (getD (o .args) 5 (pos 0) ≡ pos (operandOf o 5)) × (operandOf o 5 ≤ 1) = number-or-none (limits sh) 12 _ refl (lit≤ tt) (r 5 (lit≤ tt)) in
-    let s1 : operandOf o 1 ≤ 8192 = omega (arith, n1 .1, caps .edges) in
-    let s3 : operandOf o 3 ≤ 8192 = omega (arith, n3 .1, caps .edges) in
-    let is : o ≡ mekrOf (operandOf o 0) (operandOf o 1) (operandOf o 2) (operandOf o 3) (operandOf o 4) (operandOf o 5) = λ t. record {
+    let n5 : (getD (o .args) 5 (pos 0) ≡ pos (v 5)) × (operandOf o 5 ≤ 1) = number-or-none (limits sh) 12 _ refl (lit≤ tt) (r 5 (lit≤ tt)) in
+    let s1 : v 1 ≤ 8192 = omega (arith, n1 .1, caps .edges) in
+    let s3 : v 3 ≤ 8192 = omega (arith, n3 .1, caps .edges) in
+    let is : o ≡ mekrOf (v 0) (v 1) (v 2) (v 3) (v 4) (v 5) = λ t. record {
       code = e t;
       count = a .count t;
       args = (eight (o .args) len ∙ (λ i. n0 .is i ∷ n1 .0 i ∷ n2 .is i ∷ n3 .0 i ∷ n4 .is i ∷ n5 .0 i ∷ a .rest 6 (lit≤ tt) refl i ∷ a .rest 7 (lit≤ tt) refl i ∷ [])) t;
     } in
-    let t = mekr-test sh x (operandOf o 0) (operandOf o 1) (operandOf o 2) (operandOf o 3)
-    (rw (le-leb (operandOf o 0) 8192 (n0 .small), le-leb (operandOf o 1) 8192 s1, le-leb (operandOf o 2) 8192 (n2 .small), le-leb (operandOf o 3) 8192 s3) at (subst (λ q. condition sh x q ≡ true) is (a .holds))) in
+    let t = mekr-test sh x (v 0) (v 1) (v 2) (v 3)
+    (rw (read (n0 .small), read s1, read (n2 .small), read s3) at (subst (λ q. condition sh x q ≡ true) is (a .holds))) in
     record {
-      l = operandOf o 0;
-      h1 = operandOf o 1;
-      l2 = operandOf o 2;
-      h2 = operandOf o 3;
-      e = operandOf o 4;
-      w = operandOf o 5;
+      l = v 0;
+      h1 = v 1;
+      l2 = v 2;
+      h2 = v 3;
+      e = v 4;
+      w = v 5;
       is = is;
       facts = record {
         loop-in = n0 .range;
-        loop-used = use-old sh x 6 (operandOf o 0) (omega (arith, n0 .range)) refl (u 0 (lit≤ tt) (n0 .small));
-        at-1 = test-corner sh x (operandOf o 0) (operandOf o 1) (n1 .1) (u 1 (lit≤ tt) s1) (t .at-1);
+        loop-used = use-old sh x 6 (v 0) (omega (arith, n0 .range)) refl (u 0 (lit≤ tt) (n0 .small));
+        at-1 = test-corner sh x (v 0) (v 1) (n1 .1) (u 1 (lit≤ tt) s1) (t .at-1);
         ring-in = n2 .range;
-        ring-used = use-old sh x 6 (operandOf o 2) (omega (arith, n2 .range)) refl (u 2 (lit≤ tt) (n2 .small));
-        at-2 = test-corner sh x (operandOf o 2) (operandOf o 3) (n3 .1) (u 3 (lit≤ tt) s3) (t .at-2);
+        ring-used = use-old sh x 6 (v 2) (omega (arith, n2 .range)) refl (u 2 (lit≤ tt) (n2 .small));
+        at-2 = test-corner sh x (v 2) (v 3) (n3 .1) (u 3 (lit≤ tt) s3) (t .at-2);
         edge-in = n4 .range;
-        edge-free = use-new sh x 8 (operandOf o 4) (omega (arith, n4 .range)) refl (u 4 (lit≤ tt) (n4 .small));
+        edge-free = use-new sh x 8 (v 4) (omega (arith, n4 .range)) refl (u 4 (lit≤ tt) (n4 .small));
         way = n5 .1;
         two = t .two;
         one-face = t .one-face;
@@ -197,14 +202,14 @@ module _ (sh : Shape) (x : List ℕ) {l h1 l2 h2 e w : ℕ} (caps : Capacities s
         used = item-cons sh x o 6 _ 0 (small .0) (old-use sh x 6 l (omega (arith, r .loop-in .0)) refl (r .loop-used)) (item-cons sh x o 10 _ 1 (small .1) (corner-use sh x l h1 (r .at-1))
             (item-cons sh x o 6 _ 2 (small .2) (old-use sh x 6 l2 (omega (arith, r .ring-in .0)) refl (r .ring-used)) (item-cons sh x o 10 _ 3 (small .3) (corner-use sh x l2 h2 (r .at-2))
             (item-cons sh x o 8 _ 4 (small .4) (new-use sh x 8 e (omega (arith, r .edge-in .0)) refl (r .edge-free)) (item-cons sh x o 12 _ 5 (small .5) (use-none sh x 12 w refl refl) (unused-use sh x o 2 6))))));
-        holds = rw (le-leb l 8192 (small .0), le-leb h1 8192 (small .1), le-leb l2 8192 (small .2), le-leb h2 8192 (small .3)) (test-mekr sh x r);
+        holds = rw (read (small .0), read (small .1), read (small .2), read (small .3)) (test-mekr sh x r);
       })
 
   -- what it does to the list; k is the half that the way names
   pub mekr-links : (k : ℕ) → halfBy e w ≡ k → linksAfter sh x (mekrOf l h1 l2 h2 e w)
       ≡ mekrList sh x (mekrBridge (own sh x) k l h1 l2 h2)
   unfolding linksAfter mekrLinks mekrEdge
-  mekr-links k q = rw (le-leb l 8192 (small .0), le-leb h1 8192 (small .1), le-leb l2 8192 (small .2), le-leb h2 8192 (small .3), le-leb e 8192 (small .4), le-leb w 8192 (small .5), q)
+  mekr-links k q = rw (read (small .0), read (small .1), read (small .2), read (small .3), read (small .4), read (small .5), q)
 
   -- to the points
   pub mekr-points : (p : List ℤ) → pointsAfter sh x p (mekrOf l h1 l2 h2 e w) ≡ p

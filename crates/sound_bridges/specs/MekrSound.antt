@@ -17,7 +17,8 @@ use Rattle.sound_tables.specs.EdgeIn.{Rules}
 use Rattle.sound_tables.specs.Solids.{Solids}
 use Rattle.sound_tables.specs.Sound.{In, HalfUsed, FaceUsed, side, firstOf, LoopSound, HalfSound, HalfFree, Sound, half-by}
 use Rattle.sound_tables.specs.Names.{lone-kept}
-use Rattle.sound_tables.specs.WithDummies.{upTo-low, upTo-high, extended, Member, Corners, sound-corners, corners-rules, corners-loop, corners-vertex}
+use Rattle.sound_tables.specs.WithDummies.{extended, Dummy, Member, Corners, sound-corners, corners-rules, corners-loop, corners-vertex}
+use Rattle.sound_bridges.specs.CornerMembers.{LoopMember, VertexMember, half-loop, lone-loop, of-loop, half-vertex, lone-vertex, of-vertex}
 use Rattle.sound_bridges.specs.Relation.{Spot, Bridge, Numbers, numbers, Ends, Corner, Bridged, corner-before, corner-after, off-k, off-a, new-k, new-a, half-stays, half-was, free-loop, dummy-stays, side-same, side-k, side-a, same-name}
 
 module _ {sh : Shape} {p : List ℤ} {c d : Columns} {B : Bridge} (a : Sound sh p c) (b : Bridged sh c d B)
@@ -30,30 +31,25 @@ module _ {sh : Shape} {p : List ℤ} {c d : Columns} {B : Bridge} (a : Sound sh 
   -- ---- members of loops and vertices
 
   -- a loop of d has a member
-  loop-member : (m : ℕ) → m ≢ l2 → (i : ℕ) → Member sh c i → extended sh c .loop i ≡ m → (j : ℕ) × Member sh d j × (extended sh d .loop j ≡ m)
-  loop-member m x i (inl w) e =
-      let f : c Loop i ≡ m = sym (upTo-low n (c Loop) _ i (w .1)) ∙ e in
-      (i, inl (half-stays b i w), upTo-low n (d Loop) _ i (w .1) ∙ loop-o i (off-k b i w) (off-a b i w) (λ q. x (sym f ∙ q)) ∙ f)
-  loop-member m x i (inr w) e =
-      let f : i - n ≡ m = sym (upTo-high n (c Loop) (λ j. j - n) i (w .0)) ∙ e in
-      split (i - n) l
-      (λ z. (k, inl (new-k b), upTo-low n (d Loop) _ k (half-in .1) ∙ loop-k ∙ sym z ∙ f))
-      (λ z. (i, inr (dummy-stays b i z (λ q. x (sym f ∙ q)) w), upTo-high n (d Loop) (λ j. j - n) i (w .0) ∙ f))
+  loop-member : (m : ℕ) → m ≢ l2 → LoopMember sh c m → LoopMember sh d m
+  loop-member m x q = of-loop sh c q
+      (λ i w f. half-loop sh d i (half-stays b i w) (loop-o i (off-k b i w) (off-a b i w) (λ z. x (sym f ∙ z)) ∙ f))
+      (λ i w f. split (i - n) l (λ z. half-loop sh d k (new-k b) (loop-k ∙ sym z ∙ f))
+      (λ z. lone-loop sh d i (dummy-stays b i z (λ y. x (sym f ∙ y)) w) f))
 
-  -- an isolated corner is at its vertex
-  lone-vertex : {s : Spot} → Corner sh c s → c Isolated (s .l) ≢ 0 → c Isolated (s .l) ≡ s .u
-  lone-vertex q h = ⊎-elim (λ r. r .isolated) (λ r. absurd (h (r .isolated))) q
+  -- a dummy of an isolated corner is at its vertex
+  at-lone : {s : Spot} → Corner sh c s → (i : ℕ) → i - n ≡ s .l → Dummy sh c i → c Isolated (i - n) ≡ s .u
+  at-lone q i z w = ⊎-elim (λ r. ap (c Isolated) z ∙ r .isolated) (λ r. absurd (w .2 (ap (c Isolated) z ∙ r .isolated))) q
 
   -- a vertex of d has a member
-  vertex-member : (w : ℕ) → In (sh .vertices) w → (i : ℕ) → Member sh c i → extended sh c .start i ≡ w → (j : ℕ) × Member sh d j × (extended sh d .start j ≡ w)
-  vertex-member w y i (inl x) e = (i, inl (half-stays b i x), upTo-low n (d Start) _ i (x .1) ∙ start-o i (off-k b i x) (off-a b i x) ∙ sym (upTo-low n (c Start) _ i (x .1)) ∙ e)
-  vertex-member w y i (inr x) e =
-      let f : c Isolated (i - n) ≡ w = sym (upTo-high n (c Start) (λ j. c Isolated (j - n)) i (x .0)) ∙ e in
-      split (i - n) l
-      (λ z. (k, inl (new-k b), upTo-low n (d Start) _ k (half-in .1) ∙ start-k ∙ sym (lone-vertex at-1 (λ q. x .2 (ap (c Isolated) z ∙ q))) ∙ ap (c Isolated) (sym z) ∙ f))
+  vertex-member : (v : ℕ) → VertexMember sh c v → VertexMember sh d v
+  vertex-member v q = of-vertex sh c q
+      (λ i w f. half-vertex sh d i (half-stays b i w) (start-o i (off-k b i w) (off-a b i w) ∙ f))
+      (λ i w f. split (i - n) l
+      (λ z. half-vertex sh d k (new-k b) (start-k ∙ sym (at-lone at-1 i z w) ∙ f))
       (λ z. split (i - n) l2
-      (λ z′. (mate k, inl (new-a b), upTo-low n (d Start) _ (mate k) (mate-in .1) ∙ start-a ∙ sym (lone-vertex at-2 (λ q. x .2 (ap (c Isolated) z′ ∙ q))) ∙ ap (c Isolated) (sym z′) ∙ f))
-      (λ z′. (i, inr (dummy-stays b i z z′ x), upTo-high n (d Start) (λ j. d Isolated (j - n)) i (x .0) ∙ isolated-o _ z z′ ∙ f)))
+      (λ y. half-vertex sh d (mate k) (new-a b) (start-a ∙ sym (at-lone at-2 i y w) ∙ f))
+      (λ y. lone-vertex sh d i (dummy-stays b i z y w) (isolated-o _ z y ∙ f))))
 
   -- a loop in use in d was in use in c
   face-was : (m : ℕ) → d Face m ≢ 0 → (m ≢ l2) × (c Face m ≢ 0)
@@ -63,8 +59,8 @@ module _ {sh : Shape} {p : List ℤ} {c d : Columns} {B : Bridge} (a : Sound sh 
   d-corners : Corners sh d
   d-corners = record {
     rules = rules⁺;
-    loop = λ m i h. let x = face-was m h in let r = sound-corners a .loop m i (x .1) in loop-member m (x .0) (r .0) (r .1) (r .2);
-    vertex = λ w i h. let r = sound-corners a .vertex w i (λ z. h (others VertexUsed refl w ∙ z)) in vertex-member w i (r .0) (r .1) (r .2);
+    loop = λ m i h. let x = face-was m h in loop-member m (x .0) (sound-corners a .loop m i (x .1));
+    vertex = λ w i h. vertex-member w (sound-corners a .vertex w i (λ z. h (others VertexUsed refl w ∙ z)));
   }
 
   -- ---- loops
@@ -155,7 +151,7 @@ module _ {sh : Shape} {p : List ℤ} {c d : Columns} {B : Bridge} (a : Sound sh 
         (ap (d Solid) (ap (side d) (mate-mate k) ∙ side-k b ∙ sym (side-a b)))
         (λ i w. solid-of (side-same b (mate i) (a .rules .mate-in i w)) ∙ a .solids .edge i w ∙ sym (solid-of (side-same b i w)));
     one = λ f g x y e. map-linked (λ i. i)
-        (λ i j t. link (t .0, half-stays b (t .0) (t .1), side-same b (t .0) (t .1) ∙ t .2, side-same b (mate (t .0)) (a .rules .mate-in (t .0) (t .1)) ∙ t .3))
+        (λ i j (h, w, e, e′). link (h, half-stays b h w, side-same b h w ∙ e, side-same b (mate h) (a .rules .mate-in h w) ∙ e′))
         (a .solids .one f g (x .0, x .1, λ z. x .2 (others Solid refl f ∙ z)) (y .0, y .1, λ z. y .2 (others Solid refl g ∙ z)) (sym (others Solid refl f) ∙ e ∙ others Solid refl g));
   }
 

@@ -1,7 +1,7 @@
 -- Two tables that differ by a bridge: in c the loops l and l2 of one face, in d the one loop l with an edge k, a between two of their corners. mekr leads
 -- from c to d and kemr from d to c; what is said of the two together stands here once.
 use mathlib.Core.Path.{_≡_, sym, ap, _∙_, subst}
-use mathlib.Core.Logic.{_≢_, _⊎_, inl, inr, ⊎-elim}
+use mathlib.Core.Logic.{_≢_, _⊎_, ⊎-elim}
 use mathlib.Core.Bool.{false}
 use mathlib.Core.List.{List, [], _∷_}
 use Prim.Native.Nat.{ℕ, _+_, _-_, _*_, _≤_}
@@ -15,7 +15,7 @@ use Rattle.layout.specs.Fields.{Field, Outer, Face, First, Isolated, Start, Loo
 use Rattle.sound_tables.specs.Mates.{mate-other}
 use Rattle.sound_tables.specs.EdgeIn.{Zero}
 use Rattle.sound_tables.specs.Sound.{In, halves, HalfUsed, side}
-use Rattle.sound_tables.specs.WithDummies.{extended, Dummy, Member, upTo-low, dummy-of, dummy-loop, dummy-start}
+use Rattle.sound_tables.specs.WithDummies.{Dummy, Member}
 
 -- ---- corners
 
@@ -54,7 +54,7 @@ abbrev pub foundAt : Spot → ℕ
 foundAt s = pick (eqb (s .N) (s .k)) 0 (s .N)
 
 module _ {sh : Shape} {c : Columns} {s : Spot} (q : Corner sh c s) where
-  open Spot s using (l, u, P, N, k, b)
+  open Spot s using (l, P, N, k, b)
 
   -- what comes before it is the edge itself or in use
   pub corner-before : {i : ℕ} → i ≢ b → c Start i ≡ 0 → i ≢ P
@@ -88,23 +88,6 @@ module _ {sh : Shape} {c : Columns} {s : Spot} (q : Corner sh c s) where
   -- the one after it too
   pub after-in : In (2 * sh .edges) k → In (2 * sh .edges) N
   after-in i = ⊎-elim (λ r. subst (In (2 * sh .edges)) (sym (r .after)) i) (λ r. (r .after .0, r .after .1)) q
-
-  -- the member of its loop and of its vertex that it stands for
-  pub corner-member : In (sh .loops) l → u ≢ 0
-      → (j : ℕ) × Member sh c j × (extended sh c .loop j ≡ l) × (extended sh c .start j ≡ u)
-  corner-member i z = ⊎-elim
-      (λ r. (
-        2 * sh .edges + l,
-        inr (dummy-of sh c l i (λ e. z (sym (r .isolated) ∙ e))),
-        dummy-loop sh c l i,
-        dummy-start sh c l i ∙ r .isolated,
-      ))
-      (λ r. (
-        N,
-        inl (r .after),
-        upTo-low (2 * sh .edges) (c Loop) _ N (r .after .1) ∙ r .loop,
-        upTo-low (2 * sh .edges) (c Start) _ N (r .after .1) ∙ r .start,
-      )) q
 
 -- ---- the two tables
 
