@@ -20,8 +20,7 @@ use Rattle.sound_tables.specs.Walking.{run-other}
 use Rattle.sound_tables.specs.Good.{Good, own}
 use Rattle.sound_spurs.specs.KevSound.{Left, kevColumns}
 use Rattle.sound_spurs.specs.KevAccepted.{kevList, kev-shows}
-use Rattle.sound_bridges.specs.Lists.{kemrList}
-use Rattle.sound_bridges.specs.KemrColumns.{Span, walk}
+use Rattle.sound_bridges.specs.KemrColumns.{kemrList, Span, walk}
 use Rattle.sound_cuts.specs.KefPlace.{spotAt}
 use Rattle.sound_cuts.specs.KefShown.{tieP, tieN, tieP′, tieN′}
 use Rattle.sound_holes.specs.MfkrhSound.{RingFace}

@@ -17,15 +17,14 @@ use Rattle.layout.specs.declared.shape.Shape.{Shape}
 use Rattle.layout.specs.Mate.{mate}
 use Rattle.layout.specs.MateLaws.{mate-mate, mate-range}
 use Rattle.euler.specs.Operators.{faceIn}
-use Rattle.layout.specs.Fields.{Columns, SolidUsed, Solid, Outer, Face, Start, Loop, Next, Prev, VertexUsed}
+use Rattle.layout.specs.Fields.{Columns, SolidUsed, Solid, Outer, Face, Start, Loop, Next, VertexUsed}
 use Rattle.sound_tables.specs.Mates.{mate-other}
 use Rattle.sound_tables.specs.Cells.{Shows}
 use Rattle.sound_tables.specs.Sound.{In, HalfUsed}
 use Rattle.sound_tables.specs.Walking.{runColumns, run-met, run-off}
 use Rattle.sound_tables.specs.Good.{Good, own}
 use Rattle.sound_bridges.specs.Relation.{Bridged}
-use Rattle.sound_bridges.specs.Lists.{kemrList}
-use Rattle.sound_bridges.specs.KemrColumns.{Span, walk, kemrColumns, down-bridged}
+use Rattle.sound_bridges.specs.KemrColumns.{spanBridge, kemrList, Span, walk, kemrColumns, down-bridged}
 use Rattle.sound_bridges.specs.KemrShown.{kemr-shows}
 use Rattle.takedown.specs.Inversion.{inRing, ringHalf}
 use Rattle.inversion.specs.Counts.{solids, faces, loops, edges, vertices, isStray, strays, count-same}
@@ -48,16 +47,16 @@ module _ {sh : Shape} {x : List ℕ} {p : List ℤ} (g : Good sh x p) {k l2 : �
   v = kemr-shows g o
 
   -- before and after
-  pub b : Bridged sh (kemrColumns sh (own sh x) k l2 (walk (g .sound) o .0)) (own sh x) k (own sh x Loop k) l2 (own sh x Start k) (own sh x Prev k) (own sh x Next (mate k)) (own sh x Start (mate k)) (own sh x Prev (mate k)) (own sh x Next k)
+  pub b : Bridged sh (kemrColumns sh (own sh x) k l2 (walk (g .sound) o .0)) (own sh x) (spanBridge (own sh x) k l2)
   b = down-bridged (g .sound) o
 
   -- ---- what stays
 
   pub solid-same : (n : ℕ) → In (sh .faces) n → own sh (kemrList sh x k l2) Solid n ≡ own sh x Solid n
-  solid-same n i = v .at Solid n (i .1) ∙ sym (b .solid n)
+  solid-same n i = v .at Solid n (i .1) ∙ sym (b .others Solid refl n)
 
   pub mark-same : (n : ℕ) → In (sh .solids) n → own sh (kemrList sh x k l2) SolidUsed n ≡ own sh x SolidUsed n
-  mark-same n i = v .at SolidUsed n (i .1) ∙ sym (b .solid-used n)
+  mark-same n i = v .at SolidUsed n (i .1) ∙ sym (b .others SolidUsed refl n)
 
   pub face-same : (n : ℕ) → In (sh .loops) n → n ≢ l2 → own sh (kemrList sh x k l2) Face n ≡ own sh x Face n
   face-same n i d = v .at Face n (i .1) ∙ sym (b .face-o n d)
@@ -92,7 +91,7 @@ module _ {sh : Shape} {x : List ℕ} {p : List ℤ} (g : Good sh x p) {k l2 : �
       (λ i j d e. v .at Start i (j .1) ∙ sym (b .start-o i d e))
 
   pub kemr-vertices : vertices sh (kemrList sh x k l2) ≡ vertices sh x
-  kemr-vertices = vertices-is sh _ ∙ words-same (sh .vertices) _ _ (λ n i. v .at VertexUsed n (i .1) ∙ sym (b .vertex-used n)) ∙ sym (vertices-is sh x)
+  kemr-vertices = vertices-is sh _ ∙ words-same (sh .vertices) _ _ (λ n i. v .at VertexUsed n (i .1) ∙ sym (b .others VertexUsed refl n)) ∙ sym (vertices-is sh x)
 
   -- ---- the ring and the rest
 
@@ -147,7 +146,7 @@ module _ {sh : Shape} {x : List ℕ} {p : List ℤ} (g : Good sh x p) {k l2 : �
         let l = run-loop (q .j) (r .0) (r .1) (r .2) (q .range) d a in
         let m = rest-loop (mate (q .j)) off im (λ e. a (sym (mate-mate (q .j)) ∙ ap mate e)) (λ e. d (sym (mate-mate (q .j)) ∙ ap mate e ∙ mate-mate k)) in
         least-there n (inRing sh (kemrList sh x k l2) s) (q .j) (q .range)
-        (rw (l, m, face-new, solid-same f inf, ks, eqb-same {m = s} refl, v .at Outer f (inf .1) ∙ sym (b .outer f), eqb-other not-outer, eqb-other (loop-unnamed (g .sound) l2 (o .ring-in) (o .free) (mate (q .j)) im)))
+        (rw (l, m, face-new, solid-same f inf, ks, eqb-same {m = s} refl, v .at Outer f (inf .1) ∙ sym (b .others Outer refl f), eqb-other not-outer, eqb-other (loop-unnamed (g .sound) l2 (o .ring-in) (o .free) (mate (q .j)) im)))
       where
         f : ℕ
         f = own sh x Face (own sh x Loop k)

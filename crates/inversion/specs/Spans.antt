@@ -15,9 +15,8 @@ use Rattle.layout.specs.Fields.{Loop, Next}
 use Rattle.sound_tables.specs.Sound.{In, HalfUsed}
 use Rattle.sound_tables.specs.Names.{loop-unnamed}
 use Rattle.sound_tables.specs.Good.{Good, own}
-use Rattle.sound_bridges.specs.Lists.{kemrList}
 use Rattle.sound_bridges.specs.Runs.{met?}
-use Rattle.sound_bridges.specs.KemrColumns.{walk}
+use Rattle.sound_bridges.specs.KemrColumns.{kemrList, walk}
 use Rattle.sound_bridges.specs.KemrAccepted.{kemr-links}
 use Rattle.takedown.specs.Inversion.{solidAt, freeLoop, edgesLeft, inRing, ringHalf, spurHalf, crossedHalf, kemr}
 use Rattle.inversion.specs.Turn.{Ready}

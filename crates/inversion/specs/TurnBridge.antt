@@ -19,9 +19,8 @@ use Rattle.sound_tables.specs.Names.{free-zero}
 use Rattle.sound_tables.specs.Cells.{Shows}
 use Rattle.sound_tables.specs.Good.{Good, own}
 use Rattle.sound_spurs.specs.KevAccepted.{kevList, kevPoints, kev-links, kev-points}
-use Rattle.sound_bridges.specs.Relation.{Ends, Bridged}
-use Rattle.sound_bridges.specs.Lists.{mekrList}
-use Rattle.sound_bridges.specs.MekrColumns.{mekrColumns, up-bridged}
+use Rattle.sound_bridges.specs.Relation.{Bridge, Ends, Bridged}
+use Rattle.sound_bridges.specs.MekrColumns.{mekrList, mekrColumns, up-bridged}
 use Rattle.sound_bridges.specs.MekrShown.{mekr-shows, mekr-good}
 use Rattle.sound_bridges.specs.MekrAccepted.{MekrFacts, mekr-accepted, mekr-links, mekr-points}
 use Rattle.takedown.specs.Inversion.{solidAt, freeEdge, edgesLeft, isRingOf, ringOf, mekr, kev}
@@ -74,7 +73,21 @@ module _ {sh : Shape} {x : List ℕ} {p : List ℤ} (g : Good sh x p) {o l e u1 
   free-k : own sh x Start (2 * e - 1) ≡ 0
   free-k = split (own sh x Start (2 * e - 1)) 0 (λ z. z) (λ d. absurd (g .sound .rules .mate-in (2 * e - 1) (range .0 .0, range .0 .1, d) .2 free-m))
 
-  ends : Ends sh (own sh x) (2 * e - 1) o l u1 (mate (2 * e - 1)) (2 * e - 1) u2 (2 * e - 1) (mate (2 * e - 1))
+  -- the bridge: both its corners are isolated
+  abbrev bridge : Bridge
+  bridge = record {
+    k = 2 * e - 1;
+    l = o;
+    l2 = l;
+    u1 = u1;
+    P1 = mate (2 * e - 1);
+    N1 = 2 * e - 1;
+    u2 = u2;
+    P2 = 2 * e - 1;
+    N2 = mate (2 * e - 1);
+  }
+
+  ends : Ends sh (own sh x) bridge
   ends = record {
     half-in = range .0;
     mate-in = range .1;
@@ -97,18 +110,18 @@ module _ {sh : Shape} {x : List ℕ} {p : List ℤ} (g : Good sh x p) {o l e u1 
 
   -- the table between
   abbrev x₁ : List ℕ
-  x₁ = mekrList sh x (2 * e - 1) o l u1 (mate (2 * e - 1)) (2 * e - 1) u2 (2 * e - 1) (mate (2 * e - 1))
+  x₁ = mekrList sh x bridge
 
-  links₁ : linksAfter sh x (mekr o l e) ≡ mekrList sh x (2 * e - 1) o l u1 (mate (2 * e - 1)) (2 * e - 1) u2 (2 * e - 1) (mate (2 * e - 1))
+  links₁ : linksAfter sh x (mekr o l e) ≡ mekrList sh x bridge
   links₁ = mekr-links sh x (g .capacities) r (2 * e - 1) refl ∙ rw (i1, i2)
 
-  good₁ : Good sh (mekrList sh x (2 * e - 1) o l u1 (mate (2 * e - 1)) (2 * e - 1) u2 (2 * e - 1) (mate (2 * e - 1))) p
+  good₁ : Good sh (mekrList sh x bridge) p
   good₁ = mekr-good g ends
 
-  v : Shows sh (mekrList sh x (2 * e - 1) o l u1 (mate (2 * e - 1)) (2 * e - 1) u2 (2 * e - 1) (mate (2 * e - 1))) (mekrColumns sh (own sh x) (2 * e - 1) o l u1 (mate (2 * e - 1)) (2 * e - 1) u2 (2 * e - 1) (mate (2 * e - 1)))
+  v : Shows sh (mekrList sh x bridge) (mekrColumns sh (own sh x) bridge)
   v = mekr-shows g ends
 
-  b : Bridged sh (own sh x) (mekrColumns sh (own sh x) (2 * e - 1) o l u1 (mate (2 * e - 1)) (2 * e - 1) u2 (2 * e - 1) (mate (2 * e - 1))) (2 * e - 1) o l u1 (mate (2 * e - 1)) (2 * e - 1) u2 (2 * e - 1) (mate (2 * e - 1))
+  b : Bridged sh (own sh x) (mekrColumns sh (own sh x) bridge) bridge
   b = up-bridged ends
 
   -- k is a spur there
@@ -127,7 +140,7 @@ module _ {sh : Shape} {x : List ℕ} {p : List ℤ} (g : Good sh x p) {o l e u1 
   -- ---- what is counted
 
   solid₂ : (n : ℕ) → In (sh .faces) n → own sh y Solid n ≡ own sh x Solid n
-  solid₂ n i = law .solid n i ∙ v .at Solid n (i .1) ∙ b .solid n
+  solid₂ n i = law .solid n i ∙ v .at Solid n (i .1) ∙ b .others Solid refl n
 
   face-gone : own sh y Face l ≡ 0
   face-gone = law .face l (r .ring-in) ∙ v .at Face l (r .ring-in .1) ∙ b .face-2
@@ -150,11 +163,11 @@ module _ {sh : Shape} {x : List ℕ} {p : List ℤ} (g : Good sh x p) {o l e u1 
 
   pub bridge-change : (RingAt sh x → ⊥) → Change sh x y 2 0
   bridge-change never =
-      let cs : solids sh x₁ ≡ solids sh x = solids-is sh _ ∙ words-same (sh .solids) _ _ (λ n i. v .at SolidUsed n (i .1) ∙ b .solid-used n) ∙ sym (solids-is sh x) in
-      let cf : faces sh x₁ ≡ faces sh x = faces-is sh _ ∙ words-same (sh .faces) _ _ (λ n i. v .at Solid n (i .1) ∙ b .solid n) ∙ sym (faces-is sh x) in
+      let cs : solids sh x₁ ≡ solids sh x = solids-is sh _ ∙ words-same (sh .solids) _ _ (λ n i. v .at SolidUsed n (i .1) ∙ b .others SolidUsed refl n) ∙ sym (solids-is sh x) in
+      let cf : faces sh x₁ ≡ faces sh x = faces-is sh _ ∙ words-same (sh .faces) _ _ (λ n i. v .at Solid n (i .1) ∙ b .others Solid refl n) ∙ sym (faces-is sh x) in
       let cl : suc (loops sh x₁) ≡ loops sh x = ap suc (loops-is sh _)
       ∙ words-fewer (sh .loops) _ _ l (r .ring-in) (v .at Face l (r .ring-in .1) ∙ b .face-2) (r .ring-used) (λ n i d. v .at Face n (i .1) ∙ b .face-o n d) ∙ sym (loops-is sh x) in
-      let cv : vertices sh x₁ ≡ vertices sh x = vertices-is sh _ ∙ words-same (sh .vertices) _ _ (λ n i. v .at VertexUsed n (i .1) ∙ b .vertex-used n) ∙ sym (vertices-is sh x) in
+      let cv : vertices sh x₁ ≡ vertices sh x = vertices-is sh _ ∙ words-same (sh .vertices) _ _ (λ n i. v .at VertexUsed n (i .1) ∙ b .others VertexUsed refl n) ∙ sym (vertices-is sh x) in
       let K = law in
       record {
         euler = omega (arith, cs, cf, cl, cv, edges₁, K .same-solids, K .same-faces, K .same-loops, K .fewer-edges, K .fewer-vertices);
@@ -183,11 +196,11 @@ module _ {sh : Shape} {x : List ℕ} {p : List ℤ} (g : Good sh x p) {o l e u1 
   -- what is known of it
   pub bridge-bare : Bare sh x y l
   bridge-bare = record {
-    mark = λ n i. law .mark n i ∙ v .at SolidUsed n (i .1) ∙ b .solid-used n;
+    mark = λ n i. law .mark n i ∙ v .at SolidUsed n (i .1) ∙ b .others SolidUsed refl n;
     solid = solid₂;
     face-gone = face-gone;
     face = face₂;
-    outer = λ n i. kev-outer good₁ used₁ next₁ n i ∙ v .at Outer n (i .1) ∙ b .outer n;
+    outer = λ n i. kev-outer good₁ used₁ next₁ n i ∙ v .at Outer n (i .1) ∙ b .others Outer refl n;
     half-free = λ i j z. path-good g bridge-path .sound .half-free i j z .loop;
     half = λ i w.
         let c = kev-goes good₁ used₁ next₁ .edge .used i w in

@@ -15,8 +15,7 @@ use Rattle.layout.specs.Fields.{Solid, Face, Loop}
 use Rattle.sound_tables.specs.Sound.{In, side}
 use Rattle.sound_tables.specs.Labels.{label-only, one-many}
 use Rattle.sound_tables.specs.Good.{Good, own}
-use Rattle.sound_bridges.specs.Lists.{kemrList}
-use Rattle.sound_bridges.specs.KemrColumns.{Span}
+use Rattle.sound_bridges.specs.KemrColumns.{kemrList, Span}
 use Rattle.sound_bridges.specs.KemrAccepted.{kemr-accepted, kemr-links, kemr-points}
 use Rattle.takedown.specs.Inversion.{solidAt, freeLoop, edgesLeft, isCrossed, crossedHalf, crossed, ofSolid, ringHalf, spurHalf, kemr}
 use Rattle.inversion.specs.Path.{there, first, acted, joinsIn}

@@ -23,21 +23,20 @@ use Rattle.sound_tables.specs.Names.{not-isolated, lone-used, free-zero, free-h
 use Rattle.sound_tables.specs.Good.{own, Good, good-shows}
 use Rattle.sound_tables.specs.CornerTest.{CornerAt, cornerLeft}
 use Rattle.sound_tables.specs.Undone.{Kept, Undone}
-use Rattle.sound_bridges.specs.Relation.{Corner, Bridged, off-k, off-a, Ends}
+use Rattle.sound_bridges.specs.Relation.{Spot, Corner, foundAt, spot1, spot2, Bridge, Ends, Bridged, off-k, off-a}
 use Rattle.sound_bridges.specs.Unique.{Alike, down-same, up-same}
-use Rattle.sound_bridges.specs.MekrColumns.{mekrColumns, up-bridged}
+use Rattle.sound_bridges.specs.MekrColumns.{mekrList, mekrColumns, up-bridged}
 use Rattle.sound_bridges.specs.MekrShown.{mekr-sound, mekr-shows, mekr-good}
-use Rattle.sound_bridges.specs.KemrColumns.{kemrColumns, Span, walk, down-bridged}
+use Rattle.sound_bridges.specs.KemrColumns.{spanBridge, kemrList, kemrColumns, Span, walk, down-bridged}
 use Rattle.sound_bridges.specs.KemrShown.{kemr-sound, kemr-shows, kemr-good}
-use Rattle.sound_bridges.specs.MekrAccepted.{mekrOf, MekrFacts, mekr-said, mekr-accepted, mekr-links, mekr-points}
+use Rattle.sound_bridges.specs.MekrAccepted.{mekrOf, spotOf, bridgeOf, mekrBridge, MekrFacts, mekr-said, mekr-accepted, mekr-links, mekr-points}
 use Rattle.sound_bridges.specs.KemrAccepted.{kemrOf, kemr-facts, kemr-accepted, kemr-links, kemr-points, kemr-inverse, mekr-inverse}
-use Rattle.sound_bridges.specs.Lists.{mekrList, kemrList}
 
 -- ---- the corners of mekr
 
 module _ {sh : Shape} {p : List ℤ} {c : Columns} (a : Sound sh p c) {l h : ℕ} (i : In (sh .loops) l) (q : CornerAt sh c l h) where
   -- a corner as the operator reads it
-  corner-of : (k b : ℕ) → Corner sh c l k b (pick (eqb h 0) (c Isolated l) (c Start h)) (pick (eqb h 0) b (c Prev h)) (pick (eqb h 0) k h)
+  corner-of : (k b : ℕ) → Corner sh c (spotOf c l h k b)
   corner-of k b = ⊎-elim
       (λ r. rw (eqb-same (r .0)) (inl (record { before = refl; after = refl; isolated = refl })))
       (λ r. let z : h ≢ 0 = λ e. omega (arith, r .0 .0, e) in rw (eqb-other z) (inr (record {
@@ -56,11 +55,6 @@ module _ {sh : Shape} {p : List ℤ} {c : Columns} (a : Sound sh p c) {l h : ℕ
       (λ r. let s = lone-used a l i (r .1) in rw (eqb-same (r .0)) (s .1, s .2))
       (λ r. let z : h ≢ 0 = λ e. omega (arith, r .0 .0, e) in let s = a .half h (r .0 .0, r .0 .1) (r .0 .2) in rw (eqb-other z) (s .start-in, s .start-used)) q
 
--- the same bridge, with the numbers said otherwise
-bridged-as : {sh : Shape} {c d : Columns} {k l l2 u1 P1 N1 u2 P2 N2 l′ u1′ P1′ N1′ u2′ P2′ N2′ : ℕ} → Bridged sh c d k l l2 u1 P1 N1 u2 P2 N2 → l ≡ l′ → u1 ≡ u1′ → P1 ≡ P1′ → N1 ≡ N1′ → u2 ≡ u2′ → P2 ≡ P2′ → N2 ≡ N2′
-    → Bridged sh c d k l′ l2 u1′ P1′ N1′ u2′ P2′ N2′
-bridged-as {sh} {c} {d} {k} {l2 = l2} b el e1 f1 g1 e2 f2 g2 = subst (λ (B : Type 0). B) (λ t. Bridged sh c d k (el t) l2 (e1 t) (f1 t) (g1 t) (e2 t) (f2 t) (g2 t)) b
-
 -- ---- mekr
 
 module _ {sh : Shape} {x : List ℕ} {p : List ℤ} (g : Good sh x p) {l h1 l2 h2 e w : ℕ} (r : MekrFacts sh (own sh x) l h1 l2 h2 e w) {k : ℕ} (hk : halfBy e w ≡ k) where
@@ -68,36 +62,16 @@ module _ {sh : Shape} {x : List ℕ} {p : List ℤ} (g : Good sh x p) {l h1 l2 h
   abbrev c : Columns
   c = own sh x
 
-  -- the vertex of the corner of l
-  abbrev u1 : ℕ
-  u1 = pick (eqb h1 0) (own sh x Isolated l) (own sh x Start h1)
-
-  -- what comes before it
-  abbrev P1 : ℕ
-  P1 = pick (eqb h1 0) (mate k) (own sh x Prev h1)
-
-  -- and after it
-  abbrev N1 : ℕ
-  N1 = pick (eqb h1 0) k h1
-
-  -- the vertex of the corner of l2
-  abbrev u2 : ℕ
-  u2 = pick (eqb h2 0) (own sh x Isolated l2) (own sh x Start h2)
-
-  -- what comes before it
-  abbrev P2 : ℕ
-  P2 = pick (eqb h2 0) k (own sh x Prev h2)
-
-  -- and after it
-  abbrev N2 : ℕ
-  N2 = pick (eqb h2 0) (mate k) h2
+  -- the bridge
+  abbrev B : Bridge
+  B = mekrBridge (own sh x) k l h1 l2 h2
 
   -- both halves are free
   free : In (2 * sh .edges) k × (c Start k ≡ 0) × (c Start (mate k) ≡ 0)
   free = subst (λ j. In (2 * sh .edges) j × (c Start j ≡ 0) × (c Start (mate j) ≡ 0)) hk (free-halves (g .sound) e w (r .edge-in) (r .edge-free))
 
   -- so mekr can be done
-  ends : Ends sh (own sh x) k l l2 u1 P1 N1 u2 P2 N2
+  ends : Ends sh (own sh x) (mekrBridge (own sh x) k l h1 l2 h2)
   ends =
       let m = mate-range k (sh .edges) (free .0 .0) (free .0 .1) in
       let v1 = corner-vertex (g .sound) (r .loop-in) (r .at-1) in
@@ -128,14 +102,14 @@ module _ {sh : Shape} {x : List ℕ} {p : List ℤ} (g : Good sh x p) {l h1 l2 h
 
   -- the list afterwards
   abbrev y : List ℕ
-  y = mekrList sh x k l l2 u1 P1 N1 u2 P2 N2
+  y = mekrList sh x B
 
   -- the columns afterwards
   abbrev d : Columns
-  d = mekrColumns sh (own sh x) k l l2 u1 P1 N1 u2 P2 N2
+  d = mekrColumns sh (own sh x) B
 
   -- before and after
-  b : Bridged sh (own sh x) d k l l2 u1 P1 N1 u2 P2 N2
+  b : Bridged sh (own sh x) d B
   b = up-bridged ends
 
   -- the list shows them
@@ -146,30 +120,41 @@ module _ {sh : Shape} {x : List ℕ} {p : List ℤ} (g : Good sh x p) {l h1 l2 h
   gy : Good sh y p
   gy = mekr-good g ends
 
+  open Ends ends using (half-in, mate-in, in-1)
+  open Bridged b using (start-k, start-a, loop-k, loop-a, next-k, next-a, prev-k, prev-a, face-2)
+
   -- k and its mate are in one loop there
   span : Span sh (own sh y) k l2
-  span =
-      let hi = b .ends .half-in .1 in
-      let mi = b .ends .mate-in .1 in
-      record {
-        half = (b .ends .half-in .0, hi, λ z. omega (arith, b .ends .in-1 .0, sym (b .start-k) ∙ sym (s .at Start k hi) ∙ z));
-        one = s .at Loop (mate k) mi ∙ b .loop-a ∙ sym (s .at Loop k hi ∙ b .loop-k);
-        ring-in = r .ring-in;
-        free = s .at Face l2 (r .ring-in .1) ∙ b .face-2;
-      }
+  span = record {
+    half = (half-in .0, half-in .1, λ z. omega (arith, in-1 .0, sym start-k ∙ sym (s .at Start k (half-in .1)) ∙ z));
+    one = s .at Loop (mate k) (mate-in .1) ∙ loop-a ∙ sym (s .at Loop k (half-in .1) ∙ loop-k);
+    ring-in = r .ring-in;
+    free = s .at Face l2 (r .ring-in .1) ∙ face-2;
+  }
+
+  -- the bridge is read there as it was made
+  read-up : spanBridge (own sh y) k l2 ≡ B
+  read-up = λ t. record {
+    k = k;
+    l = (s .at Loop k (half-in .1) ∙ loop-k) t;
+    l2 = l2;
+    u1 = (s .at Start k (half-in .1) ∙ start-k) t;
+    P1 = (s .at Prev k (half-in .1) ∙ prev-k) t;
+    N1 = (s .at Next (mate k) (mate-in .1) ∙ next-a) t;
+    u2 = (s .at Start (mate k) (mate-in .1) ∙ start-a) t;
+    P2 = (s .at Prev (mate k) (mate-in .1) ∙ prev-a) t;
+    N2 = (s .at Next k (half-in .1) ∙ next-k) t;
+  }
 
   -- kemr leads back to the same columns
   mekr-back : Alike sh (kemrColumns sh (own sh y) k l2 (walk (gy .sound) span .0)) (own sh x)
-  mekr-back =
-      let hi = b .ends .half-in .1 in
-      let mi = b .ends .mate-in .1 in
-      down-same (kemr-sound gy span) (g .sound)
-      (bridged-as (down-bridged (gy .sound) span) (s .at Loop k hi ∙ b .loop-k) (s .at Start k hi ∙ b .start-k) (s .at Prev k hi ∙ b .prev-k) (s .at Next (mate k) mi ∙ b .next-a)
-      (s .at Start (mate k) mi ∙ b .start-a) (s .at Prev (mate k) mi ∙ b .prev-a) (s .at Next k hi ∙ b .next-k)) b (λ F i v h. s .at F i h)
+  mekr-back = down-same (kemr-sound gy span) (g .sound) (subst (Bridged sh _ _) read-up (down-bridged (gy .sound) span)) b (λ F i v h. s .at F i h)
 
-  -- what comes after the two halves is read as the corner
-  behind-as : {m h k′ : ℕ} → CornerAt sh c m h → ((i : ℕ) → HalfUsed sh c i → i ≢ k′) → pick (eqb (pick (eqb h 0) k′ h) k′) 0 (pick (eqb h 0) k′ h) ≡ h
-  behind-as {h = h} {k′ = k′} q off = ⊎-elim (λ v. rw (eqb-same (v .0), eqb-same {m = k′} refl) (sym (v .0))) (λ v. let z : h ≢ 0 = λ j. omega (arith, v .0 .0, j) in rw (eqb-other z, eqb-other (off h (v .0)))) q
+  -- each corner is found where it was said
+  found-at : {m h k′ : ℕ} (b′ : ℕ) → CornerAt sh c m h → ((i : ℕ) → HalfUsed sh c i → i ≢ k′) → foundAt (spotOf c m h k′ b′) ≡ h
+  found-at {h = h} {k′ = k′} b′ q off = ⊎-elim
+      (λ v. rw (eqb-same (v .0), eqb-same {m = k′} refl) (sym (v .0)))
+      (λ v. let z : h ≢ 0 = λ j. omega (arith, v .0 .0, j) in rw (eqb-other z, eqb-other (off h (v .0)))) q
 
   -- kemr gives everything back
   mekr-undone : Undone sh x p (mekrOf l h1 l2 h2 e w)
@@ -177,17 +162,14 @@ module _ {sh : Shape} {x : List ℕ} {p : List ℤ} (g : Good sh x p) {l h1 l2 h
       let el = mekr-links sh x (g .capacities) r k hk in
       let ep = mekr-points sh x (g .capacities) r p in
       let ei = mekr-inverse sh x p (g .capacities) r ∙ ap (λ j. kemrOf j l2) hk in
-      let hi = b .ends .half-in .1 in
-      let mi = b .ends .mate-in .1 in
-      let e-l : own sh y Loop k ≡ l = s .at Loop k hi ∙ b .loop-k in
-      let e-1 : own sh y Next (mate k) ≡ N1 = s .at Next (mate k) mi ∙ b .next-a in
-      let e-2 : own sh y Next k ≡ N2 = s .at Next k hi ∙ b .next-k in
       record {
         accepted = rw (el, ei) (kemr-accepted sh y (g .capacities) span);
         links = rw (el, ei) (kemr-links sh y (g .capacities) span ∙ shows-ext (kemr-shows gy span) (good-shows g) mekr-back);
         points = rw (el, ep, ei) (kemr-points sh y (g .capacities) span p);
-        again = rw (el, ep, ei) (kemr-inverse sh y (g .capacities) span p ∙ (λ t. mekrOf (e-l t) (pick (eqb (e-1 t) k) 0 (e-1 t)) l2 (pick (eqb (e-2 t) (mate k)) 0 (e-2 t)) (edgeOf k) (wayOf k))
-            ∙ (λ t. mekrOf l (behind-as (r .at-1) (off-k b) t) l2 (behind-as (r .at-2) (off-a b) t) ((ap edgeOf (sym hk) ∙ edge-by e w (r .edge-in .0)) t) ((ap wayOf (sym hk) ∙ way-by e w (r .edge-in .0) (r .way)) t)));
+        again = rw (el, ep, ei) (kemr-inverse sh y (g .capacities) span p
+            ∙ ap (λ Z. mekrOf (Z .l) (foundAt (spot1 Z)) (Z .l2) (foundAt (spot2 Z)) (edgeOf (Z .k)) (wayOf (Z .k))) read-up
+            ∙ (λ t. mekrOf l (found-at (mate k) (r .at-1) (off-k b) t) l2 (found-at k (r .at-2) (off-a b) t)
+            ((ap edgeOf (sym hk) ∙ edge-by e w (r .edge-in .0)) t) ((ap wayOf (sym hk) ∙ way-by e w (r .edge-in .0) (r .way)) t)));
       }
 
 -- ---- kemr
@@ -214,8 +196,10 @@ module _ {sh : Shape} {x : List ℕ} {p : List ℤ} (g : Good sh x p) {k l2 : �
   yₖ = kemrList sh x k l2
 
   -- before and after
-  bₖ : Bridged sh cₖ (own sh x) k (dₖ Loop k) l2 (dₖ Start k) (dₖ Prev k) (dₖ Next (mate k)) (dₖ Start (mate k)) (dₖ Prev (mate k)) (dₖ Next k)
+  bₖ : Bridged sh cₖ (own sh x) (spanBridge (own sh x) k l2)
   bₖ = down-bridged (g .sound) o
+
+  open Ends (bₖ .ends) using (half-in, loop-in, ring-in, two, used, one-face, ring, at-1, at-2, in-1, in-2, zero-k, zero-a)
 
   -- the list shows them
   sₖ : Shows sh yₖ cₖ
@@ -230,44 +214,45 @@ module _ {sh : Shape} {x : List ℕ} {p : List ℤ} (g : Good sh x p) {k l2 : �
   kemr-kept = rw (kemr-links sh x (g .capacities) o, kemr-points sh x (g .capacities) o p) gₖ
 
   -- a corner is one of the list afterwards
-  corner-at : {m k′ b′ u P N : ℕ} → Corner sh cₖ m k′ b′ u P N → ((i : ℕ) → HalfUsed sh cₖ i → i ≢ k′) → In (sh .loops) m → u ≢ 0 → CornerAt sh (own sh yₖ) m (pick (eqb N k′) 0 N)
-  corner-at {m} {N = N} q off i z = ⊎-elim
-      (λ v. rw (eqb-same (v .after)) (inl (refl, λ t. z (sym (v .isolated) ∙ sym (sₖ .at Isolated m (i .1)) ∙ t))))
-      (λ v. let w = v .after in rw (eqb-other (off N w)) (inr ((w .0, w .1, λ t. w .2 (sym (sₖ .at Start N (w .1)) ∙ t)), sₖ .at Loop N (w .1) ∙ v .loop))) q
+  corner-at : {s : Spot} → Corner sh cₖ s → ((i : ℕ) → HalfUsed sh cₖ i → i ≢ s .k) → In (sh .loops) (s .l) → s .u ≢ 0
+      → CornerAt sh (own sh yₖ) (s .l) (foundAt s)
+  corner-at {s} q off i z = ⊎-elim
+      (λ v. rw (eqb-same (v .after)) (inl (refl, λ t. z (sym (v .isolated) ∙ sym (sₖ .at Isolated (s .l) (i .1)) ∙ t))))
+      (λ v. let w = v .after in rw (eqb-other (off (s .N) w)) (inr ((w .0, w .1, λ t. w .2 (sym (sₖ .at Start (s .N) (w .1)) ∙ t)), sₖ .at Loop (s .N) (w .1) ∙ v .loop))) q
 
   -- and is read there as it was
-  read-back : {m k′ b′ u P N : ℕ} → Corner sh cₖ m k′ b′ u P N → ((i : ℕ) → HalfUsed sh cₖ i → i ≢ k′) → In (sh .loops) m
-      → (pick (eqb (pick (eqb N k′) 0 N) 0) (own sh yₖ Isolated m) (own sh yₖ Start (pick (eqb N k′) 0 N)) ≡ u)
-      × (pick (eqb (pick (eqb N k′) 0 N) 0) b′ (own sh yₖ Prev (pick (eqb N k′) 0 N)) ≡ P)
-      × (pick (eqb (pick (eqb N k′) 0 N) 0) k′ (pick (eqb N k′) 0 N) ≡ N)
-  read-back {m} {N = N} q off i = ⊎-elim
-      (λ v. rw (eqb-same (v .after)) (sₖ .at Isolated m (i .1) ∙ v .isolated, sym (v .before), sym (v .after)))
-      (λ v. let w = v .after in let z : N ≢ 0 = λ t. omega (arith, w .0, t) in rw (eqb-other (off N w), eqb-other z) (sₖ .at Start N (w .1) ∙ v .start, sₖ .at Prev N (w .1) ∙ v .prev, refl)) q
+  read-back : {s : Spot} → Corner sh cₖ s → ((i : ℕ) → HalfUsed sh cₖ i → i ≢ s .k) → In (sh .loops) (s .l)
+      → spotOf (own sh yₖ) (s .l) (foundAt s) (s .k) (s .b) ≡ s
+  read-back {s} q off i = ⊎-elim
+      (λ v. rw (eqb-same (v .after)) (spot-is (sₖ .at Isolated (s .l) (i .1) ∙ v .isolated) (sym (v .before)) (sym (v .after))))
+      (λ v. let w = v .after in let z : s .N ≢ 0 = λ t. omega (arith, w .0, t) in rw (eqb-other (off (s .N) w), eqb-other z)
+      (spot-is (sₖ .at Start (s .N) (w .1) ∙ v .start) (sₖ .at Prev (s .N) (w .1) ∙ v .prev) refl)) q
+    where
+      -- the same corner, with its numbers said otherwise
+      spot-is : {u P N : ℕ} → u ≡ s .u → P ≡ s .P → N ≡ s .N → _≡_ {A = Spot} (record { l = s .l; u = u; P = P; N = N; k = s .k; b = s .b }) s
+      spot-is e f h = λ t. record { l = s .l; u = e t; P = f t; N = h t; k = s .k; b = s .b }
 
   -- mekr is accepted there
   facts : MekrFacts sh (own sh yₖ) (dₖ Loop k) h₁ l2 h₂ (edgeOf k) (wayOf k)
   facts =
-      let hi = bₖ .ends .half-in in
-      let li = bₖ .ends .loop-in in
-      let ri = bₖ .ends .ring-in in
-      let f-1 : own sh yₖ Face (dₖ Loop k) ≡ cₖ Face (dₖ Loop k) = sₖ .at Face (dₖ Loop k) (li .1) in
-      let f-2 : own sh yₖ Face l2 ≡ cₖ Face l2 = sₖ .at Face l2 (ri .1) in
-      let ru : cₖ Face l2 ≢ 0 = λ z. bₖ .ends .used (sym (bₖ .ends .one-face) ∙ z) in
-      let fi = kemr-sound g o .loop l2 ri ru .face-in in
-      let e2 : 2 * edgeOf k ≤ 2 * sh .edges = omega (arith, hi .1) in
+      let f-1 : own sh yₖ Face (dₖ Loop k) ≡ cₖ Face (dₖ Loop k) = sₖ .at Face (dₖ Loop k) (loop-in .1) in
+      let f-2 : own sh yₖ Face l2 ≡ cₖ Face l2 = sₖ .at Face l2 (ring-in .1) in
+      let ru : cₖ Face l2 ≢ 0 = λ z. used (sym one-face ∙ z) in
+      let fi = kemr-sound g o .loop l2 ring-in ru .face-in in
+      let e2 : 2 * edgeOf k ≤ 2 * sh .edges = omega (arith, half-in .1) in
       record {
-        loop-in = li;
-        loop-used = λ z. bₖ .ends .used (sym f-1 ∙ z);
-        at-1 = corner-at (bₖ .ends .at-1) (off-k bₖ) li (λ z. omega (arith, bₖ .ends .in-1 .0, z));
-        ring-in = ri;
+        loop-in = loop-in;
+        loop-used = λ z. used (sym f-1 ∙ z);
+        at-1 = corner-at at-1 (off-k bₖ) loop-in (λ z. omega (arith, in-1 .0, z));
+        ring-in = ring-in;
         ring-used = λ z. ru (sym f-2 ∙ z);
-        at-2 = corner-at (bₖ .ends .at-2) (off-a bₖ) ri (λ z. omega (arith, bₖ .ends .in-2 .0, z));
-        edge-in = edge-in k (sh .edges) hi;
-        edge-free = sₖ .at Start (2 * edgeOf k) e2 ∙ ⊎-elim (λ q. ap (cₖ Start) q ∙ bₖ .ends .zero-k .s) (λ q. ap (cₖ Start) q ∙ bₖ .ends .zero-a .s) (second-half k);
+        at-2 = corner-at at-2 (off-a bₖ) ring-in (λ z. omega (arith, in-2 .0, z));
+        edge-in = edge-in k (sh .edges) half-in;
+        edge-free = sₖ .at Start (2 * edgeOf k) e2 ∙ ⊎-elim (λ q. ap (cₖ Start) q ∙ zero-k .s) (λ q. ap (cₖ Start) q ∙ zero-a .s) (second-half k);
         way = way-small k;
-        two = bₖ .ends .two;
-        one-face = f-1 ∙ sym (f-2 ∙ bₖ .ends .one-face);
-        ring = λ z. bₖ .ends .ring (sym (sₖ .at Outer (cₖ Face l2) (fi .1)) ∙ ap (own sh yₖ Outer) (sym f-2) ∙ z);
+        two = two;
+        one-face = f-1 ∙ sym (f-2 ∙ one-face);
+        ring = λ z. ring (sym (sₖ .at Outer (cₖ Face l2) (fi .1)) ∙ ap (own sh yₖ Outer) (sym f-2) ∙ z);
       }
 
   -- the half that it names is k
@@ -275,13 +260,12 @@ module _ {sh : Shape} {x : List ℕ} {p : List ℤ} (g : Good sh x p) {k l2 : �
   hₖ = half-is k (o .half .0)
 
   -- mekr leads back to the same columns
-  kemr-back : Alike sh (mekrColumns sh (own sh yₖ) k (dₖ Loop k) l2
-      (pick (eqb h₁ 0) (own sh yₖ Isolated (dₖ Loop k)) (own sh yₖ Start h₁)) (pick (eqb h₁ 0) (mate k) (own sh yₖ Prev h₁)) (pick (eqb h₁ 0) k h₁)
-      (pick (eqb h₂ 0) (own sh yₖ Isolated l2) (own sh yₖ Start h₂)) (pick (eqb h₂ 0) k (own sh yₖ Prev h₂)) (pick (eqb h₂ 0) (mate k) h₂)) (own sh x)
+  kemr-back : Alike sh (mekrColumns sh (own sh yₖ) (mekrBridge (own sh yₖ) k (dₖ Loop k) h₁ l2 h₂)) (own sh x)
   kemr-back =
-      let q1 = read-back (bₖ .ends .at-1) (off-k bₖ) (bₖ .ends .loop-in) in
-      let q2 = read-back (bₖ .ends .at-2) (off-a bₖ) (bₖ .ends .ring-in) in
-      up-same (mekr-sound gₖ (ends gₖ facts hₖ)) (g .sound) (bridged-as (up-bridged (ends gₖ facts hₖ)) refl (q1 .0) (q1 .1) (q1 .2) (q2 .0) (q2 .1) (q2 .2)) bₖ (λ F i v h. sₖ .at F i h)
+      let q1 = read-back at-1 (off-k bₖ) loop-in in
+      let q2 = read-back at-2 (off-a bₖ) ring-in in
+      up-same (mekr-sound gₖ (ends gₖ facts hₖ)) (g .sound)
+      (subst (Bridged sh _ _) (λ t. bridgeOf k (q1 t) (q2 t)) (up-bridged (ends gₖ facts hₖ))) bₖ (λ F i v h. sₖ .at F i h)
 
   -- mekr gives everything back
   kemr-undone : Undone sh x p (kemrOf k l2)

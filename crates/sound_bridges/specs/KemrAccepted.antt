@@ -21,9 +21,8 @@ use Rattle.sound_tables.specs.Accepted.{use-new, new-use}
 use Rattle.sound_tables.specs.TwoOperands.{two-operands, two-accepted}
 use Rattle.sound_tables.specs.Good.{own, Capacities}
 use Rattle.sound_tables.specs.CornerTest.{cornerLeft}
-use Rattle.sound_bridges.specs.KemrColumns.{Span}
+use Rattle.sound_bridges.specs.KemrColumns.{kemrList, Span}
 use Rattle.sound_bridges.specs.MekrAccepted.{mekrOf, MekrFacts}
-use Rattle.sound_bridges.specs.Lists.{kemrList}
 
 -- kemr k l2
 abbrev pub kemrOf : ℕ → ℕ → Operator

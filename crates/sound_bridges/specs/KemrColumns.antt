@@ -1,7 +1,9 @@
--- The columns after kemr: they differ from those before by the bridge. The walk from next of k to its mate meets the half-edges of the new ring.
+-- What kemr leaves, as a list and as columns, and: these columns differ from those before by the bridge. The walk from next
+-- of k to its mate meets the half-edges of the new ring.
 use mathlib.Core.Path.{_≡_, refl, sym, ap, _∙_, subst}
 use mathlib.Core.Logic.{_≢_, inl, inr, ⊎-elim}
-use mathlib.Core.List.{List}
+use mathlib.Core.Bool.{false}
+use mathlib.Core.List.{List, [], _∷_, _++_}
 use Prim.Native.Nat.{ℕ, _*_, _<_}
 use native.Mathlib.Omega.{arith}
 use lib.Dec.{eqb}
@@ -13,27 +15,73 @@ use Rattle.laws.specs.Cycles.{alone}
 use Rattle.layout.specs.declared.shape.Shape.{Shape}
 use Rattle.layout.specs.Mate.{mate}
 use Rattle.layout.specs.MateLaws.{mate-mate}
-use Rattle.layout.specs.Fields.{Capacity, SolidUsed, Solid, Outer, Face, First, Isolated, Start, Loop, Next, Prev, VertexUsed, Columns, change}
+use Rattle.euler.specs.Surgery.{noEdgeWrites, loopRecord, edgeOut, putLoop, relabelRun, renew}
+use Rattle.layout.specs.Writes.{Write, write, changes}
+use Rattle.sound_tables.specs.WriteLaws.{not-among, others-stay}
+use Rattle.layout.specs.Fields.{Field, Outer, Face, First, Isolated, Start, Loop, Next, Prev, VertexUsed, Columns, among}
 use Rattle.sound_tables.specs.Mates.{mate-other}
-use Rattle.sound_tables.specs.EdgeIn.{prev-in, next-prev}
+use Rattle.sound_tables.specs.EdgeIn.{Rules, prev-in, next-prev}
 use Rattle.sound_tables.specs.Sound.{In, HalfUsed, firstOf, Sound}
 use Rattle.sound_tables.specs.Names.{not-isolated}
 use Rattle.sound_tables.specs.Walking.{Steps, runColumns, run-met, run-off, run-other}
-use Rattle.sound_tables.specs.Shown.{withoutEdge, withFirst}
-use Rattle.sound_bridges.specs.Relation.{Corner, Bridged}
+use Rattle.sound_tables.specs.Good.{own}
+use Rattle.sound_tables.specs.CornerTest.{cornerLeft}
+use Rattle.sound_bridges.specs.Relation.{Corner, Bridge, Numbers, numbers, spot1, spot2, touched, Bridged}
 use Rattle.sound_bridges.specs.Runs.{Met, met?, run-to, met-in, not-k, not-a, met-next, met-prev, met-last, met-first}
 
--- all but the firsts: the t half-edges of the run name l2, the edge is out, and l2 lies in the face of k
+-- ---- what kemr leaves
+
+-- the bridge k of the table d, whose far side becomes the ring l2
+abbrev pub spanBridge : Columns → (k l2 : ℕ) → Bridge
+spanBridge d k l2 = record {
+  k = k;
+  l = d Loop k;
+  l2 = l2;
+  u1 = d Start k;
+  P1 = d Prev k;
+  N1 = d Next (mate k);
+  u2 = d Start (mate k);
+  P2 = d Prev (mate k);
+  N2 = d Next k;
+}
+
+-- the list, before the two loops have their firsts
+abbrev pub partedList : Shape → List ℕ → (k l2 : ℕ) → List ℕ
+partedList sh x k l2 =
+    putLoop sh
+    (edgeOut sh (relabelRun sh x (own sh x Next k) (mate k) l2) k
+    (own sh x Prev k) (own sh x Next (mate k)) (own sh x Prev (mate k)) (own sh x Next k))
+    l2 (own sh x Face (own sh x Loop k)) 0 0
+
+-- and once they have
+abbrev pub kemrList : Shape → List ℕ → (k l2 : ℕ) → List ℕ
+kemrList sh x k l2 =
+    renew sh
+    (renew sh (partedList sh x k l2) l2 (own sh x First (own sh x Loop k))
+    (cornerLeft (own sh x) (mate k) k) (own sh x Start (mate k)))
+    (own sh x Loop k) (own sh x First (own sh x Loop k)) (cornerLeft (own sh x) k (mate k)) (own sh x Start k)
+
+-- the edge comes out, and l2 lies in the face of k
+abbrev pub cutWrites : Columns → (k l2 : ℕ) → List Write
+cutWrites d k l2 =
+    noEdgeWrites k (d Prev k) (d Next (mate k)) (d Prev (mate k)) (d Next k) ++ loopRecord l2 (d Face (d Loop k)) 0 0
+
+-- the columns, before the two loops have their firsts: the t half-edges of the run name l2
 abbrev pub cutColumns : Columns → (k l2 t : ℕ) → Columns
-cutColumns d k l2 t =
-    change (change (change (withoutEdge (runColumns d (d Next k) t l2) k (d Prev k) (d Next (mate k)) (d Prev (mate k)) (d Next k)) Face l2 (d Face (d Loop k))) First l2 0) Isolated l2 0
+cutColumns d k l2 t = changes (cutWrites d k l2) (runColumns d (d Next k) t l2)
+
+-- the firsts and the isolated vertices of the two loops
+abbrev pub firstWrites : Shape → Columns → (k l2 t : ℕ) → List Write
+firstWrites sh d k l2 t =
+    write First l2 (firstOf sh (cutColumns d k l2 t) l2)
+    ∷ write Isolated l2 (pick (eqb (d Next k) (mate k)) (d Start (mate k)) 0)
+    ∷ write First (d Loop k) (firstOf sh (cutColumns d k l2 t) (d Loop k))
+    ∷ write Isolated (d Loop k) (pick (eqb (d Next (mate k)) k) (d Start k) 0)
+    ∷ []
 
 -- the columns afterwards
 abbrev pub kemrColumns : Shape → Columns → (k l2 t : ℕ) → Columns
-kemrColumns sh d k l2 t =
-    withFirst
-    (withFirst (cutColumns d k l2 t) l2 (firstOf sh (cutColumns d k l2 t) l2) (pick (eqb (d Next k) (mate k)) (d Start (mate k)) 0))
-    (d Loop k) (firstOf sh (cutColumns d k l2 t) (d Loop k)) (pick (eqb (d Next (mate k)) k) (d Start k) 0)
+kemrColumns sh d k l2 t = changes (firstWrites sh d k l2 t) (cutColumns d k l2 t)
 
 -- what is asked of the table before: k and its mate are in one loop, and l2 is free
 pub record Span (sh : Shape) (d : Columns) (k l2 : ℕ) : Type 0 where
@@ -43,47 +91,29 @@ pub record Span (sh : Shape) (d : Columns) (k l2 : ℕ) : Type 0 where
   pub free : d Face l2 ≡ 0
 
 module _ {sh : Shape} {p : List ℤ} {d : Columns} (A : Sound sh p d) {k l2 : ℕ} (o : Span sh d k l2) where
-  -- k's mate
-  abbrev a : ℕ
-  a = mate k
+  -- the bridge
+  abbrev B : Bridge
+  B = spanBridge d k l2
 
-  -- the loop of both
-  abbrev l : ℕ
-  l = d Loop k
-
-  -- how many half-edges there are at most
-  abbrev n : ℕ
-  n = 2 * sh .edges
-
-  -- what follows the mate
-  abbrev N1 : ℕ
-  N1 = d Next (mate k)
-
-  -- what follows k
-  abbrev N2 : ℕ
-  N2 = d Next k
-
-  -- what comes before k
-  abbrev P1 : ℕ
-  P1 = d Prev k
-
-  -- what comes before the mate
-  abbrev P2 : ℕ
-  P2 = d Prev (mate k)
+  open Numbers (numbers sh B) using (n, a)
+  open Bridge B using (l, u1, P1, N1, u2, P2, N2)
+  open Span o using (half, one, ring-in, free)
+  open Sound A using (rules)
+  open Rules (A .rules) using (undone, loops, verts)
 
   -- next permutes the half-edges in use
   perm : Perm (2 * sh .edges) (HalfUsed sh d) (d Next)
-  perm = A .rules .loops .perm
+  perm = loops .perm
 
   -- ---- around the edge
 
   -- the mate is in use
   ua : HalfUsed sh d a
-  ua = A .rules .mate-in k (o .half)
+  ua = rules .mate-in k half
 
   -- the two halves differ
   ka : k ≢ a
-  ka = mate-other k (o .half .0)
+  ka = mate-other k (half .0)
 
   -- the same the other way round
   ak : a ≢ k
@@ -95,33 +125,33 @@ module _ {sh : Shape} {p : List ℤ} {d : Columns} (A : Sound sh p d) {k l2 : �
 
   -- neither half is alone in its loop
   N2k : N2 ≢ k
-  N2k e = ak (alone (A .rules .loops) (o .half) e a ua (o .one))
+  N2k e = ak (alone loops half e a ua one)
 
   -- the mate is not
   N1a : N1 ≢ a
-  N1a e = ka (alone (A .rules .loops) ua e k (o .half) (sym (o .one)))
+  N1a e = ka (alone loops ua e k half (sym one))
 
   -- nor does k come before itself
   P1k : P1 ≢ k
-  P1k e = N2k (ap (d Next) (sym e) ∙ next-prev (A .rules) k (o .half))
+  P1k e = N2k (ap (d Next) (sym e) ∙ next-prev rules k half)
 
   -- nor the mate
   P2a : P2 ≢ a
-  P2a e = N1a (ap (d Next) (sym e) ∙ next-prev (A .rules) a ua)
+  P2a e = N1a (ap (d Next) (sym e) ∙ next-prev rules a ua)
 
   -- different half-edges come before the two
   P12 : P1 ≢ P2
-  P12 e = ka (sym (next-prev (A .rules) k (o .half)) ∙ ap (d Next) e ∙ next-prev (A .rules) a ua)
+  P12 e = ka (sym (next-prev rules k half) ∙ ap (d Next) e ∙ next-prev rules a ua)
 
   -- and different ones follow them
   N12 : N1 ≢ N2
-  N12 e = ak (inj perm ua (o .half) e)
+  N12 e = ak (inj perm ua half e)
 
   -- ---- the walk
 
   -- how long it is
   pub walk : (t : ℕ) × (t < 2 * sh .edges) × Steps (d Next) (d Next k) (mate k) t
-  walk = run-to (A .rules .loops) (next-in k (o .half)) ua (A .rules .loops .keeps k (o .half) ∙ sym (o .one))
+  walk = run-to loops (next-in k half) ua (loops .keeps k half ∙ sym one)
 
   -- i is met on the way
   abbrev OnRun : ℕ → Type 0
@@ -168,27 +198,27 @@ module _ {sh : Shape} {p : List ℤ} {d : Columns} (A : Sound sh p d) {k l2 : �
 
   -- the loop is in use and the ring is not
   two : l ≢ l2
-  two e = A .half k (o .half .0, o .half .1) (o .half .2) .loop-used (ap (d Face) e ∙ o .free)
+  two e = A .half k (half .0, half .1) (half .2) .loop-used (ap (d Face) e ∙ free)
 
   -- no half-edge named the ring
   not-l2 : (i : ℕ) → In n i → d Loop i ≢ l2
-  not-l2 i j e = split (d Start i) 0 (λ z. omega (arith, o .ring-in .0, sym e ∙ A .half-free i j z .loop)) (λ z. A .half i j z .loop-used (ap (d Face) e ∙ o .free))
+  not-l2 i j e = split (d Start i) 0 (λ z. omega (arith, ring-in .0, sym e ∙ A .half-free i j z .loop)) (λ z. A .half i j z .loop-used (ap (d Face) e ∙ free))
 
   -- what follows the mate is not met
   N1-off : OnRun N1 → ⊥
-  N1-off m = ⊎-elim ak (not-a perm (o .half) (walk .2)) (met-prev perm (o .half) (walk .2) ua m)
+  N1-off m = ⊎-elim ak (not-a perm half (walk .2)) (met-prev perm half (walk .2) ua m)
 
   -- P1 goes to k, so it is not met
   P1-off : OnRun P1 → ⊥
-  P1-off m = ⊎-elim (λ e. ka (sym (next-prev (A .rules) k (o .half)) ∙ e)) (λ h. not-k perm (o .half) (walk .2) (subst OnRun (next-prev (A .rules) k (o .half)) h)) (met-next perm (o .half) (walk .2) m)
+  P1-off m = ⊎-elim (λ e. ka (sym (next-prev rules k half) ∙ e)) (λ h. not-k perm half (walk .2) (subst OnRun (next-prev rules k half) h)) (met-next perm half (walk .2) m)
 
   -- it names the loop
   l-N1 : d Loop N1 ≡ l
-  l-N1 = A .rules .loops .keeps a ua ∙ o .one
+  l-N1 = loops .keeps a ua ∙ one
 
   -- and so does what comes before k
   l-P1 : d Loop P1 ≡ l
-  l-P1 = sym (A .rules .loops .keeps P1 (prev-in (A .rules) k (o .half))) ∙ ap (d Loop) (next-prev (A .rules) k (o .half))
+  l-P1 = sym (loops .keeps P1 (prev-in rules k half)) ∙ ap (d Loop) (next-prev rules k half)
 
   -- away from the edge and its neighbours next is what it was
   c-next : (i : ℕ) → i ≢ k → i ≢ a → i ≢ P1 → i ≢ P2 → c Next i ≡ d Next i
@@ -209,20 +239,20 @@ module _ {sh : Shape} {p : List ℤ} {d : Columns} (A : Sound sh p d) {k l2 : �
       split i P1
       (λ e.
       let Pa : P1 ≢ a = λ z. v .1 (e ∙ z) in
-      let Nk : N1 ≢ k = λ z. Pa (ap (d Prev) (sym z) ∙ A .rules .undone a ua) in
+      let Nk : N1 ≢ k = λ z. Pa (ap (d Prev) (sym z) ∙ undone a ua) in
       ap (c Loop) (ap (c Next) e ∙ next-P1 Pa) ∙ c-loop N1 Nk N1a ∙ loop-off N1-off ∙ l-N1 ∙ sym (ap (c Loop) e ∙ c-loop P1 P1k Pa ∙ loop-off P1-off ∙ l-P1))
       (λ e. split i P2
       (λ f.
       let Pk : P2 ≢ k = λ z. v .0 (f ∙ z) in
-      let Na : N2 ≢ a = λ z. Pk (ap (d Prev) (sym z) ∙ A .rules .undone k (o .half)) in
-      ap (c Loop) (ap (c Next) f ∙ next-P2 Pk) ∙ c-loop N2 N2k Na ∙ loop-met (met-first perm (o .half) (walk .2) Na)
-      ∙ sym (ap (c Loop) f ∙ c-loop P2 Pk P2a ∙ loop-met (met-last perm (o .half) (walk .2) (prev-in (A .rules) a ua) (next-prev (A .rules) a ua) Na)))
+      let Na : N2 ≢ a = λ z. Pk (ap (d Prev) (sym z) ∙ undone k half) in
+      ap (c Loop) (ap (c Next) f ∙ next-P2 Pk) ∙ c-loop N2 N2k Na ∙ loop-met (met-first perm half (walk .2) Na)
+      ∙ sym (ap (c Loop) f ∙ c-loop P2 Pk P2a ∙ loop-met (met-last perm half (walk .2) (prev-in rules a ua) (next-prev rules a ua) Na)))
       (λ f.
-      let nk : d Next i ≢ k = λ z. e (sym (A .rules .undone i (v .2)) ∙ ap (d Prev) z) in
-      let na : d Next i ≢ a = λ z. f (sym (A .rules .undone i (v .2)) ∙ ap (d Prev) z) in
+      let nk : d Next i ≢ k = λ z. e (sym (undone i (v .2)) ∙ ap (d Prev) z) in
+      let na : d Next i ≢ a = λ z. f (sym (undone i (v .2)) ∙ ap (d Prev) z) in
       ap (c Loop) (c-next i (v .0) (v .1) e f) ∙ c-loop (d Next i) nk na ∙ by-run i
-      (λ m. ⊎-elim (λ z. absurd (na z)) (λ m′. loop-met m′) (met-next perm (o .half) (walk .2) m) ∙ sym (c-loop i (v .0) (v .1) ∙ loop-met m))
-      (λ m. loop-off (λ m′. ⊎-elim (v .0) m (met-prev perm (o .half) (walk .2) (v .2) m′)) ∙ A .rules .loops .keeps i (v .2) ∙ sym (c-loop i (v .0) (v .1) ∙ loop-off m))))
+      (λ m. ⊎-elim (λ z. absurd (na z)) (λ m′. loop-met m′) (met-next perm half (walk .2) m) ∙ sym (c-loop i (v .0) (v .1) ∙ loop-met m))
+      (λ m. loop-off (λ m′. ⊎-elim (v .0) m (met-prev perm half (walk .2) (v .2) m′)) ∙ loops .keeps i (v .2) ∙ sym (c-loop i (v .0) (v .1) ∙ loop-off m))))
 
   -- ---- the corners
 
@@ -235,83 +265,80 @@ module _ {sh : Shape} {p : List ℤ} {d : Columns} (A : Sound sh p d) {k l2 : �
   isolated-l2 = upd-off _ _ (λ e. two (sym e)) ∙ upd-same _ l2 _
 
   -- the corner of the loop
-  corner-1 : Corner sh c l k a (d Start k) P1 N1
+  corner-1 : Corner sh c (spot1 B)
   corner-1 = split N1 k
-      (λ e. inl (record { before = ap (d Prev) (sym e) ∙ A .rules .undone a ua; after = e; isolated = isolated-l ∙ rw (eqb-same e) }))
+      (λ e. inl (record { before = ap (d Prev) (sym e) ∙ undone a ua; after = e; isolated = isolated-l ∙ rw (eqb-same e) }))
       (λ e.
-      let Pa : P1 ≢ a = λ z. e (ap (d Next) (sym z) ∙ next-prev (A .rules) k (o .half)) in
+      let Pa : P1 ≢ a = λ z. e (ap (d Next) (sym z) ∙ next-prev rules k half) in
       inr (record {
-        before = half-c P1 (prev-in (A .rules) k (o .half)) P1k Pa;
+        before = half-c P1 (prev-in rules k half) P1k Pa;
         after = half-c N1 (next-in a ua) e N1a;
         next = next-P1 Pa;
         prev = upd-off _ 0 N1a ∙ upd-off _ 0 e ∙ upd-off _ P2 N12 ∙ upd-same _ N1 P1;
         loop = c-loop N1 e N1a ∙ loop-off N1-off ∙ l-N1;
-        start = c-start N1 e N1a ∙ A .rules .verts .keeps k (o .half);
+        start = c-start N1 e N1a ∙ verts .keeps k half;
         isolated = isolated-l ∙ rw (eqb-other e);
       }))
 
   -- the corner of the ring
-  corner-2 : Corner sh c l2 a k (d Start a) P2 N2
+  corner-2 : Corner sh c (spot2 B)
   corner-2 = split N2 a
-      (λ e. inl (record { before = ap (d Prev) (sym e) ∙ A .rules .undone k (o .half); after = e; isolated = isolated-l2 ∙ rw (eqb-same e) }))
+      (λ e. inl (record { before = ap (d Prev) (sym e) ∙ undone k half; after = e; isolated = isolated-l2 ∙ rw (eqb-same e) }))
       (λ e.
-      let Pk : P2 ≢ k = λ z. e (ap (d Next) (sym z) ∙ next-prev (A .rules) a ua) in
+      let Pk : P2 ≢ k = λ z. e (ap (d Next) (sym z) ∙ next-prev rules a ua) in
       inr (record {
-        before = half-c P2 (prev-in (A .rules) a ua) Pk P2a;
-        after = half-c N2 (next-in k (o .half)) N2k e;
+        before = half-c P2 (prev-in rules a ua) Pk P2a;
+        after = half-c N2 (next-in k half) N2k e;
         next = next-P2 Pk;
         prev = upd-off _ 0 e ∙ upd-off _ 0 N2k ∙ upd-same _ N2 P2;
-        loop = c-loop N2 N2k e ∙ loop-met (met-first perm (o .half) (walk .2) e);
-        start = c-start N2 N2k e ∙ ap (λ i. d Start (d Next i)) (sym (mate-mate k)) ∙ A .rules .verts .keeps a ua;
+        loop = c-loop N2 N2k e ∙ loop-met (met-first perm half (walk .2) e);
+        start = c-start N2 N2k e ∙ ap (λ i. d Start (d Next i)) (sym (mate-mate k)) ∙ verts .keeps a ua;
         isolated = isolated-l2 ∙ rw (eqb-other e);
       }))
 
   -- the loop of k has a half-edge
   l-in : In (sh .loops) l
-  l-in = A .half k (o .half .0, o .half .1) (o .half .2) .loop-in
+  l-in = A .half k (half .0, half .1) (half .2) .loop-in
 
   -- and lies in a face
   l-used : d Face l ≢ 0
-  l-used = A .half k (o .half .0, o .half .1) (o .half .2) .loop-used
+  l-used = A .half k (half .0, half .1) (half .2) .loop-used
 
   -- so it is not isolated
   l-isolated : d Isolated l ≡ 0
-  l-isolated = not-isolated A k (o .half) refl
+  l-isolated = not-isolated A k half refl
 
   -- its face stays
   face-l : c Face l ≡ d Face l
   face-l = upd-off _ _ two ∙ run-other d (walk .0) N2 l2 Face refl l
 
-  -- outer loops stay
-  outer : (i : ℕ) → d Outer i ≡ c Outer i
-  outer i = sym (run-other d (walk .0) N2 l2 Outer refl i)
-
-  -- and so do vertices
-  vertex : (i : ℕ) → d VertexUsed i ≡ c VertexUsed i
-  vertex i = sym (run-other d (walk .0) N2 l2 VertexUsed refl i)
+  -- the fields that a bridge does not touch
+  others : (F : Field) → among touched F ≡ false → (i : ℕ) → d F i ≡ c F i
+  others F e i = sym (others-stay touched (cutWrites d k l2 ++ firstWrites sh d k l2 (walk .0)) e₀ F refl e i
+      ∙ run-other d (walk .0) N2 l2 F (not-among touched Loop F refl e) i)
 
   -- before and after kemr
-  pub down-bridged : Bridged sh (kemrColumns sh d k l2 (walk .0)) d k (d Loop k) l2 (d Start k) (d Prev k) (d Next (mate k)) (d Start (mate k)) (d Prev (mate k)) (d Next k)
+  pub down-bridged : Bridged sh (kemrColumns sh d k l2 (walk .0)) d (spanBridge d k l2)
   down-bridged =
-      let hk = A .half k (o .half .0, o .half .1) (o .half .2) in
+      let hk = A .half k (half .0, half .1) (half .2) in
       let ha = A .half a (ua .0, ua .1) (ua .2) in
       let L = A .loop l l-in l-used in
       record {
         ends = record {
-          half-in = (o .half .0, o .half .1);
+          half-in = (half .0, half .1);
           mate-in = (ua .0, ua .1);
           loop-in = l-in;
-          ring-in = o .ring-in;
+          ring-in = ring-in;
           two = two;
           used = λ z. l-used (sym face-l ∙ z);
           one-face = upd-same _ l2 _ ∙ sym face-l;
-          ring = λ e. omega (arith, L .face-in .0, sym (A .face (d Face l) (L .face-in) (L .face-used) .outer-face) ∙ ap (d Face) (outer (d Face l) ∙ ap (c Outer) (sym (upd-same _ l2 _)) ∙ e) ∙ o .free);
+          ring = λ e. omega (arith, L .face-in .0, sym (A .face (d Face l) (L .face-in) (L .face-used) .outer-face) ∙ ap (d Face) (others Outer refl (d Face l) ∙ ap (c Outer) (sym (upd-same _ l2 _)) ∙ e) ∙ free);
           at-1 = corner-1;
           at-2 = corner-2;
           in-1 = hk .start-in;
           in-2 = ha .start-in;
-          used-1 = λ z. hk .start-used (vertex _ ∙ z);
-          used-2 = λ z. ha .start-used (vertex _ ∙ z);
+          used-1 = λ z. hk .start-used (others VertexUsed refl _ ∙ z);
+          used-2 = λ z. ha .start-used (others VertexUsed refl _ ∙ z);
           zero-k = record { s = upd-off _ 0 ka ∙ upd-same _ k 0; l = upd-off _ 0 ka ∙ upd-same _ k 0; n = upd-off _ 0 ka ∙ upd-same _ k 0; p = upd-off _ 0 ka ∙ upd-same _ k 0 };
           zero-a = record { s = upd-same _ a 0; l = upd-same _ a 0; n = upd-same _ a 0; p = upd-same _ a 0 };
           keeps = c-keeps;
@@ -320,31 +347,27 @@ module _ {sh : Shape} {p : List ℤ} {d : Columns} (A : Sound sh p d) {k l2 : �
         start-a = refl;
         start-o = λ i e f. sym (c-start i e f);
         loop-k = refl;
-        loop-a = o .one;
-        loop-2 = λ i j z. split i k (λ e. absurd (omega (arith, o .ring-in .0, sym z ∙ ap (c Loop) e ∙ upd-off _ 0 ka ∙ upd-same _ k 0))) (λ e. split i a (λ f. absurd (omega (arith, o .ring-in .0, sym z ∙ ap (c Loop) f ∙ upd-same _ a 0)))
-            (λ f. by-run i (λ m. met-in (A .rules .loops) (next-in k (o .half)) m .1 ∙ A .rules .loops .keeps k (o .half)) (λ m. absurd (not-l2 i j (sym (c-loop i e f ∙ loop-off m) ∙ z)))));
+        loop-a = one;
+        loop-2 = λ i j z. split i k (λ e. absurd (omega (arith, ring-in .0, sym z ∙ ap (c Loop) e ∙ upd-off _ 0 ka ∙ upd-same _ k 0))) (λ e. split i a (λ f. absurd (omega (arith, ring-in .0, sym z ∙ ap (c Loop) f ∙ upd-same _ a 0)))
+            (λ f. by-run i (λ m. met-in loops (next-in k half) m .1 ∙ loops .keeps k half) (λ m. absurd (not-l2 i j (sym (c-loop i e f ∙ loop-off m) ∙ z)))));
         loop-o = λ i e f z. by-run i (λ m. absurd (z (c-loop i e f ∙ loop-met m))) (λ m. sym (c-loop i e f ∙ loop-off m));
         next-k = refl;
         next-a = refl;
-        next-1 = next-prev (A .rules) k (o .half);
-        next-2 = next-prev (A .rules) a ua;
+        next-1 = next-prev rules k half;
+        next-2 = next-prev rules a ua;
         next-o = λ i e f g h. sym (c-next i e f g h);
         prev-k = refl;
         prev-a = refl;
-        prev-1 = A .rules .undone a ua;
-        prev-2 = A .rules .undone k (o .half);
+        prev-1 = undone a ua;
+        prev-2 = undone k half;
         prev-o = λ i e f g h. sym (upd-off _ 0 f ∙ upd-off _ 0 e ∙ upd-off _ P2 h ∙ upd-off _ P1 g ∙ run-other d (walk .0) N2 l2 Prev refl i);
-        face-2 = o .free;
+        face-2 = free;
         face-o = λ m e. sym (upd-off _ _ e ∙ run-other d (walk .0) N2 l2 Face refl m);
         first-o = λ m e f. sym (upd-off _ _ e ∙ upd-off _ _ f ∙ upd-off _ 0 f ∙ run-other d (walk .0) N2 l2 First refl m);
         isolated-1 = l-isolated;
-        isolated-2 = A .loop-free l2 (o .ring-in) (o .free) .1;
+        isolated-2 = A .loop-free l2 ring-in free .1;
         isolated-o = λ m e f. sym (upd-off _ _ e ∙ upd-off _ _ f ∙ upd-off _ 0 f ∙ run-other d (walk .0) N2 l2 Isolated refl m);
-        capacity = λ i. sym (run-other d (walk .0) N2 l2 Capacity refl i);
-        solid-used = λ i. sym (run-other d (walk .0) N2 l2 SolidUsed refl i);
-        solid = λ i. sym (run-other d (walk .0) N2 l2 Solid refl i);
-        outer = outer;
-        vertex-used = vertex;
+        others = others;
       }
 
   -- the firsts of the two

@@ -9,7 +9,6 @@ pub mod KemrDummies
 pub mod KemrRules
 pub mod Unique
 pub mod MekrColumns
-pub mod Lists
 pub mod MekrShown
 pub mod KemrColumns
 pub mod KemrShown

@@ -5,7 +5,7 @@ use mathlib.Core.Bool.{Bool, true, not}
 use mathlib.Core.List.{List, [], _∷_}
 use Prim.Native.Nat.{ℕ, _*_, _≤_}
 use native.Mathlib.Omega.{arith}
-use lib.Dec.{T, eqb, eqb→eq, lit≤, T-not, not-T}
+use lib.Dec.{T, eqb, leb, eqb→eq, lit≤, T-not, not-T}
 use lib.IntN.{ℤ, pos}
 use lib.ListN.{length, getD, replicate}
 use borrow.Author.Tests.{le-leb}
@@ -24,11 +24,45 @@ use Rattle.sound_tables.specs.Sound.{In}
 use Rattle.sound_tables.specs.Accepted.{by-place, eight, accepted-back, ranges-cons, item-cons, use-old, old-use, use-new, new-use, use-none, in-range, Number, number, number-or-none, unused-range, unused-use, in-range-or-none}
 use Rattle.sound_tables.specs.Good.{own, Capacities}
 use Rattle.sound_tables.specs.CornerTest.{CornerAt, corner-most, test-corner, corner-test, corner-use}
-use Rattle.sound_bridges.specs.Lists.{mekrList}
+use Rattle.sound_bridges.specs.Relation.{Spot, Bridge}
+use Rattle.sound_bridges.specs.MekrColumns.{mekrList}
 
 -- mekr l h1 l2 h2 e w
 abbrev pub mekrOf : ℕ → ℕ → ℕ → ℕ → ℕ → ℕ → Operator
 mekrOf l h1 l2 h2 e w = record { code = 8; count = 6; args = pos l ∷ pos h1 ∷ pos l2 ∷ pos h2 ∷ pos e ∷ pos w ∷ pos 0 ∷ pos 0 ∷ [] }
+
+-- the corner before half-edge h of loop l, or where h is 0 the isolated one, for an edge that leaves by k and comes by b
+abbrev pub spotOf : Columns → (l h k b : ℕ) → Spot
+spotOf c l h k b = record {
+  l = l;
+  u = pick (eqb h 0) (c Isolated l) (c Start h);
+  P = pick (eqb h 0) b (c Prev h);
+  N = pick (eqb h 0) k h;
+  k = k;
+  b = b;
+}
+
+-- the bridge k from one corner to another
+abbrev pub bridgeOf : ℕ → Spot → Spot → Bridge
+bridgeOf k s s2 = record {
+  k = k;
+  l = s .l;
+  l2 = s2 .l;
+  u1 = s .u;
+  P1 = s .P;
+  N1 = s .N;
+  u2 = s2 .u;
+  P2 = s2 .P;
+  N2 = s2 .N;
+}
+
+-- the bridge that mekr makes of half-edge k
+abbrev pub mekrBridge : Columns → (k l h1 l2 h2 : ℕ) → Bridge
+mekrBridge c k l h1 l2 h2 = bridgeOf k (spotOf c l h1 k (mate k)) (spotOf c l2 h2 (mate k) k)
+
+-- a small number is read as it stands
+read : {m : ℕ} → m ≤ 8192 → leb m 8192 ≡ true
+read {m} = le-leb m 8192
 
 -- what is asked of an accepted mekr
 pub record MekrFacts (sh : Shape) (c : Columns) (l h1 l2 h2 e w : ℕ) : Type 0 where
@@ -96,41 +130,42 @@ pub record MekrSaid (sh : Shape) (x : List ℕ) (o : Operator) : Type 0 where
 pub mekr-said : (sh : Shape) (x : List ℕ) (o : Operator) → Capacities sh → length (o .args) ≡ 8 → o .code ≡ 8 → refusalOf sh x o ≡ 0 → MekrSaid sh x o
 unfolding pattern rows useWord condition
 mekr-said sh x o caps len e h =
+    let v = operandOf o in
     let a = by-place sh x o 8 len refl e h in
     let r = a .range in
     let u = a .used in
     let n0 : Number (sh .loops) (getD (o .args) 0 (pos 0)) = number (limits sh) 6 _ refl refl (omega (arith, caps .loops)) (r 0 (lit≤ tt)) in
-    let n1 : (getD (o .args) 1 (pos 0) ≡ pos (operandOf o 1)) × (operandOf o 1 ≤ 2 * sh .edges) = number-or-none (limits sh) 10 _ refl (omega (arith, caps .edges)) (r 1 (lit≤ tt)) in
+    let n1 : (getD (o .args) 1 (pos 0) ≡ pos (v 1)) × (operandOf o 1 ≤ 2 * sh .edges) = number-or-none (limits sh) 10 _ refl (omega (arith, caps .edges)) (r 1 (lit≤ tt)) in
     let n2 : Number (sh .loops) (getD (o .args) 2 (pos 0)) = number (limits sh) 6 _ refl refl (omega (arith, caps .loops)) (r 2 (lit≤ tt)) in
-    let n3 : (getD (o .args) 3 (pos 0) ≡ pos (operandOf o 3)) × (operandOf o 3 ≤ 2 * sh .edges) = number-or-none (limits sh) 10 _ refl (omega (arith, caps .edges)) (r 3 (lit≤ tt)) in
+    let n3 : (getD (o .args) 3 (pos 0) ≡ pos (v 3)) × (operandOf o 3 ≤ 2 * sh .edges) = number-or-none (limits sh) 10 _ refl (omega (arith, caps .edges)) (r 3 (lit≤ tt)) in
     let n4 : Number (sh .edges) (getD (o .args) 4 (pos 0)) = number (limits sh) 8 _ refl refl (omega (arith, caps .edges)) (r 4 (lit≤ tt)) in
-    let n5 : (getD (o .args) 5 (pos 0) ≡ pos (operandOf o 5)) × (operandOf o 5 ≤ 1) = number-or-none (limits sh) 12 _ refl (lit≤ tt) (r 5 (lit≤ tt)) in
-    let s1 : operandOf o 1 ≤ 8192 = omega (arith, n1 .1, caps .edges) in
-    let s3 : operandOf o 3 ≤ 8192 = omega (arith, n3 .1, caps .edges) in
-    let is : o ≡ mekrOf (operandOf o 0) (operandOf o 1) (operandOf o 2) (operandOf o 3) (operandOf o 4) (operandOf o 5) = λ t. record {
+    let n5 : (getD (o .args) 5 (pos 0) ≡ pos (v 5)) × (operandOf o 5 ≤ 1) = number-or-none (limits sh) 12 _ refl (lit≤ tt) (r 5 (lit≤ tt)) in
+    let s1 : v 1 ≤ 8192 = omega (arith, n1 .1, caps .edges) in
+    let s3 : v 3 ≤ 8192 = omega (arith, n3 .1, caps .edges) in
+    let is : o ≡ mekrOf (v 0) (v 1) (v 2) (v 3) (v 4) (v 5) = λ t. record {
       code = e t;
       count = a .count t;
       args = (eight (o .args) len ∙ (λ i. n0 .is i ∷ n1 .0 i ∷ n2 .is i ∷ n3 .0 i ∷ n4 .is i ∷ n5 .0 i ∷ a .rest 6 (lit≤ tt) refl i ∷ a .rest 7 (lit≤ tt) refl i ∷ [])) t;
     } in
-    let t = mekr-test sh x (operandOf o 0) (operandOf o 1) (operandOf o 2) (operandOf o 3)
-    (rw (le-leb (operandOf o 0) 8192 (n0 .small), le-leb (operandOf o 1) 8192 s1, le-leb (operandOf o 2) 8192 (n2 .small), le-leb (operandOf o 3) 8192 s3) at (subst (λ q. condition sh x q ≡ true) is (a .holds))) in
+    let t = mekr-test sh x (v 0) (v 1) (v 2) (v 3)
+    (rw (read (n0 .small), read s1, read (n2 .small), read s3) at (subst (λ q. condition sh x q ≡ true) is (a .holds))) in
     record {
-      l = operandOf o 0;
-      h1 = operandOf o 1;
-      l2 = operandOf o 2;
-      h2 = operandOf o 3;
-      e = operandOf o 4;
-      w = operandOf o 5;
+      l = v 0;
+      h1 = v 1;
+      l2 = v 2;
+      h2 = v 3;
+      e = v 4;
+      w = v 5;
       is = is;
       facts = record {
         loop-in = n0 .range;
-        loop-used = use-old sh x 6 (operandOf o 0) (omega (arith, n0 .range)) refl (u 0 (lit≤ tt) (n0 .small));
-        at-1 = test-corner sh x (operandOf o 0) (operandOf o 1) (n1 .1) (u 1 (lit≤ tt) s1) (t .at-1);
+        loop-used = use-old sh x 6 (v 0) (omega (arith, n0 .range)) refl (u 0 (lit≤ tt) (n0 .small));
+        at-1 = test-corner sh x (v 0) (v 1) (n1 .1) (u 1 (lit≤ tt) s1) (t .at-1);
         ring-in = n2 .range;
-        ring-used = use-old sh x 6 (operandOf o 2) (omega (arith, n2 .range)) refl (u 2 (lit≤ tt) (n2 .small));
-        at-2 = test-corner sh x (operandOf o 2) (operandOf o 3) (n3 .1) (u 3 (lit≤ tt) s3) (t .at-2);
+        ring-used = use-old sh x 6 (v 2) (omega (arith, n2 .range)) refl (u 2 (lit≤ tt) (n2 .small));
+        at-2 = test-corner sh x (v 2) (v 3) (n3 .1) (u 3 (lit≤ tt) s3) (t .at-2);
         edge-in = n4 .range;
-        edge-free = use-new sh x 8 (operandOf o 4) (omega (arith, n4 .range)) refl (u 4 (lit≤ tt) (n4 .small));
+        edge-free = use-new sh x 8 (v 4) (omega (arith, n4 .range)) refl (u 4 (lit≤ tt) (n4 .small));
         way = n5 .1;
         two = t .two;
         one-face = t .one-face;
@@ -139,29 +174,18 @@ mekr-said sh x o caps len e h =
     }
 
 module _ (sh : Shape) (x : List ℕ) {l h1 l2 h2 e w : ℕ} (caps : Capacities sh) (r : MekrFacts sh (own sh x) l h1 l2 h2 e w) where
-  -- all numbers are read as they stand
-  l-small : l ≤ 8192
-  l-small = omega (arith, r .loop-in .1, caps .loops)
-
-  -- the first corner
-  h1-small : h1 ≤ 8192
-  h1-small = let m : h1 ≤ 2 * sh .edges = corner-most sh (own sh x) l h1 (r .at-1) in omega (arith, m, caps .edges)
-
-  -- the ring
-  l2-small : l2 ≤ 8192
-  l2-small = omega (arith, r .ring-in .1, caps .loops)
-
-  -- the second corner
-  h2-small : h2 ≤ 8192
-  h2-small = let m : h2 ≤ 2 * sh .edges = corner-most sh (own sh x) l2 h2 (r .at-2) in omega (arith, m, caps .edges)
-
-  -- the edge
-  e-small : e ≤ 8192
-  e-small = omega (arith, r .edge-in .1, caps .edges)
-
-  -- the way
-  w-small : w ≤ 8192
-  w-small = omega (arith, r .way)
+  -- all numbers are small enough to be read as they stand
+  small : (l ≤ 8192) × (h1 ≤ 8192) × (l2 ≤ 8192) × (h2 ≤ 8192) × (e ≤ 8192) × (w ≤ 8192)
+  small =
+      let m1 : h1 ≤ 2 * sh .edges = corner-most sh (own sh x) l h1 (r .at-1) in
+      let m2 : h2 ≤ 2 * sh .edges = corner-most sh (own sh x) l2 h2 (r .at-2) in (
+        omega (arith, r .loop-in .1, caps .loops),
+        omega (arith, m1, caps .edges),
+        omega (arith, r .ring-in .1, caps .loops),
+        omega (arith, m2, caps .edges),
+        omega (arith, r .edge-in .1, caps .edges),
+        omega (arith, r .way),
+      )
 
   -- it is accepted
   pub mekr-accepted : refusalOf sh x (mekrOf l h1 l2 h2 e w) ≡ 0
@@ -175,19 +199,17 @@ module _ (sh : Shape) (x : List ℕ) {l h1 l2 h2 e w : ℕ} (caps : Capacities s
         range = ranges-cons lim 6 _ (pos l) (pos h1 ∷ pos l2 ∷ pos h2 ∷ pos e ∷ pos w ∷ replicate 2 (pos 0)) (in-range lim 6 l refl refl (r .loop-in)) (ranges-cons lim 10 _ (pos h1) (pos l2 ∷ pos h2 ∷ pos e ∷ pos w ∷ replicate 2 (pos 0)) (in-range-or-none lim 10 h1 refl refl (corner-most sh (own sh x) l h1 (r .at-1)))
             (ranges-cons lim 6 _ (pos l2) (pos h2 ∷ pos e ∷ pos w ∷ replicate 2 (pos 0)) (in-range lim 6 l2 refl refl (r .ring-in)) (ranges-cons lim 10 _ (pos h2) (pos e ∷ pos w ∷ replicate 2 (pos 0)) (in-range-or-none lim 10 h2 refl refl (corner-most sh (own sh x) l2 h2 (r .at-2)))
             (ranges-cons lim 8 _ (pos e) (pos w ∷ replicate 2 (pos 0)) (in-range lim 8 e refl refl (r .edge-in)) (ranges-cons lim 12 _ (pos w) (replicate 2 (pos 0)) (in-range-or-none lim 12 w refl refl (r .way)) (unused-range lim 2))))));
-        used = item-cons sh x o 6 _ 0 l-small (old-use sh x 6 l (omega (arith, r .loop-in .0)) refl (r .loop-used)) (item-cons sh x o 10 _ 1 h1-small (corner-use sh x l h1 (r .at-1))
-            (item-cons sh x o 6 _ 2 l2-small (old-use sh x 6 l2 (omega (arith, r .ring-in .0)) refl (r .ring-used)) (item-cons sh x o 10 _ 3 h2-small (corner-use sh x l2 h2 (r .at-2))
-            (item-cons sh x o 8 _ 4 e-small (new-use sh x 8 e (omega (arith, r .edge-in .0)) refl (r .edge-free)) (item-cons sh x o 12 _ 5 w-small (use-none sh x 12 w refl refl) (unused-use sh x o 2 6))))));
-        holds = rw (le-leb l 8192 l-small, le-leb h1 8192 h1-small, le-leb l2 8192 l2-small, le-leb h2 8192 h2-small) (test-mekr sh x r);
+        used = item-cons sh x o 6 _ 0 (small .0) (old-use sh x 6 l (omega (arith, r .loop-in .0)) refl (r .loop-used)) (item-cons sh x o 10 _ 1 (small .1) (corner-use sh x l h1 (r .at-1))
+            (item-cons sh x o 6 _ 2 (small .2) (old-use sh x 6 l2 (omega (arith, r .ring-in .0)) refl (r .ring-used)) (item-cons sh x o 10 _ 3 (small .3) (corner-use sh x l2 h2 (r .at-2))
+            (item-cons sh x o 8 _ 4 (small .4) (new-use sh x 8 e (omega (arith, r .edge-in .0)) refl (r .edge-free)) (item-cons sh x o 12 _ 5 (small .5) (use-none sh x 12 w refl refl) (unused-use sh x o 2 6))))));
+        holds = rw (read (small .0), read (small .1), read (small .2), read (small .3)) (test-mekr sh x r);
       })
 
   -- what it does to the list; k is the half that the way names
   pub mekr-links : (k : ℕ) → halfBy e w ≡ k → linksAfter sh x (mekrOf l h1 l2 h2 e w)
-      ≡ mekrList sh x k l l2
-      (pick (eqb h1 0) (own sh x Isolated l) (own sh x Start h1)) (pick (eqb h1 0) (mate k) (own sh x Prev h1)) (pick (eqb h1 0) k h1)
-      (pick (eqb h2 0) (own sh x Isolated l2) (own sh x Start h2)) (pick (eqb h2 0) k (own sh x Prev h2)) (pick (eqb h2 0) (mate k) h2)
+      ≡ mekrList sh x (mekrBridge (own sh x) k l h1 l2 h2)
   unfolding linksAfter mekrLinks mekrEdge
-  mekr-links k q = rw (le-leb l 8192 l-small, le-leb h1 8192 h1-small, le-leb l2 8192 l2-small, le-leb h2 8192 h2-small, le-leb e 8192 e-small, le-leb w 8192 w-small, q)
+  mekr-links k q = rw (read (small .0), read (small .1), read (small .2), read (small .3), read (small .4), read (small .5), q)
 
   -- to the points
   pub mekr-points : (p : List ℤ) → pointsAfter sh x p (mekrOf l h1 l2 h2 e w) ≡ p

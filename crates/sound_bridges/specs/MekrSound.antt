@@ -1,5 +1,5 @@
 -- mekr on the columns: where c is sound, and d has the rules with dummies and the first of its loop, d is sound.
-use mathlib.Core.Path.{_≡_, sym, ap, _∙_, subst}
+use mathlib.Core.Path.{_≡_, refl, sym, ap, _∙_, subst}
 use mathlib.Core.Logic.{_≢_, inl, inr, ⊎-elim}
 use mathlib.Core.List.{List}
 use Prim.Native.Nat.{ℕ, _+_, _-_, _*_}
@@ -17,78 +17,75 @@ use Rattle.sound_tables.specs.EdgeIn.{Rules}
 use Rattle.sound_tables.specs.Solids.{Solids}
 use Rattle.sound_tables.specs.Sound.{In, HalfUsed, FaceUsed, side, firstOf, LoopSound, HalfSound, HalfFree, Sound, half-by}
 use Rattle.sound_tables.specs.Names.{lone-kept}
-use Rattle.sound_tables.specs.WithDummies.{upTo-low, upTo-high, extended, Member, Corners, sound-corners, corners-rules, corners-loop, corners-vertex}
-use Rattle.sound_bridges.specs.Relation.{Corner, Bridged, corner-before, corner-after, off-k, off-a, new-k, new-a, half-stays, half-was, free-loop, dummy-stays, side-same, side-k, side-a, same-name}
+use Rattle.sound_tables.specs.WithDummies.{extended, Dummy, Member, Corners, sound-corners, corners-rules, corners-loop, corners-vertex}
+use Rattle.sound_bridges.specs.CornerMembers.{LoopMember, VertexMember, half-loop, lone-loop, of-loop, half-vertex, lone-vertex, of-vertex}
+use Rattle.sound_bridges.specs.Relation.{Spot, Bridge, Numbers, numbers, Ends, Corner, Bridged, corner-before, corner-after, off-k, off-a, new-k, new-a, half-stays, half-was, free-loop, dummy-stays, side-same, side-k, side-a, same-name}
 
-module _ {sh : Shape} {p : List ℤ} {c d : Columns} {k l l2 u1 P1 N1 u2 P2 N2 : ℕ} (a : Sound sh p c) (b : Bridged sh c d k l l2 u1 P1 N1 u2 P2 N2)
-    (rules⁺ : Rules (2 * sh .edges + sh .loops) (mate⁺ (sh .edges)) (Member sh d) (extended sh d)) (first-1 : d First l ≡ firstOf sh d l) (first-2 : d First l2 ≡ 0) where
-  -- how many half-edges there are at most
-  abbrev n : ℕ
-  n = 2 * sh .edges
+module _ {sh : Shape} {p : List ℤ} {c d : Columns} {B : Bridge} (a : Sound sh p c) (b : Bridged sh c d B)
+    (rules⁺ : Rules (2 * sh .edges + sh .loops) (mate⁺ (sh .edges)) (Member sh d) (extended sh d)) (first-1 : d First (B .l) ≡ firstOf sh d (B .l)) (first-2 : d First (B .l2) ≡ 0) where
+  open Numbers (numbers sh B) using (n)
+  open Bridge B using (k, l, l2, u1, u2)
+  open Ends (b .ends) using (half-in, mate-in, loop-in, two, ring, at-1, at-2, in-1, in-2, used-1, used-2)
+  open Bridged b using (start-k, start-a, start-o, loop-k, loop-a, loop-2, loop-o, next-o, prev-o, face-2, face-o, first-o, isolated-1, isolated-2, isolated-o, others)
 
   -- ---- members of loops and vertices
 
   -- a loop of d has a member
-  loop-member : (m : ℕ) → m ≢ l2 → (i : ℕ) → Member sh c i → extended sh c .loop i ≡ m → (j : ℕ) × Member sh d j × (extended sh d .loop j ≡ m)
-  loop-member m x i (inl w) e =
-      let f : c Loop i ≡ m = sym (upTo-low n (c Loop) _ i (w .1)) ∙ e in
-      (i, inl (half-stays b i w), upTo-low n (d Loop) _ i (w .1) ∙ b .loop-o i (off-k b i w) (off-a b i w) (λ q. x (sym f ∙ q)) ∙ f)
-  loop-member m x i (inr w) e =
-      let f : i - n ≡ m = sym (upTo-high n (c Loop) (λ j. j - n) i (w .0)) ∙ e in
-      split (i - n) l
-      (λ z. (k, inl (new-k b), upTo-low n (d Loop) _ k (b .ends .half-in .1) ∙ b .loop-k ∙ sym z ∙ f))
-      (λ z. (i, inr (dummy-stays b i z (λ q. x (sym f ∙ q)) w), upTo-high n (d Loop) (λ j. j - n) i (w .0) ∙ f))
+  loop-member : (m : ℕ) → m ≢ l2 → LoopMember sh c m → LoopMember sh d m
+  loop-member m x q = of-loop sh c q
+      (λ i w f. half-loop sh d i (half-stays b i w) (loop-o i (off-k b i w) (off-a b i w) (λ z. x (sym f ∙ z)) ∙ f))
+      (λ i w f. split (i - n) l (λ z. half-loop sh d k (new-k b) (loop-k ∙ sym z ∙ f))
+      (λ z. lone-loop sh d i (dummy-stays b i z (λ y. x (sym f ∙ y)) w) f))
 
-  -- an isolated corner is at its vertex
-  lone-vertex : {m k′ b′ u P N : ℕ} → Corner sh c m k′ b′ u P N → c Isolated m ≢ 0 → c Isolated m ≡ u
-  lone-vertex q h = ⊎-elim (λ r. r .isolated) (λ r. absurd (h (r .isolated))) q
+  -- a dummy of an isolated corner is at its vertex
+  at-lone : {s : Spot} → Corner sh c s → (i : ℕ) → i - n ≡ s .l → Dummy sh c i → c Isolated (i - n) ≡ s .u
+  at-lone q i z w = ⊎-elim (λ r. ap (c Isolated) z ∙ r .isolated) (λ r. absurd (w .2 (ap (c Isolated) z ∙ r .isolated))) q
 
   -- a vertex of d has a member
-  vertex-member : (w : ℕ) → In (sh .vertices) w → (i : ℕ) → Member sh c i → extended sh c .start i ≡ w → (j : ℕ) × Member sh d j × (extended sh d .start j ≡ w)
-  vertex-member w y i (inl x) e = (i, inl (half-stays b i x), upTo-low n (d Start) _ i (x .1) ∙ b .start-o i (off-k b i x) (off-a b i x) ∙ sym (upTo-low n (c Start) _ i (x .1)) ∙ e)
-  vertex-member w y i (inr x) e =
-      let f : c Isolated (i - n) ≡ w = sym (upTo-high n (c Start) (λ j. c Isolated (j - n)) i (x .0)) ∙ e in
-      split (i - n) l
-      (λ z. (k, inl (new-k b), upTo-low n (d Start) _ k (b .ends .half-in .1) ∙ b .start-k ∙ sym (lone-vertex (b .ends .at-1) (λ q. x .2 (ap (c Isolated) z ∙ q))) ∙ ap (c Isolated) (sym z) ∙ f))
+  vertex-member : (v : ℕ) → VertexMember sh c v → VertexMember sh d v
+  vertex-member v q = of-vertex sh c q
+      (λ i w f. half-vertex sh d i (half-stays b i w) (start-o i (off-k b i w) (off-a b i w) ∙ f))
+      (λ i w f. split (i - n) l
+      (λ z. half-vertex sh d k (new-k b) (start-k ∙ sym (at-lone at-1 i z w) ∙ f))
       (λ z. split (i - n) l2
-      (λ z′. (mate k, inl (new-a b), upTo-low n (d Start) _ (mate k) (b .ends .mate-in .1) ∙ b .start-a ∙ sym (lone-vertex (b .ends .at-2) (λ q. x .2 (ap (c Isolated) z′ ∙ q))) ∙ ap (c Isolated) (sym z′) ∙ f))
-      (λ z′. (i, inr (dummy-stays b i z z′ x), upTo-high n (d Start) (λ j. d Isolated (j - n)) i (x .0) ∙ b .isolated-o _ z z′ ∙ f)))
+      (λ y. half-vertex sh d (mate k) (new-a b) (start-a ∙ sym (at-lone at-2 i y w) ∙ f))
+      (λ y. lone-vertex sh d i (dummy-stays b i z y w) (isolated-o _ z y ∙ f))))
 
   -- a loop in use in d was in use in c
   face-was : (m : ℕ) → d Face m ≢ 0 → (m ≢ l2) × (c Face m ≢ 0)
-  face-was m h = let x : m ≢ l2 = λ e. h (ap (d Face) e ∙ b .face-2) in (x, λ z. h (b .face-o m x ∙ z))
+  face-was m h = let x : m ≢ l2 = λ e. h (ap (d Face) e ∙ face-2) in (x, λ z. h (face-o m x ∙ z))
 
   -- the form with dummies
   d-corners : Corners sh d
   d-corners = record {
     rules = rules⁺;
-    loop = λ m i h. let x = face-was m h in let r = sound-corners a .loop m i (x .1) in loop-member m (x .0) (r .0) (r .1) (r .2);
-    vertex = λ w i h. let r = sound-corners a .vertex w i (λ z. h (b .vertex-used w ∙ z)) in vertex-member w i (r .0) (r .1) (r .2);
+    loop = λ m i h. let x = face-was m h in loop-member m (x .0) (sound-corners a .loop m i (x .1));
+    vertex = λ w i h. vertex-member w (sound-corners a .vertex w i (λ z. h (others VertexUsed refl w ∙ z)));
   }
 
   -- ---- loops
 
   -- a vertex in use stays so
   used : (w : ℕ) → c VertexUsed w ≢ 0 → d VertexUsed w ≢ 0
-  used w x z = x (sym (b .vertex-used w) ∙ z)
+  used w x z = x (sym (others VertexUsed refl w) ∙ z)
 
   -- a face in use stays so
   solid-stays : (f : ℕ) → c Solid f ≢ 0 → d Solid f ≢ 0
-  solid-stays f x z = x (sym (b .solid f) ∙ z)
+  solid-stays f x z = x (sym (others Solid refl f) ∙ z)
 
   -- an isolated vertex is in use
   isolated-used : (m : ℕ) → In (sh .loops) m → d Isolated m ≢ 0 → In (sh .vertices) (d Isolated m) × (d VertexUsed (d Isolated m) ≢ 0)
   isolated-used m y h =
-      let e : m ≢ l = λ z. h (ap (d Isolated) z ∙ b .isolated-1) in
-      let f : m ≢ l2 = λ z. h (ap (d Isolated) z ∙ b .isolated-2) in
-      lone-kept a d m y (b .isolated-o m e f) used h
+      let e : m ≢ l = λ z. h (ap (d Isolated) z ∙ isolated-1) in
+      let f : m ≢ l2 = λ z. h (ap (d Isolated) z ∙ isolated-2) in
+      lone-kept a d m y (isolated-o m e f) used h
 
   -- a half-edge free in d is free in c
   free-half : (i : ℕ) → d Start i ≡ 0 → (i ≢ k) × (i ≢ mate k) × (c Start i ≡ 0)
   free-half i z =
-      let e : i ≢ k = λ w. omega (arith, b .ends .in-1 .0, sym (b .start-k) ∙ ap (d Start) (sym w) ∙ z) in
-      let f : i ≢ mate k = λ w. omega (arith, b .ends .in-2 .0, sym (b .start-a) ∙ ap (d Start) (sym w) ∙ z) in
-      (e, f, sym (b .start-o i e f) ∙ z)
+      let e : i ≢ k = λ w. omega (arith, in-1 .0, sym start-k ∙ ap (d Start) (sym w) ∙ z) in
+      let f : i ≢ mate k = λ w. omega (arith, in-2 .0, sym start-a ∙ ap (d Start) (sym w) ∙ z) in
+      (e, f, sym (start-o i e f) ∙ z)
 
   -- a free half-edge is all zero
   d-half-free : (i : ℕ) → In n i → d Start i ≡ 0 → HalfFree sh d i
@@ -96,9 +93,9 @@ module _ {sh : Shape} {p : List ℤ} {c d : Columns} {k l l2 u1 P1 N1 u2 P2 N2 :
       let w = free-half i z in
       let r = a .half-free i j (w .2) in
       record {
-        loop = b .loop-o i (w .0) (w .1) (free-loop b i (r .loop)) ∙ r .loop;
-        next = b .next-o i (w .0) (w .1) (corner-before (b .ends .at-1) (w .1) (w .2)) (corner-before (b .ends .at-2) (w .0) (w .2)) ∙ r .next;
-        prev = b .prev-o i (w .0) (w .1) (corner-after (b .ends .at-1) (w .0) (w .2)) (corner-after (b .ends .at-2) (w .1) (w .2)) ∙ r .prev;
+        loop = loop-o i (w .0) (w .1) (free-loop b i (r .loop)) ∙ r .loop;
+        next = next-o i (w .0) (w .1) (corner-before at-1 (w .1) (w .2)) (corner-before at-2 (w .0) (w .2)) ∙ r .next;
+        prev = prev-o i (w .0) (w .1) (corner-after at-1 (w .0) (w .2)) (corner-after at-2 (w .1) (w .2)) ∙ r .prev;
       }
 
   -- a loop in use is sound
@@ -106,9 +103,9 @@ module _ {sh : Shape} {p : List ℤ} {c d : Columns} {k l l2 u1 P1 N1 u2 P2 N2 :
   d-loop m y h =
       let x = face-was m h in
       let r = a .loop m y (x .1) in
-      let e : d Face m ≡ c Face m = b .face-o m (x .0) in
+      let e : d Face m ≡ c Face m = face-o m (x .0) in
       let f : d First m ≡ firstOf sh d m = split m l (λ e. ap (d First) e ∙ first-1 ∙ ap (firstOf sh d) (sym e))
-      (λ e. b .first-o m e (x .0) ∙ r .first ∙ least-ext n _ _ (λ i w z. same-name b m y e (x .0) i (w, z))) in
+      (λ e. first-o m e (x .0) ∙ r .first ∙ least-ext n _ _ (λ i w z. same-name b m y e (x .0) i (w, z))) in
       record {
         face-in = subst (In (sh .faces)) (sym e) (r .face-in);
         face-used = λ z. solid-stays _ (r .face-used) (ap (d Solid) (sym e) ∙ z);
@@ -120,16 +117,16 @@ module _ {sh : Shape} {p : List ℤ} {c d : Columns} {k l l2 u1 P1 N1 u2 P2 N2 :
 
   -- from the values of start and loop
   half-at : (i s m : ℕ) → d Start i ≡ s → d Loop i ≡ m → In (sh .vertices) s → c VertexUsed s ≢ 0 → In (sh .loops) m → c Face m ≢ 0 → m ≢ l2 → HalfSound sh d i
-  half-at i s m es em x y z w v = half-by s m es em x (used s y) z (λ g. w (sym (b .face-o m v) ∙ g))
+  half-at i s m es em x y z w v = half-by s m es em x (used s y) z (λ g. w (sym (face-o m v) ∙ g))
 
   -- a half-edge in use is sound
   d-half : (i : ℕ) → HalfUsed sh d i → HalfSound sh d i
   d-half = half-was b
-      (half-at k u1 l (b .start-k) (b .loop-k) (b .ends .in-1) (b .ends .used-1) (b .ends .loop-in) (b .ends .used) (b .ends .two))
-      (half-at (mate k) u2 l (b .start-a) (b .loop-a) (b .ends .in-2) (b .ends .used-2) (b .ends .loop-in) (b .ends .used) (b .ends .two))
-      (λ i w. let r = a .half i (w .0, w .1) (w .2) in let es = b .start-o i (off-k b i w) (off-a b i w) in split (c Loop i) l2
-      (λ e. half-at i (c Start i) l es (b .loop-2 i (w .0, w .1) e) (r .start-in) (r .start-used) (b .ends .loop-in) (b .ends .used) (b .ends .two))
-      (λ e. half-at i (c Start i) (c Loop i) es (b .loop-o i (off-k b i w) (off-a b i w) e) (r .start-in) (r .start-used) (r .loop-in) (r .loop-used) e))
+      (half-at k u1 l start-k loop-k in-1 used-1 loop-in (b .ends .used) two)
+      (half-at (mate k) u2 l start-a loop-a in-2 used-2 loop-in (b .ends .used) two)
+      (λ i w. let r = a .half i (w .0, w .1) (w .2) in let es = start-o i (off-k b i w) (off-a b i w) in split (c Loop i) l2
+      (λ e. half-at i (c Start i) l es (loop-2 i (w .0, w .1) e) (r .start-in) (r .start-used) loop-in (b .ends .used) two)
+      (λ e. half-at i (c Start i) (c Loop i) es (loop-o i (off-k b i w) (off-a b i w) e) (r .start-in) (r .start-used) (r .loop-in) (r .loop-used) e))
 
   -- ---- faces
 
@@ -139,11 +136,11 @@ module _ {sh : Shape} {p : List ℤ} {c d : Columns} {k l l2 u1 P1 N1 u2 P2 N2 :
 
   -- the face of l is in use
   l-face : FaceUsed sh d (c Face l)
-  l-face = let r = a .loop l (b .ends .loop-in) (b .ends .used) in face-stays _ (r .face-in .0, r .face-in .1, r .face-used)
+  l-face = let r = a .loop l loop-in (b .ends .used) in face-stays _ (r .face-in .0, r .face-in .1, r .face-used)
 
   -- equal faces have one solid, in either table
   solid-of : {f g : ℕ} → f ≡ g → d Solid f ≡ c Solid g
-  solid-of {f} {g} e = ap (d Solid) e ∙ b .solid g
+  solid-of {f} {g} e = ap (d Solid) e ∙ others Solid refl g
 
   -- rule 6: the new edge has one face on both sides
   d-solids : Solids (HalfUsed sh d) (FaceUsed sh d) (side d) mate (d Solid)
@@ -154,38 +151,38 @@ module _ {sh : Shape} {p : List ℤ} {c d : Columns} {k l l2 u1 P1 N1 u2 P2 N2 :
         (ap (d Solid) (ap (side d) (mate-mate k) ∙ side-k b ∙ sym (side-a b)))
         (λ i w. solid-of (side-same b (mate i) (a .rules .mate-in i w)) ∙ a .solids .edge i w ∙ sym (solid-of (side-same b i w)));
     one = λ f g x y e. map-linked (λ i. i)
-        (λ i j t. link (t .0, half-stays b (t .0) (t .1), side-same b (t .0) (t .1) ∙ t .2, side-same b (mate (t .0)) (a .rules .mate-in (t .0) (t .1)) ∙ t .3))
-        (a .solids .one f g (x .0, x .1, λ z. x .2 (b .solid f ∙ z)) (y .0, y .1, λ z. y .2 (b .solid g ∙ z)) (sym (b .solid f) ∙ e ∙ b .solid g));
+        (λ i j (h, w, e, e′). link (h, half-stays b h w, side-same b h w ∙ e, side-same b (mate h) (a .rules .mate-in h w) ∙ e′))
+        (a .solids .one f g (x .0, x .1, λ z. x .2 (others Solid refl f ∙ z)) (y .0, y .1, λ z. y .2 (others Solid refl g ∙ z)) (sym (others Solid refl f) ∙ e ∙ others Solid refl g));
   }
 
   -- the table with the bridge is sound
   pub up-sound : Sound sh p d
   up-sound = record {
-    solid-mark = λ s i. rw (b .solid-used s) (a .solid-mark s i);
-    solid = λ s i h. let r = a .solid s i (λ z. h (b .solid-used s ∙ z)) in (r .0, r .1, b .solid (r .0) ∙ r .2);
-    face-free = λ f i h. b .outer f ∙ a .face-free f i (sym (b .solid f) ∙ h);
+    solid-mark = λ s i. rw (others SolidUsed refl s) (a .solid-mark s i);
+    solid = λ s i h. let r = a .solid s i (λ z. h (others SolidUsed refl s ∙ z)) in (r .0, r .1, others Solid refl (r .0) ∙ r .2);
+    face-free = λ f i h. others Outer refl f ∙ a .face-free f i (sym (others Solid refl f) ∙ h);
     face = λ f i h.
-        let r = a .face f i (λ z. h (b .solid f ∙ z)) in
-        let o : c Outer f ≢ l2 = λ e. b .ends .ring (ap (c Outer) (ap (c Face) (sym e) ∙ r .outer-face) ∙ e) in
+        let r = a .face f i (λ z. h (others Solid refl f ∙ z)) in
+        let o : c Outer f ≢ l2 = λ e. ring (ap (c Outer) (ap (c Face) (sym e) ∙ r .outer-face) ∙ e) in
         record {
-          solid-in = subst (In (sh .solids)) (sym (b .solid f)) (r .solid-in);
-          solid-used = λ z. r .solid-used (sym (b .solid-used _) ∙ ap (d SolidUsed) (sym (b .solid f)) ∙ z);
-          outer-in = subst (In (sh .loops)) (sym (b .outer f)) (r .outer-in);
-          outer-face = ap (d Face) (b .outer f) ∙ b .face-o _ o ∙ r .outer-face;
+          solid-in = subst (In (sh .solids)) (sym (others Solid refl f)) (r .solid-in);
+          solid-used = λ z. r .solid-used (sym (others SolidUsed refl _) ∙ ap (d SolidUsed) (sym (others Solid refl f)) ∙ z);
+          outer-in = subst (In (sh .loops)) (sym (others Outer refl f)) (r .outer-in);
+          outer-face = ap (d Face) (others Outer refl f) ∙ face-o _ o ∙ r .outer-face;
         };
     loop-free = λ m i h. split m l2
-        (λ e. (ap (d First) e ∙ first-2, ap (d Isolated) e ∙ b .isolated-2))
+        (λ e. (ap (d First) e ∙ first-2, ap (d Isolated) e ∙ isolated-2))
         (λ e.
-        let z : c Face m ≡ 0 = sym (b .face-o m e) ∙ h in
+        let z : c Face m ≡ 0 = sym (face-o m e) ∙ h in
         let f : m ≢ l = λ q. b .ends .used (ap (c Face) (sym q) ∙ z) in
         let r = a .loop-free m i z in
-        (b .first-o m f e ∙ r .0, b .isolated-o m f e ∙ r .1));
+        (first-o m f e ∙ r .0, isolated-o m f e ∙ r .1));
     loop = d-loop;
     half-free = d-half-free;
     half = λ i j h. d-half i (j .0, j .1, h);
-    vertex-mark = λ w i. rw (b .vertex-used w) (a .vertex-mark w i);
+    vertex-mark = λ w i. rw (others VertexUsed refl w) (a .vertex-mark w i);
     vertex = corners-vertex d-corners;
-    point = λ w i. let r = a .point w i in record { range = r .range; zero = λ h. r .zero (sym (b .vertex-used w) ∙ h) };
+    point = λ w i. let r = a .point w i in record { range = r .range; zero = λ h. r .zero (sym (others VertexUsed refl w) ∙ h) };
     rules = corners-rules d-corners;
     solids = d-solids;
   }

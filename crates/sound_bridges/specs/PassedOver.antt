@@ -2,13 +2,18 @@
 -- there, nothing changes. Two at once serve the two corners of an edge.
 use mathlib.Core.Path.{_≡_, refl, sym, ap, _∙_, subst}
 use mathlib.Core.Logic.{_≢_, _⊎_, inl, inr, ⊎-elim}
-use Prim.Native.Nat.{ℕ}
+use Prim.Native.Nat.{ℕ, _+_, _*_, _≤_}
 use lib.Dec.{eqb}
 use Rattle.laws.specs.Bools.{pick, split, eqb-same, eqb-other}
 use Rattle.laws.specs.Update.{upd-same, upd-off}
 use Rattle.laws.specs.Permutations.{inj}
+use Rattle.layout.specs.declared.shape.Shape.{Shape}
+use Rattle.layout.specs.Fields.{Next, Prev, Columns}
+use Rattle.sound_tables.specs.Mates.{mate⁺}
 use Rattle.sound_tables.specs.EdgeIn.{Halves, Rules, prev-in, next-prev}
 use Rattle.sound_tables.specs.Dummies.{drop-rules, agree-rules}
+use Rattle.sound_tables.specs.Sound.{HalfUsed}
+use Rattle.sound_tables.specs.WithDummies.{upTo-low, upTo-high, extended, Member}
 
 -- what went to D goes on to where D goes
 unfoldable pub skip : ℕ → (ℕ → ℕ) → ℕ → ℕ
@@ -97,3 +102,37 @@ pass-rules {U = U} {h} r mm D D′ o o′ u u′ n m =
     let e : skip D (h .next) D′ ≡ h .next D′ = skip-off D (h .next) m in
     agree-rules (tidy-rules (tidy-rules r mm D o u) mm D′ o′ (⊎-elim (λ w. inl (w, λ q. absurd (n q))) (λ w. inr (λ q. w (q .0))) u′))
     (λ i w. (w .0 .0, w .0 .1, λ q. sym e ∙ w .1 q)) (λ i w. ((w .0, w .1), λ q. e ∙ w .2 q)) (λ i w. refl) (λ i w. refl) (λ i w. refl) (λ i w. refl)
+
+-- ---- a table with its dummies
+
+-- the rules for the half-edges and the dummies of a table
+abbrev pub Rules⁺ : Shape → (ℕ → Type 0) → Halves → Type 0
+Rules⁺ sh = Rules (2 * sh .edges + sh .loops) (mate⁺ (sh .edges))
+
+-- next stays among the half-edges, and previous undoes it
+abbrev pub Undoes : Shape → Columns → ℕ → Type 0
+Undoes sh c i = (c Next i ≤ 2 * sh .edges) × (c Prev (c Next i) ≡ i)
+
+-- by where i goes
+pub undoes : (sh : Shape) (c : Columns) {i j : ℕ} → c Next i ≡ j → j ≤ 2 * sh .edges → c Prev j ≡ i → Undoes sh c i
+undoes sh c e h q = (rw e h, ap (c Prev) e ∙ q)
+
+-- the rules of the table, from columns that agree with its own in start, loop and next
+pub table-rules : (sh : Shape) (c : Columns) {U : ℕ → Type 0} {h : Halves} → Rules⁺ sh U h
+    → ((i : ℕ) → U i → Member sh c i) → ((i : ℕ) → Member sh c i → U i)
+    → ((i : ℕ) → U i → extended sh c .start i ≡ h .start i) → ((i : ℕ) → U i → extended sh c .loop i ≡ h .loop i)
+    → ((i : ℕ) → U i → extended sh c .next i ≡ h .next i) → ((i : ℕ) → HalfUsed sh c i → Undoes sh c i)
+    → Rules⁺ sh (Member sh c) (extended sh c)
+table-rules sh c {h = h} r to from es el en un =
+    let n = 2 * sh .edges in
+    let H = extended sh c in
+    let q : Rules⁺ sh (Member sh c) (record { start = H .start; loop = H .loop; next = H .next; prev = h .prev }) =
+    agree-rules r to from es el en (λ i u. refl) in
+    record {
+      mate-in = q .mate-in;
+      loops = q .loops;
+      verts = q .verts;
+      undone = λ i. ⊎-elim
+          (λ w. ap (H .prev) (upTo-low n (c Next) _ i (w .1)) ∙ upTo-low n (c Prev) _ (c Next i) (un i w .0) ∙ un i w .1)
+          (λ w. ap (H .prev) (upTo-high n (c Next) (λ j. j) i (w .0)) ∙ upTo-high n (c Prev) (λ j. j) i (w .0));
+    }

@@ -1,14 +1,14 @@
 -- Stores as data (`Writes` of crate layout): lists show columns, what is not written stays, writes to other cells commute. Said once, for all
 -- operators and for any fields.
-use mathlib.Core.Path.{_≡_, refl, sym, _∙_}
+use mathlib.Core.Path.{_≡_, refl, sym, ap, _∙_}
 use mathlib.Core.Logic.{_≢_, _⊎_, inl, inr, ⊎-elim}
-use mathlib.Core.Bool.{Bool, true, false}
+use mathlib.Core.Bool.{Bool, true, false, _&&_, false≢true}
 use mathlib.Core.List.{List, [], _∷_}
 use Prim.Native.Nat.{ℕ, _≤_}
-use Rattle.laws.specs.Bools.{pick}
+use Rattle.laws.specs.Bools.{pick, ask, and-T, true-T, T-true}
 use Rattle.laws.specs.Update.{upd, upd-off}
 use Rattle.layout.specs.declared.shape.Shape.{Shape}
-use Rattle.layout.specs.Fields.{Field, Columns, capOf, change, sameField}
+use Rattle.layout.specs.Fields.{Field, Columns, capOf, change, sameField, same-field, among}
 use Rattle.layout.specs.Writes.{Write, writes, changes}
 use Rattle.sound_tables.specs.Cells.{Shows, shows-put}
 
@@ -64,3 +64,25 @@ commute ws vs c h F n = ⊎-elim
     (λ a. frame ws (changes vs c) F n a ∙ near vs c (changes ws c) F n (sym (frame ws c F n a)))
     (λ a. near ws (changes vs c) c F n (frame vs c F n a) ∙ sym (frame vs (changes ws c) F n a))
     (h F n)
+
+-- ---- fields that no write names
+
+-- every write is to one of the fields Fs
+abbrev pub within : List Field → List Write → Bool
+within Fs [] = true
+within Fs (w ∷ ws) = among Fs (w .field) && within Fs ws
+
+-- a field that is none of Fs differs from each of them
+pub not-among : (Fs : List Field) (G F : Field) → among Fs G ≡ true → among Fs F ≡ false → sameField G F ≡ false
+not-among Fs G F g f = ⊎-elim
+    (λ e. absurd (false≢true (sym f ∙ ap (among Fs) (sym (same-field G F e)) ∙ g))) (λ e. e) (ask (sameField G F))
+
+-- and stays as it is
+pub others-stay : (Fs : List Field) (ws : List Write) (c : Columns) (F : Field) → within Fs ws ≡ true → among Fs F ≡ false
+    → (n : ℕ) → changes ws c F n ≡ c F n
+others-stay Fs [] c F t f n = refl
+others-stay Fs (w ∷ ws) c F t f n =
+    let p = and-T (among Fs (w .field)) (within Fs ws) (true-T t) in
+    let q = not-among Fs (w .field) F (T-true {b = among Fs (w .field)} (p .0)) f in
+    others-stay Fs ws _ F (T-true {b = within Fs ws} (p .1)) f n
+    ∙ change-off c (w .field) (w .item) (w .value) F n (inl q)
