@@ -4,7 +4,7 @@ use mathlib.Core.List.{List}
 use Prim.Native.Nat.{ℕ}
 use lib.IntN.{ℤ}
 use Rattle.layout.specs.declared.shape.Shape.{Shape}
-use Rattle.layout.specs.Fields.{Columns}
+use Rattle.layout.specs.Fields.{Capacity, Columns}
 use Rattle.sound_tables.specs.Cells.{Shows, shows-ext}
 use Rattle.sound_tables.specs.Sound.{Sound}
 use Rattle.sound_tables.specs.Good.{own, Good, good-shows, good-after}
@@ -31,7 +31,7 @@ module _ {sh : Shape} {x : List ℕ} {p : List ℤ} (g : Good sh x p) {d : Colum
   -- a good table stays good
   pub mef-kept : Kept sh x p (mefAt q)
   mef-kept = rw (mef-links k t (good-shows g) (g .capacities) (g .sound), mef-points sh x p (q .l) (restOf q) (endOf q) (edgeOf (q .b)) (q .f) (q .m) (wayBack q))
-      (good-after g y-shows (k .capacity) refl t)
+      (good-after g y-shows (k .others Capacity refl) refl t)
 
   -- kef gives everything back
   pub mef-undone : Undone sh x p (mefAt q)
@@ -59,7 +59,7 @@ module _ {sh : Shape} {y : List ℕ} {p : List ℤ} (g : Good sh y p) {c : Colum
 
   -- a good table stays good
   pub kef-kept : Kept sh y p (kefOf (q .b))
-  kef-kept = rw (kef-links k s (g .sound) (good-shows g) (g .capacities), kef-points sh y p (q .b)) (good-after g x-shows (λ n. sym (k .capacity n)) refl s)
+  kef-kept = rw (kef-links k s (g .sound) (good-shows g) (g .capacities), kef-points sh y p (q .b)) (good-after g x-shows (λ n. sym (k .others Capacity refl n)) refl s)
 
   -- mef gives everything back
   pub kef-undone : Undone sh y p (kefOf (q .b))

@@ -2,24 +2,26 @@
 use mathlib.Core.Path.{_≡_, refl}
 use mathlib.Core.Logic.{_≢_}
 use mathlib.Core.Bool.{true, not, _&&_}
-use mathlib.Core.List.{List, [], _∷_}
+use mathlib.Core.List.{List, [], _∷_, _++_}
 use Prim.Native.Nat.{ℕ, _*_}
 use lib.Dec.{eqb, eqb→eq, T-not}
 use lib.IntN.{ℤ}
 use Rattle.laws.specs.Bools.{pick, true-T, eqb-same}
 use Rattle.laws.specs.Every.{every-T}
-use Rattle.laws.specs.Search.{least}
 use Rattle.laws.specs.Sums.{countTo}
 use Rattle.laws.specs.Update.{upd, relabel}
 use Rattle.layout.specs.declared.shape.Shape.{Shape}
 use Rattle.layout.specs.Mate.{mate}
 use Rattle.euler.specs.Operators.{kefTest}
-use Rattle.layout.specs.Fields.{Capacity, SolidUsed, Solid, Outer, Face, First, Isolated, Start, Loop, Next, Prev, VertexUsed, Columns}
+use Rattle.layout.specs.Fields.{Face, First, Isolated, Start, Loop, Next, Prev, Columns}
+use Rattle.layout.specs.Writes.{Write, write, changes}
+use Rattle.euler.specs.Surgery.{halfRecord, tied}
 use Rattle.sound_tables.specs.Sound.{In, HalfUsed, Sound}
-use Rattle.sound_tables.specs.Labels.{one-many}
+use Rattle.sound_tables.specs.Labels.{leastWith, one-many}
 use Rattle.sound_tables.specs.Good.{own}
+use Rattle.sound_cuts.specs.FieldLaws.{withLoops}
 use Rattle.sound_cuts.specs.Relation.{Spot}
-use Rattle.sound_cuts.specs.KefShown.{tieP, tieN, tieP′, tieN′}
+use Rattle.sound_cuts.specs.KefShown.{tieP, tieN, tieP′, tieN′, faceOff}
 
 -- the numbers at half-edge b
 abbrev pub spotAt : Columns → ℕ → Spot
@@ -41,20 +43,16 @@ spotAt d b = record {
 abbrev pub mendLoop : Columns → Spot → ℕ → ℕ
 mendLoop d q = upd (upd (relabel (d Loop) (q .m) (q .l)) (q .a) 0) (q .b) 0
 
+-- all that is written, but the loops of the run
+abbrev pub mendWrites : Shape → Columns → Spot → List Write
+mendWrites sh d q =
+    tied (tieP q) (tieN q) ++ (tied (tieP′ q) (tieN′ q) ++ (halfRecord (q .a) 0 0 0 0 ++ (halfRecord (q .b) 0 0 0 0 ++ (faceOff q
+    ++ (write First (q .l) (leastWith (2 * sh .edges) (mendLoop d q) (q .l))
+    ∷ write Isolated (q .l) (pick (eqb (q .N) (q .a) && eqb (q .M) (q .b)) (q .u) 0) ∷ [])))))
+
 -- the columns once it is out
 abbrev pub mendColumns : Shape → Columns → Spot → Columns
-mendColumns sh d q Capacity = d Capacity
-mendColumns sh d q SolidUsed = d SolidUsed
-mendColumns sh d q Solid = upd (d Solid) (q .f) 0
-mendColumns sh d q Outer = upd (d Outer) (q .f) 0
-mendColumns sh d q Face = upd (d Face) (q .m) 0
-mendColumns sh d q First = upd (upd (d First) (q .m) 0) (q .l) (least (2 * sh .edges) (λ i. eqb (mendLoop d q i) (q .l)))
-mendColumns sh d q Isolated = upd (upd (d Isolated) (q .m) 0) (q .l) (pick (eqb (q .N) (q .a) && eqb (q .M) (q .b)) (q .u) 0)
-mendColumns sh d q Start = upd (upd (d Start) (q .a) 0) (q .b) 0
-mendColumns sh d q Loop = mendLoop d q
-mendColumns sh d q Next = upd (upd (upd (upd (d Next) (tieP q) (tieN q)) (tieP′ q) (tieN′ q)) (q .a) 0) (q .b) 0
-mendColumns sh d q Prev = upd (upd (upd (upd (d Prev) (tieN q) (tieP q)) (tieN′ q) (tieP′ q)) (q .a) 0) (q .b) 0
-mendColumns sh d q VertexUsed = d VertexUsed
+mendColumns sh d q = withLoops (mendLoop d q) (changes (mendWrites sh d q) d)
 
 -- what kef's test says
 pub record KefPlace (sh : Shape) (d : Columns) (b : ℕ) : Type 0 where

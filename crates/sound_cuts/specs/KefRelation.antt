@@ -13,13 +13,15 @@ use Rattle.layout.specs.declared.shape.Shape.{Shape}
 use Rattle.layout.specs.Mate.{mate}
 use Rattle.layout.specs.MateLaws.{mate-mate}
 use Rattle.layout.specs.Fields.{Solid, Outer, Face, First, Isolated, Start, Loop, Next, Prev, Columns}
+use Rattle.layout.specs.Writes.{changes}
 use Rattle.sound_tables.specs.Mates.{mate-other}
 use Rattle.sound_tables.specs.EdgeIn.{prev-in, next-prev}
 use Rattle.sound_tables.specs.Sound.{HalfUsed, firstOf, Sound}
 use Rattle.sound_tables.specs.Names.{not-isolated}
-use Rattle.sound_cuts.specs.Relation.{Spot, Near, both, right, left, pair, Cut}
+use Rattle.sound_cuts.specs.FieldLaws.{loops-other, not-same, unwritten}
+use Rattle.sound_cuts.specs.Relation.{Spot, Near, both, right, left, pair, cutFields, Cut}
 use Rattle.sound_cuts.specs.KefSolids.{Only}
-use Rattle.sound_cuts.specs.KefPlace.{spotAt, mendColumns, KefPlace}
+use Rattle.sound_cuts.specs.KefPlace.{spotAt, mendLoop, mendWrites, mendColumns, KefPlace}
 
 module _ {sh : Shape} {p : List ℤ} {d : Columns} (t : Sound sh p d) (zero : d Loop 0 ≡ 0) {b : ℕ} (o : KefPlace sh d b) where
   -- the numbers
@@ -250,9 +252,8 @@ module _ {sh : Shape} {p : List ℤ} {d : Columns} (t : Sound sh p d) (zero : d 
         l-used = λ z. ha .loop-used (sym (upd-off (d Face) 0 l-m) ∙ z);
         u-some = ua .2;
         v-some = o .used .2;
-        capacity = λ i. refl;
-        solid-used = λ i. refl;
-        vertex-used = λ i. refl;
+        others = λ F e i. sym (loops-other (mendLoop d q) (changes (mendWrites sh d q) d) F (not-same cutFields Loop F refl e) i
+            ∙ unwritten cutFields (mendWrites sh d q) refl d F e i);
         solid-free = upd-same (d Solid) (q .f) 0;
         solid-new = ap (λ i. d Solid (d Face (d Loop i))) (sym ab) ∙ t .solids .edge (mate b) ua ∙ sym (ap (c Solid) (upd-off (d Face) 0 l-m) ∙ upd-off (d Solid) 0 f0-f);
         solid-else = λ i e. sym (upd-off (d Solid) 0 e);

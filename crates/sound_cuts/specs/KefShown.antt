@@ -1,24 +1,27 @@
--- What kef does to a list that shows the columns with the edge: it then shows those without it.
+-- kef on lists: what it stores in a list that shows the columns with the edge makes it show those without it.
 use mathlib.Core.Path.{_≡_, refl, sym, ap, _∙_, subst}
 use mathlib.Core.Logic.{_≢_, inr}
-use mathlib.Core.List.{List}
+use mathlib.Core.Bool.{false}
+use mathlib.Core.List.{List, [], _∷_, _++_}
 use Prim.Native.Nat.{ℕ, _*_, _≤_}
 use native.Mathlib.Omega.{arith}
 use lib.Dec.{eqb}
 use lib.IntN.{ℤ}
 use Rattle.laws.specs.Bools.{pick, split, eqb-same, eqb-other}
-use Rattle.laws.specs.Update.{upd, upd-at, upd-off}
 use Rattle.layout.specs.declared.shape.Shape.{Shape}
 use Rattle.layout.specs.Layout.{loopFirst}
-use Rattle.euler.specs.Surgery.{edgeOut, relabelRun, putLoop, putFace, lower, renew}
-use Rattle.layout.specs.Fields.{Field, Capacity, SolidUsed, Solid, Outer, Face, First, Isolated, Start, Loop, Next, Prev, VertexUsed, Columns, capOf, change}
-use Rattle.sound_tables.specs.Cells.{Shows, shows-put, shows-agree, upd-near}
-use Rattle.sound_tables.specs.Sound.{In, halves, HalfUsed, firstOf, Sound}
+use Rattle.layout.specs.Fields.{Field, Solid, Outer, Face, First, Isolated, Start, Loop, Next, Prev, Columns, capOf, sameField, by-fields}
+use Rattle.layout.specs.Writes.{Write, write, writes, changes}
+use Rattle.euler.specs.Surgery.{halfRecord, faceRecord, loopRecord, tied, relabelRun, lower, renew}
+use Rattle.sound_tables.specs.Cells.{Shows, shows-agree}
+use Rattle.sound_tables.specs.WriteLaws.{shows-writes}
+use Rattle.sound_tables.specs.Sound.{In, HalfUsed, firstOf, Sound}
 use Rattle.sound_tables.specs.Names.{lone-used}
 use Rattle.sound_tables.specs.FirstLow.{lower-one, lower-other, first-low}
-use Rattle.sound_tables.specs.Shown.{withoutEdge, withFirst, shows-no-edge, shows-first, shows-isolated}
-use Rattle.sound_cuts.specs.Relation.{Spot, Near, both, right, left, pair, Cut, off-a, off-b, used-b, around}
-use Rattle.sound_cuts.specs.Round.{withHalves, names-new, roundColumns, shows-round, round-other, round-in, round-off}
+use Rattle.sound_tables.specs.Shown.{withFirst, shows-first, shows-isolated}
+use Rattle.sound_cuts.specs.FieldLaws.{halfFields, patch, patch-other, not-same, outside, unwritten, settled}
+use Rattle.sound_cuts.specs.Relation.{Spot, Near, both, right, left, pair, cutFields, Cut, off-a, off-b, used-b, around}
+use Rattle.sound_cuts.specs.Round.{names-new, roundColumns, shows-round, round-other, round-in, round-off}
 
 -- ---- who is tied to whom
 
@@ -42,59 +45,96 @@ tieN′ q = pick (eqb (q .N) (q .a)) (q .M) (q .N)
 abbrev pub restOf : Spot → ℕ
 restOf q = pick (eqb (q .M) (q .b)) (pick (eqb (q .N) (q .a)) 0 (q .N)) (q .M)
 
--- these ties turn next and previous of d into those of c
-pub record Tied (sh : Shape) (c d : Columns) (q : Spot) (p n p′ n′ : ℕ) : Type 0 where
+-- the edge comes out: the ties, and both halves cleared
+abbrev pub edgeOff : Spot → List Write
+edgeOff q =
+    tied (tieP q) (tieN q) ++ (tied (tieP′ q) (tieN′ q) ++ (halfRecord (q .b) 0 0 0 0 ++ halfRecord (q .a) 0 0 0 0))
+
+-- so does its face and its loop
+abbrev pub faceOff : Spot → List Write
+faceOff q = faceRecord (q .f) 0 0 ++ loopRecord (q .m) 0 0 0
+
+-- what is so tied follows each other in c, unless it is of the edge, and nothing else that is tied differently in d
+pub record Ties (sh : Shape) (c d : Columns) (q : Spot) (p n p′ n′ : ℕ) : Type 0 where
   pub p-in : HalfUsed sh d p
   pub n-in : HalfUsed sh d n
   pub p′-in : HalfUsed sh d p′
   pub n′-in : HalfUsed sh d n′
-  pub next : (i : ℕ) → i ≢ q .a → i ≢ q .b → upd (upd (d Next) p n) p′ n′ i ≡ c Next i
-  pub prev : (i : ℕ) → i ≢ q .a → i ≢ q .b → upd (upd (d Prev) n p) n′ p′ i ≡ c Prev i
+  pub next : p ≢ q .b → p ≢ q .a → c Next p ≡ n
+  pub next′ : p′ ≢ q .b → p′ ≢ q .a → c Next p′ ≡ n′
+  pub prev : n ≢ q .b → n ≢ q .a → c Prev n ≡ p
+  pub prev′ : n′ ≢ q .b → n′ ≢ q .a → c Prev n′ ≡ p′
+  pub off-P : (i : ℕ) → i ≢ p → i ≢ p′ → i ≢ q .a → i ≢ q .P
+  pub off-Q : (i : ℕ) → i ≢ p → i ≢ p′ → i ≢ q .b → i ≢ q .Q
+  pub off-N : (i : ℕ) → i ≢ n → i ≢ n′ → i ≢ q .a → i ≢ q .N
+  pub off-M : (i : ℕ) → i ≢ n → i ≢ n′ → i ≢ q .b → i ≢ q .M
 
 module _ {sh : Shape} {c d : Columns} {q : Spot} (k : Cut sh c d q) where
   -- in each of the four cases
-  pub tied : Near sh c q → Tied sh c d q (tieP q) (tieN q) (tieP′ q) (tieN′ q)
-  tied (both o) =
+  pub ties : Near sh c q → Ties sh c d q (tieP q) (tieN q) (tieP′ q) (tieN′ q)
+  ties (both o) =
       let w = around k in
       rw (eqb-other (off-a k (q .N) (o .N-in)), eqb-other (off-b k (q .M) (o .M-in))) (record {
         p-in = w .0;
         n-in = w .3;
         p′-in = w .2;
         n′-in = w .1;
-        next = λ i e g. split i (q .Q) (λ z. upd-at _ _ z ∙ sym (ap (c Next) z ∙ o .next-Q))
-            (λ z. upd-off _ _ z ∙ split i (q .P) (λ y. upd-at _ _ y ∙ sym (ap (c Next) y ∙ o .next-P)) (λ y. upd-off _ _ y ∙ k .next-else i e g y z));
-        prev = λ i e g. split i (q .N) (λ z. upd-at _ _ z ∙ sym (ap (c Prev) z ∙ o .prev-N))
-            (λ z. upd-off _ _ z ∙ split i (q .M) (λ y. upd-at _ _ y ∙ sym (ap (c Prev) y ∙ o .prev-M)) (λ y. upd-off _ _ y ∙ k .prev-else i e g z y));
+        next = λ g e. o .next-P;
+        next′ = λ g e. o .next-Q;
+        prev = λ g e. o .prev-M;
+        prev′ = λ g e. o .prev-N;
+        off-P = λ i x y e. x;
+        off-Q = λ i x y e. y;
+        off-N = λ i x y e. y;
+        off-M = λ i x y e. x;
       })
-  tied (right o) =
+  ties (right o) =
       let w = around k in
       rw (eqb-other (off-a k (q .N) (o .N-in)), eqb-same (o .M-b)) (record {
         p-in = w .0;
         n-in = w .1;
         p′-in = w .0;
         n′-in = w .1;
-        next = λ i e g. split i (q .P) (λ z. upd-at _ _ z ∙ sym (ap (c Next) z ∙ o .next-P)) (λ z. upd-off _ _ z ∙ upd-off _ _ z ∙ k .next-else i e g z (λ y. g (y ∙ o .Q-b)));
-        prev = λ i e g. split i (q .N) (λ z. upd-at _ _ z ∙ sym (ap (c Prev) z ∙ o .prev-N)) (λ z. upd-off _ _ z ∙ upd-off _ _ z ∙ k .prev-else i e g z (λ y. g (y ∙ o .M-b)));
+        next = λ g e. o .next-P;
+        next′ = λ g e. o .next-P;
+        prev = λ g e. o .prev-N;
+        prev′ = λ g e. o .prev-N;
+        off-P = λ i x y e. x;
+        off-Q = λ i x y g z. g (z ∙ o .Q-b);
+        off-N = λ i x y e. x;
+        off-M = λ i x y g z. g (z ∙ o .M-b);
       })
-  tied (left o) =
+  ties (left o) =
       let w = around k in
       rw (eqb-same (o .M-b), eqb-other (off-b k (q .M) (o .N-in))) (record {
         p-in = w .2;
         n-in = w .3;
         p′-in = w .2;
         n′-in = w .3;
-        next = λ i e g. split i (q .Q) (λ z. upd-at _ _ z ∙ sym (ap (c Next) z ∙ o .next-P)) (λ z. upd-off _ _ z ∙ upd-off _ _ z ∙ k .next-else i e g (λ y. e (y ∙ o .Q-b)) z);
-        prev = λ i e g. split i (q .M) (λ z. upd-at _ _ z ∙ sym (ap (c Prev) z ∙ o .prev-N)) (λ z. upd-off _ _ z ∙ upd-off _ _ z ∙ k .prev-else i e g (λ y. e (y ∙ o .M-b)) z);
+        next = λ g e. o .next-P;
+        next′ = λ g e. o .next-P;
+        prev = λ g e. o .prev-N;
+        prev′ = λ g e. o .prev-N;
+        off-P = λ i x y e z. e (z ∙ o .Q-b);
+        off-Q = λ i x y g. x;
+        off-N = λ i x y e z. e (z ∙ o .M-b);
+        off-M = λ i x y g. x;
       })
-  tied (pair o) =
+  ties (pair o) =
       let w = around k in
       rw (eqb-same (o .N-a), eqb-same (o .M-b)) (record {
         p-in = w .2;
         n-in = w .1;
         p′-in = w .0;
         n′-in = w .3;
-        next = λ i e g. upd-off _ _ (λ z. e (z ∙ o .P-a)) ∙ upd-off _ _ (λ z. g (z ∙ o .Q-b)) ∙ k .next-else i e g (λ z. e (z ∙ o .P-a)) (λ z. g (z ∙ o .Q-b));
-        prev = λ i e g. upd-off _ _ (λ z. g (z ∙ o .M-b)) ∙ upd-off _ _ (λ z. e (z ∙ o .N-a)) ∙ k .prev-else i e g (λ z. e (z ∙ o .N-a)) (λ z. g (z ∙ o .M-b));
+        next = λ g e. absurd (g (o .Q-b));
+        next′ = λ g e. absurd (e (o .P-a));
+        prev = λ g e. absurd (e (o .N-a));
+        prev′ = λ g e. absurd (g (o .M-b));
+        off-P = λ i x y e z. e (z ∙ o .P-a);
+        off-Q = λ i x y g z. g (z ∙ o .Q-b);
+        off-N = λ i x y e z. e (z ∙ o .N-a);
+        off-M = λ i x y g z. g (z ∙ o .M-b);
       })
 
 module _ {sh : Shape} {p : List ℤ} {c d : Columns} {q : Spot} (k : Cut sh c d q) (s : Sound sh p c) (t : Sound sh p d) {x : List ℕ} (y : Shows sh x d) where
@@ -122,60 +162,75 @@ module _ {sh : Shape} {p : List ℤ} {c d : Columns} {q : Spot} (k : Cut sh c d 
       (λ z. round-in y (t .rules .loops) (q .b) (used-b k) (q .l) i (names-new k t i h z) (z ∙ sym (k .loop-b)) g ∙ sym (k .loop-new i h g z))
       (λ z. round-off y (t .rules .loops) (q .b) (used-b k) (q .l) i (inr (λ r. z (r ∙ k .loop-b))) ∙ k .loop-else i h e z)
 
-  -- a column cleared at both halves, which elsewhere is c's
-  cleared : (F : Field) (f : ℕ → ℕ) → c F (q .a) ≡ 0 → c F (q .b) ≡ 0 → (i : ℕ) → (i ≢ q .a → i ≢ q .b → f i ≡ c F i) → upd (upd f (q .b) 0) (q .a) 0 i ≡ c F i
-  cleared F f za zb i h = split i (q .a) (λ e. upd-at _ _ e ∙ sym (ap (c F) e ∙ za))
-      (λ e. upd-off _ _ e ∙ split i (q .b) (λ g. upd-at _ _ g ∙ sym (ap (c F) g ∙ zb)) (λ g. upd-off _ _ g ∙ h e g))
+  -- the other columns are as they were
+  run-other : (F : Field) → sameField Loop F ≡ false → (i : ℕ) → R F i ≡ d F i
+  run-other = round-other y (t .rules .loops) (q .b) (used-b k) (q .l)
 
-  -- the columns with the edge out
-  abbrev O : Columns
-  O = withoutEdge R (q .b) (tieP q) (tieN q) (tieP′ q) (tieN′ q)
+  -- the columns of the half-edges are c's, the others still d's
+  abbrev H : Columns
+  H = patch halfFields c d
 
-  -- the columns of the half-edges are c's
-  out-same : (F : Field) (i : ℕ) → i ≤ capOf sh F → O F i ≡ withHalves d (halves c) F i
-  out-same Capacity i h = round-other y (t .rules .loops) (q .b) (used-b k) (q .l) Capacity refl i
-  out-same SolidUsed i h = round-other y (t .rules .loops) (q .b) (used-b k) (q .l) SolidUsed refl i
-  out-same Solid i h = round-other y (t .rules .loops) (q .b) (used-b k) (q .l) Solid refl i
-  out-same Outer i h = round-other y (t .rules .loops) (q .b) (used-b k) (q .l) Outer refl i
-  out-same Face i h = round-other y (t .rules .loops) (q .b) (used-b k) (q .l) Face refl i
-  out-same First i h = round-other y (t .rules .loops) (q .b) (used-b k) (q .l) First refl i
-  out-same Isolated i h = round-other y (t .rules .loops) (q .b) (used-b k) (q .l) Isolated refl i
-  out-same VertexUsed i h = round-other y (t .rules .loops) (q .b) (used-b k) (q .l) VertexUsed refl i
-  out-same Start i h = rw (k .ba) (cleared Start (R Start) (k .zero-a .s) (k .zero-b .s) i (λ e g. round-other y (t .rules .loops) (q .b) (used-b k) (q .l) Start refl i ∙ k .start-else i e g))
-  out-same Loop i h = rw (k .ba) (cleared Loop (R Loop) (k .zero-a .l) (k .zero-b .l) i (run-loop i h))
-  out-same Next i h = rw (k .ba) (cleared Next _ (k .zero-a .n) (k .zero-b .n) i (λ e g.
-      upd-near (upd (R Next) (tieP q) (tieN q)) (upd (d Next) (tieP q) (tieN q)) (tieP′ q) (tieN′ q) i (upd-near (R Next) (d Next) (tieP q) (tieN q) i (round-other y (t .rules .loops) (q .b) (used-b k) (q .l) Next refl i)) ∙ tied k (k .near) .next i e g))
-  out-same Prev i h = rw (k .ba) (cleared Prev _ (k .zero-a .p) (k .zero-b .p) i (λ e g.
-      upd-near (upd (R Prev) (tieN q) (tieP q)) (upd (d Prev) (tieN q) (tieP q)) (tieN′ q) (tieP′ q) i (upd-near (R Prev) (d Prev) (tieN q) (tieP q) i (round-other y (t .rules .loops) (q .b) (used-b k) (q .l) Prev refl i)) ∙ tied k (k .near) .prev i e g))
+  -- so they are once the edge is out
+  out-same : (F : Field) (i : ℕ) → i ≤ capOf sh F → changes (edgeOff q) R F i ≡ H F i
+  out-same =
+      let T = ties k (k .near) in
+      by-fields halfFields (λ F. (i : ℕ) → i ≤ capOf sh F → changes (edgeOff q) R F i ≡ H F i) (
+        λ i h. settled Start (edgeOff q) R (c Start) i (λ e. k .zero-b .s, (k .zero-a .s, tt))
+            (λ g e. run-other Start refl i ∙ k .start-else i e g),
+        (
+          λ i h. settled Loop (edgeOff q) R (c Loop) i (λ e. k .zero-b .l, (k .zero-a .l, tt)) (λ g e. run-loop i h e g),
+          (
+            λ i h. settled Next (edgeOff q) R (c Next) i (λ z. T .next, (T .next′, (λ e. k .zero-b .n, (k .zero-a .n, tt))))
+                (λ x x′ g e. run-other Next refl i ∙ k .next-else i e g (T .off-P i x x′ e) (T .off-Q i x x′ g)),
+            (
+              λ i h. settled Prev (edgeOff q) R (c Prev) i (λ z. T .prev, (T .prev′, (λ e. k .zero-b .p, (k .zero-a .p, tt))))
+                  (λ x x′ g e. run-other Prev refl i ∙ k .prev-else i e g (T .off-N i x x′ e) (T .off-M i x x′ g)),
+              tt,
+            ),
+          ),
+        ),
+      )
+      (λ F e i h. unwritten halfFields (edgeOff q) refl R F e i ∙ run-other F (not-same halfFields Loop F refl e) i
+      ∙ sym (patch-other halfFields c d F e i))
 
   -- the list with the edge out
   abbrev z2 : List ℕ
-  z2 = edgeOut sh z1 (q .b) (tieP q) (tieN q) (tieP′ q) (tieN′ q)
+  z2 = writes sh (edgeOff q) z1
 
   -- shows them
-  shows-out : Shows sh z2 (withHalves d (halves c))
+  shows-out : Shows sh z2 H
   shows-out =
-      let r = tied k (k .near) in
+      let T = ties k (k .near) in
+      let a = k .a-in in
+      let b = k .b-in in
       let in2 : (i : ℕ) → HalfUsed sh d i → In n i = λ i w. (w .0, w .1) in
-      shows-agree (shows-no-edge shows-run (q .b) (tieP q) (tieN q) (tieP′ q) (tieN′ q) (k .b-in) (subst (In n) (sym (k .ba)) (k .a-in))
-      (in2 _ (r .p-in)) (in2 _ (r .n-in)) (in2 _ (r .p′-in)) (in2 _ (r .n′-in))) out-same
+      shows-agree (shows-writes (edgeOff q) shows-run (
+        in2 _ (T .p-in),
+        (
+          in2 _ (T .n-in),
+          (
+            in2 _ (T .p′-in),
+            (
+              in2 _ (T .n′-in),
+              (b, (b, (b, (b, (a, (a, (a, (a, tt)))))))),
+            ),
+          ),
+        ),
+      )) out-same
 
   -- ---- the records of face and loop, and the first of l
 
   -- with face and loop cleared
   abbrev e3 : Columns
-  e3 = change (change (change (change (change (withHalves d (halves c)) Solid (q .f) 0) Outer (q .f) 0) Face (q .m) 0) First (q .m) 0) Isolated (q .m) 0
+  e3 = changes (faceOff q) H
 
   -- the list then
   abbrev z3 : List ℕ
-  z3 = putLoop sh (putFace sh z2 (q .f) 0 0) (q .m) 0 0 0
+  z3 = writes sh (faceOff q) z2
 
   -- shows them
   shows-records : Shows sh z3 e3
-  shows-records =
-      let mi = k .m-in in
-      let fi = k .f-in in
-      shows-put (shows-put (shows-put (shows-put (shows-put shows-out Solid (q .f) 0 (fi .0) (fi .1)) Outer (q .f) 0 (fi .0) (fi .1)) Face (q .m) 0 (mi .0) (mi .1)) First (q .m) 0 (mi .0) (mi .1)) Isolated (q .m) 0 (mi .0) (mi .1)
+  shows-records = let m = k .m-in in let f = k .f-in in shows-writes (faceOff q) shows-out (f, (f, (m, (m, (m, tt)))))
 
   -- the first of l in c
   first-l : c First (q .l) ≡ firstOf sh c (q .l)
@@ -226,23 +281,32 @@ module _ {sh : Shape} {p : List ℤ} {c d : Columns} {q : Spot} (k : Cut sh c d 
   abbrev pub mendList : List ℕ
   mendList = renew sh z3 (q .l) (lower (loopFirst sh x (q .m)) (loopFirst sh x (q .l))) (restOf q) (q .v)
 
-  -- shows the columns without the edge
+  -- first and isolated vertex of l
+  abbrev firsts : List Write
+  firsts = write First (q .l) (c First (q .l)) ∷ write Isolated (q .l) (c Isolated (q .l)) ∷ []
+
+  -- with them these are the columns of c
+  last : (F : Field) (i : ℕ) → changes firsts e3 F i ≡ c F i
+  last = by-fields cutFields (λ F. (i : ℕ) → changes firsts e3 F i ≡ c F i) (
+    λ i. settled Solid (faceOff q) H (c Solid) i (k .solid-free, tt) (λ e. k .solid-else i e),
+    (
+      λ i. settled Outer (faceOff q) H (c Outer) i (k .outer-free, tt) (λ e. k .outer-else i e),
+      (
+        λ i. settled Face (faceOff q) H (c Face) i (k .face-free, tt) (λ e. k .face-else i e),
+        (
+          λ i. settled First (faceOff q ++ firsts) H (c First) i (λ e. k .first-free, (refl, tt)) (λ e g. k .first-else i g e),
+          (
+            λ i. settled Isolated (faceOff q ++ firsts) H (c Isolated) i (λ e. k .isolated-free, (refl, tt))
+                (λ e g. k .isolated-else i g e),
+            (λ i. refl, (λ i. refl, (λ i. refl, (λ i. refl, tt)))),
+          ),
+        ),
+      ),
+    ),
+  )
+      (λ F e i. unwritten cutFields firsts refl e3 F e i ∙ unwritten cutFields (faceOff q) refl H F e i
+      ∙ patch-other halfFields c d F (outside cutFields halfFields refl F e) i ∙ k .others F e i)
+
+  -- the list after kef shows the columns without the edge
   pub mend-shows : Shows sh mendList c
   mend-shows = shows-agree (renew-l (k .near)) (λ F i h. last F i)
-    where
-      -- these are the columns of c
-      last : (F : Field) (i : ℕ) → withFirst e3 (q .l) (c First (q .l)) (c Isolated (q .l)) F i ≡ c F i
-      last Capacity i = k .capacity i
-      last SolidUsed i = k .solid-used i
-      last Solid i = split i (q .f) (λ e. upd-at _ _ e ∙ sym (ap (c Solid) e ∙ k .solid-free)) (λ e. upd-off _ _ e ∙ k .solid-else i e)
-      last Outer i = split i (q .f) (λ e. upd-at _ _ e ∙ sym (ap (c Outer) e ∙ k .outer-free)) (λ e. upd-off _ _ e ∙ k .outer-else i e)
-      last Face i = split i (q .m) (λ e. upd-at _ _ e ∙ sym (ap (c Face) e ∙ k .face-free)) (λ e. upd-off _ _ e ∙ k .face-else i e)
-      last First i = split i (q .l) (λ e. upd-at _ _ e ∙ sym (ap (c First) e))
-          (λ e. upd-off _ _ e ∙ split i (q .m) (λ g. upd-at _ _ g ∙ sym (ap (c First) g ∙ k .first-free)) (λ g. upd-off _ _ g ∙ k .first-else i e g))
-      last Isolated i = split i (q .l) (λ e. upd-at _ _ e ∙ sym (ap (c Isolated) e))
-          (λ e. upd-off _ _ e ∙ split i (q .m) (λ g. upd-at _ _ g ∙ sym (ap (c Isolated) g ∙ k .isolated-free)) (λ g. upd-off _ _ g ∙ k .isolated-else i e g))
-      last Start i = refl
-      last Loop i = refl
-      last Next i = refl
-      last Prev i = refl
-      last VertexUsed i = k .vertex-used i

@@ -15,7 +15,7 @@ use Rattle.layout.specs.Mate.{mate}
 use Rattle.layout.specs.Fields.{SolidUsed, Solid, Outer, Face, First, Isolated, Start, Loop, Next, VertexUsed, Columns}
 use Rattle.sound_tables.specs.Sound.{In, HalfUsed, firstOf, FaceSound, FirstOrIsolated, LoopSound, HalfSound, HalfFree, VertexSound, alone, joined, Sound}
 use Rattle.sound_tables.specs.Labels.{label-some, label-none}
-use Rattle.sound_cuts.specs.Relation.{Spot, Pair, Near, both, right, left, pair, Cut, off-a, off-b, used-a, used-b, used-to, same-name, around, met-u, met-v, Met, isolated-or}
+use Rattle.sound_cuts.specs.Relation.{Spot, Pair, Near, both, right, left, pair, Cut, solid-used, vertex-used, off-a, off-b, used-a, used-b, used-to, same-name, around, met-u, met-v, Met, isolated-or}
 use Rattle.sound_cuts.specs.KefRules.{mend-rules}
 use Rattle.sound_cuts.specs.KefSolids.{Only, old-used, mend-solids}
 
@@ -49,7 +49,7 @@ module _ {sh : Shape} {p : List ℤ} {c d : Columns} {q : Spot} (k : Cut sh c d 
       let r = t .half i (x .0, x .1) (used-to k i x .2) in
       let e : d Start i ≡ c Start i = k .start-else i (off-a k i x) (off-b k i x) in
       let si : In (sh .vertices) (c Start i) = subst (In (sh .vertices)) e (r .start-in) in
-      let su : c VertexUsed (c Start i) ≢ 0 = λ z. r .start-used (ap (d VertexUsed) e ∙ k .vertex-used (c Start i) ∙ z) in
+      let su : c VertexUsed (c Start i) ≢ 0 = λ z. r .start-used (ap (d VertexUsed) e ∙ vertex-used k (c Start i) ∙ z) in
       split (d Loop i) (q .m)
       (λ g. let y = k .loop-new i (x .1) (off-b k i x) g in record { start-in = si; start-used = su; loop-in = rw y (k .l-in); loop-used = rw y (k .l-used) })
       (λ g. let y = k .loop-else i (x .1) (off-a k i x) g in record {
@@ -113,7 +113,7 @@ module _ {sh : Shape} {p : List ℤ} {c d : Columns} {q : Spot} (k : Cut sh c d 
   either-l (pair o) =
       let r = t .half (q .a) (k .a-in) (used-a k .2) in
       let e : d Start (q .a) ≡ c Isolated (q .l) = k .start-a ∙ sym (o .isolated) in
-      inr (first-l ∙ label-none n (c Loop) (q .l) (unnamed o), subst (In (sh .vertices)) e (r .start-in), λ z. r .start-used (ap (d VertexUsed) e ∙ k .vertex-used _ ∙ z))
+      inr (first-l ∙ label-none n (c Loop) (q .l) (unnamed o), subst (In (sh .vertices)) e (r .start-in), λ z. r .start-used (ap (d VertexUsed) e ∙ vertex-used k _ ∙ z))
 
   -- so it is sound
   loop-l : LoopSound sh c (q .l)
@@ -130,7 +130,7 @@ module _ {sh : Shape} {p : List ℤ} {c d : Columns} {q : Spot} (k : Cut sh c d 
         face-used = λ z. r .face-used (k .solid-else (d Face m) (only m y g) ∙ ap (c Solid) fe ∙ z);
         first = sym ff ∙ r .first ∙ least-ext n _ _ (λ i x z. sym (same-name k m y e g i z));
         either = ⊎-elim (λ h. inl (λ z. h .0 (ff ∙ z), sym fi ∙ h .1))
-            (λ h. inr (sym ff ∙ h .0, subst (In (sh .vertices)) fi (h .1), λ z. h .2 (ap (d VertexUsed) fi ∙ k .vertex-used _ ∙ z))) (r .either);
+            (λ h. inr (sym ff ∙ h .0, subst (In (sh .vertices)) fi (h .1), λ z. h .2 (ap (d VertexUsed) fi ∙ vertex-used k _ ∙ z))) (r .either);
       }
 
   -- ---- vertices
@@ -184,7 +184,7 @@ module _ {sh : Shape} {p : List ℤ} {c d : Columns} {q : Spot} (k : Cut sh c d 
       let fo = k .outer-else g e in
       record {
         solid-in = subst (In (sh .solids)) fs (r .solid-in);
-        solid-used = λ z. r .solid-used (ap (d SolidUsed) fs ∙ k .solid-used _ ∙ z);
+        solid-used = λ z. r .solid-used (ap (d SolidUsed) fs ∙ solid-used k _ ∙ z);
         outer-in = subst (In (sh .loops)) fo (r .outer-in);
         outer-face = ap (c Face) (sym fo) ∙ sym (k .face-else (d Outer g) (λ z. e (sym (r .outer-face) ∙ ap (d Face) z ∙ k .face-new))) ∙ r .outer-face;
       }
@@ -192,8 +192,8 @@ module _ {sh : Shape} {p : List ℤ} {c d : Columns} {q : Spot} (k : Cut sh c d 
   -- the columns without the edge are sound
   pub mend-sound : Sound sh p c
   mend-sound = record {
-    solid-mark = λ m i. subst (λ y. y ≤ 1) (k .solid-used m) (t .solid-mark m i);
-    solid = λ m i h. let r = t .solid m i (λ z. h (sym (k .solid-used m) ∙ z)) in split (r .0) (q .f)
+    solid-mark = λ m i. subst (λ y. y ≤ 1) (solid-used k m) (t .solid-mark m i);
+    solid = λ m i h. let r = t .solid m i (λ z. h (sym (solid-used k m) ∙ z)) in split (r .0) (q .f)
         (λ e. let x = old-used k only t in (c Face (q .l), (x .0, x .1), sym (k .solid-new) ∙ ap (d Solid) (sym e) ∙ r .2))
         (λ e. (r .0, r .1, sym (k .solid-else (r .0) e) ∙ r .2));
     face-free = λ g i h. split g (q .f) (λ e. ap (c Outer) e ∙ k .outer-free) (λ e. sym (k .outer-else g e) ∙ t .face-free g i (k .solid-else g e ∙ h));
@@ -206,9 +206,9 @@ module _ {sh : Shape} {p : List ℤ} {c d : Columns} {q : Spot} (k : Cut sh c d 
         split m (q .l) (λ g. subst (LoopSound sh c) (sym g) loop-l) (λ g. loop-old m i g e (t .loop m i (λ z. h (sym (k .face-else m e) ∙ z))));
     half-free = half-free;
     half = λ i j h. half i (j .0, j .1, h);
-    vertex-mark = λ x i. subst (λ y. y ≤ 1) (k .vertex-used x) (t .vertex-mark x i);
-    vertex = λ x i h. vertex x i (t .vertex x i (λ z. h (sym (k .vertex-used x) ∙ z)));
-    point = λ x i. record { range = t .point x i .range; zero = λ h. t .point x i .zero (k .vertex-used x ∙ h) };
+    vertex-mark = λ x i. subst (λ y. y ≤ 1) (vertex-used k x) (t .vertex-mark x i);
+    vertex = λ x i h. vertex x i (t .vertex x i (λ z. h (sym (vertex-used k x) ∙ z)));
+    point = λ x i. record { range = t .point x i .range; zero = λ h. t .point x i .zero (vertex-used k x ∙ h) };
     rules = mend-rules k (t .rules);
     solids = mend-solids k only t;
   }

@@ -1,3 +1,4 @@
+pub mod FieldLaws
 pub mod Spikes
 pub mod Pairs
 pub mod Relation

@@ -1,40 +1,47 @@
 -- mef on a sound table: the columns with the edge, and that they are the table's with the edge in.
 use mathlib.Core.Path.{_≡_, refl, sym, ap, _∙_}
 use mathlib.Core.Logic.{_≢_, _⊎_, inl, inr, ⊎-elim}
-use mathlib.Core.List.{List}
+use mathlib.Core.List.{List, _∷_, _++_}
 use Prim.Native.Nat.{ℕ, _*_, _≤_}
 use native.Mathlib.Omega.{arith}
-use lib.Dec.{eqb}
 use lib.IntN.{ℤ}
-use Rattle.laws.specs.Search.{least}
 use Rattle.laws.specs.Update.{upd, upd-at, upd-same, upd-off}
 use Rattle.layout.specs.declared.shape.Shape.{Shape}
 use Rattle.layout.specs.Mate.{mate}
 use Rattle.layout.specs.MateLaws.{mate-mate}
-use Rattle.layout.specs.Fields.{Capacity, SolidUsed, Solid, Outer, Face, First, Isolated, Start, Loop, Next, Prev, VertexUsed, Columns}
+use Rattle.layout.specs.Fields.{Solid, Outer, Face, First, Isolated, Start, Loop, Next, Prev, Columns}
+use Rattle.layout.specs.Writes.{Write, write, changes}
+use Rattle.euler.specs.Surgery.{faceRecord, loopRecord, halfRecord, seated}
 use Rattle.sound_tables.specs.Mates.{mate-other}
 use Rattle.sound_tables.specs.Sound.{In, HalfUsed, Sound}
+use Rattle.sound_tables.specs.Labels.{leastWith}
 use Rattle.sound_tables.specs.Names.{free-zero}
-use Rattle.sound_cuts.specs.Relation.{Spot, Near, both, right, left, pair, Cut}
+use Rattle.sound_cuts.specs.FieldLaws.{withLoops, loops-other, not-same, unwritten}
+use Rattle.sound_cuts.specs.Relation.{Spot, Near, both, right, left, pair, cutFields, Cut}
 
 -- the loop column once the edge is in, the others having the loops `lab`
 abbrev pub cutLoop : (ℕ → ℕ) → Spot → ℕ → ℕ
 cutLoop lab q = upd (upd lab (q .a) (q .l)) (q .b) (q .m)
 
+-- the edge goes in: half a after P, its mate b after Q
+abbrev pub edgeAt : Spot → List Write
+edgeAt q =
+    halfRecord (q .a) (q .u) (q .l) (q .N) (q .P)
+    ++ (halfRecord (q .b) (q .v) (q .m) (q .M) (q .Q) ++ (seated (q .P) (q .a) (q .N) ++ seated (q .Q) (q .b) (q .M)))
+
+-- the loops' firsts k and k′, the new loop in its face, the new face in solid s
+abbrev pub faceAt : Spot → ℕ → ℕ → ℕ → List Write
+faceAt q k k′ s =
+    write First (q .l) k ∷ write Isolated (q .l) 0 ∷ (loopRecord (q .m) (q .f) k′ 0 ++ faceRecord (q .f) s (q .m))
+
+-- all that is written, but the loops of the run
+abbrev pub cutWrites : Shape → Columns → (ℕ → ℕ) → Spot → List Write
+cutWrites sh c lab q = edgeAt q ++ faceAt q (leastWith (2 * sh .edges) (cutLoop lab q) (q .l))
+    (leastWith (2 * sh .edges) (cutLoop lab q) (q .m)) (c Solid (c Face (q .l)))
+
 -- the columns once it is in
 abbrev pub cutColumns : Shape → Columns → (ℕ → ℕ) → Spot → Columns
-cutColumns sh c lab q Capacity = c Capacity
-cutColumns sh c lab q SolidUsed = c SolidUsed
-cutColumns sh c lab q Solid = upd (c Solid) (q .f) (c Solid (c Face (q .l)))
-cutColumns sh c lab q Outer = upd (c Outer) (q .f) (q .m)
-cutColumns sh c lab q Face = upd (c Face) (q .m) (q .f)
-cutColumns sh c lab q First = upd (upd (c First) (q .l) (least (2 * sh .edges) (λ i. eqb (cutLoop lab q i) (q .l)))) (q .m) (least (2 * sh .edges) (λ i. eqb (cutLoop lab q i) (q .m)))
-cutColumns sh c lab q Isolated = upd (upd (c Isolated) (q .l) 0) (q .m) 0
-cutColumns sh c lab q Start = upd (upd (c Start) (q .a) (q .u)) (q .b) (q .v)
-cutColumns sh c lab q Loop = cutLoop lab q
-cutColumns sh c lab q Next = upd (upd (upd (upd (c Next) (q .a) (q .N)) (q .b) (q .M)) (q .P) (q .a)) (q .Q) (q .b)
-cutColumns sh c lab q Prev = upd (upd (upd (upd (c Prev) (q .a) (q .P)) (q .b) (q .Q)) (q .N) (q .a)) (q .M) (q .b)
-cutColumns sh c lab q VertexUsed = c VertexUsed
+cutColumns sh c lab q = withLoops (cutLoop lab q) (changes (cutWrites sh c lab q) c)
 
 -- the loop is in use; edge, face and new loop are free
 pub record MefPlace (sh : Shape) (c : Columns) (q : Spot) : Type 0 where
@@ -147,9 +154,8 @@ module _ {sh : Shape} {p : List ℤ} {c : Columns} {q : Spot} (s : Sound sh p c)
         l-used = o .l-used;
         u-some = o .u-some;
         v-some = o .v-some;
-        capacity = λ i. refl;
-        solid-used = λ i. refl;
-        vertex-used = λ i. refl;
+        others = λ F e i. loops-other (cutLoop lab q) (changes (cutWrites sh c lab q) c) F (not-same cutFields Loop F refl e) i
+            ∙ unwritten cutFields (cutWrites sh c lab q) refl c F e i;
         solid-free = o .f-free;
         solid-new = upd-same (c Solid) (q .f) _;
         solid-else = λ i e. upd-off (c Solid) _ e;

@@ -11,7 +11,7 @@ use Rattle.layout.specs.declared.shape.Shape.{Shape}
 use Rattle.layout.specs.Fields.{Solid, Outer, Face, Isolated, Start, Loop, VertexUsed, Columns}
 use Rattle.sound_tables.specs.Sound.{In, HalfUsed, FaceSound, LoopSound, HalfSound, HalfFree, VertexSound, alone, joined, Sound, half-by}
 use Rattle.sound_tables.specs.Labels.{label-some}
-use Rattle.sound_cuts.specs.Relation.{Spot, Cut, Marked, off-a, off-b, same-name, each, around, Met, met-u, met-v, isolated-or}
+use Rattle.sound_cuts.specs.Relation.{Spot, Cut, Marked, solid-used, vertex-used, off-a, off-b, same-name, each, around, Met, met-u, met-v, isolated-or}
 use Rattle.sound_cuts.specs.MefRules.{cut-rules}
 use Rattle.sound_cuts.specs.MefSolids.{old-used, not-new, new-used, unnamed, cut-solids}
 
@@ -28,7 +28,7 @@ module _ {sh : Shape} {p : List ℤ} {c d : Columns} {q : Spot} (k : Cut sh c d 
       let r = s .face (c Face (q .l)) (old-used k s .0, old-used k s .1) (old-used k s .2) in
       record {
         solid-in = rw (k .solid-new) (r .solid-in);
-        solid-used = rw (k .solid-new, k .solid-used (c Solid (c Face (q .l)))) (r .solid-used);
+        solid-used = rw (k .solid-new, solid-used k (c Solid (c Face (q .l)))) (r .solid-used);
         outer-in = rw (k .outer-new) (k .m-in);
         outer-face = ap (d Face) (k .outer-new) ∙ k .face-new;
       }
@@ -37,7 +37,7 @@ module _ {sh : Shape} {p : List ℤ} {c d : Columns} {q : Spot} (k : Cut sh c d 
   old-face : (g : ℕ) → In (sh .faces) g → g ≢ q .f → FaceSound sh c g → FaceSound sh d g
   old-face g i e r = record {
     solid-in = rw (k .solid-else g e) (r .solid-in);
-    solid-used = rw (k .solid-else g e, k .solid-used (c Solid g)) (r .solid-used);
+    solid-used = rw (k .solid-else g e, solid-used k (c Solid g)) (r .solid-used);
     outer-in = rw (k .outer-else g e) (r .outer-in);
     outer-face = ap (d Face) (k .outer-else g e) ∙ k .face-else (c Outer g) (λ z. omega (arith, i .0, sym (r .outer-face) ∙ ap (c Face) z ∙ k .face-free)) ∙ r .outer-face;
   }
@@ -69,7 +69,7 @@ module _ {sh : Shape} {p : List ℤ} {c d : Columns} {q : Spot} (k : Cut sh c d 
     face-used = rw (k .face-else m g, k .solid-else (c Face m) (not-new k s _ (r .face-used))) (r .face-used);
     first = k .first-else m e g ∙ r .first ∙ least-ext n _ _ (λ i x z. same-name k m y e g i z);
     either = ⊎-elim (λ h. inl (rw (k .first-else m e g, k .isolated-else m e g) h))
-        (λ h. inr (rw (k .first-else m e g, k .isolated-else m e g, k .vertex-used (c Isolated m)) h)) (r .either);
+        (λ h. inr (rw (k .first-else m e g, k .isolated-else m e g, vertex-used k (c Isolated m)) h)) (r .either);
   }
 
   -- ---- half-edges
@@ -98,7 +98,7 @@ module _ {sh : Shape} {p : List ℤ} {c d : Columns} {q : Spot} (k : Cut sh c d 
 
   -- from the values of start and loop
   half-at : (i v m : ℕ) → d Start i ≡ v → d Loop i ≡ m → In (sh .vertices) v × (c VertexUsed v ≢ 0) → In (sh .loops) m → d Face m ≢ 0 → HalfSound sh d i
-  half-at i v m es em x y z = half-by v m es em (x .0) (rw (k .vertex-used v) (x .1)) y z
+  half-at i v m es em x y z = half-by v m es em (x .0) (rw (vertex-used k v) (x .1)) y z
 
   -- a half-edge in use is sound
   half : (i : ℕ) → HalfUsed sh d i → HalfSound sh d i
@@ -156,8 +156,8 @@ module _ {sh : Shape} {p : List ℤ} {c d : Columns} {q : Spot} (k : Cut sh c d 
   -- the columns with the edge are sound
   pub cut-sound : Sound sh p d
   cut-sound = record {
-    solid-mark = λ m i. rw (k .solid-used m) (s .solid-mark m i);
-    solid = λ m i h. let r = s .solid m i (λ z. h (k .solid-used m ∙ z)) in
+    solid-mark = λ m i. rw (solid-used k m) (s .solid-mark m i);
+    solid = λ m i h. let r = s .solid m i (λ z. h (solid-used k m ∙ z)) in
         (r .0, r .1, k .solid-else (r .0) (λ z. omega (arith, i .0, sym (r .2) ∙ ap (c Solid) z ∙ k .solid-free)) ∙ r .2);
     face-free = λ g i h. let e = face-was g h in k .outer-else g e ∙ s .face-free g i (sym (k .solid-else g e) ∙ h);
     face = λ g i h. split g (q .f) (λ e. subst (FaceSound sh d) (sym e) new-face) (λ e. old-face g i e (s .face g i (λ z. h (k .solid-else g e ∙ z))));
@@ -170,9 +170,9 @@ module _ {sh : Shape} {p : List ℤ} {c d : Columns} {q : Spot} (k : Cut sh c d 
         (λ e. split m (q .l) (λ g. subst (LoopSound sh d) (sym g) loop-split) (λ g. loop-old m i g e (s .loop m i (λ z. h (k .face-else m e ∙ z)))));
     half-free = half-free;
     half = λ i j h. half i (j .0, j .1, h);
-    vertex-mark = λ x i. rw (k .vertex-used x) (s .vertex-mark x i);
-    vertex = λ x i h. vertex x i (s .vertex x i (λ z. h (k .vertex-used x ∙ z)));
-    point = λ x i. record { range = s .point x i .range; zero = λ h. s .point x i .zero (sym (k .vertex-used x) ∙ h) };
+    vertex-mark = λ x i. rw (vertex-used k x) (s .vertex-mark x i);
+    vertex = λ x i h. vertex x i (s .vertex x i (λ z. h (vertex-used k x ∙ z)));
+    point = λ x i. record { range = s .point x i .range; zero = λ h. s .point x i .zero (sym (vertex-used k x) ∙ h) };
     rules = cut-rules k w s;
     solids = cut-solids k s;
   }

@@ -1,7 +1,9 @@
 -- What mef makes and kef undoes, said once for both: columns c without an edge, columns d with it. The edge's half a stands in loop l between P and N, from
 -- vertex u; its mate b stands in loop m between Q and M, from vertex v, and m is the only loop of face f. In c the loops l and m are one, named l.
-use mathlib.Core.Path.{_≡_, sym, ap, _∙_, subst}
+use mathlib.Core.Path.{_≡_, refl, sym, ap, _∙_, subst}
 use mathlib.Core.Logic.{_≢_, _⊎_, inl, inr, ⊎-elim}
+use mathlib.Core.Bool.{false}
+use mathlib.Core.List.{List, [], _∷_}
 use Prim.Native.Nat.{ℕ, _*_, _≤_}
 use native.Mathlib.Omega.{arith}
 use lib.Dec.{eqb}
@@ -10,7 +12,7 @@ use Rattle.laws.specs.Exchange.{Till}
 use Rattle.laws.specs.Moves.{Or, But}
 use Rattle.layout.specs.declared.shape.Shape.{Shape}
 use Rattle.layout.specs.Mate.{mate}
-use Rattle.layout.specs.Fields.{Capacity, SolidUsed, Solid, Outer, Face, First, Isolated, Start, Loop, Next, Prev, VertexUsed, Columns}
+use Rattle.layout.specs.Fields.{Field, SolidUsed, Solid, Outer, Face, First, Isolated, Start, Loop, Next, Prev, VertexUsed, Columns, among}
 use Rattle.sound_tables.specs.Mates.{mate-other}
 use Rattle.sound_tables.specs.EdgeIn.{Zero}
 use Rattle.sound_tables.specs.Sound.{In, halves, HalfUsed, firstOf}
@@ -87,6 +89,10 @@ pub data Near (sh : Shape) (c : Columns) (q : Spot) : Type 0 where
 
 -- ---- the columns
 
+-- the fields that differ
+abbrev pub cutFields : List Field
+cutFields = Solid ∷ Outer ∷ Face ∷ First ∷ Isolated ∷ Start ∷ Loop ∷ Next ∷ Prev ∷ []
+
 -- d is c with the edge
 pub record Cut (sh : Shape) (c d : Columns) (q : Spot) : Type 0 where
   pub l-in : In (sh .loops) (q .l)
@@ -100,9 +106,7 @@ pub record Cut (sh : Shape) (c d : Columns) (q : Spot) : Type 0 where
   pub l-used : c Face (q .l) ≢ 0
   pub u-some : q .u ≢ 0
   pub v-some : q .v ≢ 0
-  pub capacity : (n : ℕ) → d Capacity n ≡ c Capacity n
-  pub solid-used : (n : ℕ) → d SolidUsed n ≡ c SolidUsed n
-  pub vertex-used : (n : ℕ) → d VertexUsed n ≡ c VertexUsed n
+  pub others : (F : Field) → among cutFields F ≡ false → (n : ℕ) → d F n ≡ c F n
   pub solid-free : c Solid (q .f) ≡ 0
   pub solid-new : d Solid (q .f) ≡ c Solid (c Face (q .l))
   pub solid-else : (n : ℕ) → n ≢ q .f → d Solid n ≡ c Solid n
@@ -152,6 +156,14 @@ pub record Marked (sh : Shape) (c d : Columns) (q : Spot) : Type 0 where
 -- ---- which half-edges are in use
 
 module _ {sh : Shape} {c d : Columns} {q : Spot} (k : Cut sh c d q) where
+  -- the same solids are in use
+  pub solid-used : (n : ℕ) → d SolidUsed n ≡ c SolidUsed n
+  solid-used = k .others SolidUsed refl
+
+  -- and the same vertices
+  pub vertex-used : (n : ℕ) → d VertexUsed n ≡ c VertexUsed n
+  vertex-used = k .others VertexUsed refl
+
   -- the two halves differ
   pub a-b : q .a ≢ q .b
   a-b e = mate-other (q .a) (k .a-in .0) (e ∙ sym (k .ab))

@@ -13,27 +13,11 @@ use Rattle.laws.specs.Cycles.{Cycles}
 use Rattle.laws.specs.Walks.{chain}
 use Rattle.layout.specs.declared.shape.Shape.{Shape}
 use Rattle.euler.specs.Surgery.{relabelRun}
-use Rattle.layout.specs.Fields.{Field, Capacity, SolidUsed, Solid, Outer, Face, First, Isolated, Start, Loop, Next, Prev, VertexUsed, Columns, sameField}
+use Rattle.layout.specs.Fields.{Field, Loop, Next, Columns, sameField}
 use Rattle.sound_tables.specs.Cells.{Shows}
-use Rattle.sound_tables.specs.EdgeIn.{Halves}
 use Rattle.sound_tables.specs.Sound.{In, HalfUsed, Sound}
 use Rattle.sound_tables.specs.Walking.{runColumns, shows-relabel, run-met, run-off, run-other, way-round, on-the-way}
 use Rattle.sound_cuts.specs.Relation.{Spot, Cut}
-
--- the columns c with others for the half-edges
-abbrev pub withHalves : Columns → Halves → Columns
-withHalves c h Capacity = c Capacity
-withHalves c h SolidUsed = c SolidUsed
-withHalves c h Solid = c Solid
-withHalves c h Outer = c Outer
-withHalves c h Face = c Face
-withHalves c h First = c First
-withHalves c h Isolated = c Isolated
-withHalves c h Start = h .start
-withHalves c h Loop = h .loop
-withHalves c h Next = h .next
-withHalves c h Prev = h .prev
-withHalves c h VertexUsed = c VertexUsed
 
 -- a half-edge that names the new loop m is in use
 pub names-new : {sh : Shape} {p : List ℤ} {c d : Columns} {q : Spot} → Cut sh c d q → Sound sh p d → (i : ℕ) → i ≤ 2 * sh .edges → d Loop i ≡ q .m → HalfUsed sh d i
