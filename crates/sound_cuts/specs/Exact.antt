@@ -9,10 +9,10 @@ use Rattle.sound_tables.specs.Cells.{Shows, shows-ext}
 use Rattle.sound_tables.specs.Sound.{Sound}
 use Rattle.sound_tables.specs.Good.{own, Good, good-shows, good-after}
 use Rattle.sound_tables.specs.Undone.{Kept, Undone}
-use Rattle.sound_cuts.specs.Relation.{Spot, Cut}
+use Rattle.sound_cuts.specs.Relation.{Spot, restOf, endOf, Cut}
 use Rattle.sound_cuts.specs.MefShown.{cutList, cut-shows}
-use Rattle.sound_cuts.specs.KefShown.{restOf, mendList, mend-shows}
-use Rattle.sound_cuts.specs.MefOperands.{kefOf, endOf, wayBack}
+use Rattle.sound_cuts.specs.KefShown.{mendList, mend-shows}
+use Rattle.sound_cuts.specs.MefOperands.{kefOf, wayBack}
 use Rattle.sound_cuts.specs.MefAccepted.{mefAt, mef-links, mef-inverse, mef-accepted, mef-points}
 use Rattle.sound_cuts.specs.KefAccepted.{kef-links, kef-inverse, kef-accepted, kef-points}
 use Rattle.layout.specs.Mate.{edgeOf}

@@ -20,8 +20,8 @@ use Rattle.sound_tables.specs.Sound.{In, HalfUsed, Sound}
 use Rattle.sound_tables.specs.Labels.{leastWith, one-many}
 use Rattle.sound_tables.specs.Good.{own}
 use Rattle.sound_cuts.specs.FieldLaws.{withLoops}
-use Rattle.sound_cuts.specs.Relation.{Spot}
-use Rattle.sound_cuts.specs.KefShown.{tieP, tieN, tieP′, tieN′, faceOff}
+use Rattle.sound_cuts.specs.Relation.{Spot, tieP, tieN, tieP′, tieN′}
+use Rattle.sound_cuts.specs.KefShown.{faceOff}
 
 -- the numbers at half-edge b
 abbrev pub spotAt : Columns → ℕ → Spot

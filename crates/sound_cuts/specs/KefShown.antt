@@ -1,13 +1,13 @@
 -- kef on lists: what it stores in a list that shows the columns with the edge makes it show those without it.
 use mathlib.Core.Path.{_≡_, refl, sym, ap, _∙_, subst}
-use mathlib.Core.Logic.{_≢_, inr}
-use mathlib.Core.Bool.{false}
+use mathlib.Core.Logic.{_≢_, inl, inr, ⊎-elim}
+use mathlib.Core.Bool.{Bool, false}
 use mathlib.Core.List.{List, [], _∷_, _++_}
 use Prim.Native.Nat.{ℕ, _*_, _≤_}
 use native.Mathlib.Omega.{arith}
 use lib.Dec.{eqb}
 use lib.IntN.{ℤ}
-use Rattle.laws.specs.Bools.{pick, split, eqb-same, eqb-other}
+use Rattle.laws.specs.Bools.{pick, pick-ind, split, eqb-same, eqb-other}
 use Rattle.layout.specs.declared.shape.Shape.{Shape}
 use Rattle.layout.specs.Layout.{loopFirst}
 use Rattle.layout.specs.Fields.{Field, Solid, Outer, Face, First, Isolated, Start, Loop, Next, Prev, Columns, capOf, sameField, by-fields}
@@ -20,30 +20,8 @@ use Rattle.sound_tables.specs.Names.{lone-used}
 use Rattle.sound_tables.specs.FirstLow.{lower-one, lower-other, first-low}
 use Rattle.sound_tables.specs.Shown.{withFirst, shows-first, shows-isolated}
 use Rattle.sound_cuts.specs.FieldLaws.{halfFields, patch, patch-other, not-same, outside, unwritten, settled}
-use Rattle.sound_cuts.specs.Relation.{Spot, Near, both, right, left, pair, cutFields, Cut, off-a, off-b, used-b, around}
+use Rattle.sound_cuts.specs.Relation.{Spot, tieP, tieN, tieP′, tieN′, restOf, AtA, AtB, seat, off-a, off-b, first-corner, cutFields, Cut, site, used-b, around}
 use Rattle.sound_cuts.specs.Round.{names-new, roundColumns, shows-round, round-other, round-in, round-off}
-
--- ---- who is tied to whom
-
--- p is followed by n and p′ by n′ once the edge is out, where one rest is empty the other closes on itself
-abbrev pub tieP : Spot → ℕ
-tieP q = pick (eqb (q .N) (q .a)) (q .Q) (q .P)
-
--- what follows p
-abbrev pub tieN : Spot → ℕ
-tieN q = pick (eqb (q .M) (q .b)) (q .N) (q .M)
-
--- the other that is followed
-abbrev pub tieP′ : Spot → ℕ
-tieP′ q = pick (eqb (q .M) (q .b)) (q .P) (q .Q)
-
--- what follows it
-abbrev pub tieN′ : Spot → ℕ
-tieN′ q = pick (eqb (q .N) (q .a)) (q .M) (q .N)
-
--- one half-edge of the loop that is left, or none
-abbrev pub restOf : Spot → ℕ
-restOf q = pick (eqb (q .M) (q .b)) (pick (eqb (q .N) (q .a)) 0 (q .N)) (q .M)
 
 -- the edge comes out: the ties, and both halves cleared
 abbrev pub edgeOff : Spot → List Write
@@ -54,88 +32,60 @@ edgeOff q =
 abbrev pub faceOff : Spot → List Write
 faceOff q = faceRecord (q .f) 0 0 ++ loopRecord (q .m) 0 0 0
 
--- what is so tied follows each other in c, unless it is of the edge, and nothing else that is tied differently in d
-pub record Ties (sh : Shape) (c d : Columns) (q : Spot) (p n p′ n′ : ℕ) : Type 0 where
-  pub p-in : HalfUsed sh d p
-  pub n-in : HalfUsed sh d n
-  pub p′-in : HalfUsed sh d p′
-  pub n′-in : HalfUsed sh d n′
-  pub next : p ≢ q .b → p ≢ q .a → c Next p ≡ n
-  pub next′ : p′ ≢ q .b → p′ ≢ q .a → c Next p′ ≡ n′
-  pub prev : n ≢ q .b → n ≢ q .a → c Prev n ≡ p
-  pub prev′ : n′ ≢ q .b → n′ ≢ q .a → c Prev n′ ≡ p′
-  pub off-P : (i : ℕ) → i ≢ p → i ≢ p′ → i ≢ q .a → i ≢ q .P
-  pub off-Q : (i : ℕ) → i ≢ p → i ≢ p′ → i ≢ q .b → i ≢ q .Q
-  pub off-N : (i : ℕ) → i ≢ n → i ≢ n′ → i ≢ q .a → i ≢ q .N
-  pub off-M : (i : ℕ) → i ≢ n → i ≢ n′ → i ≢ q .b → i ≢ q .M
+-- ---- who is tied to whom
 
 module _ {sh : Shape} {c d : Columns} {q : Spot} (k : Cut sh c d q) where
-  -- in each of the four cases
-  pub ties : Near sh c q → Ties sh c d q (tieP q) (tieN q) (tieP′ q) (tieN′ q)
-  ties (both o) =
-      let w = around k in
-      rw (eqb-other (off-a k (q .N) (o .N-in)), eqb-other (off-b k (q .M) (o .M-in))) (record {
-        p-in = w .0;
-        n-in = w .3;
-        p′-in = w .2;
-        n′-in = w .1;
-        next = λ g e. o .next-P;
-        next′ = λ g e. o .next-Q;
-        prev = λ g e. o .prev-M;
-        prev′ = λ g e. o .prev-N;
-        off-P = λ i x y e. x;
-        off-Q = λ i x y e. y;
-        off-N = λ i x y e. y;
-        off-M = λ i x y e. x;
-      })
-  ties (right o) =
-      let w = around k in
-      rw (eqb-other (off-a k (q .N) (o .N-in)), eqb-same (o .M-b)) (record {
-        p-in = w .0;
-        n-in = w .1;
-        p′-in = w .0;
-        n′-in = w .1;
-        next = λ g e. o .next-P;
-        next′ = λ g e. o .next-P;
-        prev = λ g e. o .prev-N;
-        prev′ = λ g e. o .prev-N;
-        off-P = λ i x y e. x;
-        off-Q = λ i x y g z. g (z ∙ o .Q-b);
-        off-N = λ i x y e. x;
-        off-M = λ i x y g z. g (z ∙ o .M-b);
-      })
-  ties (left o) =
-      let w = around k in
-      rw (eqb-same (o .M-b), eqb-other (off-b k (q .M) (o .N-in))) (record {
-        p-in = w .2;
-        n-in = w .3;
-        p′-in = w .2;
-        n′-in = w .3;
-        next = λ g e. o .next-P;
-        next′ = λ g e. o .next-P;
-        prev = λ g e. o .prev-N;
-        prev′ = λ g e. o .prev-N;
-        off-P = λ i x y e z. e (z ∙ o .Q-b);
-        off-Q = λ i x y g. x;
-        off-N = λ i x y e z. e (z ∙ o .M-b);
-        off-M = λ i x y g. x;
-      })
-  ties (pair o) =
-      let w = around k in
-      rw (eqb-same (o .N-a), eqb-same (o .M-b)) (record {
-        p-in = w .2;
-        n-in = w .1;
-        p′-in = w .0;
-        n′-in = w .3;
-        next = λ g e. absurd (g (o .Q-b));
-        next′ = λ g e. absurd (e (o .P-a));
-        prev = λ g e. absurd (e (o .N-a));
-        prev′ = λ g e. absurd (g (o .M-b));
-        off-P = λ i x y e z. e (z ∙ o .P-a);
-        off-Q = λ i x y g z. g (z ∙ o .Q-b);
-        off-N = λ i x y e z. e (z ∙ o .N-a);
-        off-M = λ i x y g z. g (z ∙ o .M-b);
-      })
+  -- p and n follow each other in c, unless they are of the edge
+  abbrev Follow : ℕ → ℕ → Type 0
+  Follow p n = (p ≢ q .b → p ≢ q .a → c Next p ≡ n) × (n ≢ q .b → n ≢ q .a → c Prev n ≡ p)
+
+  -- so it is with the first two
+  tie : Follow (tieP q) (tieN q)
+  tie = go (k .near .at-a) (k .near .at-b)
+    where
+      -- in each case
+      go : AtA sh c q → AtB sh c q → Follow (tieP q) (tieN q)
+      go (inr o) B = let e = eqb-other (off-a (site k) (q .N) (o .after)) in (λ x y. rw e (o .next), λ x y. rw e (o .prev))
+      go (inl o) (inr r) =
+          let e = eqb-same (o .after) in
+          let g = eqb-other (off-b (site k) (q .M) (r .after)) in
+          (λ x y. rw (e, g) (r .next ∙ rw e), λ x y. rw (e, g) (ap (c Prev) (sym (rw e)) ∙ r .prev))
+      go (inl o) (inl r) =
+          let e = eqb-same (o .after) in
+          let g = eqb-same (r .after) in
+          (λ x y. absurd (x (rw e (r .before))), λ x y. absurd (y (rw g (o .after))))
+
+  -- and with the others
+  tie′ : Follow (tieP′ q) (tieN′ q)
+  tie′ = go (k .near .at-a) (k .near .at-b)
+    where
+      -- in each case
+      go : AtA sh c q → AtB sh c q → Follow (tieP′ q) (tieN′ q)
+      go A (inr r) = let g = eqb-other (off-b (site k) (q .M) (r .after)) in (λ x y. rw g (r .next), λ x y. rw g (r .prev))
+      go (inr o) (inl r) =
+          let e = eqb-other (off-a (site k) (q .N) (o .after)) in
+          let g = eqb-same (r .after) in
+          (λ x y. rw (e, g) (o .next ∙ rw g), λ x y. rw (e, g) (ap (c Prev) (sym (rw g)) ∙ o .prev))
+      go (inl o) (inl r) =
+          let e = eqb-same (o .after) in
+          let g = eqb-same (r .after) in
+          (λ x y. absurd (y (rw g (o .before))), λ x y. absurd (x (rw e (r .after))))
+
+  -- what is neither tied nor a does not stand before a
+  off-P : (i : ℕ) → i ≢ tieP q → i ≢ q .a → i ≢ q .P
+  off-P i x e z = ⊎-elim (λ o. e (z ∙ o .before)) (λ o. x (z ∙ rw (eqb-other (off-a (site k) (q .N) (o .after))))) (k .near .at-a)
+
+  -- nor after it
+  off-N : (i : ℕ) → i ≢ tieN′ q → i ≢ q .a → i ≢ q .N
+  off-N i x e z = ⊎-elim (λ o. e (z ∙ o .after)) (λ o. x (z ∙ rw (eqb-other (off-a (site k) (q .N) (o .after))))) (k .near .at-a)
+
+  -- and so with b
+  off-Q : (i : ℕ) → i ≢ tieP′ q → i ≢ q .b → i ≢ q .Q
+  off-Q i x e z = ⊎-elim (λ o. e (z ∙ o .before)) (λ o. x (z ∙ rw (eqb-other (off-b (site k) (q .M) (o .after))))) (k .near .at-b)
+
+  -- after it
+  off-M : (i : ℕ) → i ≢ tieN q → i ≢ q .b → i ≢ q .M
+  off-M i x e z = ⊎-elim (λ o. e (z ∙ o .after)) (λ o. x (z ∙ rw (eqb-other (off-b (site k) (q .M) (o .after))))) (k .near .at-b)
 
 module _ {sh : Shape} {p : List ℤ} {c d : Columns} {q : Spot} (k : Cut sh c d q) (s : Sound sh p c) (t : Sound sh p d) {x : List ℕ} (y : Shows sh x d) where
   -- as many half-edges
@@ -172,26 +122,20 @@ module _ {sh : Shape} {p : List ℤ} {c d : Columns} {q : Spot} (k : Cut sh c d 
 
   -- so they are once the edge is out
   out-same : (F : Field) (i : ℕ) → i ≤ capOf sh F → changes (edgeOff q) R F i ≡ H F i
-  out-same =
-      let T = ties k (k .near) in
-      by-fields halfFields (λ F. (i : ℕ) → i ≤ capOf sh F → changes (edgeOff q) R F i ≡ H F i) (
-        λ i h. settled Start (edgeOff q) R (c Start) i (λ e. k .zero-b .s, (k .zero-a .s, tt))
-            (λ g e. run-other Start refl i ∙ k .start-else i e g),
-        (
-          λ i h. settled Loop (edgeOff q) R (c Loop) i (λ e. k .zero-b .l, (k .zero-a .l, tt)) (λ g e. run-loop i h e g),
-          (
-            λ i h. settled Next (edgeOff q) R (c Next) i (λ z. T .next, (T .next′, (λ e. k .zero-b .n, (k .zero-a .n, tt))))
-                (λ x x′ g e. run-other Next refl i ∙ k .next-else i e g (T .off-P i x x′ e) (T .off-Q i x x′ g)),
-            (
-              λ i h. settled Prev (edgeOff q) R (c Prev) i (λ z. T .prev, (T .prev′, (λ e. k .zero-b .p, (k .zero-a .p, tt))))
-                  (λ x x′ g e. run-other Prev refl i ∙ k .prev-else i e g (T .off-N i x x′ e) (T .off-M i x x′ g)),
-              tt,
-            ),
-          ),
-        ),
-      )
-      (λ F e i h. unwritten halfFields (edgeOff q) refl R F e i ∙ run-other F (not-same halfFields Loop F refl e) i
-      ∙ sym (patch-other halfFields c d F e i))
+  out-same F i =
+      let start = settled Start (edgeOff q) R (c Start) i (λ e. k .zero-b .s, (k .zero-a .s, tt))
+      (λ g e. run-other Start refl i ∙ k .start-else i e g) in
+      let loop : i ≤ n → changes (edgeOff q) R Loop i ≡ c Loop i = λ h.
+      settled Loop (edgeOff q) R (c Loop) i (λ e. k .zero-b .l, (k .zero-a .l, tt)) (λ g e. run-loop i h e g) in
+      let next = settled Next (edgeOff q) R (c Next) i
+      (λ z. tie k .0, (tie′ k .0, (λ e. k .zero-b .n, (k .zero-a .n, tt))))
+      (λ x x′ g e. run-other Next refl i ∙ k .next-else i e g (off-P k i x e) (off-Q k i x′ g)) in
+      let prev = settled Prev (edgeOff q) R (c Prev) i
+      (λ z. tie k .1, (tie′ k .1, (λ e. k .zero-b .p, (k .zero-a .p, tt))))
+      (λ x x′ g e. run-other Prev refl i ∙ k .prev-else i e g (off-N k i x′ e) (off-M k i x g)) in
+      by-fields halfFields (λ F. i ≤ capOf sh F → changes (edgeOff q) R F i ≡ H F i) (λ h. start, (loop, (λ h. next, (λ h. prev, tt))))
+      (λ F e h. unwritten halfFields (edgeOff q) refl R F e i ∙ run-other F (not-same halfFields Loop F refl e) i
+      ∙ sym (patch-other halfFields c d F e i)) F
 
   -- the list with the edge out
   abbrev z2 : List ℕ
@@ -200,18 +144,21 @@ module _ {sh : Shape} {p : List ℤ} {c d : Columns} {q : Spot} (k : Cut sh c d 
   -- shows them
   shows-out : Shows sh z2 H
   shows-out =
-      let T = ties k (k .near) in
       let a = k .a-in in
       let b = k .b-in in
-      let in2 : (i : ℕ) → HalfUsed sh d i → In n i = λ i w. (w .0, w .1) in
+      let o = around k in
+      let one : (t : Bool) (i j : ℕ) → HalfUsed sh d i → HalfUsed sh d j → In n (pick t i j) = λ t i j x y.
+      pick-ind (In n) t i j (x .0, x .1) (y .0, y .1) in
+      let A = eqb (q .N) (q .a) in
+      let B = eqb (q .M) (q .b) in
       shows-agree (shows-writes (edgeOff q) shows-run (
-        in2 _ (T .p-in),
+        one A (q .Q) (q .P) (o .2) (o .0),
         (
-          in2 _ (T .n-in),
+          one B (q .N) (q .M) (o .1) (o .3),
           (
-            in2 _ (T .p′-in),
+            one B (q .P) (q .Q) (o .0) (o .2),
             (
-              in2 _ (T .n′-in),
+              one A (q .M) (q .N) (o .3) (o .1),
               (b, (b, (b, (b, (a, (a, (a, (a, tt)))))))),
             ),
           ),
@@ -250,32 +197,24 @@ module _ {sh : Shape} {p : List ℤ} {c d : Columns} {q : Spot} (k : Cut sh c d 
       let w : HalfUsed sh c i = (j .0, j .1, λ r. omega (arith, k .l-in .0, sym e ∙ s .half-free i j r .loop)) in
       split (d Loop i) (q .m)
       (λ z. let f = first-d (q .m) i (k .m-in) j z in lower-one _ _ i (f .0) (f .1))
-      (λ z. lower-other (loopFirst sh x (q .m)) _ i (first-d (q .l) i (k .l-in) j (k .loop-else i (j .1) (off-a k i w) z ∙ e) .1))
+      (λ z. lower-other (loopFirst sh x (q .m)) _ i (first-d (q .l) i (k .l-in) j (k .loop-else i (j .1) (off-a (site k) i w) z ∙ e) .1))
 
   -- first and isolated vertex of l become c's
   renewed : (h : ℕ) → HalfUsed sh c h → c Loop h ≡ q .l → c Isolated (q .l) ≡ 0 → Shows sh (renew sh z3 (q .l) low h (q .v)) (withFirst e3 (q .l) (c First (q .l)) (c Isolated (q .l)))
   renewed h w e z = rw (first-l, z) (shows-first {U = HalfUsed sh c} shows-records (q .l) low h (q .v) (k .l-in) (s .rules .loops) w e
       (λ i j g. (j .0, j .1, λ r. omega (arith, k .l-in .0, sym g ∙ s .half-free i j r .loop))) from)
 
-  -- the same for an equal half-edge
-  at : {i j : ℕ} → i ≡ j → Shows sh (renew sh z3 (q .l) low j (q .v)) (withFirst e3 (q .l) (c First (q .l)) (c Isolated (q .l))) → Shows sh (renew sh z3 (q .l) low i (q .v)) (withFirst e3 (q .l) (c First (q .l)) (c Isolated (q .l)))
-  at e = subst (λ i. Shows sh (renew sh z3 (q .l) low i (q .v)) (withFirst e3 (q .l) (c First (q .l)) (c Isolated (q .l)))) (sym e)
-
-  -- in each case
-  renew-l : Near sh c q → Shows sh (renew sh z3 (q .l) low (restOf q) (q .v)) (withFirst e3 (q .l) (c First (q .l)) (c Isolated (q .l)))
-  renew-l (both o) =
-      let e : restOf q ≡ q .M = rw (eqb-other (off-b k (q .M) (o .M-in))) in
-      at e (renewed (q .M) (o .M-in) (ap (c Loop) (sym (o .next-P)) ∙ s .rules .loops .keeps (q .P) (o .P-in) ∙ o .loop-P) (o .isolated))
-  renew-l (right o) =
-      let e : restOf q ≡ q .N = rw (eqb-same (o .M-b), eqb-other (off-a k (q .N) (o .N-in))) in
-      at e (renewed (q .N) (o .N-in) (ap (c Loop) (sym (o .next-P)) ∙ s .rules .loops .keeps (q .P) (o .P-in) ∙ o .loop-P) (o .isolated))
-  renew-l (left o) =
-      let e : restOf q ≡ q .M = rw (eqb-other (off-b k (q .M) (o .N-in))) in
-      at e (renewed (q .M) (o .N-in) (ap (c Loop) (sym (o .next-P)) ∙ s .rules .loops .keeps (q .Q) (o .P-in) ∙ o .loop-P) (o .isolated))
-  renew-l (pair o) =
-      let e : restOf q ≡ 0 = rw (eqb-same (o .M-b), eqb-same (o .N-a)) in
-      let r : c First (q .l) ≡ 0 = lone-used s (q .l) (k .l-in) (λ g. k .u-some (sym (o .isolated) ∙ g)) .0 in
-      at e (rw (r, o .isolated ∙ o .start) (shows-isolated shows-records (q .l) low (q .v) (k .l-in)))
+  -- whichever the corners
+  renew-l : Shows sh (renew sh z3 (q .l) low (restOf q) (q .v)) (withFirst e3 (q .l) (c First (q .l)) (c Isolated (q .l)))
+  renew-l = ⊎-elim
+      (λ o. renewed (restOf q) (o .1 .corner)
+      (ap (c Loop) (sym (o .1 .next)) ∙ s .rules .loops .keeps (seat q) (o .1 .before) ∙ o .1 .loop) (o .2))
+      (λ o.
+      let f : c First (q .l) ≡ 0 = lone-used s (q .l) (k .l-in) (λ g. k .u-some (sym (o .2) ∙ g)) .0 in
+      let e : restOf q ≡ 0 = rw (eqb-same (o .0 .after), eqb-same (o .1 .after)) in
+      subst (λ i. Shows sh (renew sh z3 (q .l) low i (q .v)) (withFirst e3 (q .l) (c First (q .l)) (c Isolated (q .l)))) (sym e)
+      (rw (f, o .2 ∙ o .0 .ends) (shows-isolated shows-records (q .l) low (q .v) (k .l-in))))
+      (first-corner (site k))
 
   -- the list after kef
   abbrev pub mendList : List ℕ
@@ -287,26 +226,17 @@ module _ {sh : Shape} {p : List ℤ} {c d : Columns} {q : Spot} (k : Cut sh c d 
 
   -- with them these are the columns of c
   last : (F : Field) (i : ℕ) → changes firsts e3 F i ≡ c F i
-  last = by-fields cutFields (λ F. (i : ℕ) → changes firsts e3 F i ≡ c F i) (
-    λ i. settled Solid (faceOff q) H (c Solid) i (k .solid-free, tt) (λ e. k .solid-else i e),
-    (
-      λ i. settled Outer (faceOff q) H (c Outer) i (k .outer-free, tt) (λ e. k .outer-else i e),
-      (
-        λ i. settled Face (faceOff q) H (c Face) i (k .face-free, tt) (λ e. k .face-else i e),
-        (
-          λ i. settled First (faceOff q ++ firsts) H (c First) i (λ e. k .first-free, (refl, tt)) (λ e g. k .first-else i g e),
-          (
-            λ i. settled Isolated (faceOff q ++ firsts) H (c Isolated) i (λ e. k .isolated-free, (refl, tt))
-                (λ e g. k .isolated-else i g e),
-            (λ i. refl, (λ i. refl, (λ i. refl, (λ i. refl, tt)))),
-          ),
-        ),
-      ),
-    ),
-  )
-      (λ F e i. unwritten cutFields firsts refl e3 F e i ∙ unwritten cutFields (faceOff q) refl H F e i
-      ∙ patch-other halfFields c d F (outside cutFields halfFields refl F e) i ∙ k .others F e i)
+  last F i =
+      let solid = settled Solid (faceOff q) H (c Solid) i (k .solid-free, tt) (k .solid-else i) in
+      let outer = settled Outer (faceOff q) H (c Outer) i (k .outer-free, tt) (k .outer-else i) in
+      let face = settled Face (faceOff q) H (c Face) i (k .face-free, tt) (k .face-else i) in
+      let first = settled First (faceOff q ++ firsts) H (c First) i (λ e. k .first-free, (refl, tt)) (λ e g. k .first-else i g e) in
+      let isolated = settled Isolated (faceOff q ++ firsts) H (c Isolated) i (λ e. k .isolated-free, (refl, tt)) (λ e g. k .isolated-else i g e) in
+      by-fields cutFields (λ F. changes firsts e3 F i ≡ c F i)
+      (solid, (outer, (face, (first, (isolated, (refl, (refl, (refl, (refl, tt)))))))))
+      (λ F e. unwritten cutFields firsts refl e3 F e i ∙ unwritten cutFields (faceOff q) refl H F e i
+      ∙ patch-other halfFields c d F (outside cutFields halfFields refl F e) i ∙ k .others F e i) F
 
   -- the list after kef shows the columns without the edge
   pub mend-shows : Shows sh mendList c
-  mend-shows = shows-agree (renew-l (k .near)) (λ F i h. last F i)
+  mend-shows = shows-agree renew-l (λ F i h. last F i)

@@ -14,7 +14,7 @@ use Rattle.sound_tables.specs.Faces.{Share}
 use Rattle.sound_tables.specs.Solids.{Solids}
 use Rattle.sound_tables.specs.Sound.{In, HalfUsed, FaceUsed, side, Sound}
 use Rattle.sound_cuts.specs.KefRules.{mend-rules}
-use Rattle.sound_cuts.specs.Relation.{Spot, Cut, off-a, off-b, used-to, each}
+use Rattle.sound_cuts.specs.Relation.{Spot, off-a, off-b, Cut, site, used-to, each}
 
 -- m is the only loop of f
 abbrev pub Only : Shape → Columns → Spot → Type 0
@@ -48,10 +48,10 @@ module _ {sh : Shape} {p : List ℤ} {c d : Columns} {q : Spot} (k : Cut sh c d 
   -- a side becomes what φ says
   side-φ : (i : ℕ) → HalfUsed sh c i → side c i ≡ φ (side d i)
   side-φ i x = split (d Loop i) (q .m)
-      (λ e. ap (c Face) (k .loop-new i (x .1) (off-b k i x) e) ∙ sym (upd-at (λ g. g) f0 (ap (d Face) e ∙ k .face-new)))
+      (λ e. ap (c Face) (k .loop-new i (x .1) (off-b (site k) i x) e) ∙ sym (upd-at (λ g. g) f0 (ap (d Face) e ∙ k .face-new)))
       (λ e. let r = t .half i (x .0, x .1) (used-to k i x .2) in
       let z : side d i ≢ q .f = only (d Loop i) (r .loop-in) e in
-      ap (c Face) (sym (k .loop-else i (x .1) (off-a k i x) e)) ∙ sym (k .face-else (d Loop i) e) ∙ sym (upd-off (λ g. g) f0 z))
+      ap (c Face) (sym (k .loop-else i (x .1) (off-a (site k) i x) e)) ∙ sym (k .face-else (d Loop i) e) ∙ sym (upd-off (λ g. g) f0 z))
 
   -- what φ gives is in use, in the same solid
   φ-used : (g : ℕ) → FaceUsed sh d g → FaceUsed sh c (φ g)

@@ -15,7 +15,7 @@ use Rattle.layout.specs.Mate.{mate}
 use Rattle.layout.specs.Fields.{SolidUsed, Solid, Outer, Face, First, Isolated, Start, Loop, Next, VertexUsed, Columns}
 use Rattle.sound_tables.specs.Sound.{In, HalfUsed, firstOf, FaceSound, FirstOrIsolated, LoopSound, HalfSound, HalfFree, VertexSound, alone, joined, Sound}
 use Rattle.sound_tables.specs.Labels.{label-some, label-none}
-use Rattle.sound_cuts.specs.Relation.{Spot, Pair, Near, both, right, left, pair, Cut, solid-used, vertex-used, off-a, off-b, used-a, used-b, used-to, same-name, around, met-u, met-v, Met, isolated-or}
+use Rattle.sound_cuts.specs.Relation.{Spot, seat, off-a, off-b, Lone, first-corner, Cut, site, solid-used, vertex-used, used-a, used-b, used-to, same-name, around, met-u, met-v, Met, isolated-or}
 use Rattle.sound_cuts.specs.KefRules.{mend-rules}
 use Rattle.sound_cuts.specs.KefSolids.{Only, old-used, mend-solids}
 
@@ -47,12 +47,12 @@ module _ {sh : Shape} {p : List ℤ} {c d : Columns} {q : Spot} (k : Cut sh c d 
   half : (i : ℕ) → HalfUsed sh c i → HalfSound sh c i
   half i x =
       let r = t .half i (x .0, x .1) (used-to k i x .2) in
-      let e : d Start i ≡ c Start i = k .start-else i (off-a k i x) (off-b k i x) in
+      let e : d Start i ≡ c Start i = k .start-else i (off-a (site k) i x) (off-b (site k) i x) in
       let si : In (sh .vertices) (c Start i) = subst (In (sh .vertices)) e (r .start-in) in
       let su : c VertexUsed (c Start i) ≢ 0 = λ z. r .start-used (ap (d VertexUsed) e ∙ vertex-used k (c Start i) ∙ z) in
       split (d Loop i) (q .m)
-      (λ g. let y = k .loop-new i (x .1) (off-b k i x) g in record { start-in = si; start-used = su; loop-in = rw y (k .l-in); loop-used = rw y (k .l-used) })
-      (λ g. let y = k .loop-else i (x .1) (off-a k i x) g in record {
+      (λ g. let y = k .loop-new i (x .1) (off-b (site k) i x) g in record { start-in = si; start-used = su; loop-in = rw y (k .l-in); loop-used = rw y (k .l-used) })
+      (λ g. let y = k .loop-else i (x .1) (off-a (site k) i x) g in record {
         start-in = si;
         start-used = su;
         loop-in = subst (In (sh .loops)) y (r .loop-in);
@@ -61,7 +61,7 @@ module _ {sh : Shape} {p : List ℤ} {c d : Columns} {q : Spot} (k : Cut sh c d 
 
   -- ---- both halves are alone
 
-  module _ (o : Pair c q) where
+  module _ (o : Lone (site k)) where
     -- none is left in the loop
     unnamed : (i : ℕ) → In n i → c Loop i ≢ q .l
     unnamed i j e = split (c Start i) 0
@@ -69,21 +69,21 @@ module _ {sh : Shape} {p : List ℤ} {c d : Columns} {q : Spot} (k : Cut sh c d 
         (λ z.
         let x : HalfUsed sh c i = (j .0, j .1, z) in
         split (d Loop i) (q .m)
-        (λ g. off-b k i x (lonely (t .rules .loops) (used-b k) (k .next-b ∙ o .M-b) i (used-to k i x) (g ∙ sym (k .loop-b))))
-        (λ g. off-a k i x (lonely (t .rules .loops) (used-a k) (k .next-a ∙ o .N-a) i (used-to k i x) (k .loop-else i (x .1) (off-a k i x) g ∙ e ∙ sym (k .loop-a)))))
+        (λ g. off-b (site k) i x (lonely (t .rules .loops) (used-b k) (k .next-b ∙ o .1 .after) i (used-to k i x) (g ∙ sym (k .loop-b))))
+        (λ g. off-a (site k) i x (lonely (t .rules .loops) (used-a k) (k .next-a ∙ o .0 .after) i (used-to k i x) (k .loop-else i (x .1) (off-a (site k) i x) g ∙ e ∙ sym (k .loop-a)))))
 
     -- and none but the two starts at their vertex
     unstarted : (i : ℕ) → HalfUsed sh c i → c Start i ≢ q .u
-    unstarted i x e = ⊎-elim (off-a k i x) (off-b k i x) (carry (λ j. (j ≡ q .a) ⊎ (j ≡ q .b)) step
-        (t .rules .verts .one (q .a) i (used-a k) (used-to k i x) (k .start-a ∙ sym e ∙ sym (k .start-else i (off-a k i x) (off-b k i x)))) .0 (inl refl))
+    unstarted i x e = ⊎-elim (off-a (site k) i x) (off-b (site k) i x) (carry (λ j. (j ≡ q .a) ⊎ (j ≡ q .b)) step
+        (t .rules .verts .one (q .a) i (used-a k) (used-to k i x) (k .start-a ∙ sym e ∙ sym (k .start-else i (off-a (site k) i x) (off-b (site k) i x)))) .0 (inl refl))
       where
         -- around the vertex b comes after a
         after-a : d Next (mate (q .a)) ≡ q .b
-        after-a = ap (d Next) (k .ab) ∙ k .next-b ∙ o .M-b
+        after-a = ap (d Next) (k .ab) ∙ k .next-b ∙ o .1 .after
 
         -- and a after b
         after-b : d Next (mate (q .b)) ≡ q .a
-        after-b = ap (d Next) (k .ba) ∙ k .next-a ∙ o .N-a
+        after-b = ap (d Next) (k .ba) ∙ k .next-a ∙ o .0 .after
 
         -- so a step leads from the two to the two only
         step : (i j : ℕ) → HalfUsed sh d i × (d Next (mate i) ≡ j) → ((i ≡ q .a) ⊎ (i ≡ q .b) → (j ≡ q .a) ⊎ (j ≡ q .b)) × ((j ≡ q .a) ⊎ (j ≡ q .b) → (i ≡ q .a) ⊎ (i ≡ q .b))
@@ -94,30 +94,27 @@ module _ {sh : Shape} {p : List ℤ} {c d : Columns} {q : Spot} (k : Cut sh c d 
 
   -- a vertex isolated in l starts nothing
   starts-none : (x : ℕ) → x ≢ 0 → c Isolated (q .l) ≡ x → (i : ℕ) → HalfUsed sh c i → c Start i ≢ x
-  starts-none x o e i y z = by (k .near)
-    where
-      -- in each case
-      by : Near sh c q → ⊥
-      by (both r) = o (sym e ∙ r .isolated)
-      by (right r) = o (sym e ∙ r .isolated)
-      by (left r) = o (sym e ∙ r .isolated)
-      by (pair r) = unstarted r i y (z ∙ sym e ∙ r .isolated)
+  starts-none x o e i y z = ⊎-elim (λ r. o (sym e ∙ r .2)) (λ r. unstarted r i y (z ∙ sym e ∙ r .2)) (first-corner (site k))
 
   -- ---- loops
 
   -- loop l has a half-edge, or the vertex of the two
-  either-l : Near sh c q → FirstOrIsolated sh c (q .l)
-  either-l (both o) = inl (λ z. label-some n (c Loop) (q .l) (q .P) (o .P-in .0, o .P-in .1) (o .loop-P) (sym first-l ∙ z), o .isolated)
-  either-l (right o) = inl (λ z. label-some n (c Loop) (q .l) (q .P) (o .P-in .0, o .P-in .1) (o .loop-P) (sym first-l ∙ z), o .isolated)
-  either-l (left o) = inl (λ z. label-some n (c Loop) (q .l) (q .Q) (o .P-in .0, o .P-in .1) (o .loop-P) (sym first-l ∙ z), o .isolated)
-  either-l (pair o) =
+  either-l : FirstOrIsolated sh c (q .l)
+  either-l = ⊎-elim
+      (λ o. inl (λ z. label-some n (c Loop) (q .l) (seat q) (o .1 .before .0, o .1 .before .1) (o .1 .loop) (sym first-l ∙ z), o .2))
+      (λ o.
       let r = t .half (q .a) (k .a-in) (used-a k .2) in
-      let e : d Start (q .a) ≡ c Isolated (q .l) = k .start-a ∙ sym (o .isolated) in
-      inr (first-l ∙ label-none n (c Loop) (q .l) (unnamed o), subst (In (sh .vertices)) e (r .start-in), λ z. r .start-used (ap (d VertexUsed) e ∙ vertex-used k _ ∙ z))
+      let e : d Start (q .a) ≡ c Isolated (q .l) = k .start-a ∙ sym (o .2) in
+      inr (
+        first-l ∙ label-none n (c Loop) (q .l) (unnamed o),
+        subst (In (sh .vertices)) e (r .start-in),
+        λ z. r .start-used (ap (d VertexUsed) e ∙ vertex-used k _ ∙ z),
+      ))
+      (first-corner (site k))
 
   -- so it is sound
   loop-l : LoopSound sh c (q .l)
-  loop-l = let x = old-used k only t in record { face-in = (x .0, x .1); face-used = x .2; first = first-l; either = either-l (k .near) }
+  loop-l = let x = old-used k only t in record { face-in = (x .0, x .1); face-used = x .2; first = first-l; either = either-l }
 
   -- the other loops stay so
   loop-old : (m : ℕ) → In (sh .loops) m → m ≢ q .l → m ≢ q .m → LoopSound sh d m → LoopSound sh c m
@@ -166,9 +163,9 @@ module _ {sh : Shape} {p : List ℤ} {c d : Columns} {q : Spot} (k : Cut sh c d 
   vertex x i (joined st i′ j e) =
       let o : x ≢ 0 = λ z. omega (arith, i .0, z) in
       split i′ (q .a)
-      (λ g. by-end x o st (subst (Met sh c (q .l)) (sym (k .start-a) ∙ ap (d Start) (sym g) ∙ e) (met-u (k .near))))
+      (λ g. by-end x o st (subst (Met sh c (q .l)) (sym (k .start-a) ∙ ap (d Start) (sym g) ∙ e) (met-u k)))
       (λ g. split i′ (q .b)
-      (λ g′. by-end x o st (subst (Met sh c (q .l)) (sym (k .start-b) ∙ ap (d Start) (sym g′) ∙ e) (met-v (k .near))))
+      (λ g′. by-end x o st (subst (Met sh c (q .l)) (sym (k .start-b) ∙ ap (d Start) (sym g′) ∙ e) (met-v k)))
       (λ g′. let y = sym (k .start-else i′ g g′) ∙ e in by-half x o st i′ (j .0, j .1, λ z. o (sym y ∙ z)) y))
 
   -- ---- all

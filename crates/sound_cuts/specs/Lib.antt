@@ -1,6 +1,6 @@
 pub mod FieldLaws
-pub mod Spikes
-pub mod Pairs
+pub mod Seats
+pub mod Spur
 pub mod Relation
 pub mod MefSolids
 pub mod MefRules

@@ -21,10 +21,9 @@ use Rattle.sound_tables.specs.Accepted.{accepted-back, ranges-cons, uses-cons, 
 use Rattle.sound_tables.specs.HalfNumbers.{second-half, edge-in}
 use Rattle.sound_tables.specs.Good.{own, Capacities}
 use Rattle.sound_tables.specs.CornerTest.{corner-most, corner-test, corner-use}
-use Rattle.sound_cuts.specs.Relation.{Spot, Cut}
+use Rattle.sound_cuts.specs.Relation.{Spot, restOf, endOf, Cut}
 use Rattle.sound_cuts.specs.MefShown.{cutList}
-use Rattle.sound_cuts.specs.KefShown.{restOf}
-use Rattle.sound_cuts.specs.MefOperands.{mefOf, kefOf, endOf, wayBack, Asks, asks}
+use Rattle.sound_cuts.specs.MefOperands.{mefOf, kefOf, wayBack, Asks, asks}
 
 -- mef with the operands read off the corners
 abbrev pub mefAt : Spot → Operator

@@ -12,12 +12,11 @@ use Rattle.layout.specs.MateLaws.{mate-mate}
 use Rattle.layout.specs.Fields.{Solid, Outer, Face, First, Isolated, Start, Loop, Next, Prev, Columns}
 use Rattle.layout.specs.Writes.{Write, write, changes}
 use Rattle.euler.specs.Surgery.{faceRecord, loopRecord, halfRecord, seated}
-use Rattle.sound_tables.specs.Mates.{mate-other}
 use Rattle.sound_tables.specs.Sound.{In, HalfUsed, Sound}
 use Rattle.sound_tables.specs.Labels.{leastWith}
 use Rattle.sound_tables.specs.Names.{free-zero}
 use Rattle.sound_cuts.specs.FieldLaws.{withLoops, loops-other, not-same, unwritten}
-use Rattle.sound_cuts.specs.Relation.{Spot, Near, both, right, left, pair, cutFields, Cut}
+use Rattle.sound_cuts.specs.Relation.{Spot, Near, Site, a-b, off-a, off-b, cutFields, Cut}
 
 -- the loop column once the edge is in, the others having the loops `lab`
 abbrev pub cutLoop : (ℕ → ℕ) → Spot → ℕ → ℕ
@@ -65,83 +64,57 @@ pub record Parts (sh : Shape) (c : Columns) (lab : ℕ → ℕ) (q : Spot) : Typ
   pub new : (i : ℕ) → i ≤ 2 * sh .edges → lab i ≡ q .m → c Loop i ≡ q .l
   pub else : (i : ℕ) → i ≤ 2 * sh .edges → lab i ≢ q .m → lab i ≡ c Loop i
 
--- how the neighbours differ: those of a are a itself or not of the edge, and so with b
-record Loose (q : Spot) : Type 0 where
-  at-a : ((q .P ≡ q .a) × (q .N ≡ q .a)) ⊎ ((q .P ≢ q .a) × (q .N ≢ q .a))
-  at-b : ((q .Q ≡ q .b) × (q .M ≡ q .b)) ⊎ ((q .Q ≢ q .b) × (q .M ≢ q .b))
-  P-b : q .P ≢ q .b
-  N-b : q .N ≢ q .b
-  Q-a : q .Q ≢ q .a
-  M-a : q .M ≢ q .a
-  P-Q : q .P ≢ q .Q
-  N-M : q .N ≢ q .M
+-- where the edge goes
+pub place-site : {sh : Shape} {c : Columns} {q : Spot} → MefPlace sh c q → Site sh c q
+place-site o = record {
+  l-in = o .l-in;
+  a-in = o .a-in;
+  b-in = o .b-in;
+  ab = o .ab;
+  u-some = o .u-some;
+  a-free = o .a-free;
+  b-free = o .b-free;
+  near = o .near;
+}
 
 module _ {sh : Shape} {p : List ℤ} {c : Columns} {q : Spot} (s : Sound sh p c) (zero : c Loop 0 ≡ 0) (o : MefPlace sh c q) where
-  -- the two halves differ
-  a-b : q .a ≢ q .b
-  a-b e = mate-other (q .a) (o .a-in .0) (e ∙ sym (o .ab))
-
   -- the new loop is another
   pub l-m : q .l ≢ q .m
   l-m e = o .l-used (ap (c Face) e ∙ o .m-free)
 
-  -- half-edges in use are neither of the new ones
-  pub off-a : (i : ℕ) → HalfUsed sh c i → i ≢ q .a
-  off-a i w e = w .2 (ap (c Start) e ∙ o .a-free)
+  -- the two halves differ
+  a-b′ : q .a ≢ q .b
+  a-b′ = a-b (place-site o)
 
-  -- the same of b
-  pub off-b : (i : ℕ) → HalfUsed sh c i → i ≢ q .b
-  off-b i w e = w .2 (ap (c Start) e ∙ o .b-free)
+  -- P and N are a itself, or half-edges of c
+  at-a : ((q .P ≡ q .a) × (q .N ≡ q .a)) ⊎ (HalfUsed sh c (q .P) × HalfUsed sh c (q .N))
+  at-a = ⊎-elim (λ r. inl (r .before, r .after)) (λ r. inr (r .before, r .after)) (o .near .at-a)
 
-  -- in each of the four cases
-  loose : Near sh c q → Loose q
-  loose (both r) = record {
-    at-a = inr (off-a (q .P) (r .P-in), off-a (q .N) (r .N-in));
-    at-b = inr (off-b (q .Q) (r .Q-in), off-b (q .M) (r .M-in));
-    P-b = off-b (q .P) (r .P-in);
-    N-b = off-b (q .N) (r .N-in);
-    Q-a = off-a (q .Q) (r .Q-in);
-    M-a = off-a (q .M) (r .M-in);
-    P-Q = r .apart;
-    N-M = λ e. r .apart (sym (r .prev-M) ∙ ap (c Prev) (sym e) ∙ r .prev-N);
-  }
-  loose (right r) = record {
-    at-a = inr (off-a (q .P) (r .P-in), off-a (q .N) (r .N-in));
-    at-b = inl (r .Q-b, r .M-b);
-    P-b = off-b (q .P) (r .P-in);
-    N-b = off-b (q .N) (r .N-in);
-    Q-a = λ e. a-b (sym e ∙ r .Q-b);
-    M-a = λ e. a-b (sym e ∙ r .M-b);
-    P-Q = λ e. off-b (q .P) (r .P-in) (e ∙ r .Q-b);
-    N-M = λ e. off-b (q .N) (r .N-in) (e ∙ r .M-b);
-  }
-  loose (left r) = record {
-    at-a = inl (r .Q-b, r .M-b);
-    at-b = inr (off-b (q .Q) (r .P-in), off-b (q .M) (r .N-in));
-    P-b = λ e. a-b (sym (r .Q-b) ∙ e);
-    N-b = λ e. a-b (sym (r .M-b) ∙ e);
-    Q-a = off-a (q .Q) (r .P-in);
-    M-a = off-a (q .M) (r .N-in);
-    P-Q = λ e. off-a (q .Q) (r .P-in) (sym e ∙ r .Q-b);
-    N-M = λ e. off-a (q .M) (r .N-in) (sym e ∙ r .M-b);
-  }
-  loose (pair r) = record {
-    at-a = inl (r .P-a, r .N-a);
-    at-b = inl (r .Q-b, r .M-b);
-    P-b = λ e. a-b (sym (r .P-a) ∙ e);
-    N-b = λ e. a-b (sym (r .N-a) ∙ e);
-    Q-a = λ e. a-b (sym e ∙ r .Q-b);
-    M-a = λ e. a-b (sym e ∙ r .M-b);
-    P-Q = λ e. a-b (sym (r .P-a) ∙ e ∙ r .Q-b);
-    N-M = λ e. a-b (sym (r .N-a) ∙ e ∙ r .M-b);
-  }
+  -- Q and M are b itself, or half-edges of c
+  at-b : ((q .Q ≡ q .b) × (q .M ≡ q .b)) ⊎ (HalfUsed sh c (q .Q) × HalfUsed sh c (q .M))
+  at-b = ⊎-elim (λ r. inl (r .before, r .after)) (λ r. inr (r .before, r .after)) (o .near .at-b)
+
+  -- P is not b
+  b-P : q .b ≢ q .P
+  b-P e = ⊎-elim (λ r. a-b′ (sym (r .0) ∙ sym e)) (λ r. off-b (place-site o) (q .P) (r .0) (sym e)) at-a
+
+  -- nor is N
+  b-N : q .b ≢ q .N
+  b-N e = ⊎-elim (λ r. a-b′ (sym (r .1) ∙ sym e)) (λ r. off-b (place-site o) (q .N) (r .1) (sym e)) at-a
+
+  -- Q is not a
+  a-Q : q .a ≢ q .Q
+  a-Q e = ⊎-elim (λ r. a-b′ (e ∙ r .0)) (λ r. off-a (place-site o) (q .Q) (r .0) (sym e)) at-b
+
+  -- nor is M
+  a-M : q .a ≢ q .M
+  a-M e = ⊎-elim (λ r. a-b′ (e ∙ r .1)) (λ r. off-a (place-site o) (q .M) (r .1) (sym e)) at-b
 
   -- those columns are the table's with the edge
   pub mef-cut : (lab : ℕ → ℕ) → Parts sh c lab q → Cut sh c (cutColumns sh c lab q) q
   mef-cut lab w =
-      let x = loose (o .near) in
       let free = s .loop-free (q .m) (o .m-in) (o .m-free) in
-      let f1 : q .a ≢ q .b = a-b in
+      let f1 : q .a ≢ q .b = a-b′ in
       record {
         l-in = o .l-in;
         m-in = o .m-in;
@@ -187,22 +160,18 @@ module _ {sh : Shape} {p : List ℤ} {c : Columns} {q : Spot} (s : Sound sh p c)
             let g : i ≢ q .b = λ y. z (upd-at _ _ y) in
             let v = upd-off _ _ g ∙ upd-off lab _ e in
             v ∙ w .else i h (λ y. z (v ∙ y));
-        next-a = ⊎-elim
-            (λ y. upd-off _ _ (λ e. x .Q-a (sym e)) ∙ upd-at _ _ (sym (y .0)) ∙ sym (y .1))
-            (λ y. upd-off _ _ (λ e. x .Q-a (sym e)) ∙ upd-off _ _ (λ e. y .0 (sym e)) ∙ upd-off _ _ f1 ∙ upd-same (c Next) (q .a) (q .N)) (x .at-a);
-        next-b = ⊎-elim
-            (λ y. upd-at _ _ (sym (y .0)) ∙ sym (y .1))
-            (λ y. upd-off _ _ (λ e. y .0 (sym e)) ∙ upd-off _ _ (λ e. x .P-b (sym e)) ∙ upd-same _ (q .b) (q .M)) (x .at-b);
-        next-P = upd-off _ _ (x .P-Q) ∙ upd-same _ (q .P) (q .a);
+        next-a = upd-off _ _ a-Q ∙ ⊎-elim (λ y. upd-at _ _ (sym (y .0)) ∙ sym (y .1))
+            (λ y. upd-off _ _ (λ e. off-a (place-site o) (q .P) (y .0) (sym e)) ∙ upd-off _ _ f1 ∙ upd-same (c Next) (q .a) (q .N)) at-a;
+        next-b = ⊎-elim (λ y. upd-at _ _ (sym (y .0)) ∙ sym (y .1))
+            (λ y. upd-off _ _ (λ e. off-b (place-site o) (q .Q) (y .0) (sym e)) ∙ upd-off _ _ b-P ∙ upd-same _ (q .b) (q .M)) at-b;
+        next-P = upd-off _ _ (o .near .apart) ∙ upd-same _ (q .P) (q .a);
         next-Q = upd-same _ (q .Q) (q .b);
         next-else = λ i e g y z. upd-off _ _ z ∙ upd-off _ _ y ∙ upd-off _ _ g ∙ upd-off (c Next) _ e;
-        prev-a = ⊎-elim
-            (λ y. upd-off _ _ (λ e. x .M-a (sym e)) ∙ upd-at _ _ (sym (y .1)) ∙ sym (y .0))
-            (λ y. upd-off _ _ (λ e. x .M-a (sym e)) ∙ upd-off _ _ (λ e. y .1 (sym e)) ∙ upd-off _ _ f1 ∙ upd-same (c Prev) (q .a) (q .P)) (x .at-a);
-        prev-b = ⊎-elim
-            (λ y. upd-at _ _ (sym (y .1)) ∙ sym (y .0))
-            (λ y. upd-off _ _ (λ e. y .1 (sym e)) ∙ upd-off _ _ (λ e. x .N-b (sym e)) ∙ upd-same _ (q .b) (q .Q)) (x .at-b);
-        prev-N = upd-off _ _ (x .N-M) ∙ upd-same _ (q .N) (q .a);
+        prev-a = upd-off _ _ a-M ∙ ⊎-elim (λ y. upd-at _ _ (sym (y .1)) ∙ sym (y .0))
+            (λ y. upd-off _ _ (λ e. off-a (place-site o) (q .N) (y .1) (sym e)) ∙ upd-off _ _ f1 ∙ upd-same (c Prev) (q .a) (q .P)) at-a;
+        prev-b = ⊎-elim (λ y. upd-at _ _ (sym (y .1)) ∙ sym (y .0))
+            (λ y. upd-off _ _ (λ e. off-b (place-site o) (q .M) (y .1) (sym e)) ∙ upd-off _ _ b-N ∙ upd-same _ (q .b) (q .Q)) at-b;
+        prev-N = upd-off _ _ (o .near .N-M) ∙ upd-same _ (q .N) (q .a);
         prev-M = upd-same _ (q .M) (q .b);
         prev-else = λ i e g y z. upd-off _ _ z ∙ upd-off _ _ y ∙ upd-off _ _ g ∙ upd-off (c Prev) _ e;
         near = o .near;

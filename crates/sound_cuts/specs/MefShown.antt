@@ -91,11 +91,11 @@ module _ {sh : Shape} {p : List ℤ} {c d : Columns} {q : Spot} (k : Cut sh c d 
 
   -- so they are
   run-same : (F : Field) (i : ℕ) → i ≤ capOf sh F → R F i ≡ H F i
-  run-same = by-fields halfFields (λ F. (i : ℕ) → i ≤ capOf sh F → R F i ≡ H F i)
-      (λ i h. run-other Start refl i, (run-loop, (λ i h. run-other Next refl i, (λ i h. run-other Prev refl i, tt))))
-      (λ F e i h. run-other F (not-same halfFields Loop F refl e) i
+  run-same F i = by-fields halfFields (λ F. i ≤ capOf sh F → R F i ≡ H F i)
+      (λ h. run-other Start refl i, (run-loop i, (λ h. run-other Next refl i, (λ h. run-other Prev refl i, tt))))
+      (λ F e h. run-other F (not-same halfFields Loop F refl e) i
       ∙ patch-other (Start ∷ Next ∷ Prev ∷ []) d (changes (edgeAt q) c) F (outside halfFields (Start ∷ Next ∷ Prev ∷ []) refl F e) i
-      ∙ unwritten halfFields (edgeAt q) refl c F e i ∙ sym (patch-other halfFields d c F e i))
+      ∙ unwritten halfFields (edgeAt q) refl c F e i ∙ sym (patch-other halfFields d c F e i)) F
 
   -- the list after the walk
   abbrev z2 : List ℕ
@@ -151,33 +151,20 @@ module _ {sh : Shape} {p : List ℤ} {c d : Columns} {q : Spot} (k : Cut sh c d 
 
   -- with them these are the columns of d
   last : (F : Field) (i : ℕ) → changes firsts e3 F i ≡ d F i
-  last = by-fields cutFields (λ F. (i : ℕ) → changes firsts e3 F i ≡ d F i) (
-    λ i. settled Solid records H (d Solid) i (k .solid-new, tt) (λ e. sym (k .solid-else i e)),
-    (
-      λ i. settled Outer records H (d Outer) i (k .outer-new, tt) (λ e. sym (k .outer-else i e)),
-      (
-        λ i. settled Face records H (d Face) i (k .face-new, tt) (λ e. sym (k .face-else i e)),
-        (
-          λ i. settled First firsts e3 (d First) i (λ e. first-l, (first-m, tt)) (λ e g. upd-off _ _ g ∙ sym (k .first-else i e g)),
-          (
-            λ i. settled Isolated firsts e3 (d Isolated) i (λ e. k .isolated-l, (k .isolated-m, tt))
-                (λ e g. upd-off _ _ g ∙ sym (k .isolated-else i e g)),
-            (λ i. refl, (λ i. refl, (λ i. refl, (λ i. refl, tt)))),
-          ),
-        ),
-      ),
-    ),
-  )
-      (λ F e i. unwritten cutFields firsts refl e3 F e i ∙ unwritten cutFields records refl H F e i
-      ∙ patch-other halfFields d c F (outside cutFields halfFields refl F e) i ∙ sym (k .others F e i))
-    where
-      -- the first of l in d
-      first-l : d First (q .l) ≡ firstOf sh d (q .l)
-      first-l = t .loop (q .l) (k .l-in) (λ z. k .l-used (sym (k .face-else (q .l) (k .l-m)) ∙ z)) .first
-
-      -- the first of m in d
-      first-m : d First (q .m) ≡ firstOf sh d (q .m)
-      first-m = t .loop (q .m) (k .m-in) (λ z. omega (arith, k .f-in .0, sym (k .face-new) ∙ z)) .first
+  last F i =
+      let l-used = t .loop (q .l) (k .l-in) (λ z. k .l-used (sym (k .face-else (q .l) (k .l-m)) ∙ z)) in
+      let m-used = t .loop (q .m) (k .m-in) (λ z. omega (arith, k .f-in .0, sym (k .face-new) ∙ z)) in
+      let solid = settled Solid records H (d Solid) i (k .solid-new, tt) (λ e. sym (k .solid-else i e)) in
+      let outer = settled Outer records H (d Outer) i (k .outer-new, tt) (λ e. sym (k .outer-else i e)) in
+      let face = settled Face records H (d Face) i (k .face-new, tt) (λ e. sym (k .face-else i e)) in
+      let first = settled First firsts e3 (d First) i (λ e. l-used .first, (m-used .first, tt))
+      (λ e g. upd-off _ _ g ∙ sym (k .first-else i e g)) in
+      let isolated = settled Isolated firsts e3 (d Isolated) i (λ e. k .isolated-l, (k .isolated-m, tt))
+      (λ e g. upd-off _ _ g ∙ sym (k .isolated-else i e g)) in
+      by-fields cutFields (λ F. changes firsts e3 F i ≡ d F i)
+      (solid, (outer, (face, (first, (isolated, (refl, (refl, (refl, (refl, tt)))))))))
+      (λ F e. unwritten cutFields firsts refl e3 F e i ∙ unwritten cutFields records refl H F e i
+      ∙ patch-other halfFields d c F (outside cutFields halfFields refl F e) i ∙ sym (k .others F e i)) F
 
   -- the list after mef shows the columns with the edge
   pub cut-shows : Sound sh p c → Shows sh cutList d

@@ -11,7 +11,7 @@ use Rattle.layout.specs.declared.shape.Shape.{Shape}
 use Rattle.layout.specs.Fields.{Solid, Outer, Face, Isolated, Start, Loop, VertexUsed, Columns}
 use Rattle.sound_tables.specs.Sound.{In, HalfUsed, FaceSound, LoopSound, HalfSound, HalfFree, VertexSound, alone, joined, Sound, half-by}
 use Rattle.sound_tables.specs.Labels.{label-some}
-use Rattle.sound_cuts.specs.Relation.{Spot, Cut, Marked, solid-used, vertex-used, off-a, off-b, same-name, each, around, Met, met-u, met-v, isolated-or}
+use Rattle.sound_cuts.specs.Relation.{Spot, off-a, off-b, Cut, Marked, site, solid-used, vertex-used, same-name, each, around, Met, met-u, met-v, isolated-or}
 use Rattle.sound_cuts.specs.MefRules.{cut-rules}
 use Rattle.sound_cuts.specs.MefSolids.{old-used, not-new, new-used, unnamed, cut-solids}
 
@@ -103,11 +103,11 @@ module _ {sh : Shape} {p : List ℤ} {c d : Columns} {q : Spot} (k : Cut sh c d 
   -- a half-edge in use is sound
   half : (i : ℕ) → HalfUsed sh d i → HalfSound sh d i
   half = each k (HalfSound sh d)
-      (half-at (q .a) (q .u) (q .l) (k .start-a) (k .loop-a) (end-used (q .u) (k .u-some) (met-u (k .near))) (k .l-in) (λ z. k .l-used (sym (k .face-else (q .l) (k .l-m)) ∙ z)))
-      (half-at (q .b) (q .v) (q .m) (k .start-b) (k .loop-b) (end-used (q .v) (k .v-some) (met-v (k .near))) (k .m-in) new-loop-used)
+      (half-at (q .a) (q .u) (q .l) (k .start-a) (k .loop-a) (end-used (q .u) (k .u-some) (met-u k)) (k .l-in) (λ z. k .l-used (sym (k .face-else (q .l) (k .l-m)) ∙ z)))
+      (half-at (q .b) (q .v) (q .m) (k .start-b) (k .loop-b) (end-used (q .v) (k .v-some) (met-v k)) (k .m-in) new-loop-used)
       (λ i x. let r = s .half i (x .0, x .1) (x .2) in split (d Loop i) (q .m)
-      (λ e. half-at i (c Start i) (q .m) (k .start-else i (off-a k i x) (off-b k i x)) e (r .start-in, r .start-used) (k .m-in) new-loop-used)
-      (λ e. half-at i (c Start i) (c Loop i) (k .start-else i (off-a k i x) (off-b k i x)) (k .loop-else i (x .1) (off-a k i x) e) (r .start-in, r .start-used) (r .loop-in)
+      (λ e. half-at i (c Start i) (q .m) (k .start-else i (off-a (site k) i x) (off-b (site k) i x)) e (r .start-in, r .start-used) (k .m-in) new-loop-used)
+      (λ e. half-at i (c Start i) (c Loop i) (k .start-else i (off-a (site k) i x) (off-b (site k) i x)) (k .loop-else i (x .1) (off-a (site k) i x) e) (r .start-in, r .start-used) (r .loop-in)
       (λ z. r .loop-used (sym (k .face-else (c Loop i) (unnamed k s i x)) ∙ z))))
     where
       -- the new loop is in use
@@ -133,9 +133,9 @@ module _ {sh : Shape} {p : List ℤ} {c d : Columns} {q : Spot} (k : Cut sh c d 
       (λ f. alone m j (k .isolated-else m f (λ z. o (sym e ∙ ap (c Isolated) z ∙ k .isolated-free)) ∙ e)
       (λ m′ j′ z. only m′ j′ (isolated-old m′ x o z .1))
       (λ i′ j′ z. split i′ (q .a)
-      (λ g. not-met f (q .u) (sym (k .start-a) ∙ ap (d Start) (sym g) ∙ z) (met-u (k .near)))
+      (λ g. not-met f (q .u) (sym (k .start-a) ∙ ap (d Start) (sym g) ∙ z) (met-u k))
       (λ g. split i′ (q .b)
-      (λ g′. not-met f (q .v) (sym (k .start-b) ∙ ap (d Start) (sym g′) ∙ z) (met-v (k .near)))
+      (λ g′. not-met f (q .v) (sym (k .start-b) ∙ ap (d Start) (sym g′) ∙ z) (met-v k))
       (λ g′. st i′ j′ (sym (k .start-else i′ g g′) ∙ z)))))
     where
       -- a vertex isolated elsewhere is no end of the edge
