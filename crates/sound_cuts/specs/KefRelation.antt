@@ -247,26 +247,29 @@ module _ {sh : Shape} {p : List ℤ} {d : Columns} (t : Sound sh p d) (zero : d 
       let fb = t .loop (q .m) (hb .loop-in) (hb .loop-used) in
       let ff = t .face (q .f) (fb .face-in) (fb .face-used) in
       record {
-        l-in = ha .loop-in;
-        m-in = hb .loop-in;
-        f-in = fb .face-in;
-        a-in = (ua .0, ua .1);
-        b-in = (o .used .0, o .used .1);
-        ab = ab;
-        ba = refl;
-        l-m = l-m;
-        l-used = λ z. ha .loop-used (sym (upd-off (d Face) 0 l-m) ∙ z);
-        u-some = ua .2;
-        v-some = o .used .2;
+        site = record {
+          l-in = ha .loop-in;
+          m-in = hb .loop-in;
+          f-in = fb .face-in;
+          a-in = (ua .0, ua .1);
+          b-in = (o .used .0, o .used .1);
+          ab = ab;
+          l-used = λ z. ha .loop-used (sym (upd-off (d Face) 0 l-m) ∙ z);
+          m-free = upd-same (d Face) (q .m) 0;
+          f-free = upd-same (d Solid) (q .f) 0;
+          a-free = upd-off _ _ a-b ∙ upd-same _ (mate b) 0;
+          b-free = upd-same _ b 0;
+          u-some = ua .2;
+          v-some = o .used .2;
+          near = near;
+        };
         others = λ F e i. sym (loops-other (mendLoop d q) (changes (mendWrites sh d q) d) F (not-same cutFields Loop F refl e) i
             ∙ unwritten cutFields (mendWrites sh d q) refl d F e i);
-        solid-free = upd-same (d Solid) (q .f) 0;
         solid-new = ap (λ i. d Solid (d Face (d Loop i))) (sym ab) ∙ t .solids .edge (mate b) ua ∙ sym (ap (c Solid) (upd-off (d Face) 0 l-m) ∙ upd-off (d Solid) 0 f0-f);
         solid-else = λ i e. sym (upd-off (d Solid) 0 e);
         outer-free = upd-same (d Outer) (q .f) 0;
         outer-new = o .one (d Outer (q .f)) (ff .outer-in) (ff .outer-face);
         outer-else = λ i e. sym (upd-off (d Outer) 0 e);
-        face-free = upd-same (d Face) (q .m) 0;
         face-new = refl;
         face-else = λ i e. sym (upd-off (d Face) 0 e);
         first-free = upd-off _ _ m-l ∙ upd-same (d First) (q .m) 0;
@@ -295,7 +298,6 @@ module _ {sh : Shape} {p : List ℤ} {d : Columns} (t : Sound sh p d) (zero : d 
         prev-N = t .rules .undone (mate b) ua;
         prev-M = t .rules .undone b (o .used);
         prev-else = λ i e g x y. sym (upd-off _ _ g ∙ upd-off _ _ e ∙ upd-off _ _ (pick-ind (λ j. i ≢ j) (eqb (q .N) (mate b)) (q .M) (q .N) y x) ∙ upd-off _ _ (pick-ind (λ j. i ≢ j) (eqb (q .M) b) (q .N) (q .M) x y));
-        near = near;
       }
 
   -- m is the only loop of its face

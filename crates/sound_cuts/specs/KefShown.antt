@@ -20,7 +20,7 @@ use Rattle.sound_tables.specs.Names.{lone-used}
 use Rattle.sound_tables.specs.FirstLow.{lower-one, lower-other, first-low}
 use Rattle.sound_tables.specs.Shown.{withFirst, shows-first, shows-isolated}
 use Rattle.sound_cuts.specs.FieldLaws.{halfFields, patch, patch-other, not-same, outside, unwritten, settled}
-use Rattle.sound_cuts.specs.Relation.{Spot, tieP, tieN, tieP′, tieN′, restOf, AtA, AtB, seat, off-a, off-b, first-corner, cutFields, Cut, site, used-b, around}
+use Rattle.sound_cuts.specs.Relation.{Spot, tieP, tieN, tieP′, tieN′, restOf, AtA, AtB, seat, off-a, off-b, first-corner, cutFields, Cut, used-b, around}
 use Rattle.sound_cuts.specs.Round.{names-new, roundColumns, shows-round, round-other, round-in, round-off}
 
 -- the edge comes out: the ties, and both halves cleared
@@ -41,14 +41,14 @@ module _ {sh : Shape} {c d : Columns} {q : Spot} (k : Cut sh c d q) where
 
   -- so it is with the first two
   tie : Follow (tieP q) (tieN q)
-  tie = go (k .near .at-a) (k .near .at-b)
+  tie = go (k .site .near .at-a) (k .site .near .at-b)
     where
       -- in each case
       go : AtA sh c q → AtB sh c q → Follow (tieP q) (tieN q)
-      go (inr o) B = let e = eqb-other (off-a (site k) (q .N) (o .after)) in (λ x y. rw e (o .next), λ x y. rw e (o .prev))
+      go (inr o) B = let e = eqb-other (off-a (k .site) (q .N) (o .after)) in (λ x y. rw e (o .next), λ x y. rw e (o .prev))
       go (inl o) (inr r) =
           let e = eqb-same (o .after) in
-          let g = eqb-other (off-b (site k) (q .M) (r .after)) in
+          let g = eqb-other (off-b (k .site) (q .M) (r .after)) in
           (λ x y. rw (e, g) (r .next ∙ rw e), λ x y. rw (e, g) (ap (c Prev) (sym (rw e)) ∙ r .prev))
       go (inl o) (inl r) =
           let e = eqb-same (o .after) in
@@ -57,13 +57,13 @@ module _ {sh : Shape} {c d : Columns} {q : Spot} (k : Cut sh c d q) where
 
   -- and with the others
   tie′ : Follow (tieP′ q) (tieN′ q)
-  tie′ = go (k .near .at-a) (k .near .at-b)
+  tie′ = go (k .site .near .at-a) (k .site .near .at-b)
     where
       -- in each case
       go : AtA sh c q → AtB sh c q → Follow (tieP′ q) (tieN′ q)
-      go A (inr r) = let g = eqb-other (off-b (site k) (q .M) (r .after)) in (λ x y. rw g (r .next), λ x y. rw g (r .prev))
+      go A (inr r) = let g = eqb-other (off-b (k .site) (q .M) (r .after)) in (λ x y. rw g (r .next), λ x y. rw g (r .prev))
       go (inr o) (inl r) =
-          let e = eqb-other (off-a (site k) (q .N) (o .after)) in
+          let e = eqb-other (off-a (k .site) (q .N) (o .after)) in
           let g = eqb-same (r .after) in
           (λ x y. rw (e, g) (o .next ∙ rw g), λ x y. rw (e, g) (ap (c Prev) (sym (rw g)) ∙ o .prev))
       go (inl o) (inl r) =
@@ -73,19 +73,19 @@ module _ {sh : Shape} {c d : Columns} {q : Spot} (k : Cut sh c d q) where
 
   -- what is neither tied nor a does not stand before a
   off-P : (i : ℕ) → i ≢ tieP q → i ≢ q .a → i ≢ q .P
-  off-P i x e z = ⊎-elim (λ o. e (z ∙ o .before)) (λ o. x (z ∙ rw (eqb-other (off-a (site k) (q .N) (o .after))))) (k .near .at-a)
+  off-P i x e z = ⊎-elim (λ o. e (z ∙ o .before)) (λ o. x (z ∙ rw (eqb-other (off-a (k .site) (q .N) (o .after))))) (k .site .near .at-a)
 
   -- nor after it
   off-N : (i : ℕ) → i ≢ tieN′ q → i ≢ q .a → i ≢ q .N
-  off-N i x e z = ⊎-elim (λ o. e (z ∙ o .after)) (λ o. x (z ∙ rw (eqb-other (off-a (site k) (q .N) (o .after))))) (k .near .at-a)
+  off-N i x e z = ⊎-elim (λ o. e (z ∙ o .after)) (λ o. x (z ∙ rw (eqb-other (off-a (k .site) (q .N) (o .after))))) (k .site .near .at-a)
 
   -- and so with b
   off-Q : (i : ℕ) → i ≢ tieP′ q → i ≢ q .b → i ≢ q .Q
-  off-Q i x e z = ⊎-elim (λ o. e (z ∙ o .before)) (λ o. x (z ∙ rw (eqb-other (off-b (site k) (q .M) (o .after))))) (k .near .at-b)
+  off-Q i x e z = ⊎-elim (λ o. e (z ∙ o .before)) (λ o. x (z ∙ rw (eqb-other (off-b (k .site) (q .M) (o .after))))) (k .site .near .at-b)
 
   -- after it
   off-M : (i : ℕ) → i ≢ tieN q → i ≢ q .b → i ≢ q .M
-  off-M i x e z = ⊎-elim (λ o. e (z ∙ o .after)) (λ o. x (z ∙ rw (eqb-other (off-b (site k) (q .M) (o .after))))) (k .near .at-b)
+  off-M i x e z = ⊎-elim (λ o. e (z ∙ o .after)) (λ o. x (z ∙ rw (eqb-other (off-b (k .site) (q .M) (o .after))))) (k .site .near .at-b)
 
 module _ {sh : Shape} {p : List ℤ} {c d : Columns} {q : Spot} (k : Cut sh c d q) (s : Sound sh p c) (t : Sound sh p d) {x : List ℕ} (y : Shows sh x d) where
   -- as many half-edges
@@ -144,8 +144,8 @@ module _ {sh : Shape} {p : List ℤ} {c d : Columns} {q : Spot} (k : Cut sh c d 
   -- shows them
   shows-out : Shows sh z2 H
   shows-out =
-      let a = k .a-in in
-      let b = k .b-in in
+      let a = k .site .a-in in
+      let b = k .site .b-in in
       let o = around k in
       let one : (t : Bool) (i j : ℕ) → HalfUsed sh d i → HalfUsed sh d j → In n (pick t i j) = λ t i j x y.
       pick-ind (In n) t i j (x .0, x .1) (y .0, y .1) in
@@ -177,11 +177,11 @@ module _ {sh : Shape} {p : List ℤ} {c d : Columns} {q : Spot} (k : Cut sh c d 
 
   -- shows them
   shows-records : Shows sh z3 e3
-  shows-records = let m = k .m-in in let f = k .f-in in shows-writes (faceOff q) shows-out (f, (f, (m, (m, (m, tt)))))
+  shows-records = let m = k .site .m-in in let f = k .site .f-in in shows-writes (faceOff q) shows-out (f, (f, (m, (m, (m, tt)))))
 
   -- the first of l in c
   first-l : c First (q .l) ≡ firstOf sh c (q .l)
-  first-l = s .loop (q .l) (k .l-in) (k .l-used) .first
+  first-l = s .loop (q .l) (k .site .l-in) (k .site .l-used) .first
 
   -- where l's first is looked for
   abbrev low : ℕ
@@ -194,15 +194,15 @@ module _ {sh : Shape} {p : List ℤ} {c d : Columns} {q : Spot} (k : Cut sh c d 
   -- what names l in c named l or m in d
   from : (i : ℕ) → In n i → c Loop i ≡ q .l → lower (loopFirst sh x (q .m)) (loopFirst sh x (q .l)) ≤ i
   from i j e =
-      let w : HalfUsed sh c i = (j .0, j .1, λ r. omega (arith, k .l-in .0, sym e ∙ s .half-free i j r .loop)) in
+      let w : HalfUsed sh c i = (j .0, j .1, λ r. omega (arith, k .site .l-in .0, sym e ∙ s .half-free i j r .loop)) in
       split (d Loop i) (q .m)
-      (λ z. let f = first-d (q .m) i (k .m-in) j z in lower-one _ _ i (f .0) (f .1))
-      (λ z. lower-other (loopFirst sh x (q .m)) _ i (first-d (q .l) i (k .l-in) j (k .loop-else i (j .1) (off-a (site k) i w) z ∙ e) .1))
+      (λ z. let f = first-d (q .m) i (k .site .m-in) j z in lower-one _ _ i (f .0) (f .1))
+      (λ z. lower-other (loopFirst sh x (q .m)) _ i (first-d (q .l) i (k .site .l-in) j (k .loop-else i (j .1) (off-a (k .site) i w) z ∙ e) .1))
 
   -- first and isolated vertex of l become c's
   renewed : (h : ℕ) → HalfUsed sh c h → c Loop h ≡ q .l → c Isolated (q .l) ≡ 0 → Shows sh (renew sh z3 (q .l) low h (q .v)) (withFirst e3 (q .l) (c First (q .l)) (c Isolated (q .l)))
-  renewed h w e z = rw (first-l, z) (shows-first {U = HalfUsed sh c} shows-records (q .l) low h (q .v) (k .l-in) (s .rules .loops) w e
-      (λ i j g. (j .0, j .1, λ r. omega (arith, k .l-in .0, sym g ∙ s .half-free i j r .loop))) from)
+  renewed h w e z = rw (first-l, z) (shows-first {U = HalfUsed sh c} shows-records (q .l) low h (q .v) (k .site .l-in) (s .rules .loops) w e
+      (λ i j g. (j .0, j .1, λ r. omega (arith, k .site .l-in .0, sym g ∙ s .half-free i j r .loop))) from)
 
   -- whichever the corners
   renew-l : Shows sh (renew sh z3 (q .l) low (restOf q) (q .v)) (withFirst e3 (q .l) (c First (q .l)) (c Isolated (q .l)))
@@ -210,11 +210,11 @@ module _ {sh : Shape} {p : List ℤ} {c d : Columns} {q : Spot} (k : Cut sh c d 
       (λ o. renewed (restOf q) (o .1 .corner)
       (ap (c Loop) (sym (o .1 .next)) ∙ s .rules .loops .keeps (seat q) (o .1 .before) ∙ o .1 .loop) (o .2))
       (λ o.
-      let f : c First (q .l) ≡ 0 = lone-used s (q .l) (k .l-in) (λ g. k .u-some (sym (o .2) ∙ g)) .0 in
+      let f : c First (q .l) ≡ 0 = lone-used s (q .l) (k .site .l-in) (λ g. k .site .u-some (sym (o .2) ∙ g)) .0 in
       let e : restOf q ≡ 0 = rw (eqb-same (o .0 .after), eqb-same (o .1 .after)) in
       subst (λ i. Shows sh (renew sh z3 (q .l) low i (q .v)) (withFirst e3 (q .l) (c First (q .l)) (c Isolated (q .l)))) (sym e)
-      (rw (f, o .2 ∙ o .0 .ends) (shows-isolated shows-records (q .l) low (q .v) (k .l-in))))
-      (first-corner (site k))
+      (rw (f, o .2 ∙ o .0 .ends) (shows-isolated shows-records (q .l) low (q .v) (k .site .l-in))))
+      (first-corner (k .site))
 
   -- the list after kef
   abbrev pub mendList : List ℕ
@@ -227,9 +227,9 @@ module _ {sh : Shape} {p : List ℤ} {c d : Columns} {q : Spot} (k : Cut sh c d 
   -- with them these are the columns of c
   last : (F : Field) (i : ℕ) → changes firsts e3 F i ≡ c F i
   last F i =
-      let solid = settled Solid (faceOff q) H (c Solid) i (k .solid-free, tt) (k .solid-else i) in
+      let solid = settled Solid (faceOff q) H (c Solid) i (k .site .f-free, tt) (k .solid-else i) in
       let outer = settled Outer (faceOff q) H (c Outer) i (k .outer-free, tt) (k .outer-else i) in
-      let face = settled Face (faceOff q) H (c Face) i (k .face-free, tt) (k .face-else i) in
+      let face = settled Face (faceOff q) H (c Face) i (k .site .m-free, tt) (k .face-else i) in
       let first = settled First (faceOff q ++ firsts) H (c First) i (λ e. k .first-free, (refl, tt)) (λ e g. k .first-else i g e) in
       let isolated = settled Isolated (faceOff q ++ firsts) H (c Isolated) i (λ e. k .isolated-free, (refl, tt)) (λ e g. k .isolated-else i g e) in
       by-fields cutFields (λ F. changes firsts e3 F i ≡ c F i)

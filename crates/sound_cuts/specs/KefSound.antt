@@ -15,7 +15,7 @@ use Rattle.layout.specs.Mate.{mate}
 use Rattle.layout.specs.Fields.{SolidUsed, Solid, Outer, Face, First, Isolated, Start, Loop, Next, VertexUsed, Columns}
 use Rattle.sound_tables.specs.Sound.{In, HalfUsed, firstOf, FaceSound, FirstOrIsolated, LoopSound, HalfSound, HalfFree, VertexSound, alone, joined, Sound}
 use Rattle.sound_tables.specs.Labels.{label-some, label-none}
-use Rattle.sound_cuts.specs.Relation.{Spot, seat, off-a, off-b, Lone, first-corner, Cut, site, solid-used, vertex-used, used-a, used-b, used-to, same-name, around, met-u, met-v, Met, isolated-or}
+use Rattle.sound_cuts.specs.Relation.{Spot, seat, off-a, off-b, Lone, first-corner, ba, Cut, solid-used, vertex-used, used-a, used-b, used-to, same-name, around, met-u, met-v, Met, isolated-or}
 use Rattle.sound_cuts.specs.KefRules.{mend-rules}
 use Rattle.sound_cuts.specs.KefSolids.{Only, old-used, mend-solids}
 
@@ -38,7 +38,7 @@ module _ {sh : Shape} {p : List ℤ} {c d : Columns} {q : Spot} (k : Cut sh c d 
       let o = around k in
       let off : (m : ℕ) → HalfUsed sh d m → i ≢ m = λ m x y. x .2 (ap (d Start) (sym y) ∙ z′) in
       record {
-        loop = sym (k .loop-else i (j .1) e (λ y. omega (arith, k .m-in .0, sym y ∙ r .loop))) ∙ r .loop;
+        loop = sym (k .loop-else i (j .1) e (λ y. omega (arith, k .site .m-in .0, sym y ∙ r .loop))) ∙ r .loop;
         next = sym (k .next-else i e g (off (q .P) (o .0)) (off (q .Q) (o .2))) ∙ r .next;
         prev = sym (k .prev-else i e g (off (q .N) (o .1)) (off (q .M) (o .3))) ∙ r .prev;
       }))
@@ -47,12 +47,12 @@ module _ {sh : Shape} {p : List ℤ} {c d : Columns} {q : Spot} (k : Cut sh c d 
   half : (i : ℕ) → HalfUsed sh c i → HalfSound sh c i
   half i x =
       let r = t .half i (x .0, x .1) (used-to k i x .2) in
-      let e : d Start i ≡ c Start i = k .start-else i (off-a (site k) i x) (off-b (site k) i x) in
+      let e : d Start i ≡ c Start i = k .start-else i (off-a (k .site) i x) (off-b (k .site) i x) in
       let si : In (sh .vertices) (c Start i) = subst (In (sh .vertices)) e (r .start-in) in
       let su : c VertexUsed (c Start i) ≢ 0 = λ z. r .start-used (ap (d VertexUsed) e ∙ vertex-used k (c Start i) ∙ z) in
       split (d Loop i) (q .m)
-      (λ g. let y = k .loop-new i (x .1) (off-b (site k) i x) g in record { start-in = si; start-used = su; loop-in = rw y (k .l-in); loop-used = rw y (k .l-used) })
-      (λ g. let y = k .loop-else i (x .1) (off-a (site k) i x) g in record {
+      (λ g. let y = k .loop-new i (x .1) (off-b (k .site) i x) g in record { start-in = si; start-used = su; loop-in = rw y (k .site .l-in); loop-used = rw y (k .site .l-used) })
+      (λ g. let y = k .loop-else i (x .1) (off-a (k .site) i x) g in record {
         start-in = si;
         start-used = su;
         loop-in = subst (In (sh .loops)) y (r .loop-in);
@@ -61,29 +61,29 @@ module _ {sh : Shape} {p : List ℤ} {c d : Columns} {q : Spot} (k : Cut sh c d 
 
   -- ---- both halves are alone
 
-  module _ (o : Lone (site k)) where
+  module _ (o : Lone (k .site)) where
     -- none is left in the loop
     unnamed : (i : ℕ) → In n i → c Loop i ≢ q .l
     unnamed i j e = split (c Start i) 0
-        (λ z. omega (arith, k .l-in .0, sym e ∙ half-free i j z .loop))
+        (λ z. omega (arith, k .site .l-in .0, sym e ∙ half-free i j z .loop))
         (λ z.
         let x : HalfUsed sh c i = (j .0, j .1, z) in
         split (d Loop i) (q .m)
-        (λ g. off-b (site k) i x (lonely (t .rules .loops) (used-b k) (k .next-b ∙ o .1 .after) i (used-to k i x) (g ∙ sym (k .loop-b))))
-        (λ g. off-a (site k) i x (lonely (t .rules .loops) (used-a k) (k .next-a ∙ o .0 .after) i (used-to k i x) (k .loop-else i (x .1) (off-a (site k) i x) g ∙ e ∙ sym (k .loop-a)))))
+        (λ g. off-b (k .site) i x (lonely (t .rules .loops) (used-b k) (k .next-b ∙ o .1 .after) i (used-to k i x) (g ∙ sym (k .loop-b))))
+        (λ g. off-a (k .site) i x (lonely (t .rules .loops) (used-a k) (k .next-a ∙ o .0 .after) i (used-to k i x) (k .loop-else i (x .1) (off-a (k .site) i x) g ∙ e ∙ sym (k .loop-a)))))
 
     -- and none but the two starts at their vertex
     unstarted : (i : ℕ) → HalfUsed sh c i → c Start i ≢ q .u
-    unstarted i x e = ⊎-elim (off-a (site k) i x) (off-b (site k) i x) (carry (λ j. (j ≡ q .a) ⊎ (j ≡ q .b)) step
-        (t .rules .verts .one (q .a) i (used-a k) (used-to k i x) (k .start-a ∙ sym e ∙ sym (k .start-else i (off-a (site k) i x) (off-b (site k) i x)))) .0 (inl refl))
+    unstarted i x e = ⊎-elim (off-a (k .site) i x) (off-b (k .site) i x) (carry (λ j. (j ≡ q .a) ⊎ (j ≡ q .b)) step
+        (t .rules .verts .one (q .a) i (used-a k) (used-to k i x) (k .start-a ∙ sym e ∙ sym (k .start-else i (off-a (k .site) i x) (off-b (k .site) i x)))) .0 (inl refl))
       where
         -- around the vertex b comes after a
         after-a : d Next (mate (q .a)) ≡ q .b
-        after-a = ap (d Next) (k .ab) ∙ k .next-b ∙ o .1 .after
+        after-a = ap (d Next) (k .site .ab) ∙ k .next-b ∙ o .1 .after
 
         -- and a after b
         after-b : d Next (mate (q .b)) ≡ q .a
-        after-b = ap (d Next) (k .ba) ∙ k .next-a ∙ o .0 .after
+        after-b = ap (d Next) (ba (k .site)) ∙ k .next-a ∙ o .0 .after
 
         -- so a step leads from the two to the two only
         step : (i j : ℕ) → HalfUsed sh d i × (d Next (mate i) ≡ j) → ((i ≡ q .a) ⊎ (i ≡ q .b) → (j ≡ q .a) ⊎ (j ≡ q .b)) × ((j ≡ q .a) ⊎ (j ≡ q .b) → (i ≡ q .a) ⊎ (i ≡ q .b))
@@ -94,7 +94,7 @@ module _ {sh : Shape} {p : List ℤ} {c d : Columns} {q : Spot} (k : Cut sh c d 
 
   -- a vertex isolated in l starts nothing
   starts-none : (x : ℕ) → x ≢ 0 → c Isolated (q .l) ≡ x → (i : ℕ) → HalfUsed sh c i → c Start i ≢ x
-  starts-none x o e i y z = ⊎-elim (λ r. o (sym e ∙ r .2)) (λ r. unstarted r i y (z ∙ sym e ∙ r .2)) (first-corner (site k))
+  starts-none x o e i y z = ⊎-elim (λ r. o (sym e ∙ r .2)) (λ r. unstarted r i y (z ∙ sym e ∙ r .2)) (first-corner (k .site))
 
   -- ---- loops
 
@@ -103,14 +103,14 @@ module _ {sh : Shape} {p : List ℤ} {c d : Columns} {q : Spot} (k : Cut sh c d 
   either-l = ⊎-elim
       (λ o. inl (λ z. label-some n (c Loop) (q .l) (seat q) (o .1 .before .0, o .1 .before .1) (o .1 .loop) (sym first-l ∙ z), o .2))
       (λ o.
-      let r = t .half (q .a) (k .a-in) (used-a k .2) in
+      let r = t .half (q .a) (k .site .a-in) (used-a k .2) in
       let e : d Start (q .a) ≡ c Isolated (q .l) = k .start-a ∙ sym (o .2) in
       inr (
         first-l ∙ label-none n (c Loop) (q .l) (unnamed o),
         subst (In (sh .vertices)) e (r .start-in),
         λ z. r .start-used (ap (d VertexUsed) e ∙ vertex-used k _ ∙ z),
       ))
-      (first-corner (site k))
+      (first-corner (k .site))
 
   -- so it is sound
   loop-l : LoopSound sh c (q .l)
@@ -145,7 +145,7 @@ module _ {sh : Shape} {p : List ℤ} {c d : Columns} {q : Spot} (k : Cut sh c d 
     -- an end of the edge starts another, or is isolated in l
     by-end : Met sh c (q .l) x → VertexSound sh c x
     by-end (inl r) = by-half (r .0) (r .1) (r .2)
-    by-end (inr r) = alone (q .l) (k .l-in) r
+    by-end (inr r) = alone (q .l) (k .site .l-in) r
         (λ m j z. split m (q .l) (λ g. g) (λ g. absurd (st m j (isolated-old m x o z g))))
         (λ i j z. starts-none x o r i (j .0, j .1, λ y. o (sym z ∙ y)) z)
 
@@ -157,7 +157,7 @@ module _ {sh : Shape} {p : List ℤ} {c d : Columns} {q : Spot} (k : Cut sh c d 
       let g : m ≢ q .m = λ z. o (sym e ∙ ap (d Isolated) z ∙ k .isolated-m) in
       alone m j (sym (k .isolated-else m f g) ∙ e)
       (λ m′ j′ z. split m′ (q .l)
-      (λ y. absurd (⊎-elim (λ r. o (sym z ∙ ap (c Isolated) y ∙ r)) (λ r. st (q .a) (k .a-in) (k .start-a ∙ sym r ∙ ap (c Isolated) (sym y) ∙ z)) (isolated-or (k .near))))
+      (λ y. absurd (⊎-elim (λ r. o (sym z ∙ ap (c Isolated) y ∙ r)) (λ r. st (q .a) (k .site .a-in) (k .start-a ∙ sym r ∙ ap (c Isolated) (sym y) ∙ z)) (isolated-or (k .site .near))))
       (λ y. un m′ j′ (isolated-old m′ x o z y)))
       (λ i′ j′ z. st i′ j′ (k .start-else i′ (λ y. o (sym z ∙ ap (c Start) y ∙ k .zero-a .s)) (λ y. o (sym z ∙ ap (c Start) y ∙ k .zero-b .s)) ∙ z))
   vertex x i (joined st i′ j e) =
@@ -172,7 +172,7 @@ module _ {sh : Shape} {p : List ℤ} {c d : Columns} {q : Spot} (k : Cut sh c d 
 
   -- the face f is free
   not-f : (g : ℕ) → c Solid g ≢ 0 → g ≢ q .f
-  not-f g x e = x (ap (c Solid) e ∙ k .solid-free)
+  not-f g x e = x (ap (c Solid) e ∙ k .site .f-free)
 
   -- the other faces stay sound
   face : (g : ℕ) → In (sh .faces) g → g ≢ q .f → FaceSound sh d g → FaceSound sh c g
@@ -197,9 +197,9 @@ module _ {sh : Shape} {p : List ℤ} {c d : Columns} {q : Spot} (k : Cut sh c d 
     face = λ g i h. let e = not-f g h in face g i e (t .face g i (λ z. h (sym (k .solid-else g e) ∙ z)));
     loop-free = λ m i h. split m (q .m)
         (λ e. (ap (c First) e ∙ k .first-free, ap (c Isolated) e ∙ k .isolated-free))
-        (λ e. let g : m ≢ q .l = λ z. k .l-used (ap (c Face) (sym z) ∙ h) in
+        (λ e. let g : m ≢ q .l = λ z. k .site .l-used (ap (c Face) (sym z) ∙ h) in
         let r = t .loop-free m i (k .face-else m e ∙ h) in (sym (k .first-else m g e) ∙ r .0, sym (k .isolated-else m g e) ∙ r .1));
-    loop = λ m i h. let e : m ≢ q .m = λ z. h (ap (c Face) z ∙ k .face-free) in
+    loop = λ m i h. let e : m ≢ q .m = λ z. h (ap (c Face) z ∙ k .site .m-free) in
         split m (q .l) (λ g. subst (LoopSound sh c) (sym g) loop-l) (λ g. loop-old m i g e (t .loop m i (λ z. h (sym (k .face-else m e) ∙ z))));
     half-free = half-free;
     half = λ i j h. half i (j .0, j .1, h);

@@ -17,7 +17,6 @@ pub mod KefAccepted
 pub mod Exact
 pub mod KefPlace
 pub mod KefRelation
-pub mod KefHolds
 pub mod MefPlace
 pub mod MefLoops
 pub mod MefFacts

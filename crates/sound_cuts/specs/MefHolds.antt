@@ -24,12 +24,12 @@ use Rattle.sound_tables.specs.Names.{not-isolated, free-halves}
 use Rattle.sound_tables.specs.Good.{own, Good}
 use Rattle.sound_tables.specs.CornerTest.{CornerAt}
 use Rattle.sound_tables.specs.Undone.{Kept, Undone}
-use Rattle.sound_cuts.specs.Relation.{Spot, restOf, endOf, Alone, Seated}
+use Rattle.sound_cuts.specs.Relation.{Spot, restOf, endOf, Alone, Seated, Site}
 use Rattle.sound_cuts.specs.MefSound.{cut-sound}
 use Rattle.sound_cuts.specs.MefOperands.{mefOf, wayBack}
 use Rattle.sound_cuts.specs.MefAccepted.{mefAt}
 use Rattle.sound_cuts.specs.Exact.{mef-kept, mef-undone}
-use Rattle.sound_cuts.specs.MefPlace.{MefPlace, mef-cut}
+use Rattle.sound_cuts.specs.MefPlace.{mef-cut}
 use Rattle.sound_cuts.specs.MefLoops.{labelled}
 use Rattle.sound_cuts.specs.MefFacts.{MefFacts, mef-facts}
 
@@ -91,7 +91,7 @@ module _ {sh : Shape} {x : List ℕ} {p : List ℤ} (g : Good sh x p) {o : Opera
     w-is : wayOf a + pick (A && not B) 2 0 ≡ r .w
 
   -- its place
-  place : {A B : Bool} {u v P N Q M : ℕ} → Choice A B u v P N Q M → MefPlace sh c (spot u v P N Q M)
+  place : {A B : Bool} {u v P N Q M : ℕ} → Choice A B u v P N Q M → Site sh c (spot u v P N Q M)
   place y = record {
     l-in = r .l-in;
     m-in = r .m-in;

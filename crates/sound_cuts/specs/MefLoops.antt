@@ -16,9 +16,9 @@ use Rattle.layout.specs.declared.shape.Shape.{Shape}
 use Rattle.layout.specs.Fields.{Face, First, Start, Loop, Columns}
 use Rattle.sound_tables.specs.Sound.{HalfUsed, Sound}
 use Rattle.sound_tables.specs.Walking.{iter-keeps}
-use Rattle.sound_cuts.specs.Relation.{Spot, spur, off-a, off-b, Marked}
+use Rattle.sound_cuts.specs.Relation.{Spot, spur, Site, l-m, off-a, off-b, Marked}
 use Rattle.sound_cuts.specs.Spur.{Q-a, spur-cycles}
-use Rattle.sound_cuts.specs.MefPlace.{cutColumns, MefPlace, place-site, Parts, l-m}
+use Rattle.sound_cuts.specs.MefPlace.{cutColumns, Parts}
 
 -- the loops with the edge
 pub record Labelled (sh : Shape) (c : Columns) (q : Spot) : Type 0 where
@@ -34,7 +34,7 @@ goes sh c q i = first (spur c q) (2 * sh .edges) (q .a) (q .Q) i
 abbrev runLab : Shape → Columns → Spot → ℕ → ℕ
 runLab sh c q i = pick (eqb (c Loop i) (q .l)) (pick (goes sh c q i) (q .m) (c Loop i)) (c Loop i)
 
-module _ {sh : Shape} {p : List ℤ} {c : Columns} {q : Spot} (s : Sound sh p c) (zero : c Loop 0 ≡ 0) (o : MefPlace sh c q) where
+module _ {sh : Shape} {p : List ℤ} {c : Columns} {q : Spot} (s : Sound sh p c) (zero : c Loop 0 ≡ 0) (o : Site sh c q) where
   -- as many half-edges
   abbrev n : ℕ
   n = 2 * sh .edges
@@ -49,13 +49,13 @@ module _ {sh : Shape} {p : List ℤ} {c : Columns} {q : Spot} (s : Sound sh p c)
 
   -- a half-edge in use has the loop that it is given
   given : (i : ℕ) → HalfUsed sh c i → cutColumns sh c (runLab sh c q) q Loop i ≡ runLab sh c q i
-  given i x = upd-off _ _ (off-b (place-site o) i x) ∙ upd-off (runLab sh c q) _ (off-a (place-site o) i x)
+  given i x = upd-off _ _ (off-b o i x) ∙ upd-off (runLab sh c q) _ (off-a o i x)
 
   -- what goes over is of l
   run-loop : (i : ℕ) → HalfUsed sh c i → Till (spur c q) (q .a) (q .Q) i → c Loop i ≡ q .l
   run-loop i x t =
       let e = till-steps t in
-      sym (L-c i x) ∙ sym (iter-keeps (spur-cycles (place-site o) s) (e .0) i (inr (inr x))) ∙ ap L (e .1) ∙ L-Q
+      sym (L-c i x) ∙ sym (iter-keeps (spur-cycles o s) (e .0) i (inr (inr x))) ∙ ap L (e .1) ∙ L-Q
     where
       -- the loops with the spur
       L : ℕ → ℕ
@@ -63,7 +63,7 @@ module _ {sh : Shape} {p : List ℤ} {c : Columns} {q : Spot} (s : Sound sh p c)
 
       -- that of one of c
       L-c : (i : ℕ) → HalfUsed sh c i → L i ≡ c Loop i
-      L-c i x = upd-off _ _ (off-b (place-site o) i x) ∙ upd-off _ _ (off-a (place-site o) i x)
+      L-c i x = upd-off _ _ (off-b o i x) ∙ upd-off _ _ (off-a o i x)
 
       -- of Q
       L-Q : L (q .Q) ≡ q .l
@@ -73,7 +73,7 @@ module _ {sh : Shape} {p : List ℤ} {c : Columns} {q : Spot} (s : Sound sh p c)
   run-goes : (i : ℕ) → HalfUsed sh c i → Till (spur c q) (q .a) (q .Q) i → goes sh c q i ≡ true
   run-goes i x t =
       let e = till-steps t in
-      let k = soon (spur-cycles (place-site o) s .perm) (e .0) (e .0) i (omega arith) (inr (inr x)) in
+      let k = soon (spur-cycles o s .perm) (e .0) (e .0) i (omega arith) (inr (inr x)) in
       till-first (spur c q) n (k .0) (q .a) (q .Q) i (k .1) (k .3 ∙ e .1) t
 
   -- where it says yes, m
@@ -98,11 +98,11 @@ module _ {sh : Shape} {p : List ℤ} {c : Columns} {q : Spot} (s : Sound sh p c)
           (λ e. ⊎-elim (λ f. absurd (z (run-new i e f))) (run-else i) (ask (goes sh c q i))) (run-far i);
     };
     marked = record {
-      first-l = upd-off _ _ (l-m s zero o) ∙ upd-same (c First) (q .l) _;
+      first-l = upd-off _ _ (l-m o) ∙ upd-same (c First) (q .l) _;
       first-m = upd-same _ (q .m) _;
       run = λ i x t. given i x ∙ run-new i (run-loop i x t) (run-goes i x t);
       rest = λ i x t. given i x ∙ ⊎-elim
-          (λ f. absurd (not-both (spur c q) (q .a) (q .Q) (λ e. Q-a (place-site o) (sym e))
+          (λ f. absurd (not-both (spur c q) (q .a) (q .Q) (λ e. Q-a o (sym e))
           (first-till (spur c q) n (q .a) (q .Q) i f) t))
           (run-else i) (ask (goes sh c q i));
     };

@@ -19,7 +19,7 @@ use Rattle.sound_tables.specs.Sound.{HalfUsed, Sound}
 use Rattle.sound_tables.specs.HalfNumbers.{way-small, half-is, mate-edge}
 use Rattle.sound_tables.specs.Good.{own}
 use Rattle.sound_tables.specs.CornerTest.{CornerAt}
-use Rattle.sound_cuts.specs.Relation.{Spot, tieN, tieN′, restOf, endOf, AtA, AtB, seat, off-a, off-b, Lone, first-corner, second-corner, Cut, site}
+use Rattle.sound_cuts.specs.Relation.{Spot, tieN, tieN′, restOf, endOf, AtA, AtB, seat, off-a, off-b, Lone, first-corner, second-corner, Cut}
 
 -- mef l h1 h2 e f l2 w
 abbrev pub mefOf : ℕ → ℕ → ℕ → ℕ → ℕ → ℕ → ℕ → Operator
@@ -90,35 +90,35 @@ module _ {sh : Shape} {c d : Columns} {q : Spot} (k : Cut sh c d q) {x : List �
 
   -- at an isolated loop its vertex is read
   read-isolated : (h v : ℕ) → h ≡ 0 → c Isolated (q .l) ≡ v → pick (eqb h 0) (own sh x Isolated (q .l)) (own sh x Start h) ≡ v
-  read-isolated h v z e = rw (eqb-same z) (s .at Isolated (q .l) (k .l-in .1) ∙ e)
+  read-isolated h v z e = rw (eqb-same z) (s .at Isolated (q .l) (k .site .l-in .1) ∙ e)
 
   -- and it is a corner
   read-lone : (h : ℕ) → h ≡ 0 → c Isolated (q .l) ≡ q .u → CornerAt sh (own sh x) (q .l) h
-  read-lone h z e = inl (z, λ y. k .u-some (sym e ∙ sym (s .at Isolated (q .l) (k .l-in .1)) ∙ y))
+  read-lone h z e = inl (z, λ y. k .site .u-some (sym e ∙ sym (s .at Isolated (q .l) (k .site .l-in .1)) ∙ y))
 
   -- the operands say which half is alone
   flags : (aAlone (restOf q) (endOf q) (wayBack q) ≡ eqb (q .N) (q .a)) × (bAlone (restOf q) (endOf q) (wayBack q) ≡ eqb (q .M) (q .b))
       × ((not (leb 2 (wayBack q)) || (eqb (restOf q) (endOf q) && not (eqb (restOf q) 0))) ≡ true)
-  flags = rw (way-high (q .a) (eqb (q .N) (q .a) && not (eqb (q .M) (q .b)))) (go (k .near .at-a) (k .near .at-b))
+  flags = rw (way-high (q .a) (eqb (q .N) (q .a) && not (eqb (q .M) (q .b)))) (go (k .site .near .at-a) (k .site .near .at-b))
     where
       -- in each case
       go : AtA sh c q → AtB sh c q → ((eqb (restOf q) (endOf q) && (eqb (restOf q) 0 || (eqb (q .N) (q .a) && not (eqb (q .M) (q .b))))) ≡ eqb (q .N) (q .a))
           × ((eqb (restOf q) (endOf q) && not (eqb (q .N) (q .a) && not (eqb (q .M) (q .b)))) ≡ eqb (q .M) (q .b))
           × ((not (eqb (q .N) (q .a) && not (eqb (q .M) (q .b))) || (eqb (restOf q) (endOf q) && not (eqb (restOf q) 0))) ≡ true)
       go (inr o) (inr r) = rw (
-        eqb-other (off-a (site k) (q .N) (o .after)),
-        eqb-other (off-b (site k) (q .M) (r .after)),
-        eqb-other (λ (z : q .M ≡ q .N). k .near .N-M (sym z)),
+        eqb-other (off-a (k .site) (q .N) (o .after)),
+        eqb-other (off-b (k .site) (q .M) (r .after)),
+        eqb-other (λ (z : q .M ≡ q .N). k .site .near .N-M (sym z)),
       ) (refl, refl, refl)
       go (inr o) (inl r) = rw (
-        eqb-other (off-a (site k) (q .N) (o .after)),
+        eqb-other (off-a (k .site) (q .N) (o .after)),
         eqb-same (r .after),
         eqb-same {m = q .N} refl,
         eqb-other (λ (z : q .N ≡ 0). omega (arith, o .after .0, z)),
       ) (refl, refl, refl)
       go (inl o) (inr r) = rw (
         eqb-same (o .after),
-        eqb-other (off-b (site k) (q .M) (r .after)),
+        eqb-other (off-b (k .site) (q .M) (r .after)),
         eqb-same {m = q .M} refl,
         eqb-other (λ (z : q .M ≡ 0). omega (arith, r .after .0, z)),
       ) (refl, refl, refl)
@@ -133,30 +133,30 @@ module _ {sh : Shape} {c d : Columns} {q : Spot} (k : Cut sh c d q) {x : List �
     pub asks : Asks sh x q (restOf q) (endOf q) (wayBack q)
     asks = record {
       N-is = rw (flags .0) (⊎-elim (λ o. rw (eqb-same (o .after)) (sym (o .after)))
-          (λ o. rw (eqb-other (off-a (site k) (q .N) (o .after)))) (k .near .at-a));
+          (λ o. rw (eqb-other (off-a (k .site) (q .N) (o .after)))) (k .site .near .at-a));
       P-is = rw (flags .0) (⊎-elim (λ o. rw (eqb-same (o .after)) (sym (o .before)))
-          (λ o. rw (eqb-other (off-a (site k) (q .N) (o .after))) (read-prev (tieN q) (q .P) (o .corner) (o .prev))) (k .near .at-a));
+          (λ o. rw (eqb-other (off-a (k .site) (q .N) (o .after))) (read-prev (tieN q) (q .P) (o .corner) (o .prev))) (k .site .near .at-a));
       M-is = rw (flags .1) (⊎-elim (λ o. rw (eqb-same (o .after)) (sym (o .after)))
-          (λ o. rw (eqb-other (off-b (site k) (q .M) (o .after)))) (k .near .at-b));
+          (λ o. rw (eqb-other (off-b (k .site) (q .M) (o .after)))) (k .site .near .at-b));
       Q-is = rw (flags .1) (⊎-elim (λ o. rw (eqb-same (o .after)) (sym (o .before)))
-          (λ o. rw (eqb-other (off-b (site k) (q .M) (o .after))) (read-prev (tieN′ q) (q .Q) (o .corner) (o .prev))) (k .near .at-b));
+          (λ o. rw (eqb-other (off-b (k .site) (q .M) (o .after))) (read-prev (tieN′ q) (q .Q) (o .corner) (o .prev))) (k .site .near .at-b));
       u-is = ⊎-elim (λ o. read-start (restOf q) (q .u) (o .1 .corner) (o .1 .start))
-          (λ o. read-isolated (restOf q) (q .u) (none₁ o) (o .2)) (first-corner (site k));
+          (λ o. read-isolated (restOf q) (q .u) (none₁ o) (o .2)) (first-corner (k .site));
       v-is = ⊎-elim (λ o. read-start (endOf q) (q .v) (o .2 .corner) (o .2 .start))
-          (λ o. read-isolated (endOf q) (q .v) (none₂ o) (o .2 ∙ o .0 .ends)) (second-corner (site k));
+          (λ o. read-isolated (endOf q) (q .v) (none₂ o) (o .2 ∙ o .0 .ends)) (second-corner (k .site));
       corner1 = ⊎-elim (λ o. read-corner (restOf q) (o .1 .corner) (next-loop (seat q) (restOf q) (o .1 .before) (o .1 .next) (o .1 .loop)))
-          (λ o. read-lone (restOf q) (none₁ o) (o .2)) (first-corner (site k));
+          (λ o. read-lone (restOf q) (none₁ o) (o .2)) (first-corner (k .site));
       corner2 = ⊎-elim (λ o. read-corner (endOf q) (o .2 .corner) (next-loop (o .0) (endOf q) (o .2 .before) (o .2 .next) (o .2 .loop)))
-          (λ o. read-lone (endOf q) (none₂ o) (o .2)) (second-corner (site k));
+          (λ o. read-lone (endOf q) (none₂ o) (o .2)) (second-corner (k .site));
       ways = flags .2;
       w-in = way-most (q .a) (eqb (q .N) (q .a) && not (eqb (q .M) (q .b)));
-      half = half-back (q .a) (q .b) (k .a-in .0) (k .ab) (wayBack q) (way-rest (q .a) (eqb (q .N) (q .a) && not (eqb (q .M) (q .b))));
+      half = half-back (q .a) (q .b) (k .site .a-in .0) (k .site .ab) (wayBack q) (way-rest (q .a) (eqb (q .N) (q .a) && not (eqb (q .M) (q .b))));
     }
       where
         -- there is no first corner where both are alone
-        none₁ : Lone (site k) → restOf q ≡ 0
+        none₁ : Lone (k .site) → restOf q ≡ 0
         none₁ o = rw (eqb-same (o .0 .after), eqb-same (o .1 .after))
 
         -- nor a second
-        none₂ : Lone (site k) → endOf q ≡ 0
+        none₂ : Lone (k .site) → endOf q ≡ 0
         none₂ o = rw (eqb-same (o .0 .after), eqb-same (o .1 .after))

@@ -18,7 +18,7 @@ use Rattle.sound_tables.specs.EdgeIn.{Rules}
 use Rattle.sound_tables.specs.Sound.{halves, HalfUsed, Sound}
 use Rattle.sound_tables.specs.Names.{lone-alone}
 use Rattle.sound_cuts.specs.Seats.{seat-in}
-use Rattle.sound_cuts.specs.Relation.{Spot, seat, spur, restOf, a-b, off-a, off-b, first-corner, Cut, Marked, site, or-used, used-or}
+use Rattle.sound_cuts.specs.Relation.{Spot, seat, spur, restOf, a-b, off-a, off-b, first-corner, l-m, ba, Cut, Marked, or-used, used-or}
 use Rattle.sound_cuts.specs.Spur.{With, vertexSeat, vertex-place, a-new, b-new, Q-in, Q-a, spur-cycles, next-spur, next-mate, start-with}
 use Rattle.sound_cuts.specs.MefSolids.{unnamed}
 
@@ -29,7 +29,7 @@ module _ {sh : Shape} {p : List ℤ} {c d : Columns} {q : Spot} (k : Cut sh c d 
 
   -- Q is not a
   a-Q : q .a ≢ q .Q
-  a-Q e = Q-a (site k) (sym e)
+  a-Q e = Q-a (k .site) (sym e)
 
   -- ---- loops
 
@@ -39,24 +39,24 @@ module _ {sh : Shape} {p : List ℤ} {c d : Columns} {q : Spot} (k : Cut sh c d 
 
   -- that of a
   L-a : L (q .a) ≡ q .l
-  L-a = upd-off _ _ (a-b (site k)) ∙ upd-same _ (q .a) (q .l)
+  L-a = upd-off _ _ (a-b (k .site)) ∙ upd-same _ (q .a) (q .l)
 
   -- of one of c
   L-c : (i : ℕ) → HalfUsed sh c i → L i ≡ c Loop i
-  L-c i x = upd-off _ _ (off-b (site k) i x) ∙ upd-off _ _ (off-a (site k) i x)
+  L-c i x = upd-off _ _ (off-b (k .site) i x) ∙ upd-off _ _ (off-a (k .site) i x)
 
   -- of Q
   L-Q : L (q .Q) ≡ q .l
-  L-Q = ⊎-elim (λ o. upd-at _ _ (o .before)) (λ o. L-c (q .Q) (o .before) ∙ o .loop) (k .near .at-b)
+  L-Q = ⊎-elim (λ o. upd-at _ _ (o .before)) (λ o. L-c (q .Q) (o .before) ∙ o .loop) (k .site .near .at-b)
 
   -- Q is in use
   Q-with : With sh c q (q .Q)
-  Q-with = ⊎-elim (λ e. inl e) (λ u. inr (inr u)) (Q-in (site k))
+  Q-with = ⊎-elim (λ e. inl e) (λ u. inr (inr u)) (Q-in (k .site))
 
   -- from b on Q is met before a
   run-b : Till (spur c q) (q .a) (q .Q) (q .b)
   run-b =
-      let y = spur-cycles (site k) s in
+      let y = spur-cycles (k .site) s in
       let e : spur c q (q .a) ≡ q .b = upd-same _ (q .a) (q .b) in
       let m = forwards (y .perm) (y .one (q .b) (q .Q) (inl refl) Q-with (upd-same _ (q .b) (q .l) ∙ sym L-Q)) .0 in
       subst (Till (spur c q) (q .a) (q .Q)) e
@@ -64,12 +64,12 @@ module _ {sh : Shape} {p : List ℤ} {c d : Columns} {q : Spot} (k : Cut sh c d 
 
   -- the loop of another is as it was
   far : (i : ℕ) → HalfUsed sh c i → c Loop i ≢ q .l → d Loop i ≡ c Loop i
-  far i x e = k .loop-else i (x .1) (off-a (site k) i x) (λ z. e (k .loop-new i (x .1) (off-b (site k) i x) z))
+  far i x e = k .loop-else i (x .1) (off-a (k .site) i x) (λ z. e (k .loop-new i (x .1) (off-b (k .site) i x) z))
 
   -- the spur's loop is parted
   parted : Cycles n (With sh c q) (xchg (spur c q) (q .a) (q .Q)) (d Loop)
-  parted = halve-cycles (spur-cycles (site k) s) (q .a) (q .Q) (q .m) (d Loop) (inr (inl refl)) Q-with a-Q (L-a ∙ sym L-Q)
-      (λ i. ⊎-elim (λ e z. k .l-m (sym (upd-at _ _ e) ∙ z)) (⊎-elim (λ e z. k .l-m (sym L-a ∙ ap L (sym e) ∙ z)) (λ x z. unnamed k s i x (sym (L-c i x) ∙ z))))
+  parted = halve-cycles (spur-cycles (k .site) s) (q .a) (q .Q) (q .m) (d Loop) (inr (inl refl)) Q-with a-Q (L-a ∙ sym L-Q)
+      (λ i. ⊎-elim (λ e z. l-m (k .site) (sym (upd-at _ _ e) ∙ z)) (⊎-elim (λ e z. l-m (k .site) (sym L-a ∙ ap L (sym e) ∙ z)) (λ x z. unnamed k s i x (sym (L-c i x) ∙ z))))
       (λ i. ⊎-elim (λ e t. ap (d Loop) e ∙ k .loop-b)
       (⊎-elim (λ e t. absurd (not-both (spur c q) (q .a) (q .Q) a-Q (subst (Till (spur c q) (q .a) (q .Q)) e t) (stop refl))) (w .run i)))
       (λ i. ⊎-elim (λ e t. absurd (not-both (spur c q) (q .a) (q .Q) a-Q run-b (subst (Till (spur c q) (q .Q) (q .a)) e t)))
@@ -92,8 +92,8 @@ module _ {sh : Shape} {p : List ℤ} {c d : Columns} {q : Spot} (k : Cut sh c d 
   verts : Cycles n (HalfUsed sh d) (λ i. d Next (mate i)) (d Start)
   verts = agree
       (seat-in
-      (seat-in (s .rules .verts) (q .a) (vertexSeat q) (q .u) (a-new (site k)) (k .a-in) at-a)
-      (q .b) (mate (q .Q)) (q .v) (b-new (site k)) (k .b-in) (inl at-b))
+      (seat-in (s .rules .verts) (q .a) (vertexSeat q) (q .u) (a-new (k .site)) (k .site .a-in) at-a)
+      (q .b) (mate (q .Q)) (q .v) (b-new (k .site)) (k .site .b-in) (inl at-b))
       (or-used k) (used-or k) (next-mate k (s .rules .mate-in)) (λ i x. start-with k i)
     where
       -- a after the mate of its seat, or alone
@@ -101,23 +101,23 @@ module _ {sh : Shape} {p : List ℤ} {c d : Columns} {q : Spot} (k : Cut sh c d 
       at-a = ⊎-elim
           (λ o. ⊎-elim
           (λ y. inl (subst (HalfUsed sh c) (sym (y .1)) (s .rules .mate-in (seat q) (y .0)), ap (c Start) (y .1) ∙ start-seat (y .0) (o .1 .next) (o .1 .start)))
-          (λ y. absurd (off-a (site k) (seat q) (o .1 .before) (y .0))) (vertex-place (site k)))
+          (λ y. absurd (off-a (k .site) (seat q) (o .1 .before) (y .0))) (vertex-place (k .site)))
           (λ o. ⊎-elim
-          (λ y. absurd (off-a (site k) (seat q) (y .0) (rw (eqb-same (o .0 .after), eqb-same (o .1 .after)))))
-          (λ y. inr (y .1, λ i x z. lone-alone s (q .l) (k .l-in) (λ e. k .u-some (sym (o .2) ∙ e)) .1 i (x .0, x .1) (z ∙ sym (o .2))))
-          (vertex-place (site k)))
-          (first-corner (site k))
+          (λ y. absurd (off-a (k .site) (seat q) (y .0) (rw (eqb-same (o .0 .after), eqb-same (o .1 .after)))))
+          (λ y. inr (y .1, λ i x z. lone-alone s (q .l) (k .site .l-in) (λ e. k .site .u-some (sym (o .2) ∙ e)) .1 i (x .0, x .1) (z ∙ sym (o .2))))
+          (vertex-place (k .site)))
+          (first-corner (k .site))
 
       -- b after the mate of Q, which is a where b is alone
       at-b : Or (q .a) (HalfUsed sh c) (mate (q .Q)) × (upd (c Start) (q .a) (q .u) (mate (q .Q)) ≡ q .v)
       at-b = ⊎-elim
-          (λ o. let e = ap mate (o .before) ∙ k .ba in (inl e, upd-at _ _ e ∙ o .ends))
+          (λ o. let e = ap mate (o .before) ∙ ba (k .site) in (inl e, upd-at _ _ e ∙ o .ends))
           (λ o. let u = s .rules .mate-in (q .Q) (o .before) in (
             inr u,
-            upd-off _ _ (off-a (site k) _ u)
+            upd-off _ _ (off-a (k .site) _ u)
                 ∙ sym (s .rules .verts .keeps (mate (q .Q)) u) ∙ ap (λ i. c Start (c Next i)) (mate-mate (q .Q)) ∙ ap (c Start) (o .next) ∙ o .start,
           ))
-          (k .near .at-b)
+          (k .site .near .at-b)
 
   -- ---- all
 
@@ -130,7 +130,7 @@ module _ {sh : Shape} {p : List ℤ} {c d : Columns} {q : Spot} (k : Cut sh c d 
       (⊎-elim
       (λ z. ap (λ j. d Prev (d Next j)) z ∙ ap (d Prev) (k .next-a) ∙ k .prev-N ∙ sym z)
       (λ y.
-      let o = site k in
+      let o = k .site in
       let f = s .rules .loops .perm .f-in i y in
       let z = k .next-else i (off-a o i y) (off-b o i y) e g in
       let ua : HalfUsed sh d (q .a) = or-used k (q .a) (inr (inl refl)) in
@@ -142,8 +142,8 @@ module _ {sh : Shape} {p : List ℤ} {c d : Columns} {q : Spot} (k : Cut sh c d 
   -- the rules with the edge
   pub cut-rules : Rules (2 * sh .edges) mate (HalfUsed sh d) (halves d)
   cut-rules = record {
-    mate-in = λ i x. or-used k (mate i) (⊎-elim (λ e. inr (inl (ap mate e ∙ k .ba)))
-        (⊎-elim (λ e. inl (ap mate e ∙ k .ab)) (λ y. inr (inr (s .rules .mate-in i y)))) (used-or k i x));
+    mate-in = λ i x. or-used k (mate i) (⊎-elim (λ e. inr (inl (ap mate e ∙ ba (k .site))))
+        (⊎-elim (λ e. inl (ap mate e ∙ k .site .ab)) (λ y. inr (inr (s .rules .mate-in i y)))) (used-or k i x));
     loops = loops;
     verts = verts;
     undone = undone;

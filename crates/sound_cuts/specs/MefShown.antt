@@ -19,7 +19,7 @@ use Rattle.sound_tables.specs.Sound.{In, HalfUsed, firstOf, Sound}
 use Rattle.sound_tables.specs.FirstLow.{lower-new, first-low}
 use Rattle.sound_tables.specs.Shown.{shows-first}
 use Rattle.sound_cuts.specs.FieldLaws.{halfFields, patch, patch-other, not-same, outside, unwritten, settled}
-use Rattle.sound_cuts.specs.Relation.{Spot, cutFields, Cut, used-a, used-b, around}
+use Rattle.sound_cuts.specs.Relation.{Spot, cutFields, l-m, Cut, used-a, used-b, around}
 use Rattle.sound_cuts.specs.MefPlace.{edgeAt}
 use Rattle.sound_cuts.specs.Round.{names-new, roundColumns, shows-round, round-other, round-in, round-off}
 
@@ -56,7 +56,7 @@ module _ {sh : Shape} {p : List ℤ} {c d : Columns} {q : Spot} (k : Cut sh c d 
   shows-edged : Shows sh z1 E
   shows-edged =
       let P = around k .0 in let N = around k .1 in let Q = around k .2 in let M = around k .3 in
-      let a = k .a-in in let b = k .b-in in
+      let a = k .site .a-in in let b = k .site .b-in in
       shows-agree (shows-writes (edgeAt q) s
       (a, (a, (a, (a, (b, (b, (b, (b, ((P .0, P .1), ((N .0, N .1), ((Q .0, Q .1), ((M .0, M .1), tt)))))))))))))
       (λ F i h. by-fields (Start ∷ Next ∷ Prev ∷ []) (λ F. changes (edgeAt q) c F i ≡ E F i) (in-start i, (in-next i, (in-prev i, tt)))
@@ -115,9 +115,9 @@ module _ {sh : Shape} {p : List ℤ} {c d : Columns} {q : Spot} (k : Cut sh c d 
   -- the solid of l's face, as it is read
   solid-read : faceSolid sh x (loopFace sh x (q .l)) ≡ c Solid (c Face (q .l))
   solid-read =
-      let e = s .at Face (q .l) (k .l-in .1) in
-      let g = k .face-else (q .l) (k .l-m) in
-      let r = t .loop (q .l) (k .l-in) (λ z. k .l-used (sym g ∙ z)) in
+      let e = s .at Face (q .l) (k .site .l-in .1) in
+      let g = k .face-else (q .l) (l-m (k .site)) in
+      let r = t .loop (q .l) (k .site .l-in) (λ z. k .site .l-used (sym g ∙ z)) in
       rw e (s .at Solid (c Face (q .l)) (subst (λ y. y ≤ sh .faces) g (r .face-in .1)))
 
   -- the new loop and the new face, in solid o
@@ -152,8 +152,8 @@ module _ {sh : Shape} {p : List ℤ} {c d : Columns} {q : Spot} (k : Cut sh c d 
   -- with them these are the columns of d
   last : (F : Field) (i : ℕ) → changes firsts e3 F i ≡ d F i
   last F i =
-      let l-used = t .loop (q .l) (k .l-in) (λ z. k .l-used (sym (k .face-else (q .l) (k .l-m)) ∙ z)) in
-      let m-used = t .loop (q .m) (k .m-in) (λ z. omega (arith, k .f-in .0, sym (k .face-new) ∙ z)) in
+      let l-used = t .loop (q .l) (k .site .l-in) (λ z. k .site .l-used (sym (k .face-else (q .l) (l-m (k .site))) ∙ z)) in
+      let m-used = t .loop (q .m) (k .site .m-in) (λ z. omega (arith, k .site .f-in .0, sym (k .face-new) ∙ z)) in
       let solid = settled Solid records H (d Solid) i (k .solid-new, tt) (λ e. sym (k .solid-else i e)) in
       let outer = settled Outer records H (d Outer) i (k .outer-new, tt) (λ e. sym (k .outer-else i e)) in
       let face = settled Face records H (d Face) i (k .face-new, tt) (λ e. sym (k .face-else i e)) in
@@ -168,22 +168,22 @@ module _ {sh : Shape} {p : List ℤ} {c d : Columns} {q : Spot} (k : Cut sh c d 
 
   -- the list after mef shows the columns with the edge
   pub cut-shows : Sound sh p c → Shows sh cutList d
-  cut-shows r = rw (solid-read, s .at First (q .l) (k .l-in .1)) (
-      let m = k .m-in in
-      let f = k .f-in in
+  cut-shows r = rw (solid-read, s .at First (q .l) (k .site .l-in .1)) (
+      let m = k .site .m-in in
+      let f = k .site .f-in in
       let s3 = shows-writes records shows-run (m, (m, (m, (f, (f, tt))))) in
-      let s4 = shows-first {U = HalfUsed sh d} s3 (q .l) (low (c First (q .l))) (q .a) 0 (k .l-in) (t .rules .loops) (used-a k)
-      (k .loop-a) (names (q .l) (k .l-in)) low-l in
+      let s4 = shows-first {U = HalfUsed sh d} s3 (q .l) (low (c First (q .l))) (q .a) 0 (k .site .l-in) (t .rules .loops) (used-a k)
+      (k .loop-a) (names (q .l) (k .site .l-in)) low-l in
       let s5 = shows-first {U = HalfUsed sh d} s4 (q .m) (low (c First (q .l))) (q .b) 0 m (t .rules .loops) (used-b k) (k .loop-b)
       (names (q .m) m) low-m in
       shows-agree s5 (λ F i h. last F i))
     where
       -- none of l is below that
       low-l : (i : ℕ) → In n i → d Loop i ≡ q .l → low (c First (q .l)) ≤ i
-      low-l i j e = lower-new (c First (q .l)) (q .a) (q .b) i (k .a-in .0)
-          (λ f g. first-low r (q .l) i (k .l-in .0) j (sym (k .loop-else i (j .1) f (λ z. k .l-m (sym e ∙ z))) ∙ e))
+      low-l i j e = lower-new (c First (q .l)) (q .a) (q .b) i (k .site .a-in .0)
+          (λ f g. first-low r (q .l) i (k .site .l-in .0) j (sym (k .loop-else i (j .1) f (λ z. l-m (k .site) (sym e ∙ z))) ∙ e))
 
       -- nor of m
       low-m : (i : ℕ) → In n i → d Loop i ≡ q .m → low (c First (q .l)) ≤ i
-      low-m i j e = lower-new (c First (q .l)) (q .a) (q .b) i (k .a-in .0)
-          (λ f g. first-low r (q .l) i (k .l-in .0) j (k .loop-new i (j .1) g e))
+      low-m i j e = lower-new (c First (q .l)) (q .a) (q .b) i (k .site .a-in .0)
+          (λ f g. first-low r (q .l) i (k .site .l-in .0) j (k .loop-new i (j .1) g e))

@@ -12,6 +12,7 @@ use Rattle.laws.specs.Exchange.{Till}
 use Rattle.laws.specs.Moves.{Or, ins}
 use Rattle.layout.specs.declared.shape.Shape.{Shape}
 use Rattle.layout.specs.Mate.{mate}
+use Rattle.layout.specs.MateLaws.{mate-mate}
 use Rattle.layout.specs.Fields.{Field, SolidUsed, Solid, Outer, Face, First, Isolated, Start, Loop, Next, Prev, VertexUsed, Columns, among}
 use Rattle.sound_tables.specs.Mates.{mate-other}
 use Rattle.sound_tables.specs.EdgeIn.{Zero}
@@ -99,21 +100,35 @@ seat q = pick (eqb (q .N) (q .a)) (pick (eqb (q .M) (q .b)) (q .a) (q .Q)) (q .P
 abbrev pub spur : Columns → Spot → ℕ → ℕ
 spur c q = ins (ins (c Next) (q .a) (seat q)) (q .b) (q .a)
 
--- where the edge goes, in c: the edge is free, its corners are as said
+-- where the edge goes, in c: loop l is in use, the edge, face f and loop m are free
 pub record Site (sh : Shape) (c : Columns) (q : Spot) : Type 0 where
   pub l-in : In (sh .loops) (q .l)
+  pub m-in : In (sh .loops) (q .m)
+  pub f-in : In (sh .faces) (q .f)
   pub a-in : In (2 * sh .edges) (q .a)
   pub b-in : In (2 * sh .edges) (q .b)
   pub ab : mate (q .a) ≡ q .b
-  pub u-some : q .u ≢ 0
+  pub l-used : c Face (q .l) ≢ 0
+  pub m-free : c Face (q .m) ≡ 0
+  pub f-free : c Solid (q .f) ≡ 0
   pub a-free : c Start (q .a) ≡ 0
   pub b-free : c Start (q .b) ≡ 0
+  pub u-some : q .u ≢ 0
+  pub v-some : q .v ≢ 0
   pub near : Near sh c q
 
 module _ {sh : Shape} {c : Columns} {q : Spot} (s : Site sh c q) where
+  -- the mate of b
+  pub ba : mate (q .b) ≡ q .a
+  ba = ap mate (sym (s .ab)) ∙ mate-mate (q .a)
+
   -- the two halves differ
   pub a-b : q .a ≢ q .b
   a-b e = mate-other (q .a) (s .a-in .0) (e ∙ sym (s .ab))
+
+  -- so do the two loops
+  pub l-m : q .l ≢ q .m
+  l-m e = s .l-used (ap (c Face) e ∙ s .m-free)
 
   -- no half-edge in use is a
   pub off-a : (i : ℕ) → HalfUsed sh c i → i ≢ q .a
@@ -164,25 +179,13 @@ cutFields = Solid ∷ Outer ∷ Face ∷ First ∷ Isolated ∷ Start ∷ Loop �
 
 -- d is c with the edge
 pub record Cut (sh : Shape) (c d : Columns) (q : Spot) : Type 0 where
-  pub l-in : In (sh .loops) (q .l)
-  pub m-in : In (sh .loops) (q .m)
-  pub f-in : In (sh .faces) (q .f)
-  pub a-in : In (2 * sh .edges) (q .a)
-  pub b-in : In (2 * sh .edges) (q .b)
-  pub ab : mate (q .a) ≡ q .b
-  pub ba : mate (q .b) ≡ q .a
-  pub l-m : q .l ≢ q .m
-  pub l-used : c Face (q .l) ≢ 0
-  pub u-some : q .u ≢ 0
-  pub v-some : q .v ≢ 0
+  pub site : Site sh c q
   pub others : (F : Field) → among cutFields F ≡ false → (n : ℕ) → d F n ≡ c F n
-  pub solid-free : c Solid (q .f) ≡ 0
   pub solid-new : d Solid (q .f) ≡ c Solid (c Face (q .l))
   pub solid-else : (n : ℕ) → n ≢ q .f → d Solid n ≡ c Solid n
   pub outer-free : c Outer (q .f) ≡ 0
   pub outer-new : d Outer (q .f) ≡ q .m
   pub outer-else : (n : ℕ) → n ≢ q .f → d Outer n ≡ c Outer n
-  pub face-free : c Face (q .m) ≡ 0
   pub face-new : d Face (q .m) ≡ q .f
   pub face-else : (n : ℕ) → n ≢ q .m → d Face n ≡ c Face n
   pub first-free : c First (q .m) ≡ 0
@@ -211,7 +214,6 @@ pub record Cut (sh : Shape) (c d : Columns) (q : Spot) : Type 0 where
   pub prev-N : d Prev (q .N) ≡ q .a
   pub prev-M : d Prev (q .M) ≡ q .b
   pub prev-else : (i : ℕ) → i ≢ q .a → i ≢ q .b → i ≢ q .N → i ≢ q .M → d Prev i ≡ c Prev i
-  pub near : Near sh c q
 
 -- what the loop column of d must be, for d to be sound where c is: from the spur's end up to Q the new loop, on the rest the old one
 pub record Marked (sh : Shape) (c d : Columns) (q : Spot) : Type 0 where
@@ -231,30 +233,17 @@ module _ {sh : Shape} {c d : Columns} {q : Spot} (k : Cut sh c d q) where
   pub vertex-used : (n : ℕ) → d VertexUsed n ≡ c VertexUsed n
   vertex-used = k .others VertexUsed refl
 
-  -- where the edge goes
-  pub site : Site sh c q
-  site = record {
-    l-in = k .l-in;
-    a-in = k .a-in;
-    b-in = k .b-in;
-    ab = k .ab;
-    u-some = k .u-some;
-    a-free = k .zero-a .s;
-    b-free = k .zero-b .s;
-    near = k .near;
-  }
-
   -- in d they are in use
   pub used-a : HalfUsed sh d (q .a)
-  used-a = (k .a-in .0, k .a-in .1, λ z. k .u-some (sym (k .start-a) ∙ z))
+  used-a = (k .site .a-in .0, k .site .a-in .1, λ z. k .site .u-some (sym (k .start-a) ∙ z))
 
   -- and b
   pub used-b : HalfUsed sh d (q .b)
-  used-b = (k .b-in .0, k .b-in .1, λ z. k .v-some (sym (k .start-b) ∙ z))
+  used-b = (k .site .b-in .0, k .site .b-in .1, λ z. k .site .v-some (sym (k .start-b) ∙ z))
 
   -- the others are in use in both or in none
   pub used-to : (i : ℕ) → HalfUsed sh c i → HalfUsed sh d i
-  used-to i w = (w .0, w .1, λ z. w .2 (sym (k .start-else i (off-a site i w) (off-b site i w)) ∙ z))
+  used-to i w = (w .0, w .1, λ z. w .2 (sym (k .start-else i (off-a (k .site) i w) (off-b (k .site) i w)) ∙ z))
 
   -- and back
   pub used-from : (i : ℕ) → HalfUsed sh d i → i ≢ q .a → i ≢ q .b → HalfUsed sh c i
@@ -291,10 +280,10 @@ module _ {sh : Shape} {c d : Columns} {q : Spot} (k : Cut sh c d q) where
   -- the four neighbours are in use in d
   pub around : HalfUsed sh d (q .P) × HalfUsed sh d (q .N) × HalfUsed sh d (q .Q) × HalfUsed sh d (q .M)
   around = (
-    ⊎-elim (λ o. at-a (o .before)) (λ o. used-to (q .P) (o .before)) (k .near .at-a),
-    ⊎-elim (λ o. at-a (o .after)) (λ o. used-to (q .N) (o .after)) (k .near .at-a),
-    ⊎-elim (λ o. at-b (o .before)) (λ o. used-to (q .Q) (o .before)) (k .near .at-b),
-    ⊎-elim (λ o. at-b (o .after)) (λ o. used-to (q .M) (o .after)) (k .near .at-b),
+    ⊎-elim (λ o. at-a (o .before)) (λ o. used-to (q .P) (o .before)) (k .site .near .at-a),
+    ⊎-elim (λ o. at-a (o .after)) (λ o. used-to (q .N) (o .after)) (k .site .near .at-a),
+    ⊎-elim (λ o. at-b (o .before)) (λ o. used-to (q .Q) (o .before)) (k .site .near .at-b),
+    ⊎-elim (λ o. at-b (o .after)) (λ o. used-to (q .M) (o .after)) (k .site .near .at-b),
   )
     where
       -- a itself
@@ -311,11 +300,11 @@ Met sh c l x = ((i : ℕ) × HalfUsed sh c i × (c Start i ≡ x)) ⊎ (c Isolat
 
 -- so it is with both ends of the edge
 pub met-u : {sh : Shape} {c d : Columns} {q : Spot} → Cut sh c d q → Met sh c (q .l) (q .u)
-met-u {q = q} k = ⊎-elim (λ o. inl (restOf q, o .1 .corner, o .1 .start)) (λ o. inr (o .2)) (first-corner (site k))
+met-u {q = q} k = ⊎-elim (λ o. inl (restOf q, o .1 .corner, o .1 .start)) (λ o. inr (o .2)) (first-corner (k .site))
 
 -- the other end
 pub met-v : {sh : Shape} {c d : Columns} {q : Spot} → Cut sh c d q → Met sh c (q .l) (q .v)
-met-v {q = q} k = ⊎-elim (λ o. inl (endOf q, o .2 .corner, o .2 .start)) (λ o. inr (o .2 ∙ o .0 .ends)) (second-corner (site k))
+met-v {q = q} k = ⊎-elim (λ o. inl (endOf q, o .2 .corner, o .2 .start)) (λ o. inr (o .2 ∙ o .0 .ends)) (second-corner (k .site))
 
 -- the loop is not isolated, or at u
 pub isolated-or : {sh : Shape} {c : Columns} {q : Spot} → Near sh c q → (c Isolated (q .l) ≡ 0) ⊎ (c Isolated (q .l) ≡ q .u)

@@ -23,7 +23,7 @@ use Rattle.sound_cuts.specs.Relation.{Spot, Cut}
 pub names-new : {sh : Shape} {p : List ℤ} {c d : Columns} {q : Spot} → Cut sh c d q → Sound sh p d → (i : ℕ) → i ≤ 2 * sh .edges → d Loop i ≡ q .m → HalfUsed sh d i
 names-new {sh} {d = d} k t i h e = split i 0 (λ z. absurd (k .loop-zero (ap (d Loop) (sym z) ∙ e))) (λ z.
     let j : In (2 * sh .edges) i = (omega arith, h) in
-    (j .0, h, λ r. omega (arith, k .m-in .0, sym e ∙ t .half-free i j r .loop)))
+    (j .0, h, λ r. omega (arith, k .site .m-in .0, sym e ∙ t .half-free i j r .loop)))
 
 module _ {sh : Shape} {x : List ℕ} {e : Columns} {U : ℕ → Type 0} {lab : ℕ → ℕ} (s : Shows sh x e) (y : Cycles (2 * sh .edges) U (e Next) lab) (b : ℕ) (w : U b) (l : ℕ) where
   -- the columns after the walk

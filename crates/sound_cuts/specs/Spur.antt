@@ -16,7 +16,7 @@ use Rattle.layout.specs.MateLaws.{mate-mate}
 use Rattle.layout.specs.Fields.{Start, Loop, Next, Columns}
 use Rattle.sound_tables.specs.Sound.{HalfUsed, Sound}
 use Rattle.sound_tables.specs.Names.{lone-unnamed}
-use Rattle.sound_cuts.specs.Relation.{Spot, AtA, AtB, seat, spur, restOf, Site, a-b, off-a, off-b, first-corner, Cut, site}
+use Rattle.sound_cuts.specs.Relation.{Spot, AtA, AtB, seat, spur, restOf, Site, a-b, off-a, off-b, first-corner, ba, Cut}
 use Rattle.sound_cuts.specs.Seats.{seat-in, turned}
 
 -- those in use with the edge: b, a and those of c
@@ -115,16 +115,16 @@ module _ {sh : Shape} {c d : Columns} {q : Spot} (k : Cut sh c d q) where
       (λ e. ap (d Next) e ∙ k .next-Q ∙ sym (upd-at _ _ e ∙ upd-same _ (q .a) (q .b)))
       (λ e. ⊎-elim
       (λ z.
-      let f : i ≢ q .a = λ y. a-b (site k) (sym y ∙ z) in
-      ap (d Next) z ∙ k .next-b ∙ sym (upd-off _ _ e ∙ upd-off _ _ f ∙ upd-off _ _ f ∙ upd-at _ _ z ∙ spur-b (site k) (λ y. e (z ∙ sym y))))
+      let f : i ≢ q .a = λ y. a-b (k .site) (sym y ∙ z) in
+      ap (d Next) z ∙ k .next-b ∙ sym (upd-off _ _ e ∙ upd-off _ _ f ∙ upd-off _ _ f ∙ upd-at _ _ z ∙ spur-b (k .site) (λ y. e (z ∙ sym y))))
       (⊎-elim
-      (λ z. ap (d Next) z ∙ k .next-a ∙ sym (upd-off _ _ e ∙ upd-at _ _ z ∙ spur-Q (site k)))
+      (λ z. ap (d Next) z ∙ k .next-a ∙ sym (upd-off _ _ e ∙ upd-at _ _ z ∙ spur-Q (k .site)))
       (λ u.
-      let f = off-a (site k) i u in
-      let g = off-b (site k) i u in
+      let f = off-a (k .site) i u in
+      let g = off-b (k .site) i u in
       split i (seat q)
-      (λ z. ap (d Next) (P-seat (site k) i z e f) ∙ k .next-P ∙ sym (upd-off _ _ e ∙ upd-off _ _ f ∙ upd-off _ _ f ∙ upd-off _ _ g ∙ upd-at _ _ z))
-      (λ z. k .next-else i f g (seat-P (site k) i z f) e
+      (λ z. ap (d Next) (P-seat (k .site) i z e f) ∙ k .next-P ∙ sym (upd-off _ _ e ∙ upd-off _ _ f ∙ upd-off _ _ f ∙ upd-off _ _ g ∙ upd-at _ _ z))
+      (λ z. k .next-else i f g (seat-P (k .site) i z f) e
       ∙ sym (upd-off _ _ e ∙ upd-off _ _ f ∙ upd-off _ _ f ∙ upd-off _ _ g ∙ upd-off _ _ z ∙ upd-off _ _ f)))) x)
 
   -- around the vertices: a in its seat, b after the mate of Q
@@ -132,12 +132,12 @@ module _ {sh : Shape} {c d : Columns} {q : Spot} (k : Cut sh c d q) where
       → d Next (mate i) ≡ ins (ins (λ j. c Next (mate j)) (q .a) (vertexSeat q)) (q .b) (mate (q .Q)) i
   next-mate mi i x =
       next-spur (mate i) y
-      ∙ sym (turned (HalfUsed sh c) (c Next) mate mate-mate (k .ab) (a-b (site k)) (a-new (site k)) (λ u. off-b (site k) (q .b) u refl) mi (vertex-place (site k)) (Q-a (site k)) (Q-in (site k)) (mate i) y)
+      ∙ sym (turned (HalfUsed sh c) (c Next) mate mate-mate (k .site .ab) (a-b (k .site)) (a-new (k .site)) (λ u. off-b (k .site) (q .b) u refl) mi (vertex-place (k .site)) (Q-a (k .site)) (Q-in (k .site)) (mate i) y)
       ∙ ap (ins (ins (λ j. c Next (mate j)) (q .a) (vertexSeat q)) (q .b) (mate (q .Q))) (mate-mate i)
     where
       -- the mate is in use too
       y : With sh c q (mate i)
-      y = ⊎-elim (λ e. inr (inl (ap mate e ∙ k .ba))) (⊎-elim (λ e. inl (ap mate e ∙ k .ab)) (λ u. inr (inr (mi i u)))) x
+      y = ⊎-elim (λ e. inr (inl (ap mate e ∙ ba (k .site)))) (⊎-elim (λ e. inl (ap mate e ∙ k .site .ab)) (λ u. inr (inr (mi i u)))) x
 
   -- start in d
   pub start-with : (i : ℕ) → d Start i ≡ upd (upd (c Start) (q .a) (q .u)) (q .b) (q .v) i
