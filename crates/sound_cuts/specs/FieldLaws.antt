@@ -1,5 +1,6 @@
--- Columns, field by field: what a list of writes names and what it leaves, and how to see that a column changed by writes is another one.
--- All for any field, so that a new word of a record changes nothing here or in what is built on it.
+-- Columns, field by field: what a list of writes names and what it leaves, and how to see that a column changed by
+-- writes is another one. All for any field, so that a new word of a record changes nothing here or in what is built on
+-- it.
 use mathlib.Core.Path.{_≡_, refl, sym, ap, _∙_, subst}
 use mathlib.Core.Logic.{_≢_, ⊎-elim}
 use mathlib.Core.Bool.{Bool, true, false, _&&_}
@@ -21,7 +22,8 @@ abbrev pub patch : List Field → Columns → Columns → Columns
 patch Fs d c F = pick (among Fs F) (d F) (c F)
 
 -- the others are c's
-pub patch-other : (Fs : List Field) (d c : Columns) (F : Field) → among Fs F ≡ false → (n : ℕ) → patch Fs d c F n ≡ c F n
+pub patch-other : (Fs : List Field) (d c : Columns) (F : Field) → among Fs F ≡ false → (n : ℕ)
+    → patch Fs d c F n ≡ c F n
 patch-other Fs d c F e n = rw e
 
 -- the loop column is f
@@ -37,7 +39,8 @@ loops-other f c F e n = rw e
 -- a field outside Fs is another than one of Fs
 pub not-same : (Fs : List Field) (G F : Field) → among Fs G ≡ true → among Fs F ≡ false → sameField G F ≡ false
 not-same Fs G F g f =
-    ⊎-elim (λ e. absurd (false-T f (true-T (ap (among Fs) (sym (same-field G F e)) ∙ g)))) (λ e. e) (ask (sameField G F))
+    ⊎-elim (λ e. absurd (false-T f (true-T (ap (among Fs) (sym (same-field G F e)) ∙ g)))) (λ e. e)
+    (ask (sameField G F))
 
 -- each of Gs is one of Fs
 abbrev pub inside : List Field → List Field → Bool
@@ -57,7 +60,8 @@ within Fs [] = true
 within Fs (w ∷ ws) = among Fs (w .field) && within Fs ws
 
 -- so the columns of the other fields stay
-pub unwritten : (Fs : List Field) (ws : List Write) → within Fs ws ≡ true → (c : Columns) (F : Field) → among Fs F ≡ false
+pub unwritten : (Fs : List Field) (ws : List Write) → within Fs ws ≡ true → (c : Columns) (F : Field)
+    → among Fs F ≡ false
     → (n : ℕ) → changes ws c F n ≡ c F n
 unwritten Fs [] h c F e n = refl
 unwritten Fs (w ∷ ws) h c F e n =
@@ -75,7 +79,8 @@ Else F (w ∷ ws) i A = pick (sameField (w .field) F) (i ≢ w .item → Else F 
 -- f has the values written to F, unless they are written over
 abbrev pub Holds : Field → List Write → (ℕ → ℕ) → Type 0
 Holds F [] f = Unit {0}
-Holds F (w ∷ ws) f = pick (sameField (w .field) F) (Else F ws (w .item) (f (w .item) ≡ w .value) × Holds F ws f) (Holds F ws f)
+Holds F (w ∷ ws) f = pick (sameField (w .field) F) (Else F ws (w .item) (f (w .item) ≡ w .value) × Holds F ws f)
+    (Holds F ws f)
 
 -- what follows from A
 else-map : (F : Field) (ws : List Write) (i : ℕ) {A B : Type 0} → (A → B) → Else F ws i A → Else F ws i B

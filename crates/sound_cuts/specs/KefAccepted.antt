@@ -28,7 +28,8 @@ use Rattle.sound_cuts.specs.KefShown.{mendList}
 use Rattle.sound_cuts.specs.MefOperands.{kefOf}
 use Rattle.sound_cuts.specs.MefAccepted.{mefAt}
 
-module _ {sh : Shape} {p : List ℤ} {c d : Columns} {q : Spot} (k : Cut sh c d q) (s : Sound sh p c) (t : Sound sh p d) {y : List ℕ} (v : Shows sh y d) (caps : Capacities sh) where
+module _ {sh : Shape} {p : List ℤ} {c d : Columns} {q : Spot} (k : Cut sh c d q) (s : Sound sh p c) (t : Sound sh p d)
+    {y : List ℕ} (v : Shows sh y d) (caps : Capacities sh) where
   -- k is read as it stands
   bn : leb (q .b) 8192 ≡ true
   bn = le-leb (q .b) 8192 (omega (arith, k .site .b-in .1, caps .edges))
@@ -83,7 +84,8 @@ module _ {sh : Shape} {p : List ℤ} {c d : Columns} {q : Spot} (k : Cut sh c d 
   only-m : (n : ℕ) → In (sh .loops) n → own sh y Face n ≡ q .f → n ≡ q .m
   only-m n i e = split n (q .m) (λ z. z) (λ z.
       let g : c Face n ≡ q .f = sym (k .face-else n z) ∙ sym (v .at Face n (i .1)) ∙ e in
-      absurd (s .loop n i (λ r. omega (arith, k .site .f-in .0, sym g ∙ r)) .face-used (ap (c Solid) g ∙ k .site .f-free)))
+      absurd (s .loop n i (λ r. omega (arith, k .site .f-in .0, sym g ∙ r)) .face-used
+      (ap (c Solid) g ∙ k .site .f-free)))
 
   -- the faces of the two halves differ
   two-faces : c Face (q .l) ≢ q .f
@@ -92,15 +94,18 @@ module _ {sh : Shape} {p : List ℤ} {c d : Columns} {q : Spot} (k : Cut sh c d 
   -- the test passes
   test : kefTest sh y (q .b) ≡ true
   unfolding kefTest
-  test = rw (ba (k .site), loop-a, loop-b, face-m, face-l) (T-true (T-every (eqb (countTo (sh .loops) (λ n. eqb (own sh y Face n) (q .f))) 1 ∷ not (eqb (c Face (q .l)) (q .f)) ∷ []) (
-    true-T (eqb-same (many-one (sh .loops) (own sh y Face) (q .f) (q .m) (k .site .m-in) face-m only-m)),
-    (not-T (eqb (c Face (q .l)) (q .f)) (λ z. two-faces (eqb→eq _ _ z)), tt),
-  )))
+  test = rw (ba (k .site), loop-a, loop-b, face-m, face-l)
+      (T-true (T-every (eqb (countTo (sh .loops) (λ n. eqb (own sh y Face n) (q .f))) 1
+      ∷ not (eqb (c Face (q .l)) (q .f)) ∷ []) (
+        true-T (eqb-same (many-one (sh .loops) (own sh y Face) (q .f) (q .m) (k .site .m-in) face-m only-m)),
+        (not-T (eqb (c Face (q .l)) (q .f)) (λ z. two-faces (eqb→eq _ _ z)), tt),
+      )))
 
   -- it is accepted
   pub kef-accepted : refusalOf sh y (kefOf (q .b)) ≡ 0
   unfolding pattern rows useWord condition
-  kef-accepted = one-accepted sh y 6 9 refl refl refl refl (omega (arith, caps .edges)) refl (q .b) (k .site .b-in) (λ z. k .site .v-some (sym start-b ∙ z)) (rw bn test)
+  kef-accepted = one-accepted sh y 6 9 refl refl refl refl (omega (arith, caps .edges)) refl (q .b) (k .site .b-in)
+      (λ z. k .site .v-some (sym start-b ∙ z)) (rw bn test)
 
 -- points stay
 pub kef-points : (sh : Shape) (x : List ℕ) (v : List ℤ) (k : ℕ) → pointsAfter sh x v (kefOf k) ≡ v

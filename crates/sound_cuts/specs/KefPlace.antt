@@ -1,4 +1,4 @@
--- kef on a table: the numbers, the columns without the edge, and what kef's test says.
+-- kef at half-edge b of a table: the numbers there, the columns without the edge, and what kef's test says.
 use mathlib.Core.Path.{_≡_, refl}
 use mathlib.Core.Logic.{_≢_}
 use mathlib.Core.Bool.{true, not, _&&_}
@@ -46,7 +46,8 @@ mendLoop d q = upd (upd (relabel (d Loop) (q .m) (q .l)) (q .a) 0) (q .b) 0
 -- all that is written, but the loops of the run
 abbrev pub mendWrites : Shape → Columns → Spot → List Write
 mendWrites sh d q =
-    tied (tieP q) (tieN q) ++ (tied (tieP′ q) (tieN′ q) ++ (halfRecord (q .a) 0 0 0 0 ++ (halfRecord (q .b) 0 0 0 0 ++ (faceOff q
+    tied (tieP q) (tieN q) ++ (tied (tieP′ q) (tieN′ q)
+    ++ (halfRecord (q .a) 0 0 0 0 ++ (halfRecord (q .b) 0 0 0 0 ++ (faceOff q
     ++ (write First (q .l) (leastWith (2 * sh .edges) (mendLoop d q) (q .l))
     ∷ write Isolated (q .l) (pick (eqb (q .N) (q .a) && eqb (q .M) (q .b)) (q .u) 0) ∷ [])))))
 
@@ -61,14 +62,17 @@ pub record KefPlace (sh : Shape) (d : Columns) (b : ℕ) : Type 0 where
   pub other : d Face (d Loop (mate b)) ≢ d Face (d Loop b)
 
 -- so it does
-pub kef-place : {sh : Shape} {p : List ℤ} (y : List ℕ) → Sound sh p (own sh y) → (b : ℕ) → HalfUsed sh (own sh y) b → kefTest sh y b ≡ true → KefPlace sh (own sh y) b
+pub kef-place : {sh : Shape} {p : List ℤ} (y : List ℕ) → Sound sh p (own sh y) → (b : ℕ) → HalfUsed sh (own sh y) b
+    → kefTest sh y b ≡ true → KefPlace sh (own sh y) b
 unfolding kefTest
 kef-place {sh} y t b w h =
     let d = own sh y in
     let f = d Face (d Loop b) in
-    let e = every-T (eqb (countTo (sh .loops) (λ n. eqb (d Face n) f)) 1 ∷ not (eqb (d Face (d Loop (mate b))) f) ∷ []) (true-T h) in
+    let e = every-T (eqb (countTo (sh .loops) (λ n. eqb (d Face n) f)) 1 ∷ not (eqb (d Face (d Loop (mate b))) f) ∷ [])
+    (true-T h) in
     record {
       used = w;
-      one = λ n i g. one-many (sh .loops) (d Face) f (eqb→eq _ _ (e .0)) (d Loop b) n (t .half b (w .0, w .1) (w .2) .loop-in) refl i g;
+      one = λ n i g. one-many (sh .loops) (d Face) f (eqb→eq _ _ (e .0)) (d Loop b) n
+          (t .half b (w .0, w .1) (w .2) .loop-in) refl i g;
       other = λ g. T-not (eqb (d Face (d Loop (mate b))) f) (e .1 .0) (true-T (eqb-same g));
     }

@@ -1,4 +1,4 @@
--- The columns of kef: the table is those with the edge.
+-- kef on a sound table, as columns: the table is, with the edge (`Cut`), what `mendColumns` is without it.
 use mathlib.Core.Path.{_≡_, refl, sym, ap, _∙_, subst}
 use mathlib.Core.Logic.{_≢_, inl, inr}
 use mathlib.Core.Bool.{Bool, true, false}
@@ -23,7 +23,8 @@ use Rattle.sound_cuts.specs.Relation.{Spot, tieN, tieN′, Seated, Near,
 use Rattle.sound_cuts.specs.KefSolids.{Only}
 use Rattle.sound_cuts.specs.KefPlace.{spotAt, mendLoop, mendWrites, mendColumns, KefPlace}
 
-module _ {sh : Shape} {p : List ℤ} {d : Columns} (t : Sound sh p d) (zero : d Loop 0 ≡ 0) {b : ℕ} (o : KefPlace sh d b) where
+module _ {sh : Shape} {p : List ℤ} {d : Columns} (t : Sound sh p d) (zero : d Loop 0 ≡ 0) {b : ℕ}
+    (o : KefPlace sh d b) where
   -- the numbers
   abbrev q : Spot
   q = spotAt d b
@@ -154,13 +155,19 @@ module _ {sh : Shape} {p : List ℤ} {d : Columns} (t : Sound sh p d) (zero : d 
 
   -- by the two tests
   next-as : (x y : Bool) → eqb (q .N) (mate b) ≡ x → eqb (q .M) b ≡ y → (i : ℕ) → i ≢ mate b → i ≢ b
-      → c Next i ≡ upd (upd (d Next) (pick x (q .Q) (q .P)) (pick y (q .N) (q .M))) (pick y (q .P) (q .Q)) (pick x (q .M) (q .N)) i
-  next-as x y e g i f h = upd-off _ _ h ∙ upd-off _ _ f ∙ (λ j. upd (upd (d Next) (pick (e j) (q .Q) (q .P)) (pick (g j) (q .N) (q .M))) (pick (g j) (q .P) (q .Q)) (pick (e j) (q .M) (q .N)) i)
+      → c Next i ≡ upd (upd (d Next) (pick x (q .Q) (q .P)) (pick y (q .N) (q .M))) (pick y (q .P) (q .Q))
+      (pick x (q .M) (q .N)) i
+  next-as x y e g i f h = upd-off _ _ h ∙ upd-off _ _ f
+      ∙ (λ j. upd (upd (d Next) (pick (e j) (q .Q) (q .P)) (pick (g j) (q .N) (q .M))) (pick (g j) (q .P) (q .Q))
+      (pick (e j) (q .M) (q .N)) i)
 
   -- the same of previous
   prev-as : (x y : Bool) → eqb (q .N) (mate b) ≡ x → eqb (q .M) b ≡ y → (i : ℕ) → i ≢ mate b → i ≢ b
-      → c Prev i ≡ upd (upd (d Prev) (pick y (q .N) (q .M)) (pick x (q .Q) (q .P))) (pick x (q .M) (q .N)) (pick y (q .P) (q .Q)) i
-  prev-as x y e g i f h = upd-off _ _ h ∙ upd-off _ _ f ∙ (λ j. upd (upd (d Prev) (pick (g j) (q .N) (q .M)) (pick (e j) (q .Q) (q .P))) (pick (e j) (q .M) (q .N)) (pick (g j) (q .P) (q .Q)) i)
+      → c Prev i ≡ upd (upd (d Prev) (pick y (q .N) (q .M)) (pick x (q .Q) (q .P))) (pick x (q .M) (q .N))
+      (pick y (q .P) (q .Q)) i
+  prev-as x y e g i f h = upd-off _ _ h ∙ upd-off _ _ f
+      ∙ (λ j. upd (upd (d Prev) (pick (g j) (q .N) (q .M)) (pick (e j) (q .Q) (q .P))) (pick (e j) (q .M) (q .N))
+      (pick (g j) (q .P) (q .Q)) i)
 
   -- ---- the corners
 
@@ -183,7 +190,8 @@ module _ {sh : Shape} {p : List ℤ} {d : Columns} (t : Sound sh p d) (zero : d 
   -- where a is not alone
   seated-a : q .N ≢ mate b → Seated sh c (q .l) (q .u) (q .P) (q .N) (tieN q)
   seated-a e = split (q .M) b
-      (λ g. subst (Seated sh c (q .l) (q .u) (q .P) (q .N)) (ap (λ t. pick t (q .N) (q .M)) (sym (eqb-same g))) (record {
+      (λ g. subst (Seated sh c (q .l) (q .u) (q .P) (q .N)) (ap (λ t. pick t (q .N) (q .M)) (sym (eqb-same g)))
+      (record {
         before = c-used (q .P) uP (a-P e) P-b;
         after = c-used (q .N) uN e N-b;
         corner = c-used (q .N) uN e N-b;
@@ -192,12 +200,15 @@ module _ {sh : Shape} {p : List ℤ} {d : Columns} (t : Sound sh p d) (zero : d 
         loop = loop-P;
         start = c-start (q .N) e N-b ∙ start-N ∙ ap (d Start) (sym g) ∙ start-M;
       }))
-      (λ g. subst (Seated sh c (q .l) (q .u) (q .P) (q .N)) (ap (λ t. pick t (q .N) (q .M)) (sym (eqb-other g))) (record {
+      (λ g. subst (Seated sh c (q .l) (q .u) (q .P) (q .N)) (ap (λ t. pick t (q .N) (q .M)) (sym (eqb-other g)))
+      (record {
         before = c-used (q .P) uP (a-P e) P-b;
         after = c-used (q .N) uN e N-b;
         corner = c-used (q .M) uM M-a g;
-        next = next-as false false (eqb-other e) (eqb-other g) (q .P) (a-P e) P-b ∙ upd-off _ _ (apart lP lQ) ∙ upd-same _ (q .P) (q .M);
-        prev = prev-as false false (eqb-other e) (eqb-other g) (q .M) M-a g ∙ upd-off _ _ (λ z. apart lN lM (sym z)) ∙ upd-same _ (q .M) (q .P);
+        next = next-as false false (eqb-other e) (eqb-other g) (q .P) (a-P e) P-b ∙ upd-off _ _ (apart lP lQ)
+            ∙ upd-same _ (q .P) (q .M);
+        prev = prev-as false false (eqb-other e) (eqb-other g) (q .M) M-a g ∙ upd-off _ _ (λ z. apart lN lM (sym z))
+            ∙ upd-same _ (q .M) (q .P);
         loop = loop-P;
         start = c-start (q .M) M-a g ∙ start-M;
       }))
@@ -230,8 +241,10 @@ module _ {sh : Shape} {p : List ℤ} {d : Columns} (t : Sound sh p d) (zero : d 
   -- both
   near : Near sh c q
   near = record {
-    at-a = split (q .N) (mate b) (λ e. inl (record { before = P-a e; after = e; ends = ap (d Start) (sym e) ∙ start-N })) (λ e. inr (seated-a e));
-    at-b = split (q .M) b (λ g. inl (record { before = Q-b g; after = g; ends = sym start-M ∙ ap (d Start) g })) (λ g. inr (seated-b g));
+    at-a = split (q .N) (mate b) (λ e. inl (record
+        { before = P-a e; after = e; ends = ap (d Start) (sym e) ∙ start-N })) (λ e. inr (seated-a e));
+    at-b = split (q .M) b (λ g. inl (record { before = Q-b g; after = g; ends = sym start-M ∙ ap (d Start) g }))
+        (λ g. inr (seated-b g));
     apart = apart lP lQ;
     N-M = apart lN lM;
     isolated = upd-same _ (q .l) _;
@@ -263,9 +276,11 @@ module _ {sh : Shape} {p : List ℤ} {d : Columns} (t : Sound sh p d) (zero : d 
           v-some = o .used .2;
           near = near;
         };
-        others = λ F e i. sym (loops-other (mendLoop d q) (changes (mendWrites sh d q) d) F (not-same cutFields Loop F refl e) i
+        others = λ F e i. sym (loops-other (mendLoop d q) (changes (mendWrites sh d q) d) F
+            (not-same cutFields Loop F refl e) i
             ∙ unwritten cutFields (mendWrites sh d q) refl d F e i);
-        solid-new = ap (λ i. d Solid (d Face (d Loop i))) (sym ab) ∙ t .solids .edge (mate b) ua ∙ sym (ap (c Solid) (upd-off (d Face) 0 l-m) ∙ upd-off (d Solid) 0 f0-f);
+        solid-new = ap (λ i. d Solid (d Face (d Loop i))) (sym ab) ∙ t .solids .edge (mate b) ua
+            ∙ sym (ap (c Solid) (upd-off (d Face) 0 l-m) ∙ upd-off (d Solid) 0 f0-f);
         solid-else = λ i e. sym (upd-off (d Solid) 0 e);
         outer-free = upd-same (d Outer) (q .f) 0;
         outer-new = o .one (d Outer (q .f)) (ff .outer-in) (ff .outer-face);
@@ -278,7 +293,14 @@ module _ {sh : Shape} {p : List ℤ} {d : Columns} (t : Sound sh p d) (zero : d 
         isolated-l = not-isolated t (mate b) ua refl;
         isolated-m = not-isolated t b (o .used) refl;
         isolated-else = λ i e g. sym (upd-off _ _ e ∙ upd-off (d Isolated) 0 g);
-        zero-a = record { s = upd-off _ _ a-b ∙ upd-same _ (mate b) 0; l = upd-off _ _ a-b ∙ upd-same _ (mate b) 0; n = upd-off _ _ a-b ∙ upd-same _ (mate b) 0; p = upd-off _ _ a-b ∙ upd-same _ (mate b) 0 };
+        zero-a = record {
+          s = upd-off _ _ a-b ∙ upd-same _ (mate b) 0;
+          l = upd-off _ _ a-b
+              ∙ upd-same _ (mate b) 0;
+          n = upd-off _ _ a-b ∙ upd-same _ (mate b) 0;
+          p = upd-off _ _ a-b
+              ∙ upd-same _ (mate b) 0;
+        };
         zero-b = record { s = upd-same _ b 0; l = upd-same _ b 0; n = upd-same _ b 0; p = upd-same _ b 0 };
         start-a = refl;
         start-b = refl;
@@ -292,12 +314,16 @@ module _ {sh : Shape} {p : List ℤ} {d : Columns} (t : Sound sh p d) (zero : d 
         next-b = refl;
         next-P = nP;
         next-Q = nQ;
-        next-else = λ i e g x y. sym (upd-off _ _ g ∙ upd-off _ _ e ∙ upd-off _ _ (pick-ind (λ j. i ≢ j) (eqb (q .M) b) (q .P) (q .Q) x y) ∙ upd-off _ _ (pick-ind (λ j. i ≢ j) (eqb (q .N) (mate b)) (q .Q) (q .P) y x));
+        next-else = λ i e g x y. sym (upd-off _ _ g ∙ upd-off _ _ e
+            ∙ upd-off _ _ (pick-ind (λ j. i ≢ j) (eqb (q .M) b) (q .P) (q .Q) x y)
+            ∙ upd-off _ _ (pick-ind (λ j. i ≢ j) (eqb (q .N) (mate b)) (q .Q) (q .P) y x));
         prev-a = refl;
         prev-b = refl;
         prev-N = t .rules .undone (mate b) ua;
         prev-M = t .rules .undone b (o .used);
-        prev-else = λ i e g x y. sym (upd-off _ _ g ∙ upd-off _ _ e ∙ upd-off _ _ (pick-ind (λ j. i ≢ j) (eqb (q .N) (mate b)) (q .M) (q .N) y x) ∙ upd-off _ _ (pick-ind (λ j. i ≢ j) (eqb (q .M) b) (q .N) (q .M) x y));
+        prev-else = λ i e g x y. sym (upd-off _ _ g ∙ upd-off _ _ e
+            ∙ upd-off _ _ (pick-ind (λ j. i ≢ j) (eqb (q .N) (mate b)) (q .M) (q .N) y x)
+            ∙ upd-off _ _ (pick-ind (λ j. i ≢ j) (eqb (q .M) b) (q .N) (q .M) x y));
       }
 
   -- m is the only loop of its face
@@ -305,5 +331,6 @@ module _ {sh : Shape} {p : List ℤ} {d : Columns} (t : Sound sh p d) (zero : d 
   kef-only i j e z = e (o .one i j z)
 
   -- first of l is the least that names it
-  pub kef-first : mendColumns sh d (spotAt d b) First (d Loop (mate b)) ≡ firstOf sh (mendColumns sh d (spotAt d b)) (d Loop (mate b))
+  pub kef-first : mendColumns sh d (spotAt d b) First (d Loop (mate b)) ≡ firstOf sh (mendColumns sh d (spotAt d b))
+      (d Loop (mate b))
   kef-first = upd-same _ (q .l) _

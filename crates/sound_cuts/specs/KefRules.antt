@@ -1,4 +1,5 @@
--- Rules 4 and 5 once the edge is out: the two loops are joined by an exchange, and the spur that the edge then is comes out.
+-- Rules 4 and 5 once the edge is out: the two loops are joined by an exchange, and the spur that the edge then is
+-- comes out.
 use mathlib.Core.Path.{_≡_, refl, sym, ap, _∙_, subst}
 use mathlib.Core.Logic.{_≢_, _⊎_, inl, inr, ⊎-elim}
 use Prim.Native.Nat.{ℕ, _*_}
@@ -14,10 +15,13 @@ use Rattle.layout.specs.Fields.{Start, Loop, Next, Prev, Columns}
 use Rattle.sound_tables.specs.EdgeIn.{Rules}
 use Rattle.sound_tables.specs.Sound.{halves, HalfUsed}
 use Rattle.sound_cuts.specs.Seats.{seat-out, xchg-back}
-use Rattle.sound_cuts.specs.Relation.{Spot, seat, spur, off-a, off-b, l-m, ba, Cut, used-a, used-b, used-to, used-from, or-used, used-or, around}
-use Rattle.sound_cuts.specs.Spur.{With, vertexSeat, seat-place, vertex-place, a-new, b-new, Q-in, Q-a, next-spur, next-mate}
+use Rattle.sound_cuts.specs.Relation.{Spot, seat, spur, off-a, off-b, l-m, ba, Cut, used-a, used-b, used-to}
+use Rattle.sound_cuts.specs.Relation.{used-from, or-used, used-or, around}
+use Rattle.sound_cuts.specs.Spur.{With, vertexSeat, seat-place, vertex-place, a-new, b-new, Q-in, Q-a, next-spur}
+use Rattle.sound_cuts.specs.Spur.{next-mate}
 
-module _ {sh : Shape} {c d : Columns} {q : Spot} (k : Cut sh c d q) (r : Rules (2 * sh .edges) mate (HalfUsed sh d) (halves d)) where
+module _ {sh : Shape} {c d : Columns} {q : Spot} (k : Cut sh c d q)
+    (r : Rules (2 * sh .edges) mate (HalfUsed sh d) (halves d)) where
   -- as many half-edges
   abbrev n : ℕ
   n = 2 * sh .edges
@@ -25,7 +29,8 @@ module _ {sh : Shape} {c d : Columns} {q : Spot} (k : Cut sh c d q) (r : Rules (
   -- the mate of one in c is in c
   mates : (i : ℕ) → HalfUsed sh c i → HalfUsed sh c (mate i)
   mates i x = used-from k (mate i) (r .mate-in i (used-to k i x))
-      (λ e. off-b (k .site) i x (sym (mate-mate i) ∙ ap mate e ∙ k .site .ab)) (λ e. off-a (k .site) i x (sym (mate-mate i) ∙ ap mate e ∙ ba (k .site)))
+      (λ e. off-b (k .site) i x (sym (mate-mate i) ∙ ap mate e ∙ k .site .ab))
+      (λ e. off-a (k .site) i x (sym (mate-mate i) ∙ ap mate e ∙ ba (k .site)))
 
   -- ---- loops
 
@@ -38,7 +43,8 @@ module _ {sh : Shape} {c d : Columns} {q : Spot} (k : Cut sh c d q) (r : Rules (
   loops = agree
       (seat-out
       (seat-out
-      (agree (merge-cycles (r .loops) (q .a) (q .Q) (used-a k) (around k .2) two) (used-or k) (or-used k) (λ i x. back i (used-or k i x)) (λ i x. refl))
+      (agree (merge-cycles (r .loops) (q .a) (q .Q) (used-a k) (around k .2) two) (used-or k) (or-used k)
+      (λ i x. back i (used-or k i x)) (λ i x. refl))
       (b-new (k .site)) (inl (inl refl)))
       (a-new (k .site)) (seat-place (k .site)))
       (λ i x. x) (λ i x. x) (λ i x. refl) label
@@ -59,8 +65,10 @@ module _ {sh : Shape} {c d : Columns} {q : Spot} (k : Cut sh c d q) (r : Rules (
       -- with c's names
       label : (i : ℕ) → HalfUsed sh c i → c Loop i ≡ relabel (d Loop) (d Loop (q .Q)) (d Loop (q .a)) i
       label i x = split (d Loop i) (q .m)
-          (λ e. k .loop-new i (x .1) (off-b (k .site) i x) e ∙ sym (relabel-at (d Loop) _ _ (e ∙ sym loop-Q) ∙ k .loop-a))
-          (λ e. sym (k .loop-else i (x .1) (off-a (k .site) i x) e) ∙ sym (relabel-off (d Loop) _ _ (λ z. e (z ∙ loop-Q))))
+          (λ e. k .loop-new i (x .1) (off-b (k .site) i x) e
+          ∙ sym (relabel-at (d Loop) _ _ (e ∙ sym loop-Q) ∙ k .loop-a))
+          (λ e. sym (k .loop-else i (x .1) (off-a (k .site) i x) e)
+          ∙ sym (relabel-off (d Loop) _ _ (λ z. e (z ∙ loop-Q))))
 
   -- ---- vertices
 
@@ -68,7 +76,8 @@ module _ {sh : Shape} {c d : Columns} {q : Spot} (k : Cut sh c d q) (r : Rules (
   verts : Cycles n (HalfUsed sh c) (λ i. c Next (mate i)) (c Start)
   verts = agree
       (seat-out
-      (seat-out (agree (r .verts) (used-or k) (or-used k) (λ i x. sym (next-mate k mates i (used-or k i x))) (λ i x. refl))
+      (seat-out (agree (r .verts) (used-or k) (or-used k) (λ i x. sym (next-mate k mates i (used-or k i x)))
+      (λ i x. refl))
       (b-new (k .site)) (inl at-b))
       (a-new (k .site)) at-a)
       (λ i x. x) (λ i x. x) (λ i x. refl) (λ i x. sym (k .start-else i (off-a (k .site) i x) (off-b (k .site) i x)))
@@ -79,16 +88,19 @@ module _ {sh : Shape} {c d : Columns} {q : Spot} (k : Cut sh c d q) (r : Rules (
 
       -- so is a's seat
       at-a : HalfUsed sh c (vertexSeat q) ⊎ (vertexSeat q ≡ q .a)
-      at-a = ⊎-elim (λ o. inl (subst (HalfUsed sh c) (sym (o .1)) (mates (seat q) (o .0)))) (λ o. inr (o .1)) (vertex-place (k .site))
+      at-a = ⊎-elim (λ o. inl (subst (HalfUsed sh c) (sym (o .1)) (mates (seat q) (o .0)))) (λ o. inr (o .1))
+          (vertex-place (k .site))
 
   -- ---- all
 
   -- previous undoes next
   undone : (i : ℕ) → HalfUsed sh c i → c Prev (c Next i) ≡ i
   undone i x = split i (q .P)
-      (λ e. ⊎-elim (λ o. absurd (off-a (k .site) i x (e ∙ o .before))) (λ o. ap (λ j. c Prev (c Next j)) e ∙ ap (c Prev) (o .next) ∙ o .prev ∙ sym e) (k .site .near .at-a))
+      (λ e. ⊎-elim (λ o. absurd (off-a (k .site) i x (e ∙ o .before)))
+      (λ o. ap (λ j. c Prev (c Next j)) e ∙ ap (c Prev) (o .next) ∙ o .prev ∙ sym e) (k .site .near .at-a))
       (λ e. split i (q .Q)
-      (λ g. ⊎-elim (λ o. absurd (off-b (k .site) i x (g ∙ o .before))) (λ o. ap (λ j. c Prev (c Next j)) g ∙ ap (c Prev) (o .next) ∙ o .prev ∙ sym g) (k .site .near .at-b))
+      (λ g. ⊎-elim (λ o. absurd (off-b (k .site) i x (g ∙ o .before)))
+      (λ o. ap (λ j. c Prev (c Next j)) g ∙ ap (c Prev) (o .next) ∙ o .prev ∙ sym g) (k .site .near .at-b))
       (λ g.
       let u = used-to k i x in
       let f = off-a (k .site) i x in

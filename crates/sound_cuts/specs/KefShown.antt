@@ -10,7 +10,8 @@ use lib.IntN.{ℤ}
 use Rattle.laws.specs.Bools.{pick, pick-ind, split, eqb-same, eqb-other}
 use Rattle.layout.specs.declared.shape.Shape.{Shape}
 use Rattle.layout.specs.Layout.{loopFirst}
-use Rattle.layout.specs.Fields.{Field, Solid, Outer, Face, First, Isolated, Start, Loop, Next, Prev, Columns, capOf, sameField, by-fields}
+use Rattle.layout.specs.Fields.{Field, Solid, Outer, Face, First, Isolated, Start, Loop, Next, Prev, Columns, capOf}
+use Rattle.layout.specs.Fields.{sameField, by-fields}
 use Rattle.layout.specs.Writes.{Write, write, writes, changes}
 use Rattle.euler.specs.Surgery.{halfRecord, faceRecord, loopRecord, tied, relabelRun, lower, renew}
 use Rattle.sound_tables.specs.Cells.{Shows, shows-agree}
@@ -20,7 +21,8 @@ use Rattle.sound_tables.specs.Names.{lone-used}
 use Rattle.sound_tables.specs.FirstLow.{lower-one, lower-other, first-low}
 use Rattle.sound_tables.specs.Shown.{withFirst, shows-first, shows-isolated}
 use Rattle.sound_cuts.specs.FieldLaws.{halfFields, patch, patch-other, not-same, outside, unwritten, settled}
-use Rattle.sound_cuts.specs.Relation.{Spot, tieP, tieN, tieP′, tieN′, restOf, AtA, AtB, seat, off-a, off-b, first-corner, cutFields, Cut, used-b, around}
+use Rattle.sound_cuts.specs.Relation.{Spot, tieP, tieN, tieP′, tieN′, restOf, AtA, AtB, seat, off-a, off-b}
+use Rattle.sound_cuts.specs.Relation.{first-corner, cutFields, Cut, used-b, around}
 use Rattle.sound_cuts.specs.Round.{names-new, roundColumns, shows-round, round-other, round-in, round-off}
 
 -- the edge comes out: the ties, and both halves cleared
@@ -45,7 +47,8 @@ module _ {sh : Shape} {c d : Columns} {q : Spot} (k : Cut sh c d q) where
     where
       -- in each case
       go : AtA sh c q → AtB sh c q → Follow (tieP q) (tieN q)
-      go (inr o) B = let e = eqb-other (off-a (k .site) (q .N) (o .after)) in (λ x y. rw e (o .next), λ x y. rw e (o .prev))
+      go (inr o) B = let e = eqb-other (off-a (k .site) (q .N) (o .after)) in
+          (λ x y. rw e (o .next), λ x y. rw e (o .prev))
       go (inl o) (inr r) =
           let e = eqb-same (o .after) in
           let g = eqb-other (off-b (k .site) (q .M) (r .after)) in
@@ -61,7 +64,8 @@ module _ {sh : Shape} {c d : Columns} {q : Spot} (k : Cut sh c d q) where
     where
       -- in each case
       go : AtA sh c q → AtB sh c q → Follow (tieP′ q) (tieN′ q)
-      go A (inr r) = let g = eqb-other (off-b (k .site) (q .M) (r .after)) in (λ x y. rw g (r .next), λ x y. rw g (r .prev))
+      go A (inr r) = let g = eqb-other (off-b (k .site) (q .M) (r .after)) in
+          (λ x y. rw g (r .next), λ x y. rw g (r .prev))
       go (inr o) (inl r) =
           let e = eqb-other (off-a (k .site) (q .N) (o .after)) in
           let g = eqb-same (r .after) in
@@ -73,21 +77,26 @@ module _ {sh : Shape} {c d : Columns} {q : Spot} (k : Cut sh c d q) where
 
   -- what is neither tied nor a does not stand before a
   off-P : (i : ℕ) → i ≢ tieP q → i ≢ q .a → i ≢ q .P
-  off-P i x e z = ⊎-elim (λ o. e (z ∙ o .before)) (λ o. x (z ∙ rw (eqb-other (off-a (k .site) (q .N) (o .after))))) (k .site .near .at-a)
+  off-P i x e z = ⊎-elim (λ o. e (z ∙ o .before)) (λ o. x (z ∙ rw (eqb-other (off-a (k .site) (q .N) (o .after)))))
+      (k .site .near .at-a)
 
   -- nor after it
   off-N : (i : ℕ) → i ≢ tieN′ q → i ≢ q .a → i ≢ q .N
-  off-N i x e z = ⊎-elim (λ o. e (z ∙ o .after)) (λ o. x (z ∙ rw (eqb-other (off-a (k .site) (q .N) (o .after))))) (k .site .near .at-a)
+  off-N i x e z = ⊎-elim (λ o. e (z ∙ o .after)) (λ o. x (z ∙ rw (eqb-other (off-a (k .site) (q .N) (o .after)))))
+      (k .site .near .at-a)
 
   -- and so with b
   off-Q : (i : ℕ) → i ≢ tieP′ q → i ≢ q .b → i ≢ q .Q
-  off-Q i x e z = ⊎-elim (λ o. e (z ∙ o .before)) (λ o. x (z ∙ rw (eqb-other (off-b (k .site) (q .M) (o .after))))) (k .site .near .at-b)
+  off-Q i x e z = ⊎-elim (λ o. e (z ∙ o .before)) (λ o. x (z ∙ rw (eqb-other (off-b (k .site) (q .M) (o .after)))))
+      (k .site .near .at-b)
 
   -- after it
   off-M : (i : ℕ) → i ≢ tieN q → i ≢ q .b → i ≢ q .M
-  off-M i x e z = ⊎-elim (λ o. e (z ∙ o .after)) (λ o. x (z ∙ rw (eqb-other (off-b (k .site) (q .M) (o .after))))) (k .site .near .at-b)
+  off-M i x e z = ⊎-elim (λ o. e (z ∙ o .after)) (λ o. x (z ∙ rw (eqb-other (off-b (k .site) (q .M) (o .after)))))
+      (k .site .near .at-b)
 
-module _ {sh : Shape} {p : List ℤ} {c d : Columns} {q : Spot} (k : Cut sh c d q) (s : Sound sh p c) (t : Sound sh p d) {x : List ℕ} (y : Shows sh x d) where
+module _ {sh : Shape} {p : List ℤ} {c d : Columns} {q : Spot} (k : Cut sh c d q) (s : Sound sh p c) (t : Sound sh p d)
+    {x : List ℕ} (y : Shows sh x d) where
   -- as many half-edges
   abbrev n : ℕ
   n = 2 * sh .edges
@@ -104,13 +113,16 @@ module _ {sh : Shape} {p : List ℤ} {c d : Columns} {q : Spot} (k : Cut sh c d 
 
   -- shows them
   shows-run : Shows sh z1 R
-  shows-run = subst (λ i. Shows sh (relabelRun sh x i (q .b) (q .l)) R) (k .next-b) (shows-round y (t .rules .loops) (q .b) (used-b k) (q .l))
+  shows-run = subst (λ i. Shows sh (relabelRun sh x i (q .b) (q .l)) R) (k .next-b)
+      (shows-round y (t .rules .loops) (q .b) (used-b k) (q .l))
 
   -- the loops are those of c
   run-loop : (i : ℕ) → i ≤ n → i ≢ q .a → i ≢ q .b → R Loop i ≡ c Loop i
   run-loop i h e g = split (d Loop i) (q .m)
-      (λ z. round-in y (t .rules .loops) (q .b) (used-b k) (q .l) i (names-new k t i h z) (z ∙ sym (k .loop-b)) g ∙ sym (k .loop-new i h g z))
-      (λ z. round-off y (t .rules .loops) (q .b) (used-b k) (q .l) i (inr (λ r. z (r ∙ k .loop-b))) ∙ k .loop-else i h e z)
+      (λ z. round-in y (t .rules .loops) (q .b) (used-b k) (q .l) i (names-new k t i h z) (z ∙ sym (k .loop-b)) g
+      ∙ sym (k .loop-new i h g z))
+      (λ z. round-off y (t .rules .loops) (q .b) (used-b k) (q .l) i (inr (λ r. z (r ∙ k .loop-b)))
+      ∙ k .loop-else i h e z)
 
   -- the other columns are as they were
   run-other : (F : Field) → sameField Loop F ≡ false → (i : ℕ) → R F i ≡ d F i
@@ -133,7 +145,8 @@ module _ {sh : Shape} {p : List ℤ} {c d : Columns} {q : Spot} (k : Cut sh c d 
       let prev = settled Prev (edgeOff q) R (c Prev) i
       (λ z. tie k .1, (tie′ k .1, (λ e. k .zero-b .p, (k .zero-a .p, tt))))
       (λ x x′ g e. run-other Prev refl i ∙ k .prev-else i e g (off-N k i x′ e) (off-M k i x g)) in
-      by-fields halfFields (λ F. i ≤ capOf sh F → changes (edgeOff q) R F i ≡ H F i) (λ h. start, (loop, (λ h. next, (λ h. prev, tt))))
+      by-fields halfFields (λ F. i ≤ capOf sh F → changes (edgeOff q) R F i ≡ H F i)
+      (λ h. start, (loop, (λ h. next, (λ h. prev, tt))))
       (λ F e h. unwritten halfFields (edgeOff q) refl R F e i ∙ run-other F (not-same halfFields Loop F refl e) i
       ∙ sym (patch-other halfFields c d F e i)) F
 
@@ -177,7 +190,8 @@ module _ {sh : Shape} {p : List ℤ} {c d : Columns} {q : Spot} (k : Cut sh c d 
 
   -- shows them
   shows-records : Shows sh z3 e3
-  shows-records = let m = k .site .m-in in let f = k .site .f-in in shows-writes (faceOff q) shows-out (f, (f, (m, (m, (m, tt)))))
+  shows-records = let m = k .site .m-in in let f = k .site .f-in in
+      shows-writes (faceOff q) shows-out (f, (f, (m, (m, (m, tt)))))
 
   -- the first of l in c
   first-l : c First (q .l) ≡ firstOf sh c (q .l)
@@ -197,22 +211,27 @@ module _ {sh : Shape} {p : List ℤ} {c d : Columns} {q : Spot} (k : Cut sh c d 
       let w : HalfUsed sh c i = (j .0, j .1, λ r. omega (arith, k .site .l-in .0, sym e ∙ s .half-free i j r .loop)) in
       split (d Loop i) (q .m)
       (λ z. let f = first-d (q .m) i (k .site .m-in) j z in lower-one _ _ i (f .0) (f .1))
-      (λ z. lower-other (loopFirst sh x (q .m)) _ i (first-d (q .l) i (k .site .l-in) j (k .loop-else i (j .1) (off-a (k .site) i w) z ∙ e) .1))
+      (λ z. lower-other (loopFirst sh x (q .m)) _ i
+      (first-d (q .l) i (k .site .l-in) j (k .loop-else i (j .1) (off-a (k .site) i w) z ∙ e) .1))
 
   -- first and isolated vertex of l become c's
-  renewed : (h : ℕ) → HalfUsed sh c h → c Loop h ≡ q .l → c Isolated (q .l) ≡ 0 → Shows sh (renew sh z3 (q .l) low h (q .v)) (withFirst e3 (q .l) (c First (q .l)) (c Isolated (q .l)))
-  renewed h w e z = rw (first-l, z) (shows-first {U = HalfUsed sh c} shows-records (q .l) low h (q .v) (k .site .l-in) (s .rules .loops) w e
+  renewed : (h : ℕ) → HalfUsed sh c h → c Loop h ≡ q .l → c Isolated (q .l) ≡ 0
+      → Shows sh (renew sh z3 (q .l) low h (q .v)) (withFirst e3 (q .l) (c First (q .l)) (c Isolated (q .l)))
+  renewed h w e z = rw (first-l, z) (shows-first {U = HalfUsed sh c} shows-records (q .l) low h (q .v) (k .site .l-in)
+      (s .rules .loops) w e
       (λ i j g. (j .0, j .1, λ r. omega (arith, k .site .l-in .0, sym g ∙ s .half-free i j r .loop))) from)
 
   -- whichever the corners
-  renew-l : Shows sh (renew sh z3 (q .l) low (restOf q) (q .v)) (withFirst e3 (q .l) (c First (q .l)) (c Isolated (q .l)))
+  renew-l : Shows sh (renew sh z3 (q .l) low (restOf q) (q .v))
+      (withFirst e3 (q .l) (c First (q .l)) (c Isolated (q .l)))
   renew-l = ⊎-elim
       (λ o. renewed (restOf q) (o .1 .corner)
       (ap (c Loop) (sym (o .1 .next)) ∙ s .rules .loops .keeps (seat q) (o .1 .before) ∙ o .1 .loop) (o .2))
       (λ o.
       let f : c First (q .l) ≡ 0 = lone-used s (q .l) (k .site .l-in) (λ g. k .site .u-some (sym (o .2) ∙ g)) .0 in
       let e : restOf q ≡ 0 = rw (eqb-same (o .0 .after), eqb-same (o .1 .after)) in
-      subst (λ i. Shows sh (renew sh z3 (q .l) low i (q .v)) (withFirst e3 (q .l) (c First (q .l)) (c Isolated (q .l)))) (sym e)
+      subst (λ i. Shows sh (renew sh z3 (q .l) low i (q .v))
+      (withFirst e3 (q .l) (c First (q .l)) (c Isolated (q .l)))) (sym e)
       (rw (f, o .2 ∙ o .0 .ends) (shows-isolated shows-records (q .l) low (q .v) (k .site .l-in))))
       (first-corner (k .site))
 
@@ -230,8 +249,10 @@ module _ {sh : Shape} {p : List ℤ} {c d : Columns} {q : Spot} (k : Cut sh c d 
       let solid = settled Solid (faceOff q) H (c Solid) i (k .site .f-free, tt) (k .solid-else i) in
       let outer = settled Outer (faceOff q) H (c Outer) i (k .outer-free, tt) (k .outer-else i) in
       let face = settled Face (faceOff q) H (c Face) i (k .site .m-free, tt) (k .face-else i) in
-      let first = settled First (faceOff q ++ firsts) H (c First) i (λ e. k .first-free, (refl, tt)) (λ e g. k .first-else i g e) in
-      let isolated = settled Isolated (faceOff q ++ firsts) H (c Isolated) i (λ e. k .isolated-free, (refl, tt)) (λ e g. k .isolated-else i g e) in
+      let first = settled First (faceOff q ++ firsts) H (c First) i (λ e. k .first-free, (refl, tt))
+      (λ e g. k .first-else i g e) in
+      let isolated = settled Isolated (faceOff q ++ firsts) H (c Isolated) i (λ e. k .isolated-free, (refl, tt))
+      (λ e g. k .isolated-else i g e) in
       by-fields cutFields (λ F. changes firsts e3 F i ≡ c F i)
       (solid, (outer, (face, (first, (isolated, (refl, (refl, (refl, (refl, tt)))))))))
       (λ F e. unwritten cutFields firsts refl e3 F e i ∙ unwritten cutFields (faceOff q) refl H F e i

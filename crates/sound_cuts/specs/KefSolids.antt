@@ -1,4 +1,5 @@
--- Rule 6 once the edge is out: the face of b is joined to that of a.
+-- Rule 6 (the faces of a solid hang together across edges) once the edge is out: what named the face of b names that
+-- of a.
 use mathlib.Core.Path.{_≡_, sym, ap, _∙_, subst}
 use mathlib.Core.Logic.{_≢_}
 use mathlib.Core.List.{List}
@@ -20,7 +21,8 @@ use Rattle.sound_cuts.specs.Relation.{Spot, off-a, off-b, l-m, ba, Cut, 
 abbrev pub Only : Shape → Columns → Spot → Type 0
 Only sh d q = (n : ℕ) → In (sh .loops) n → n ≢ q .m → d Face n ≢ q .f
 
-module _ {sh : Shape} {p : List ℤ} {c d : Columns} {q : Spot} (k : Cut sh c d q) (only : Only sh d q) (t : Sound sh p d) where
+module _ {sh : Shape} {p : List ℤ} {c d : Columns} {q : Spot} (k : Cut sh c d q) (only : Only sh d q)
+    (t : Sound sh p d) where
   -- the face of l
   abbrev f0 : ℕ
   f0 = c Face (q .l)
@@ -48,14 +50,17 @@ module _ {sh : Shape} {p : List ℤ} {c d : Columns} {q : Spot} (k : Cut sh c d 
   -- a side becomes what φ says
   side-φ : (i : ℕ) → HalfUsed sh c i → side c i ≡ φ (side d i)
   side-φ i x = split (d Loop i) (q .m)
-      (λ e. ap (c Face) (k .loop-new i (x .1) (off-b (k .site) i x) e) ∙ sym (upd-at (λ g. g) f0 (ap (d Face) e ∙ k .face-new)))
+      (λ e. ap (c Face) (k .loop-new i (x .1) (off-b (k .site) i x) e)
+      ∙ sym (upd-at (λ g. g) f0 (ap (d Face) e ∙ k .face-new)))
       (λ e. let r = t .half i (x .0, x .1) (used-to k i x .2) in
       let z : side d i ≢ q .f = only (d Loop i) (r .loop-in) e in
-      ap (c Face) (sym (k .loop-else i (x .1) (off-a (k .site) i x) e)) ∙ sym (k .face-else (d Loop i) e) ∙ sym (upd-off (λ g. g) f0 z))
+      ap (c Face) (sym (k .loop-else i (x .1) (off-a (k .site) i x) e)) ∙ sym (k .face-else (d Loop i) e)
+      ∙ sym (upd-off (λ g. g) f0 z))
 
   -- what φ gives is in use, in the same solid
   φ-used : (g : ℕ) → FaceUsed sh d g → FaceUsed sh c (φ g)
-  φ-used g x = split g (q .f) (λ e. subst (FaceUsed sh c) (sym (upd-at (λ g. g) f0 e)) old-used) (λ e. subst (FaceUsed sh c) (sym (upd-off (λ g. g) f0 e)) (face-from g x e))
+  φ-used g x = split g (q .f) (λ e. subst (FaceUsed sh c) (sym (upd-at (λ g. g) f0 e)) old-used)
+      (λ e. subst (FaceUsed sh c) (sym (upd-off (λ g. g) f0 e)) (face-from g x e))
 
   -- and its solid is the same
   φ-solid : (g : ℕ) → c Solid (φ g) ≡ d Solid g
@@ -87,12 +92,16 @@ module _ {sh : Shape} {p : List ℤ} {c d : Columns} {q : Spot} (k : Cut sh c d 
   mend-solids =
       let mate-in = mend-rules k (t .rules) .mate-in in
       record {
-        side-in = λ i x. subst (FaceUsed sh c) (sym (side-φ i x)) (φ-used (side d i) (t .solids .side-in i (used-to k i x)));
-        edge = λ i x. ap (c Solid) (side-φ (mate i) (mate-in i x)) ∙ φ-solid (side d (mate i)) ∙ t .solids .edge i (used-to k i x) ∙ sym (φ-solid (side d i)) ∙ ap (c Solid) (sym (side-φ i x));
+        side-in = λ i x. subst (FaceUsed sh c) (sym (side-φ i x))
+            (φ-used (side d i) (t .solids .side-in i (used-to k i x)));
+        edge = λ i x. ap (c Solid) (side-φ (mate i) (mate-in i x)) ∙ φ-solid (side d (mate i))
+            ∙ t .solids .edge i (used-to k i x) ∙ sym (φ-solid (side d i)) ∙ ap (c Solid) (sym (side-φ i x));
         one = λ g h x y e.
             let nf : (g : ℕ) → FaceUsed sh c g → g ≢ q .f = λ g x z. x .2 (ap (c Solid) z ∙ k .site .f-free) in
-            let to : (g : ℕ) → FaceUsed sh c g → FaceUsed sh d g = λ g x. (x .0, x .1, λ z. x .2 (sym (k .solid-else g (nf g x)) ∙ z)) in
+            let to : (g : ℕ) → FaceUsed sh c g → FaceUsed sh d g =
+            λ g x. (x .0, x .1, λ z. x .2 (sym (k .solid-else g (nf g x)) ∙ z)) in
             subst (λ i. L i h) (upd-off (λ g. g) f0 (nf g x)) (subst (L (φ g)) (upd-off (λ g. g) f0 (nf h y))
-            (map-linked φ (λ i j r. subst (λ z. L z (φ j)) (ap φ (r .2)) (subst (L (φ (side d (r .0)))) (ap φ (r .3)) (step (r .0) (r .1))))
+            (map-linked φ (λ i j r. subst (λ z. L z (φ j)) (ap φ (r .2))
+            (subst (L (φ (side d (r .0)))) (ap φ (r .3)) (step (r .0) (r .1))))
             (t .solids .one g h (to g x) (to h y) (k .solid-else g (nf g x) ∙ e ∙ sym (k .solid-else h (nf h y))))));
       }

@@ -44,7 +44,20 @@ module _ {sh : Shape} {x : List ℕ} {p : List ℤ} (g : Good sh x p) {o : Opera
 
   -- the edge between P and N, Q and M, from u and v
   abbrev spot : ℕ → ℕ → ℕ → ℕ → ℕ → ℕ → Spot
-  spot u v P N Q M = record { l = r .l; m = r .m; f = r .f; a = halfBy (r .e) (r .w); b = mate (halfBy (r .e) (r .w)); u = u; v = v; P = P; N = N; Q = Q; M = M }
+  spot u v P N Q M = record {
+    l = r .l;
+    m = r .m;
+    f = r .f;
+    a = halfBy (r .e) (r .w);
+    b = mate
+        (halfBy (r .e) (r .w));
+    u = u;
+    v = v;
+    P = P;
+    N = N;
+    Q = Q;
+    M = M;
+  }
 
   -- the operator
   abbrev op : Operator
@@ -63,7 +76,8 @@ module _ {sh : Shape} {x : List ℕ} {p : List ℤ} (g : Good sh x p) {o : Opera
   off-b i x e = x .2 (ap (c Start) e ∙ free .2)
 
   -- the half that stands before corner h, and before N
-  seated : (h N : ℕ) → HalfUsed sh c h → c Loop h ≡ r .l → HalfUsed sh c N → Seated sh c (r .l) (c Start h) (c Prev h) N h
+  seated : (h N : ℕ) → HalfUsed sh c h → c Loop h ≡ r .l → HalfUsed sh c N
+      → Seated sh c (r .l) (c Start h) (c Prev h) N h
   seated h N x lo y = record {
     before = prev-in (g .sound .rules) h x;
     after = y;
@@ -183,14 +197,16 @@ module _ {sh : Shape} {x : List ℕ} {p : List ℤ} (g : Good sh x p) {o : Opera
     }
 
   -- two corners
-  both : HalfUsed sh c (r .h1) → c Loop (r .h1) ≡ r .l → HalfUsed sh c (r .h2) → c Loop (r .h2) ≡ r .l → r .h1 ≢ r .h2 → r .w < 2
+  both : HalfUsed sh c (r .h1) → c Loop (r .h1) ≡ r .l → HalfUsed sh c (r .h2) → c Loop (r .h2) ≡ r .l → r .h1 ≢ r .h2
+      → r .w < 2
       → Choice false false (c Start (r .h1)) (c Start (r .h2)) (c Prev (r .h1)) (r .h2) (c Prev (r .h2)) (r .h1)
   both y1 l1 y2 l2 ne lw = record {
     A-is = eqb-other (off-a (r .h2) y2);
     B-is = eqb-other (off-b (r .h1) y1);
     at-a = inr (seated (r .h1) (r .h2) y1 l1 y2);
     at-b = inr (seated (r .h2) (r .h1) y2 l2 y1);
-    apart = λ e. ne (sym (next-prev (g .sound .rules) (r .h1) y1) ∙ ap (c Next) e ∙ next-prev (g .sound .rules) (r .h2) y2);
+    apart = λ e. ne (sym (next-prev (g .sound .rules) (r .h1) y1) ∙ ap (c Next) e
+        ∙ next-prev (g .sound .rules) (r .h2) y2);
     N-M = λ e. ne (sym e);
     isolated = not-isolated (g .sound) (r .h1) y1 l1;
     u-some = y1 .2;
@@ -220,15 +236,18 @@ module _ {sh : Shape} {x : List ℕ} {p : List ℤ} (g : Good sh x p) {o : Opera
 
   -- whichever they are
   holds : CornerAt sh c (r .l) (r .h1) → CornerAt sh c (r .l) (r .h2) → Kept sh x p op × Undone sh x p op
-  holds (inl y) (inl z) = ⊎-elim (λ h. absurd (r .high h .1 (y .0))) (λ h. holds-at (pair (y .0) (z .0) (y .1) h)) (le? 2 (r .w))
+  holds (inl y) (inl z) = ⊎-elim (λ h. absurd (r .high h .1 (y .0))) (λ h. holds-at (pair (y .0) (z .0) (y .1) h))
+      (le? 2 (r .w))
   holds (inl y) (inr z) = absurd (y .1 (not-isolated (g .sound) (r .h2) (z .0) (z .1)))
   holds (inr y) (inl z) = absurd (z .1 (not-isolated (g .sound) (r .h1) (y .0) (y .1)))
   holds (inr y) (inr z) = split (r .h1) (r .h2)
       (λ e. ⊎-elim (λ h. holds-at (left (y .0) (y .1) e h)) (λ h. holds-at (right (y .0) (y .1) e h)) (le? 2 (r .w)))
-      (λ e. ⊎-elim (λ h. absurd (e (r .high h .0))) (λ h. holds-at (both (y .0) (y .1) (z .0) (z .1) e h)) (le? 2 (r .w)))
+      (λ e. ⊎-elim (λ h. absurd (e (r .high h .0))) (λ h. holds-at (both (y .0) (y .1) (z .0) (z .1) e h))
+      (le? 2 (r .w)))
 
 -- both for mef
-pub mef-holds : (sh : Shape) (x : List ℕ) (p : List ℤ) (o : Operator) → Good sh x p → length (o .args) ≡ 8 → o .code ≡ 5 → refusalOf sh x o ≡ 0 → Kept sh x p o × Undone sh x p o
+pub mef-holds : (sh : Shape) (x : List ℕ) (p : List ℤ) (o : Operator) → Good sh x p → length (o .args) ≡ 8
+    → o .code ≡ 5 → refusalOf sh x o ≡ 0 → Kept sh x p o × Undone sh x p o
 mef-holds sh x p o g len e h =
     let r = mef-facts sh x o (g .capacities) len e h in
     subst (λ q. Kept sh x p q × Undone sh x p q) (sym (r .is)) (holds g r (r .corner1) (r .corner2))

@@ -1,4 +1,5 @@
--- Which half-edges of the loop go over to the new one: those from which, with the edge in as a spur, Q is met before a.
+-- Which half-edges of the loop go over to the new one: those from which, with the edge in as a spur, Q is met before
+-- a.
 use mathlib.Core.Path.{_≡_, sym, ap, _∙_}
 use mathlib.Core.Logic.{_≢_, inr, ⊎-elim}
 use mathlib.Core.Bool.{Bool, true, false}
@@ -34,7 +35,8 @@ goes sh c q i = first (spur c q) (2 * sh .edges) (q .a) (q .Q) i
 abbrev runLab : Shape → Columns → Spot → ℕ → ℕ
 runLab sh c q i = pick (eqb (c Loop i) (q .l)) (pick (goes sh c q i) (q .m) (c Loop i)) (c Loop i)
 
-module _ {sh : Shape} {p : List ℤ} {c : Columns} {q : Spot} (s : Sound sh p c) (zero : c Loop 0 ≡ 0) (o : Site sh c q) where
+module _ {sh : Shape} {p : List ℤ} {c : Columns} {q : Spot} (s : Sound sh p c) (zero : c Loop 0 ≡ 0)
+    (o : Site sh c q) where
   -- as many half-edges
   abbrev n : ℕ
   n = 2 * sh .edges

@@ -19,11 +19,17 @@ use Rattle.sound_tables.specs.Sound.{HalfUsed, Sound}
 use Rattle.sound_tables.specs.HalfNumbers.{way-small, half-is, mate-edge}
 use Rattle.sound_tables.specs.Good.{own}
 use Rattle.sound_tables.specs.CornerTest.{CornerAt}
-use Rattle.sound_cuts.specs.Relation.{Spot, tieN, tieN′, restOf, endOf, AtA, AtB, seat, off-a, off-b, Lone, first-corner, second-corner, Cut}
+use Rattle.sound_cuts.specs.Relation.{Spot, tieN, tieN′, restOf, endOf, AtA, AtB, seat, off-a, off-b, Lone}
+use Rattle.sound_cuts.specs.Relation.{first-corner, second-corner, Cut}
 
 -- mef l h1 h2 e f l2 w
 abbrev pub mefOf : ℕ → ℕ → ℕ → ℕ → ℕ → ℕ → ℕ → Operator
-mefOf l h1 h2 e f l2 w = record { code = 5; count = 7; args = pos l ∷ pos h1 ∷ pos h2 ∷ pos e ∷ pos f ∷ pos l2 ∷ pos w ∷ pos 0 ∷ [] }
+mefOf l h1 h2 e f l2 w = record {
+  code = 5;
+  count = 7;
+  args = pos l ∷ pos h1 ∷ pos h2 ∷ pos e ∷ pos f ∷ pos l2 ∷ pos w
+      ∷ pos 0 ∷ [];
+}
 
 -- kef k
 abbrev pub kefOf : ℕ → Operator
@@ -75,7 +81,8 @@ way-high a false = split (a % 2) 1 (λ o. rw (eqb-same o)) (λ o. rw (eqb-other 
 
 module _ {sh : Shape} {c d : Columns} {q : Spot} (k : Cut sh c d q) {x : List ℕ} (s : Shows sh x c) where
   -- the vertex that is read at a half-edge of c
-  read-start : (h v : ℕ) → HalfUsed sh c h → c Start h ≡ v → pick (eqb h 0) (own sh x Isolated (q .l)) (own sh x Start h) ≡ v
+  read-start : (h v : ℕ) → HalfUsed sh c h → c Start h ≡ v
+      → pick (eqb h 0) (own sh x Isolated (q .l)) (own sh x Start h) ≡ v
   read-start h v w e =
       let o : h ≢ 0 = λ z. omega (arith, w .0, z) in
       rw (eqb-other o) (s .at Start h (w .1) ∙ e)
@@ -89,7 +96,8 @@ module _ {sh : Shape} {c d : Columns} {q : Spot} (k : Cut sh c d q) {x : List �
   read-corner h w e = inr ((w .0, w .1, λ z. w .2 (sym (s .at Start h (w .1)) ∙ z)), s .at Loop h (w .1) ∙ e)
 
   -- at an isolated loop its vertex is read
-  read-isolated : (h v : ℕ) → h ≡ 0 → c Isolated (q .l) ≡ v → pick (eqb h 0) (own sh x Isolated (q .l)) (own sh x Start h) ≡ v
+  read-isolated : (h v : ℕ) → h ≡ 0 → c Isolated (q .l) ≡ v
+      → pick (eqb h 0) (own sh x Isolated (q .l)) (own sh x Start h) ≡ v
   read-isolated h v z e = rw (eqb-same z) (s .at Isolated (q .l) (k .site .l-in .1) ∙ e)
 
   -- and it is a corner
@@ -97,14 +105,18 @@ module _ {sh : Shape} {c d : Columns} {q : Spot} (k : Cut sh c d q) {x : List �
   read-lone h z e = inl (z, λ y. k .site .u-some (sym e ∙ sym (s .at Isolated (q .l) (k .site .l-in .1)) ∙ y))
 
   -- the operands say which half is alone
-  flags : (aAlone (restOf q) (endOf q) (wayBack q) ≡ eqb (q .N) (q .a)) × (bAlone (restOf q) (endOf q) (wayBack q) ≡ eqb (q .M) (q .b))
+  flags : (aAlone (restOf q) (endOf q) (wayBack q) ≡ eqb (q .N) (q .a))
+      × (bAlone (restOf q) (endOf q) (wayBack q) ≡ eqb (q .M) (q .b))
       × ((not (leb 2 (wayBack q)) || (eqb (restOf q) (endOf q) && not (eqb (restOf q) 0))) ≡ true)
-  flags = rw (way-high (q .a) (eqb (q .N) (q .a) && not (eqb (q .M) (q .b)))) (go (k .site .near .at-a) (k .site .near .at-b))
+  flags = rw (way-high (q .a) (eqb (q .N) (q .a) && not (eqb (q .M) (q .b))))
+      (go (k .site .near .at-a) (k .site .near .at-b))
     where
       -- in each case
-      go : AtA sh c q → AtB sh c q → ((eqb (restOf q) (endOf q) && (eqb (restOf q) 0 || (eqb (q .N) (q .a) && not (eqb (q .M) (q .b))))) ≡ eqb (q .N) (q .a))
+      go : AtA sh c q → AtB sh c q → ((eqb (restOf q) (endOf q)
+          && (eqb (restOf q) 0 || (eqb (q .N) (q .a) && not (eqb (q .M) (q .b))))) ≡ eqb (q .N) (q .a))
           × ((eqb (restOf q) (endOf q) && not (eqb (q .N) (q .a) && not (eqb (q .M) (q .b)))) ≡ eqb (q .M) (q .b))
-          × ((not (eqb (q .N) (q .a) && not (eqb (q .M) (q .b))) || (eqb (restOf q) (endOf q) && not (eqb (restOf q) 0))) ≡ true)
+          × ((not (eqb (q .N) (q .a) && not (eqb (q .M) (q .b)))
+          || (eqb (restOf q) (endOf q) && not (eqb (restOf q) 0))) ≡ true)
       go (inr o) (inr r) = rw (
         eqb-other (off-a (k .site) (q .N) (o .after)),
         eqb-other (off-b (k .site) (q .M) (r .after)),
@@ -135,22 +147,27 @@ module _ {sh : Shape} {c d : Columns} {q : Spot} (k : Cut sh c d q) {x : List �
       N-is = rw (flags .0) (⊎-elim (λ o. rw (eqb-same (o .after)) (sym (o .after)))
           (λ o. rw (eqb-other (off-a (k .site) (q .N) (o .after)))) (k .site .near .at-a));
       P-is = rw (flags .0) (⊎-elim (λ o. rw (eqb-same (o .after)) (sym (o .before)))
-          (λ o. rw (eqb-other (off-a (k .site) (q .N) (o .after))) (read-prev (tieN q) (q .P) (o .corner) (o .prev))) (k .site .near .at-a));
+          (λ o. rw (eqb-other (off-a (k .site) (q .N) (o .after))) (read-prev (tieN q) (q .P) (o .corner) (o .prev)))
+          (k .site .near .at-a));
       M-is = rw (flags .1) (⊎-elim (λ o. rw (eqb-same (o .after)) (sym (o .after)))
           (λ o. rw (eqb-other (off-b (k .site) (q .M) (o .after)))) (k .site .near .at-b));
       Q-is = rw (flags .1) (⊎-elim (λ o. rw (eqb-same (o .after)) (sym (o .before)))
-          (λ o. rw (eqb-other (off-b (k .site) (q .M) (o .after))) (read-prev (tieN′ q) (q .Q) (o .corner) (o .prev))) (k .site .near .at-b));
+          (λ o. rw (eqb-other (off-b (k .site) (q .M) (o .after))) (read-prev (tieN′ q) (q .Q) (o .corner) (o .prev)))
+          (k .site .near .at-b));
       u-is = ⊎-elim (λ o. read-start (restOf q) (q .u) (o .1 .corner) (o .1 .start))
           (λ o. read-isolated (restOf q) (q .u) (none₁ o) (o .2)) (first-corner (k .site));
       v-is = ⊎-elim (λ o. read-start (endOf q) (q .v) (o .2 .corner) (o .2 .start))
           (λ o. read-isolated (endOf q) (q .v) (none₂ o) (o .2 ∙ o .0 .ends)) (second-corner (k .site));
-      corner1 = ⊎-elim (λ o. read-corner (restOf q) (o .1 .corner) (next-loop (seat q) (restOf q) (o .1 .before) (o .1 .next) (o .1 .loop)))
+      corner1 = ⊎-elim (λ o. read-corner (restOf q) (o .1 .corner)
+          (next-loop (seat q) (restOf q) (o .1 .before) (o .1 .next) (o .1 .loop)))
           (λ o. read-lone (restOf q) (none₁ o) (o .2)) (first-corner (k .site));
-      corner2 = ⊎-elim (λ o. read-corner (endOf q) (o .2 .corner) (next-loop (o .0) (endOf q) (o .2 .before) (o .2 .next) (o .2 .loop)))
+      corner2 = ⊎-elim (λ o. read-corner (endOf q) (o .2 .corner)
+          (next-loop (o .0) (endOf q) (o .2 .before) (o .2 .next) (o .2 .loop)))
           (λ o. read-lone (endOf q) (none₂ o) (o .2)) (second-corner (k .site));
       ways = flags .2;
       w-in = way-most (q .a) (eqb (q .N) (q .a) && not (eqb (q .M) (q .b)));
-      half = half-back (q .a) (q .b) (k .site .a-in .0) (k .site .ab) (wayBack q) (way-rest (q .a) (eqb (q .N) (q .a) && not (eqb (q .M) (q .b))));
+      half = half-back (q .a) (q .b) (k .site .a-in .0) (k .site .ab) (wayBack q)
+          (way-rest (q .a) (eqb (q .N) (q .a) && not (eqb (q .M) (q .b))));
     }
       where
         -- there is no first corner where both are alone

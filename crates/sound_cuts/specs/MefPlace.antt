@@ -1,4 +1,5 @@
--- mef on a sound table: the columns with the edge, and that they are the table's with the edge in.
+-- mef on a sound table, as columns: all that it writes, the columns then, and that these are the table's with the edge
+-- (`Cut`).
 use mathlib.Core.Path.{_≡_, refl, sym, _∙_}
 use mathlib.Core.Logic.{_≢_, _⊎_, inl, inr, ⊎-elim}
 use mathlib.Core.List.{List, _∷_, _++_}
@@ -45,7 +46,8 @@ pub record Parts (sh : Shape) (c : Columns) (lab : ℕ → ℕ) (q : Spot) : Typ
   pub new : (i : ℕ) → i ≤ 2 * sh .edges → lab i ≡ q .m → c Loop i ≡ q .l
   pub else : (i : ℕ) → i ≤ 2 * sh .edges → lab i ≢ q .m → lab i ≡ c Loop i
 
-module _ {sh : Shape} {p : List ℤ} {c : Columns} {q : Spot} (s : Sound sh p c) (zero : c Loop 0 ≡ 0) (o : Site sh c q) where
+module _ {sh : Shape} {p : List ℤ} {c : Columns} {q : Spot} (s : Sound sh p c) (zero : c Loop 0 ≡ 0)
+    (o : Site sh c q) where
   -- P and N are a itself, or half-edges of c
   at-a : ((q .P ≡ q .a) × (q .N ≡ q .a)) ⊎ (HalfUsed sh c (q .P) × HalfUsed sh c (q .N))
   at-a = ⊎-elim (λ r. inl (r .before, r .after)) (λ r. inr (r .before, r .after)) (o .near .at-a)
@@ -77,7 +79,8 @@ module _ {sh : Shape} {p : List ℤ} {c : Columns} {q : Spot} (s : Sound sh p c)
       let f1 : q .a ≢ q .b = a-b o in
       record {
         site = o;
-        others = λ F e i. loops-other (cutLoop lab q) (changes (cutWrites sh c lab q) c) F (not-same cutFields Loop F refl e) i
+        others = λ F e i. loops-other (cutLoop lab q) (changes (cutWrites sh c lab q) c) F
+            (not-same cutFields Loop F refl e) i
             ∙ unwritten cutFields (cutWrites sh c lab q) refl c F e i;
         solid-new = upd-same (c Solid) (q .f) _;
         solid-else = λ i e. upd-off (c Solid) _ e;
@@ -103,20 +106,23 @@ module _ {sh : Shape} {p : List ℤ} {c : Columns} {q : Spot} (s : Sound sh p c)
             let e : 0 ≢ q .a = λ g. omega (arith, o .a-in .0, g) in
             let g : 0 ≢ q .b = λ h. omega (arith, o .b-in .0, h) in
             omega (arith, o .l-in .0, sym zero ∙ w .new 0 (omega arith) (sym (upd-off _ _ g ∙ upd-off lab _ e) ∙ z));
-        loop-new = λ i h e z. w .new i h (sym (upd-off _ _ e ∙ upd-off lab _ (λ g. l-m o (sym (upd-off _ _ e ∙ upd-at lab _ g) ∙ z))) ∙ z);
+        loop-new = λ i h e z. w .new i h (sym
+            (upd-off _ _ e ∙ upd-off lab _ (λ g. l-m o (sym (upd-off _ _ e ∙ upd-at lab _ g) ∙ z))) ∙ z);
         loop-else = λ i h e z.
             let g : i ≢ q .b = λ y. z (upd-at _ _ y) in
             let v = upd-off _ _ g ∙ upd-off lab _ e in
             v ∙ w .else i h (λ y. z (v ∙ y));
         next-a = upd-off _ _ a-Q ∙ ⊎-elim (λ y. upd-at _ _ (sym (y .0)) ∙ sym (y .1))
-            (λ y. upd-off _ _ (λ e. off-a o (q .P) (y .0) (sym e)) ∙ upd-off _ _ f1 ∙ upd-same (c Next) (q .a) (q .N)) at-a;
+            (λ y. upd-off _ _ (λ e. off-a o (q .P) (y .0) (sym e)) ∙ upd-off _ _ f1
+            ∙ upd-same (c Next) (q .a) (q .N)) at-a;
         next-b = ⊎-elim (λ y. upd-at _ _ (sym (y .0)) ∙ sym (y .1))
             (λ y. upd-off _ _ (λ e. off-b o (q .Q) (y .0) (sym e)) ∙ upd-off _ _ b-P ∙ upd-same _ (q .b) (q .M)) at-b;
         next-P = upd-off _ _ (o .near .apart) ∙ upd-same _ (q .P) (q .a);
         next-Q = upd-same _ (q .Q) (q .b);
         next-else = λ i e g y z. upd-off _ _ z ∙ upd-off _ _ y ∙ upd-off _ _ g ∙ upd-off (c Next) _ e;
         prev-a = upd-off _ _ a-M ∙ ⊎-elim (λ y. upd-at _ _ (sym (y .1)) ∙ sym (y .0))
-            (λ y. upd-off _ _ (λ e. off-a o (q .N) (y .1) (sym e)) ∙ upd-off _ _ f1 ∙ upd-same (c Prev) (q .a) (q .P)) at-a;
+            (λ y. upd-off _ _ (λ e. off-a o (q .N) (y .1) (sym e)) ∙ upd-off _ _ f1
+            ∙ upd-same (c Prev) (q .a) (q .P)) at-a;
         prev-b = ⊎-elim (λ y. upd-at _ _ (sym (y .1)) ∙ sym (y .0))
             (λ y. upd-off _ _ (λ e. off-b o (q .M) (y .1) (sym e)) ∙ upd-off _ _ b-N ∙ upd-same _ (q .b) (q .Q)) at-b;
         prev-N = upd-off _ _ (o .near .N-M) ∙ upd-same _ (q .N) (q .a);

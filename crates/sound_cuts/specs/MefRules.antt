@@ -18,11 +18,14 @@ use Rattle.sound_tables.specs.EdgeIn.{Rules}
 use Rattle.sound_tables.specs.Sound.{halves, HalfUsed, Sound}
 use Rattle.sound_tables.specs.Names.{lone-alone}
 use Rattle.sound_cuts.specs.Seats.{seat-in}
-use Rattle.sound_cuts.specs.Relation.{Spot, seat, spur, restOf, a-b, off-a, off-b, first-corner, l-m, ba, Cut, Marked, or-used, used-or}
-use Rattle.sound_cuts.specs.Spur.{With, vertexSeat, vertex-place, a-new, b-new, Q-in, Q-a, spur-cycles, next-spur, next-mate, start-with}
+use Rattle.sound_cuts.specs.Relation.{Spot, seat, spur, restOf, a-b, off-a, off-b, first-corner, l-m, ba, Cut}
+use Rattle.sound_cuts.specs.Relation.{Marked, or-used, used-or}
+use Rattle.sound_cuts.specs.Spur.{With, vertexSeat, vertex-place, a-new, b-new, Q-in, Q-a, spur-cycles, next-spur}
+use Rattle.sound_cuts.specs.Spur.{next-mate, start-with}
 use Rattle.sound_cuts.specs.MefSolids.{unnamed}
 
-module _ {sh : Shape} {p : List ℤ} {c d : Columns} {q : Spot} (k : Cut sh c d q) (w : Marked sh c d q) (s : Sound sh p c) where
+module _ {sh : Shape} {p : List ℤ} {c d : Columns} {q : Spot} (k : Cut sh c d q) (w : Marked sh c d q)
+    (s : Sound sh p c) where
   -- as many half-edges
   abbrev n : ℕ
   n = 2 * sh .edges
@@ -68,11 +71,15 @@ module _ {sh : Shape} {p : List ℤ} {c d : Columns} {q : Spot} (k : Cut sh c d 
 
   -- the spur's loop is parted
   parted : Cycles n (With sh c q) (xchg (spur c q) (q .a) (q .Q)) (d Loop)
-  parted = halve-cycles (spur-cycles (k .site) s) (q .a) (q .Q) (q .m) (d Loop) (inr (inl refl)) Q-with a-Q (L-a ∙ sym L-Q)
-      (λ i. ⊎-elim (λ e z. l-m (k .site) (sym (upd-at _ _ e) ∙ z)) (⊎-elim (λ e z. l-m (k .site) (sym L-a ∙ ap L (sym e) ∙ z)) (λ x z. unnamed k s i x (sym (L-c i x) ∙ z))))
+  parted = halve-cycles (spur-cycles (k .site) s) (q .a) (q .Q) (q .m) (d Loop) (inr (inl refl)) Q-with a-Q
+      (L-a ∙ sym L-Q)
+      (λ i. ⊎-elim (λ e z. l-m (k .site) (sym (upd-at _ _ e) ∙ z))
+      (⊎-elim (λ e z. l-m (k .site) (sym L-a ∙ ap L (sym e) ∙ z)) (λ x z. unnamed k s i x (sym (L-c i x) ∙ z))))
       (λ i. ⊎-elim (λ e t. ap (d Loop) e ∙ k .loop-b)
-      (⊎-elim (λ e t. absurd (not-both (spur c q) (q .a) (q .Q) a-Q (subst (Till (spur c q) (q .a) (q .Q)) e t) (stop refl))) (w .run i)))
-      (λ i. ⊎-elim (λ e t. absurd (not-both (spur c q) (q .a) (q .Q) a-Q run-b (subst (Till (spur c q) (q .Q) (q .a)) e t)))
+      (⊎-elim (λ e t. absurd (not-both (spur c q) (q .a) (q .Q) a-Q (subst (Till (spur c q) (q .a) (q .Q)) e t)
+      (stop refl))) (w .run i)))
+      (λ i. ⊎-elim (λ e t. absurd (not-both (spur c q) (q .a) (q .Q) a-Q run-b
+      (subst (Till (spur c q) (q .Q) (q .a)) e t)))
       (⊎-elim (λ e t. ap (d Loop) e ∙ k .loop-a ∙ sym (ap L e ∙ L-a)) (λ x t. w .rest i x t ∙ sym (L-c i x))))
       (λ i. ⊎-elim (λ e z. absurd (z (upd-at _ _ e ∙ sym L-a))) (⊎-elim (λ e z. absurd (z (ap L e)))
       (λ x z. far i x (λ y. z (L-c i x ∙ y ∙ sym L-a)) ∙ sym (L-c i x))))
@@ -84,9 +91,11 @@ module _ {sh : Shape} {p : List ℤ} {c d : Columns} {q : Spot} (k : Cut sh c d 
   -- ---- vertices
 
   -- the corner's vertex is u: that of the seat's mate
-  start-seat : HalfUsed sh c (seat q) → c Next (seat q) ≡ restOf q → c Start (restOf q) ≡ q .u → c Start (mate (seat q)) ≡ q .u
+  start-seat : HalfUsed sh c (seat q) → c Next (seat q) ≡ restOf q → c Start (restOf q) ≡ q .u
+      → c Start (mate (seat q)) ≡ q .u
   start-seat u e z =
-      sym (s .rules .verts .keeps (mate (seat q)) (s .rules .mate-in (seat q) u)) ∙ ap (λ i. c Start (c Next i)) (mate-mate (seat q)) ∙ ap (c Start) e ∙ z
+      sym (s .rules .verts .keeps (mate (seat q)) (s .rules .mate-in (seat q) u))
+      ∙ ap (λ i. c Start (c Next i)) (mate-mate (seat q)) ∙ ap (c Start) e ∙ z
 
   -- both halves go in
   verts : Cycles n (HalfUsed sh d) (λ i. d Next (mate i)) (d Start)
@@ -97,14 +106,23 @@ module _ {sh : Shape} {p : List ℤ} {c d : Columns} {q : Spot} (k : Cut sh c d 
       (or-used k) (used-or k) (next-mate k (s .rules .mate-in)) (λ i x. start-with k i)
     where
       -- a after the mate of its seat, or alone
-      at-a : (HalfUsed sh c (vertexSeat q) × (c Start (vertexSeat q) ≡ q .u)) ⊎ ((vertexSeat q ≡ q .a) × ((i : ℕ) → HalfUsed sh c i → c Start i ≢ q .u))
+      at-a : (HalfUsed sh c (vertexSeat q) × (c Start (vertexSeat q) ≡ q .u))
+          ⊎ ((vertexSeat q ≡ q .a) × ((i : ℕ) → HalfUsed sh c i → c Start i ≢ q .u))
       at-a = ⊎-elim
           (λ o. ⊎-elim
-          (λ y. inl (subst (HalfUsed sh c) (sym (y .1)) (s .rules .mate-in (seat q) (y .0)), ap (c Start) (y .1) ∙ start-seat (y .0) (o .1 .next) (o .1 .start)))
+          (λ y. inl (
+            subst (HalfUsed sh c) (sym (y .1)) (s .rules .mate-in (seat q) (y .0)),
+            ap (c Start) (y .1)
+                ∙ start-seat (y .0) (o .1 .next) (o .1 .start),
+          ))
           (λ y. absurd (off-a (k .site) (seat q) (o .1 .before) (y .0))) (vertex-place (k .site)))
           (λ o. ⊎-elim
           (λ y. absurd (off-a (k .site) (seat q) (y .0) (rw (eqb-same (o .0 .after), eqb-same (o .1 .after)))))
-          (λ y. inr (y .1, λ i x z. lone-alone s (q .l) (k .site .l-in) (λ e. k .site .u-some (sym (o .2) ∙ e)) .1 i (x .0, x .1) (z ∙ sym (o .2))))
+          (λ y. inr (
+            y .1,
+            λ i x z. lone-alone s (q .l) (k .site .l-in) (λ e. k .site .u-some (sym (o .2) ∙ e)) .1 i (x .0, x .1)
+                (z ∙ sym (o .2)),
+          ))
           (vertex-place (k .site)))
           (first-corner (k .site))
 
@@ -115,7 +133,8 @@ module _ {sh : Shape} {p : List ℤ} {c d : Columns} {q : Spot} (k : Cut sh c d 
           (λ o. let u = s .rules .mate-in (q .Q) (o .before) in (
             inr u,
             upd-off _ _ (off-a (k .site) _ u)
-                ∙ sym (s .rules .verts .keeps (mate (q .Q)) u) ∙ ap (λ i. c Start (c Next i)) (mate-mate (q .Q)) ∙ ap (c Start) (o .next) ∙ o .start,
+                ∙ sym (s .rules .verts .keeps (mate (q .Q)) u) ∙ ap (λ i. c Start (c Next i)) (mate-mate (q .Q))
+                ∙ ap (c Start) (o .next) ∙ o .start,
           ))
           (k .site .near .at-b)
 

@@ -10,7 +10,8 @@ use Rattle.laws.specs.Bools.{split}
 use Rattle.laws.specs.Update.{upd-at, upd-off}
 use Rattle.layout.specs.declared.shape.Shape.{Shape}
 use Rattle.layout.specs.Layout.{faceSolid, loopFace, loopFirst}
-use Rattle.layout.specs.Fields.{Field, Solid, Outer, Face, First, Isolated, Start, Loop, Next, Prev, Columns, capOf, sameField, by-fields}
+use Rattle.layout.specs.Fields.{Field, Solid, Outer, Face, First, Isolated, Start, Loop, Next, Prev, Columns, capOf}
+use Rattle.layout.specs.Fields.{sameField, by-fields}
 use Rattle.layout.specs.Writes.{Write, write, writes, changes}
 use Rattle.euler.specs.Surgery.{relabelRun, loopRecord, faceRecord, lower, renew}
 use Rattle.sound_tables.specs.Cells.{Shows, shows-agree}
@@ -23,7 +24,8 @@ use Rattle.sound_cuts.specs.Relation.{Spot, cutFields, l-m, Cut, used-a,
 use Rattle.sound_cuts.specs.MefPlace.{edgeAt}
 use Rattle.sound_cuts.specs.Round.{names-new, roundColumns, shows-round, round-other, round-in, round-off}
 
-module _ {sh : Shape} {p : List ℤ} {c d : Columns} {q : Spot} (k : Cut sh c d q) (t : Sound sh p d) {x : List ℕ} (s : Shows sh x c) where
+module _ {sh : Shape} {p : List ℤ} {c d : Columns} {q : Spot} (k : Cut sh c d q) (t : Sound sh p d) {x : List ℕ}
+    (s : Shows sh x c) where
   -- as many half-edges
   abbrev n : ℕ
   n = 2 * sh .edges
@@ -40,17 +42,20 @@ module _ {sh : Shape} {p : List ℤ} {c d : Columns} {q : Spot} (k : Cut sh c d 
 
   -- start is that of d
   in-start : (i : ℕ) → changes (edgeAt q) c Start i ≡ d Start i
-  in-start i = settled Start (edgeAt q) c (d Start) i (λ e. k .start-a, (k .start-b, tt)) (λ e g. sym (k .start-else i e g))
+  in-start i = settled Start (edgeAt q) c (d Start) i (λ e. k .start-a, (k .start-b, tt))
+      (λ e g. sym (k .start-else i e g))
 
   -- next is that of d
   in-next : (i : ℕ) → changes (edgeAt q) c Next i ≡ d Next i
   in-next i = settled Next (edgeAt q) c (d Next) i
-      (λ e g h. k .next-a, (λ e g. k .next-b, (λ e. k .next-P, (k .next-Q, tt)))) (λ e g h j. sym (k .next-else i e g h j))
+      (λ e g h. k .next-a, (λ e g. k .next-b, (λ e. k .next-P, (k .next-Q, tt))))
+      (λ e g h j. sym (k .next-else i e g h j))
 
   -- previous is that of d
   in-prev : (i : ℕ) → changes (edgeAt q) c Prev i ≡ d Prev i
   in-prev i = settled Prev (edgeAt q) c (d Prev) i
-      (λ e g h. k .prev-a, (λ e g. k .prev-b, (λ e. k .prev-N, (k .prev-M, tt)))) (λ e g h j. sym (k .prev-else i e g h j))
+      (λ e g h. k .prev-a, (λ e g. k .prev-b, (λ e. k .prev-N, (k .prev-M, tt))))
+      (λ e g h j. sym (k .prev-else i e g h j))
 
   -- the list shows them
   shows-edged : Shows sh z1 E
@@ -59,7 +64,8 @@ module _ {sh : Shape} {p : List ℤ} {c d : Columns} {q : Spot} (k : Cut sh c d 
       let a = k .site .a-in in let b = k .site .b-in in
       shows-agree (shows-writes (edgeAt q) s
       (a, (a, (a, (a, (b, (b, (b, (b, ((P .0, P .1), ((N .0, N .1), ((Q .0, Q .1), ((M .0, M .1), tt)))))))))))))
-      (λ F i h. by-fields (Start ∷ Next ∷ Prev ∷ []) (λ F. changes (edgeAt q) c F i ≡ E F i) (in-start i, (in-next i, (in-prev i, tt)))
+      (λ F i h. by-fields (Start ∷ Next ∷ Prev ∷ []) (λ F. changes (edgeAt q) c F i ≡ E F i)
+      (in-start i, (in-next i, (in-prev i, tt)))
       (λ F e. sym (patch-other (Start ∷ Next ∷ Prev ∷ []) d (changes (edgeAt q) c) F e i)) F)
 
   -- ---- the run
@@ -81,7 +87,8 @@ module _ {sh : Shape} {p : List ℤ} {c d : Columns} {q : Spot} (k : Cut sh c d 
   run-loop i h = split (d Loop i) (q .m)
       (λ e. split i (q .b)
       (λ g. run-off i (inl g) ∙ upd-at _ _ g ∙ sym e)
-      (λ g. round-in shows-edged (t .rules .loops) (q .b) (used-b k) (q .m) i (names-new k t i h e) (e ∙ sym (k .loop-b)) g ∙ sym e))
+      (λ g. round-in shows-edged (t .rules .loops) (q .b) (used-b k) (q .m) i (names-new k t i h e)
+      (e ∙ sym (k .loop-b)) g ∙ sym e))
       (λ e. run-off i (inr (λ g. e (g ∙ k .loop-b))) ∙ settled Loop (edgeAt q) c (d Loop) i
       (λ g. k .loop-a, (k .loop-b, tt)) (λ g f. sym (k .loop-else i h g e)))
 
@@ -94,7 +101,8 @@ module _ {sh : Shape} {p : List ℤ} {c d : Columns} {q : Spot} (k : Cut sh c d 
   run-same F i = by-fields halfFields (λ F. i ≤ capOf sh F → R F i ≡ H F i)
       (λ h. run-other Start refl i, (run-loop i, (λ h. run-other Next refl i, (λ h. run-other Prev refl i, tt))))
       (λ F e h. run-other F (not-same halfFields Loop F refl e) i
-      ∙ patch-other (Start ∷ Next ∷ Prev ∷ []) d (changes (edgeAt q) c) F (outside halfFields (Start ∷ Next ∷ Prev ∷ []) refl F e) i
+      ∙ patch-other (Start ∷ Next ∷ Prev ∷ []) d (changes (edgeAt q) c) F
+      (outside halfFields (Start ∷ Next ∷ Prev ∷ []) refl F e) i
       ∙ unwritten halfFields (edgeAt q) refl c F e i ∙ sym (patch-other halfFields d c F e i)) F
 
   -- the list after the walk
@@ -132,7 +140,8 @@ module _ {sh : Shape} {p : List ℤ} {c d : Columns} {q : Spot} (k : Cut sh c d 
   abbrev pub cutList : List ℕ
   cutList =
       renew sh
-      (renew sh (writes sh (recordsAt (faceSolid sh x (loopFace sh x (q .l)))) z2) (q .l) (low (loopFirst sh x (q .l))) (q .a) 0)
+      (renew sh (writes sh (recordsAt (faceSolid sh x (loopFace sh x (q .l)))) z2) (q .l) (low (loopFirst sh x (q .l)))
+      (q .a) 0)
       (q .m) (low (loopFirst sh x (q .l))) (q .b) 0
 
   -- loop and face as they are written
@@ -152,7 +161,8 @@ module _ {sh : Shape} {p : List ℤ} {c d : Columns} {q : Spot} (k : Cut sh c d 
   -- with them these are the columns of d
   last : (F : Field) (i : ℕ) → changes firsts e3 F i ≡ d F i
   last F i =
-      let l-used = t .loop (q .l) (k .site .l-in) (λ z. k .site .l-used (sym (k .face-else (q .l) (l-m (k .site))) ∙ z)) in
+      let l-used = t .loop (q .l) (k .site .l-in)
+      (λ z. k .site .l-used (sym (k .face-else (q .l) (l-m (k .site))) ∙ z)) in
       let m-used = t .loop (q .m) (k .site .m-in) (λ z. omega (arith, k .site .f-in .0, sym (k .face-new) ∙ z)) in
       let solid = settled Solid records H (d Solid) i (k .solid-new, tt) (λ e. sym (k .solid-else i e)) in
       let outer = settled Outer records H (d Outer) i (k .outer-new, tt) (λ e. sym (k .outer-else i e)) in
@@ -172,16 +182,19 @@ module _ {sh : Shape} {p : List ℤ} {c d : Columns} {q : Spot} (k : Cut sh c d 
       let m = k .site .m-in in
       let f = k .site .f-in in
       let s3 = shows-writes records shows-run (m, (m, (m, (f, (f, tt))))) in
-      let s4 = shows-first {U = HalfUsed sh d} s3 (q .l) (low (c First (q .l))) (q .a) 0 (k .site .l-in) (t .rules .loops) (used-a k)
+      let s4 = shows-first {U = HalfUsed sh d} s3 (q .l) (low (c First (q .l))) (q .a) 0 (k .site .l-in)
+      (t .rules .loops) (used-a k)
       (k .loop-a) (names (q .l) (k .site .l-in)) low-l in
-      let s5 = shows-first {U = HalfUsed sh d} s4 (q .m) (low (c First (q .l))) (q .b) 0 m (t .rules .loops) (used-b k) (k .loop-b)
+      let s5 = shows-first {U = HalfUsed sh d} s4 (q .m) (low (c First (q .l))) (q .b) 0 m (t .rules .loops) (used-b k)
+      (k .loop-b)
       (names (q .m) m) low-m in
       shows-agree s5 (λ F i h. last F i))
     where
       -- none of l is below that
       low-l : (i : ℕ) → In n i → d Loop i ≡ q .l → low (c First (q .l)) ≤ i
       low-l i j e = lower-new (c First (q .l)) (q .a) (q .b) i (k .site .a-in .0)
-          (λ f g. first-low r (q .l) i (k .site .l-in .0) j (sym (k .loop-else i (j .1) f (λ z. l-m (k .site) (sym e ∙ z))) ∙ e))
+          (λ f g. first-low r (q .l) i (k .site .l-in .0) j
+          (sym (k .loop-else i (j .1) f (λ z. l-m (k .site) (sym e ∙ z))) ∙ e))
 
       -- nor of m
       low-m : (i : ℕ) → In n i → d Loop i ≡ q .m → low (c First (q .l)) ≤ i

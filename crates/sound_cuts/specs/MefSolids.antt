@@ -1,4 +1,5 @@
--- Rule 6 once the edge is in: the face of l becomes two, and the edge links them.
+-- Rule 6 (the faces of a solid hang together across edges) once the edge is in: the face of l becomes two, and the
+-- edge links them.
 use mathlib.Core.Path.{_≡_, refl, sym, ap, _∙_, subst}
 use mathlib.Core.Logic.{_≢_, _⊎_, inl, inr, ⊎-elim}
 use mathlib.Core.List.{List}
@@ -74,13 +75,16 @@ module _ {sh : Shape} {p : List ℤ} {c d : Columns} {q : Spot} (k : Cut sh c d 
 
   -- an old side is linked to what it becomes
   near-side : (i : ℕ) → HalfUsed sh c i → L (side c i) (side d i)
-  near-side i x = ⊎-elim (λ e. same (sym e)) (λ e. via f0 (same (e .0)) (via (q .f) across (same (sym (e .1))))) (sides i x)
+  near-side i x = ⊎-elim (λ e. same (sym e)) (λ e. via f0 (same (e .0)) (via (q .f) across (same (sym (e .1)))))
+      (sides i x)
 
   -- chains of c are chains of d
   chains : {g h : ℕ} → Linked (Share (HalfUsed sh c) (side c) mate) g h → L g h
   chains = map-linked (λ i. i) (λ g h t.
       let x = s .rules .mate-in (t .0) (t .1) in
-      via (side c (t .0)) (same (sym (t .2))) (via (side d (t .0)) (near-side (t .0) (t .1)) (via (side d (mate (t .0))) (link (t .0, used-to k (t .0) (t .1), refl, refl))
+      via (side c (t .0)) (same (sym (t .2)))
+      (via (side d (t .0)) (near-side (t .0) (t .1))
+      (via (side d (mate (t .0))) (link (t .0, used-to k (t .0) (t .1), refl, refl))
       (via (side c (mate (t .0))) (back (near-side (mate (t .0)) x)) (same (t .3))))))
 
   -- each face is linked to one of c in the same solid
@@ -92,8 +96,10 @@ module _ {sh : Shape} {p : List ℤ} {c d : Columns} {q : Spot} (k : Cut sh c d 
   -- rule 6 with the edge
   pub cut-solids : Solids (HalfUsed sh d) (FaceUsed sh d) (side d) mate (d Solid)
   cut-solids = record {
-    side-in = each k (λ i. FaceUsed sh d (side d i)) (subst (FaceUsed sh d) (sym side-a) (face-to f0 old-used)) (subst (FaceUsed sh d) (sym side-b) new-used)
-        (λ i x. ⊎-elim (λ e. subst (FaceUsed sh d) (sym e) (face-to (side c i) (s .solids .side-in i x))) (λ e. subst (FaceUsed sh d) (sym (e .1)) new-used) (sides i x));
+    side-in = each k (λ i. FaceUsed sh d (side d i)) (subst (FaceUsed sh d) (sym side-a) (face-to f0 old-used))
+        (subst (FaceUsed sh d) (sym side-b) new-used)
+        (λ i x. ⊎-elim (λ e. subst (FaceUsed sh d) (sym e) (face-to (side c i) (s .solids .side-in i x)))
+        (λ e. subst (FaceUsed sh d) (sym (e .1)) new-used) (sides i x));
     edge = each k (λ i. d Solid (side d (mate i)) ≡ d Solid (side d i))
         (ap (d Solid) (ap (side d) (k .site .ab) ∙ side-b) ∙ k .solid-new ∙ sym (ap (d Solid) side-a ∙ solid-old))
         (ap (d Solid) (ap (side d) (ba (k .site)) ∙ side-a) ∙ solid-old ∙ sym (ap (d Solid) side-b ∙ k .solid-new))
@@ -101,5 +107,6 @@ module _ {sh : Shape} {p : List ℤ} {c d : Columns} {q : Spot} (k : Cut sh c d 
     one = λ g h x y e.
         let A = to-old g x in
         let B = to-old h y in
-        via (A .0) (A .3) (via (B .0) (chains (s .solids .one (A .0) (B .0) (A .1) (B .1) (sym (A .2) ∙ e ∙ B .2))) (back (B .3)));
+        via (A .0) (A .3) (via (B .0) (chains (s .solids .one (A .0) (B .0) (A .1) (B .1) (sym (A .2) ∙ e ∙ B .2)))
+        (back (B .3)));
   }

@@ -1,5 +1,7 @@
--- What mef makes and kef undoes, said once for both: columns c without an edge, columns d with it. The edge's half a stands in loop l between P and N, from
--- vertex u; its mate b stands in loop m between Q and M, from vertex v, and m is the only loop of face f. In c the loops l and m are one, named l.
+-- What mef makes and kef undoes, said once for both; read this first. Columns c are without an edge, columns d with
+-- it. The edge's half a starts at vertex u and stands in loop l between P and N; its mate b starts at v and stands in
+-- loop m, the only loop of face f, between Q and M. In c the loops l and m are one, named l. A half can be alone in
+-- its loop, between itself and itself: mef at one corner makes one such half, mef at an isolated loop two.
 use mathlib.Core.Path.{_≡_, refl, sym, ap, _∙_, subst}
 use mathlib.Core.Logic.{_≢_, _⊎_, inl, inr, ⊎-elim}
 use mathlib.Core.Bool.{false, _&&_}
@@ -13,12 +15,13 @@ use Rattle.laws.specs.Moves.{Or, ins}
 use Rattle.layout.specs.declared.shape.Shape.{Shape}
 use Rattle.layout.specs.Mate.{mate}
 use Rattle.layout.specs.MateLaws.{mate-mate}
-use Rattle.layout.specs.Fields.{Field, SolidUsed, Solid, Outer, Face, First, Isolated, Start, Loop, Next, Prev, VertexUsed, Columns, among}
+use Rattle.layout.specs.Fields.{Field, SolidUsed, Solid, Outer, Face, First, Isolated, Start, Loop, Next, Prev}
+use Rattle.layout.specs.Fields.{VertexUsed, Columns, among}
 use Rattle.sound_tables.specs.Mates.{mate-other}
 use Rattle.sound_tables.specs.EdgeIn.{Zero}
 use Rattle.sound_tables.specs.Sound.{In, halves, HalfUsed, firstOf}
 
--- the numbers
+-- the numbers of this picture
 pub record Spot : Type 0 where
   pub l : ℕ
   pub m : ℕ
@@ -32,7 +35,8 @@ pub record Spot : Type 0 where
   pub Q : ℕ
   pub M : ℕ
 
--- ---- who follows whom once the edge is out: p is followed by n, and p′ by n′; where one rest is empty the other closes on itself
+-- ---- who follows whom once the edge is out: p is followed by n, and p′ by n′; where one rest is empty the other
+-- closes on itself
 
 -- what stands before a, or before b where a is alone
 abbrev pub tieP : Spot → ℕ
@@ -153,7 +157,12 @@ module _ {sh : Shape} {c : Columns} {q : Spot} (s : Site sh c q) where
       go (inl o) (inr r) =
           let e = eqb-same (o .after) in
           let g = eqb-other (off-b (q .M) (r .after)) in
-          inl (q .M, rw (e, g, o .ends) (subst (Seated sh c (q .l) (q .v) (q .Q) (q .M)) (rw e) r), s .near .isolated ∙ rw (e, g))
+          inl (
+            q .M,
+            rw (e, g, o .ends) (subst (Seated sh c (q .l) (q .v) (q .Q) (q .M)) (rw e) r),
+            s .near .isolated
+                ∙ rw (e, g),
+          )
       go (inl o) (inl r) = inr (o, r, s .near .isolated ∙ rw (eqb-same (o .after), eqb-same (r .after)))
 
   -- and so with the second
@@ -177,7 +186,7 @@ module _ {sh : Shape} {c : Columns} {q : Spot} (s : Site sh c q) where
 abbrev pub cutFields : List Field
 cutFields = Solid ∷ Outer ∷ Face ∷ First ∷ Isolated ∷ Start ∷ Loop ∷ Next ∷ Prev ∷ []
 
--- d is c with the edge
+-- d is c with the edge: what was free, what is new, and that all else is as it was
 pub record Cut (sh : Shape) (c d : Columns) (q : Spot) : Type 0 where
   pub site : Site sh c q
   pub others : (F : Field) → among cutFields F ≡ false → (n : ℕ) → d F n ≡ c F n
@@ -215,7 +224,8 @@ pub record Cut (sh : Shape) (c d : Columns) (q : Spot) : Type 0 where
   pub prev-M : d Prev (q .M) ≡ q .b
   pub prev-else : (i : ℕ) → i ≢ q .a → i ≢ q .b → i ≢ q .N → i ≢ q .M → d Prev i ≡ c Prev i
 
--- what the loop column of d must be, for d to be sound where c is: from the spur's end up to Q the new loop, on the rest the old one
+-- what the loop column of d must be, for d to be sound where c is: from the spur's end up to Q the new loop, on the
+-- rest the old one
 pub record Marked (sh : Shape) (c d : Columns) (q : Spot) : Type 0 where
   pub first-l : d First (q .l) ≡ firstOf sh d (q .l)
   pub first-m : d First (q .m) ≡ firstOf sh d (q .m)
@@ -251,18 +261,23 @@ module _ {sh : Shape} {c d : Columns} {q : Spot} (k : Cut sh c d q) where
 
   -- those of d are a, b and those of c
   pub or-used : (i : ℕ) → Or (q .b) (Or (q .a) (HalfUsed sh c)) i → HalfUsed sh d i
-  or-used i = ⊎-elim (λ e. subst (HalfUsed sh d) (sym e) used-b) (⊎-elim (λ e. subst (HalfUsed sh d) (sym e) used-a) (used-to i))
+  or-used i = ⊎-elim (λ e. subst (HalfUsed sh d) (sym e) used-b)
+      (⊎-elim (λ e. subst (HalfUsed sh d) (sym e) used-a) (used-to i))
 
   -- and back
   pub used-or : (i : ℕ) → HalfUsed sh d i → Or (q .b) (Or (q .a) (HalfUsed sh c)) i
-  used-or i w = split i (q .b) (λ e. inl e) (λ e. split i (q .a) (λ g. inr (inl g)) (λ g. inr (inr (used-from i w g e))))
+  used-or i w = split i (q .b) (λ e. inl e) (λ e. split i (q .a) (λ g. inr (inl g))
+      (λ g. inr (inr (used-from i w g e))))
 
   -- a half-edge names another loop in d where it does in c
-  pub same-name : (m : ℕ) → In (sh .loops) m → m ≢ q .l → m ≢ q .m → (i : ℕ) → i ≤ 2 * sh .edges → eqb (c Loop i) m ≡ eqb (d Loop i) m
+  pub same-name : (m : ℕ) → In (sh .loops) m → m ≢ q .l → m ≢ q .m → (i : ℕ) → i ≤ 2 * sh .edges
+      → eqb (c Loop i) m ≡ eqb (d Loop i) m
   same-name m y e g i h = split i (q .a)
-      (λ z. no (λ t. omega (arith, y .0, sym t ∙ ap (c Loop) z ∙ k .zero-a .l)) (λ t. e (sym t ∙ ap (d Loop) z ∙ k .loop-a)))
+      (λ z. no (λ t. omega (arith, y .0, sym t ∙ ap (c Loop) z ∙ k .zero-a .l))
+      (λ t. e (sym t ∙ ap (d Loop) z ∙ k .loop-a)))
       (λ z. split i (q .b)
-      (λ z′. no (λ t. omega (arith, y .0, sym t ∙ ap (c Loop) z′ ∙ k .zero-b .l)) (λ t. g (sym t ∙ ap (d Loop) z′ ∙ k .loop-b)))
+      (λ z′. no (λ t. omega (arith, y .0, sym t ∙ ap (c Loop) z′ ∙ k .zero-b .l))
+      (λ t. g (sym t ∙ ap (d Loop) z′ ∙ k .loop-b)))
       (λ z′. split (d Loop i) (q .m)
       (λ t. no (λ v. e (sym v ∙ k .loop-new i h z′ t)) (λ v. g (sym v ∙ t)))
       (λ t. ap (λ j. eqb j m) (sym (k .loop-else i h z t)))))
@@ -272,7 +287,8 @@ module _ {sh : Shape} {c d : Columns} {q : Spot} (k : Cut sh c d q) where
       no a b = eqb-other a ∙ sym (eqb-other b)
 
   -- a statement about each half-edge of d: about a, about b, about one of c
-  pub each : (A : ℕ → Type 0) → A (q .a) → A (q .b) → ((i : ℕ) → HalfUsed sh c i → A i) → (i : ℕ) → HalfUsed sh d i → A i
+  pub each : (A : ℕ → Type 0) → A (q .a) → A (q .b) → ((i : ℕ) → HalfUsed sh c i → A i) → (i : ℕ) → HalfUsed sh d i
+      → A i
   each A qa qb qo i w = ⊎-elim (λ e. subst A (sym e) qb) (⊎-elim (λ e. subst A (sym e) qa) (qo i)) (used-or i w)
 
   -- ---- the neighbours and the ends of the edge
@@ -304,9 +320,11 @@ met-u {q = q} k = ⊎-elim (λ o. inl (restOf q, o .1 .corner, o .1 .start)) (λ
 
 -- the other end
 pub met-v : {sh : Shape} {c d : Columns} {q : Spot} → Cut sh c d q → Met sh c (q .l) (q .v)
-met-v {q = q} k = ⊎-elim (λ o. inl (endOf q, o .2 .corner, o .2 .start)) (λ o. inr (o .2 ∙ o .0 .ends)) (second-corner (k .site))
+met-v {q = q} k = ⊎-elim (λ o. inl (endOf q, o .2 .corner, o .2 .start)) (λ o. inr (o .2 ∙ o .0 .ends))
+    (second-corner (k .site))
 
 -- the loop is not isolated, or at u
-pub isolated-or : {sh : Shape} {c : Columns} {q : Spot} → Near sh c q → (c Isolated (q .l) ≡ 0) ⊎ (c Isolated (q .l) ≡ q .u)
+pub isolated-or : {sh : Shape} {c : Columns} {q : Spot} → Near sh c q
+    → (c Isolated (q .l) ≡ 0) ⊎ (c Isolated (q .l) ≡ q .u)
 isolated-or {c = c} {q} o = pick-ind (λ y. c Isolated (q .l) ≡ y → (c Isolated (q .l) ≡ 0) ⊎ (c Isolated (q .l) ≡ q .u))
     (eqb (q .N) (q .a) && eqb (q .M) (q .b)) (q .u) 0 inr inl (o .isolated)

@@ -1,5 +1,5 @@
--- Moves of labelled permutations that mef and kef are made of: x goes in after y, or alone where y is x itself, and comes out again.
--- So a half-edge that is alone in its loop needs no case of its own.
+-- Moves of labelled permutations that mef and kef are made of: x goes in after y, or alone where y is x itself, and
+-- comes out again. So a half-edge that is alone in its loop needs no case of its own.
 use mathlib.Core.Path.{_≡_, refl, sym, ap, _∙_, subst}
 use mathlib.Core.Logic.{_≢_, _⊎_, inl, inr, ⊎-elim}
 use Prim.Native.Nat.{ℕ, _≤_}
@@ -22,7 +22,8 @@ seat-in {f = f} c x y l fx r (inr o) = agree (birth-cycles c x l fx (r .0) (r .1
     (λ i u. refl)
 
 -- it comes out
-pub seat-out : {n : ℕ} {U : ℕ → Type 0} {f lab : ℕ → ℕ} {x y : ℕ} → Cycles n (Or x U) (ins f x y) lab → ¬ U x → U y ⊎ (y ≡ x)
+pub seat-out : {n : ℕ} {U : ℕ → Type 0} {f lab : ℕ → ℕ} {x y : ℕ} → Cycles n (Or x U) (ins f x y) lab → ¬ U x → U y
+    ⊎ (y ≡ x)
     → Cycles n U f lab
 seat-out {U = U} {f} {x = x} {y} c fx (inl u) =
     let f1 : x ≢ y = λ e. fx (subst U (sym e) u) in
@@ -50,7 +51,8 @@ xchg-back f g x y d gx gy i gi = split i y
 
 -- ---- the same seen from the vertices: next of the mate
 
-module _ (U : ℕ → Type 0) (f mate : ℕ → ℕ) (mm : (i : ℕ) → mate (mate i) ≡ i) {a b p w q : ℕ} (ab : mate a ≡ b) (two : a ≢ b)
+module _ (U : ℕ → Type 0) (f mate : ℕ → ℕ) (mm : (i : ℕ) → mate (mate i) ≡ i) {a b p w q : ℕ} (ab : mate a ≡ b)
+    (two : a ≢ b)
     (fa : ¬ U a) (fb : ¬ U b) (mate-in : (i : ℕ) → U i → U (mate i)) (pw : (U p × (w ≡ mate p)) ⊎ ((p ≡ a) × (w ≡ a)))
     (qa : q ≢ a) (qb : (q ≡ b) ⊎ U q) where
   -- a goes in among the half-edges of a loop
@@ -72,8 +74,10 @@ module _ (U : ℕ → Type 0) (f mate : ℕ → ℕ) (mm : (i : ℕ) → mate (m
   -- what a goes to
   at-a : h a ≡ g a
   at-a = ⊎-elim
-      (λ o. let d : p ≢ a = λ e. fa (subst U e (o .0)) in let e : w ≢ a = λ e. fb (subst U (mate-same (sym (o .1) ∙ e ∙ sym ba)) (o .0)) in
-      upd-off _ a (λ z. e (sym z)) ∙ upd-same _ a _ ∙ ap (λ i. f (mate i)) (o .1) ∙ ap f (mm p) ∙ sym (upd-off _ a (λ z. d (sym z)) ∙ upd-same f a _))
+      (λ o. let d : p ≢ a = λ e. fa (subst U e (o .0)) in
+      let e : w ≢ a = λ e. fb (subst U (mate-same (sym (o .1) ∙ e ∙ sym ba)) (o .0)) in
+      upd-off _ a (λ z. e (sym z)) ∙ upd-same _ a _ ∙ ap (λ i. f (mate i)) (o .1) ∙ ap f (mm p)
+      ∙ sym (upd-off _ a (λ z. d (sym z)) ∙ upd-same f a _))
       (λ o. upd-at _ a (sym (o .1)) ∙ sym (upd-at _ a (sym (o .0)))) pw
 
   -- what another goes to
@@ -88,7 +92,8 @@ module _ (U : ℕ → Type 0) (f mate : ℕ → ℕ) (mm : (i : ℕ) → mate (m
       upd-off _ a y ∙ upd-off _ _ e ∙ ap f (mm i) ∙ sym (upd-off _ a z ∙ upd-off f _ d))
 
   -- b after the mate of q is, from the loops, b after a and then a and q exchanged
-  pub turned : (i : ℕ) → Or b (Or a U) i → ins (ins (λ i. f (mate i)) a w) b (mate q) (mate i) ≡ xchg (ins (ins f a p) b a) a q i
+  pub turned : (i : ℕ) → Or b (Or a U) i → ins (ins (λ i. f (mate i)) a w) b (mate q) (mate i) ≡ xchg
+      (ins (ins f a p) b a) a q i
   turned i u = split i q
       (λ e. upd-at _ b (ap mate e) ∙ sym (upd-at _ _ e ∙ upd-same _ a b))
       (λ e. upd-off _ b (λ z. e (mate-same z)) ∙ ⊎-elim

@@ -1,5 +1,5 @@
--- The edge as a spur in the loop of c, a in its seat and b after it: an exchange of a and Q then parts the loop in two, as in d.
--- Whether a half is alone makes no difference here.
+-- The edge as a spur in the loop of c, a in its seat and b after it: an exchange of a and Q then parts the loop in
+-- two, as in d. Whether a half is alone makes no difference here.
 use mathlib.Core.Path.{_≡_, refl, sym, ap, _∙_}
 use mathlib.Core.Logic.{_≢_, _⊎_, inl, inr, ⊎-elim}
 use mathlib.Core.List.{List}
@@ -16,7 +16,8 @@ use Rattle.layout.specs.MateLaws.{mate-mate}
 use Rattle.layout.specs.Fields.{Start, Loop, Next, Columns}
 use Rattle.sound_tables.specs.Sound.{HalfUsed, Sound}
 use Rattle.sound_tables.specs.Names.{lone-unnamed}
-use Rattle.sound_cuts.specs.Relation.{Spot, AtA, AtB, seat, spur, restOf, Site, a-b, off-a, off-b, first-corner, ba, Cut}
+use Rattle.sound_cuts.specs.Relation.{Spot, AtA, AtB, seat, spur, restOf, Site, a-b, off-a, off-b, first-corner}
+use Rattle.sound_cuts.specs.Relation.{ba, Cut}
 use Rattle.sound_cuts.specs.Seats.{seat-in, turned}
 
 -- those in use with the edge: b, a and those of c
@@ -30,10 +31,12 @@ vertexSeat q = pick (eqb (seat q) (q .a)) (q .a) (mate (seat q))
 module _ {sh : Shape} {c : Columns} {q : Spot} (s : Site sh c q) where
   -- the seat is in use, or is a itself
   pub seat-place : HalfUsed sh c (seat q) ⊎ (seat q ≡ q .a)
-  seat-place = ⊎-elim (λ o. inl (o .1 .before)) (λ o. inr (rw (eqb-same (o .0 .after), eqb-same (o .1 .after)))) (first-corner s)
+  seat-place = ⊎-elim (λ o. inl (o .1 .before)) (λ o. inr (rw (eqb-same (o .0 .after), eqb-same (o .1 .after))))
+      (first-corner s)
 
   -- the other seat goes with it
-  pub vertex-place : (HalfUsed sh c (seat q) × (vertexSeat q ≡ mate (seat q))) ⊎ ((seat q ≡ q .a) × (vertexSeat q ≡ q .a))
+  pub vertex-place : (HalfUsed sh c (seat q) × (vertexSeat q ≡ mate (seat q)))
+      ⊎ ((seat q ≡ q .a) × (vertexSeat q ≡ q .a))
   vertex-place = ⊎-elim (λ u. inl (u, ap (λ t. pick t (q .a) (mate (seat q))) (eqb-other (off-a s (seat q) u))))
       (λ e. inr (e, ap (λ t. pick t (q .a) (mate (seat q))) (eqb-same e))) seat-place
 
@@ -60,7 +63,8 @@ module _ {sh : Shape} {c : Columns} {q : Spot} (s : Site sh c q) where
   -- where b is not alone that is M
   spur-b : q .Q ≢ q .b → ins (c Next) (q .a) (seat q) (q .a) ≡ q .M
   spur-b h = ⊎-elim (λ o. absurd (h (o .before)))
-      (λ o. ⊎-elim (λ r. spur-end (r .1 .before) (r .1 .next) ∙ rw (eqb-other (off-b s (q .M) (o .after)))) (λ r. absurd (h (r .1 .before))) (first-corner s))
+      (λ o. ⊎-elim (λ r. spur-end (r .1 .before) (r .1 .next) ∙ rw (eqb-other (off-b s (q .M) (o .after))))
+      (λ r. absurd (h (r .1 .before))) (first-corner s))
       (s .near .at-b)
 
   -- in the spur Q goes to N
@@ -72,10 +76,12 @@ module _ {sh : Shape} {c : Columns} {q : Spot} (s : Site sh c q) where
           → upd (ins (c Next) (q .a) (seat q)) (q .b) (ins (c Next) (q .a) (seat q) (q .a)) (q .Q) ≡ q .N
       go (inr o) (inr r) =
           let A = eqb-other (off-a s (q .N) (o .after)) in
-          upd-off _ _ (off-b s (q .Q) (r .before)) ∙ upd-off _ _ (λ z. s .near .apart (sym (z ∙ rw A))) ∙ upd-off _ _ Q-a ∙ r .next ∙ rw A
+          upd-off _ _ (off-b s (q .Q) (r .before)) ∙ upd-off _ _ (λ z. s .near .apart (sym (z ∙ rw A)))
+          ∙ upd-off _ _ Q-a ∙ r .next ∙ rw A
       go (inr o) (inl r) =
           let A = eqb-other (off-a s (q .N) (o .after)) in
-          upd-at _ _ (r .before) ∙ rw A (upd-off _ _ (λ z. off-a s (q .P) (o .before) (sym z)) ∙ upd-same _ (q .a) _ ∙ o .next ∙ rw (eqb-same (r .after)))
+          upd-at _ _ (r .before) ∙ rw A (upd-off _ _ (λ z. off-a s (q .P) (o .before) (sym z)) ∙ upd-same _ (q .a) _
+          ∙ o .next ∙ rw (eqb-same (r .after)))
       go (inl o) (inr r) =
           upd-off _ _ (off-b s (q .Q) (r .before))
           ∙ upd-at _ _ (sym (rw (eqb-same (o .after), eqb-other (off-b s (q .M) (r .after))))) ∙ sym (o .after)
@@ -84,12 +90,14 @@ module _ {sh : Shape} {c : Columns} {q : Spot} (s : Site sh c q) where
 
   -- P is the seat, or a
   seat-P : (i : ℕ) → i ≢ seat q → i ≢ q .a → i ≢ q .P
-  seat-P i e g z = ⊎-elim (λ o. g (z ∙ o .before)) (λ o. e (z ∙ rw (eqb-other (off-a s (q .N) (o .after))))) (s .near .at-a)
+  seat-P i e g z = ⊎-elim (λ o. g (z ∙ o .before)) (λ o. e (z ∙ rw (eqb-other (off-a s (q .N) (o .after)))))
+      (s .near .at-a)
 
   -- and the seat is P, or Q, or a
   P-seat : (i : ℕ) → i ≡ seat q → i ≢ q .Q → i ≢ q .a → i ≡ q .P
   P-seat i = pick-ind (λ y. i ≡ y → i ≢ q .Q → i ≢ q .a → i ≡ q .P) (eqb (q .N) (q .a)) _ (q .P)
-      (pick-ind (λ y. i ≡ y → i ≢ q .Q → i ≢ q .a → i ≡ q .P) (eqb (q .M) (q .b)) (q .a) (q .Q) (λ e g h. absurd (h e)) (λ e g h. absurd (g e)))
+      (pick-ind (λ y. i ≡ y → i ≢ q .Q → i ≢ q .a → i ≡ q .P) (eqb (q .M) (q .b)) (q .a) (q .Q) (λ e g h. absurd (h e))
+      (λ e g h. absurd (g e)))
       (λ e g h. e)
 
   -- ---- its loops
@@ -116,14 +124,16 @@ module _ {sh : Shape} {c d : Columns} {q : Spot} (k : Cut sh c d q) where
       (λ e. ⊎-elim
       (λ z.
       let f : i ≢ q .a = λ y. a-b (k .site) (sym y ∙ z) in
-      ap (d Next) z ∙ k .next-b ∙ sym (upd-off _ _ e ∙ upd-off _ _ f ∙ upd-off _ _ f ∙ upd-at _ _ z ∙ spur-b (k .site) (λ y. e (z ∙ sym y))))
+      ap (d Next) z ∙ k .next-b ∙ sym (upd-off _ _ e ∙ upd-off _ _ f ∙ upd-off _ _ f ∙ upd-at _ _ z
+      ∙ spur-b (k .site) (λ y. e (z ∙ sym y))))
       (⊎-elim
       (λ z. ap (d Next) z ∙ k .next-a ∙ sym (upd-off _ _ e ∙ upd-at _ _ z ∙ spur-Q (k .site)))
       (λ u.
       let f = off-a (k .site) i u in
       let g = off-b (k .site) i u in
       split i (seat q)
-      (λ z. ap (d Next) (P-seat (k .site) i z e f) ∙ k .next-P ∙ sym (upd-off _ _ e ∙ upd-off _ _ f ∙ upd-off _ _ f ∙ upd-off _ _ g ∙ upd-at _ _ z))
+      (λ z. ap (d Next) (P-seat (k .site) i z e f) ∙ k .next-P
+      ∙ sym (upd-off _ _ e ∙ upd-off _ _ f ∙ upd-off _ _ f ∙ upd-off _ _ g ∙ upd-at _ _ z))
       (λ z. k .next-else i f g (seat-P (k .site) i z f) e
       ∙ sym (upd-off _ _ e ∙ upd-off _ _ f ∙ upd-off _ _ f ∙ upd-off _ _ g ∙ upd-off _ _ z ∙ upd-off _ _ f)))) x)
 
@@ -132,12 +142,14 @@ module _ {sh : Shape} {c d : Columns} {q : Spot} (k : Cut sh c d q) where
       → d Next (mate i) ≡ ins (ins (λ j. c Next (mate j)) (q .a) (vertexSeat q)) (q .b) (mate (q .Q)) i
   next-mate mi i x =
       next-spur (mate i) y
-      ∙ sym (turned (HalfUsed sh c) (c Next) mate mate-mate (k .site .ab) (a-b (k .site)) (a-new (k .site)) (λ u. off-b (k .site) (q .b) u refl) mi (vertex-place (k .site)) (Q-a (k .site)) (Q-in (k .site)) (mate i) y)
+      ∙ sym (turned (HalfUsed sh c) (c Next) mate mate-mate (k .site .ab) (a-b (k .site)) (a-new (k .site))
+      (λ u. off-b (k .site) (q .b) u refl) mi (vertex-place (k .site)) (Q-a (k .site)) (Q-in (k .site)) (mate i) y)
       ∙ ap (ins (ins (λ j. c Next (mate j)) (q .a) (vertexSeat q)) (q .b) (mate (q .Q))) (mate-mate i)
     where
       -- the mate is in use too
       y : With sh c q (mate i)
-      y = ⊎-elim (λ e. inr (inl (ap mate e ∙ ba (k .site)))) (⊎-elim (λ e. inl (ap mate e ∙ k .site .ab)) (λ u. inr (inr (mi i u)))) x
+      y = ⊎-elim (λ e. inr (inl (ap mate e ∙ ba (k .site))))
+          (⊎-elim (λ e. inl (ap mate e ∙ k .site .ab)) (λ u. inr (inr (mi i u)))) x
 
   -- start in d
   pub start-with : (i : ℕ) → d Start i ≡ upd (upd (c Start) (q .a) (q .u)) (q .b) (q .v) i
