@@ -22,7 +22,7 @@ use Rattle.sound_spurs.specs.KevSound.{Left, kevColumns}
 use Rattle.sound_spurs.specs.KevAccepted.{kevList, kev-shows}
 use Rattle.sound_bridges.specs.KemrColumns.{kemrList, Span, walk}
 use Rattle.sound_cuts.specs.KefPlace.{spotAt}
-use Rattle.sound_cuts.specs.KefShown.{tieP, tieN, tieP′, tieN′}
+use Rattle.sound_cuts.specs.Relation.{tieP, tieN, tieP′, tieN′}
 use Rattle.sound_holes.specs.MfkrhSound.{RingFace}
 use Rattle.takedown.specs.Inversion.{mfkrh, kef}
 use Rattle.inversion.specs.KevLaws.{kev-law}

@@ -13,6 +13,7 @@ use Rattle.laws.specs.Every.{T-every}
 use Rattle.laws.specs.Sums.{countTo}
 use Rattle.codec.specs.Operands.{pattern, rows}
 use Rattle.layout.specs.declared.shape.Shape.{Shape}
+use Rattle.euler.specs.Surgery.{edgeOut}
 use Rattle.euler.specs.Operators.{kefTest, kefEdge, kefLinks}
 use Rattle.euler.specs.Exec.{useWord, condition, refusalOf, linksAfter, killedVertex, pointsAfter, inverse}
 use Rattle.layout.specs.Fields.{Face, Start, Loop, Next, Prev, Solid, Columns}
@@ -21,85 +22,90 @@ use Rattle.sound_tables.specs.Sound.{In, Sound}
 use Rattle.sound_tables.specs.Labels.{many-one}
 use Rattle.sound_tables.specs.OneOperand.{one-accepted}
 use Rattle.sound_tables.specs.Good.{own, Capacities}
-use Rattle.sound_cuts.specs.Relation.{Spot, Cut}
+use Rattle.sound_cuts.specs.Relation.{Spot, l-m, ba, Cut}
 use Rattle.sound_cuts.specs.MefSolids.{old-used}
 use Rattle.sound_cuts.specs.KefShown.{mendList}
 use Rattle.sound_cuts.specs.MefOperands.{kefOf}
 use Rattle.sound_cuts.specs.MefAccepted.{mefAt}
 
-module _ {sh : Shape} {p : List ℤ} {c d : Columns} {q : Spot} (k : Cut sh c d q) (s : Sound sh p c) (t : Sound sh p d) {y : List ℕ} (v : Shows sh y d) (caps : Capacities sh) where
+module _ {sh : Shape} {p : List ℤ} {c d : Columns} {q : Spot} (k : Cut sh c d q) (s : Sound sh p c) (t : Sound sh p d)
+    {y : List ℕ} (v : Shows sh y d) (caps : Capacities sh) where
   -- k is read as it stands
   bn : leb (q .b) 8192 ≡ true
-  bn = le-leb (q .b) 8192 (omega (arith, k .b-in .1, caps .edges))
+  bn = le-leb (q .b) 8192 (omega (arith, k .site .b-in .1, caps .edges))
 
   -- what kef reads
   next-a : own sh y Next (q .a) ≡ q .N
-  next-a = v .at Next (q .a) (k .a-in .1) ∙ k .next-a
+  next-a = v .at Next (q .a) (k .site .a-in .1) ∙ k .next-a
 
   -- next of b
   next-b : own sh y Next (q .b) ≡ q .M
-  next-b = v .at Next (q .b) (k .b-in .1) ∙ k .next-b
+  next-b = v .at Next (q .b) (k .site .b-in .1) ∙ k .next-b
 
   -- previous of a
   prev-a : own sh y Prev (q .a) ≡ q .P
-  prev-a = v .at Prev (q .a) (k .a-in .1) ∙ k .prev-a
+  prev-a = v .at Prev (q .a) (k .site .a-in .1) ∙ k .prev-a
 
   -- previous of b
   prev-b : own sh y Prev (q .b) ≡ q .Q
-  prev-b = v .at Prev (q .b) (k .b-in .1) ∙ k .prev-b
+  prev-b = v .at Prev (q .b) (k .site .b-in .1) ∙ k .prev-b
 
   -- the loop of a
   loop-a : own sh y Loop (q .a) ≡ q .l
-  loop-a = v .at Loop (q .a) (k .a-in .1) ∙ k .loop-a
+  loop-a = v .at Loop (q .a) (k .site .a-in .1) ∙ k .loop-a
 
   -- the loop of b
   loop-b : own sh y Loop (q .b) ≡ q .m
-  loop-b = v .at Loop (q .b) (k .b-in .1) ∙ k .loop-b
+  loop-b = v .at Loop (q .b) (k .site .b-in .1) ∙ k .loop-b
 
   -- the start of b
   start-b : own sh y Start (q .b) ≡ q .v
-  start-b = v .at Start (q .b) (k .b-in .1) ∙ k .start-b
+  start-b = v .at Start (q .b) (k .site .b-in .1) ∙ k .start-b
 
   -- the face of m
   face-m : own sh y Face (q .m) ≡ q .f
-  face-m = v .at Face (q .m) (k .m-in .1) ∙ k .face-new
+  face-m = v .at Face (q .m) (k .site .m-in .1) ∙ k .face-new
 
   -- the face of l
   face-l : own sh y Face (q .l) ≡ c Face (q .l)
-  face-l = v .at Face (q .l) (k .l-in .1) ∙ k .face-else (q .l) (k .l-m)
+  face-l = v .at Face (q .l) (k .site .l-in .1) ∙ k .face-else (q .l) (l-m (k .site))
 
   -- what it does
   pub kef-links : linksAfter sh y (kefOf (q .b)) ≡ mendList k s t v
-  unfolding linksAfter kefLinks kefEdge
-  kef-links = rw (bn, k .ba, next-a, next-b, prev-a, prev-b, loop-a, loop-b, start-b, face-m)
+  unfolding linksAfter kefLinks kefEdge edgeOut
+  kef-links = rw (bn, ba (k .site), next-a, next-b, prev-a, prev-b, loop-a, loop-b, start-b, face-m)
 
   -- the operator that undoes it
   pub kef-inverse : (w : List ℤ) → inverse sh y w (kefOf (q .b)) ≡ mefAt q
   unfolding inverse
-  kef-inverse w = rw (bn, k .ba, next-a, next-b, loop-a, loop-b, face-m)
+  kef-inverse w = rw (bn, ba (k .site), next-a, next-b, loop-a, loop-b, face-m)
 
   -- m is the only loop of f
   only-m : (n : ℕ) → In (sh .loops) n → own sh y Face n ≡ q .f → n ≡ q .m
   only-m n i e = split n (q .m) (λ z. z) (λ z.
       let g : c Face n ≡ q .f = sym (k .face-else n z) ∙ sym (v .at Face n (i .1)) ∙ e in
-      absurd (s .loop n i (λ r. omega (arith, k .f-in .0, sym g ∙ r)) .face-used (ap (c Solid) g ∙ k .solid-free)))
+      absurd (s .loop n i (λ r. omega (arith, k .site .f-in .0, sym g ∙ r)) .face-used
+      (ap (c Solid) g ∙ k .site .f-free)))
 
   -- the faces of the two halves differ
   two-faces : c Face (q .l) ≢ q .f
-  two-faces e = old-used k s .2 (ap (c Solid) e ∙ k .solid-free)
+  two-faces e = old-used k s .2 (ap (c Solid) e ∙ k .site .f-free)
 
   -- the test passes
   test : kefTest sh y (q .b) ≡ true
   unfolding kefTest
-  test = rw (k .ba, loop-a, loop-b, face-m, face-l) (T-true (T-every (eqb (countTo (sh .loops) (λ n. eqb (own sh y Face n) (q .f))) 1 ∷ not (eqb (c Face (q .l)) (q .f)) ∷ []) (
-    true-T (eqb-same (many-one (sh .loops) (own sh y Face) (q .f) (q .m) (k .m-in) face-m only-m)),
-    (not-T (eqb (c Face (q .l)) (q .f)) (λ z. two-faces (eqb→eq _ _ z)), tt),
-  )))
+  test = rw (ba (k .site), loop-a, loop-b, face-m, face-l)
+      (T-true (T-every (eqb (countTo (sh .loops) (λ n. eqb (own sh y Face n) (q .f))) 1
+      ∷ not (eqb (c Face (q .l)) (q .f)) ∷ []) (
+        true-T (eqb-same (many-one (sh .loops) (own sh y Face) (q .f) (q .m) (k .site .m-in) face-m only-m)),
+        (not-T (eqb (c Face (q .l)) (q .f)) (λ z. two-faces (eqb→eq _ _ z)), tt),
+      )))
 
   -- it is accepted
   pub kef-accepted : refusalOf sh y (kefOf (q .b)) ≡ 0
   unfolding pattern rows useWord condition
-  kef-accepted = one-accepted sh y 6 9 refl refl refl refl (omega (arith, caps .edges)) refl (q .b) (k .b-in) (λ z. k .v-some (sym start-b ∙ z)) (rw bn test)
+  kef-accepted = one-accepted sh y 6 9 refl refl refl refl (omega (arith, caps .edges)) refl (q .b) (k .site .b-in)
+      (λ z. k .site .v-some (sym start-b ∙ z)) (rw bn test)
 
 -- points stay
 pub kef-points : (sh : Shape) (x : List ℕ) (v : List ℤ) (k : ℕ) → pointsAfter sh x v (kefOf k) ≡ v

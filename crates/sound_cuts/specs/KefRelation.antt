@@ -1,7 +1,7 @@
--- The columns of kef: the table is those with the edge.
-use mathlib.Core.Path.{_≡_, refl, sym, ap, _∙_}
-use mathlib.Core.Logic.{_≢_}
-use mathlib.Core.Bool.{Bool, true, false, _&&_}
+-- kef on a sound table, as columns: the table is, with the edge (`Cut`), what `mendColumns` is without it.
+use mathlib.Core.Path.{_≡_, refl, sym, ap, _∙_, subst}
+use mathlib.Core.Logic.{_≢_, inl, inr}
+use mathlib.Core.Bool.{Bool, true, false}
 use mathlib.Core.List.{List}
 use Prim.Native.Nat.{ℕ, _*_}
 use native.Mathlib.Omega.{arith}
@@ -13,15 +13,18 @@ use Rattle.layout.specs.declared.shape.Shape.{Shape}
 use Rattle.layout.specs.Mate.{mate}
 use Rattle.layout.specs.MateLaws.{mate-mate}
 use Rattle.layout.specs.Fields.{Solid, Outer, Face, First, Isolated, Start, Loop, Next, Prev, Columns}
+use Rattle.layout.specs.Writes.{changes}
 use Rattle.sound_tables.specs.Mates.{mate-other}
 use Rattle.sound_tables.specs.EdgeIn.{prev-in, next-prev}
 use Rattle.sound_tables.specs.Sound.{HalfUsed, firstOf, Sound}
 use Rattle.sound_tables.specs.Names.{not-isolated}
-use Rattle.sound_cuts.specs.Relation.{Spot, Near, both, right, left, pair, Cut}
+use Rattle.sound_cuts.specs.FieldLaws.{loops-other, not-same, unwritten}
+use Rattle.sound_cuts.specs.Relation.{Spot, tieN, tieN′, Seated, Near, cutFields, Cut}
 use Rattle.sound_cuts.specs.KefSolids.{Only}
-use Rattle.sound_cuts.specs.KefPlace.{spotAt, mendColumns, KefPlace}
+use Rattle.sound_cuts.specs.KefPlace.{spotAt, mendLoop, mendWrites, mendColumns, KefPlace}
 
-module _ {sh : Shape} {p : List ℤ} {d : Columns} (t : Sound sh p d) (zero : d Loop 0 ≡ 0) {b : ℕ} (o : KefPlace sh d b) where
+module _ {sh : Shape} {p : List ℤ} {d : Columns} (t : Sound sh p d) (zero : d Loop 0 ≡ 0) {b : ℕ}
+    (o : KefPlace sh d b) where
   -- the numbers
   abbrev q : Spot
   q = spotAt d b
@@ -152,82 +155,100 @@ module _ {sh : Shape} {p : List ℤ} {d : Columns} (t : Sound sh p d) (zero : d 
 
   -- by the two tests
   next-as : (x y : Bool) → eqb (q .N) (mate b) ≡ x → eqb (q .M) b ≡ y → (i : ℕ) → i ≢ mate b → i ≢ b
-      → c Next i ≡ upd (upd (d Next) (pick x (q .Q) (q .P)) (pick y (q .N) (q .M))) (pick y (q .P) (q .Q)) (pick x (q .M) (q .N)) i
-  next-as x y e g i f h = upd-off _ _ h ∙ upd-off _ _ f ∙ (λ j. upd (upd (d Next) (pick (e j) (q .Q) (q .P)) (pick (g j) (q .N) (q .M))) (pick (g j) (q .P) (q .Q)) (pick (e j) (q .M) (q .N)) i)
+      → c Next i ≡ upd (upd (d Next) (pick x (q .Q) (q .P)) (pick y (q .N) (q .M))) (pick y (q .P) (q .Q))
+      (pick x (q .M) (q .N)) i
+  next-as x y e g i f h = upd-off _ _ h ∙ upd-off _ _ f
+      ∙ (λ j. upd (upd (d Next) (pick (e j) (q .Q) (q .P)) (pick (g j) (q .N) (q .M))) (pick (g j) (q .P) (q .Q))
+      (pick (e j) (q .M) (q .N)) i)
 
   -- the same of previous
   prev-as : (x y : Bool) → eqb (q .N) (mate b) ≡ x → eqb (q .M) b ≡ y → (i : ℕ) → i ≢ mate b → i ≢ b
-      → c Prev i ≡ upd (upd (d Prev) (pick y (q .N) (q .M)) (pick x (q .Q) (q .P))) (pick x (q .M) (q .N)) (pick y (q .P) (q .Q)) i
-  prev-as x y e g i f h = upd-off _ _ h ∙ upd-off _ _ f ∙ (λ j. upd (upd (d Prev) (pick (g j) (q .N) (q .M)) (pick (e j) (q .Q) (q .P))) (pick (e j) (q .M) (q .N)) (pick (g j) (q .P) (q .Q)) i)
-
-  -- and of the isolated vertex
-  isolated-as : (x y : Bool) → eqb (q .N) (mate b) ≡ x → eqb (q .M) b ≡ y → c Isolated (q .l) ≡ pick (x && y) (q .u) 0
-  isolated-as x y e g = upd-same _ (q .l) _ ∙ (λ j. pick (e j && g j) (q .u) 0)
+      → c Prev i ≡ upd (upd (d Prev) (pick y (q .N) (q .M)) (pick x (q .Q) (q .P))) (pick x (q .M) (q .N))
+      (pick y (q .P) (q .Q)) i
+  prev-as x y e g i f h = upd-off _ _ h ∙ upd-off _ _ f
+      ∙ (λ j. upd (upd (d Prev) (pick (g j) (q .N) (q .M)) (pick (e j) (q .Q) (q .P))) (pick (e j) (q .M) (q .N))
+      (pick (g j) (q .P) (q .Q)) i)
 
   -- ---- the corners
 
-  -- which of the four it is
+  -- M is not a
+  M-a : q .M ≢ mate b
+  M-a z = apart refl lM (sym z)
+
+  -- Q is not a
+  Q-a : q .Q ≢ mate b
+  Q-a z = apart refl lQ (sym z)
+
+  -- N is not b
+  N-b : q .N ≢ b
+  N-b = apart lN refl
+
+  -- P is not b
+  P-b : q .P ≢ b
+  P-b = apart lP refl
+
+  -- where a is not alone
+  seated-a : q .N ≢ mate b → Seated sh c (q .l) (q .u) (q .P) (q .N) (tieN q)
+  seated-a e = split (q .M) b
+      (λ g. subst (Seated sh c (q .l) (q .u) (q .P) (q .N)) (ap (λ t. pick t (q .N) (q .M)) (sym (eqb-same g)))
+      (record {
+        before = c-used (q .P) uP (a-P e) P-b;
+        after = c-used (q .N) uN e N-b;
+        corner = c-used (q .N) uN e N-b;
+        next = next-as false true (eqb-other e) (eqb-same g) (q .P) (a-P e) P-b ∙ upd-same _ (q .P) (q .N);
+        prev = prev-as false true (eqb-other e) (eqb-same g) (q .N) e N-b ∙ upd-same _ (q .N) (q .P);
+        loop = loop-P;
+        start = c-start (q .N) e N-b ∙ start-N ∙ ap (d Start) (sym g) ∙ start-M;
+      }))
+      (λ g. subst (Seated sh c (q .l) (q .u) (q .P) (q .N)) (ap (λ t. pick t (q .N) (q .M)) (sym (eqb-other g)))
+      (record {
+        before = c-used (q .P) uP (a-P e) P-b;
+        after = c-used (q .N) uN e N-b;
+        corner = c-used (q .M) uM M-a g;
+        next = next-as false false (eqb-other e) (eqb-other g) (q .P) (a-P e) P-b ∙ upd-off _ _ (apart lP lQ)
+            ∙ upd-same _ (q .P) (q .M);
+        prev = prev-as false false (eqb-other e) (eqb-other g) (q .M) M-a g ∙ upd-off _ _ (λ z. apart lN lM (sym z))
+            ∙ upd-same _ (q .M) (q .P);
+        loop = loop-P;
+        start = c-start (q .M) M-a g ∙ start-M;
+      }))
+    where
+      -- P stays in l
+      loop-P : c Loop (q .P) ≡ q .l
+      loop-P = c-else (q .P) (a-P e) P-b (λ z. l-m (sym lP ∙ z)) ∙ lP
+
+  -- where b is not alone
+  seated-b : q .M ≢ b → Seated sh c (q .l) (q .v) (q .Q) (q .M) (tieN′ q)
+  seated-b g = record {
+    before = c-used (q .Q) uQ Q-a (b-Q g);
+    after = c-used (q .M) uM M-a g;
+    corner = c-used (tieN′ q) (pick-ind (HalfUsed sh d) (eqb (q .N) (mate b)) (q .M) (q .N) uM uN) n-a n-b;
+    next = next-as (eqb (q .N) (mate b)) false refl (eqb-other g) (q .Q) Q-a (b-Q g) ∙ upd-same _ (q .Q) _;
+    prev = prev-as (eqb (q .N) (mate b)) false refl (eqb-other g) (tieN′ q) n-a n-b ∙ upd-same _ (tieN′ q) (q .Q);
+    loop = c-new (q .Q) Q-a (b-Q g) lQ;
+    start = c-start (tieN′ q) n-a n-b ∙ split (q .N) (mate b)
+        (λ e. rw (eqb-same e) (start-M ∙ ap (d Start) (sym e) ∙ start-N)) (λ e. rw (eqb-other e) start-N);
+  }
+    where
+      -- what follows Q is not a
+      n-a : tieN′ q ≢ mate b
+      n-a = split (q .N) (mate b) (λ e. rw (eqb-same e) M-a) (λ e. rw (eqb-other e) e)
+
+      -- nor b
+      n-b : tieN′ q ≢ b
+      n-b = pick-ind (λ j. j ≢ b) (eqb (q .N) (mate b)) (q .M) (q .N) g N-b
+
+  -- both
   near : Near sh c q
-  near = split (q .N) (mate b)
-      (λ e. split (q .M) b
-      (λ g. pair (record {
-        P-a = P-a e;
-        N-a = e;
-        Q-b = Q-b g;
-        M-b = g;
-        start = sym start-M ∙ ap (d Start) g;
-        isolated = isolated-as true true (eqb-same e) (eqb-same g);
-      }))
-      (λ g.
-      let fQ : q .Q ≢ mate b = λ z. apart refl lQ (sym z) in
-      let fM : q .M ≢ mate b = λ z. apart refl lM (sym z) in
-      left (record {
-        Q-b = P-a e;
-        M-b = e;
-        P-in = c-used (q .Q) uQ fQ (b-Q g);
-        N-in = c-used (q .M) uM fM g;
-        next-P = next-as true false (eqb-same e) (eqb-other g) (q .Q) fQ (b-Q g) ∙ upd-same _ (q .Q) (q .M);
-        prev-N = prev-as true false (eqb-same e) (eqb-other g) (q .M) fM g ∙ upd-same _ (q .M) (q .Q);
-        loop-P = c-new (q .Q) fQ (b-Q g) lQ;
-        start-u = c-start (q .M) fM g ∙ start-M ∙ ap (d Start) (sym e) ∙ start-N;
-        start-v = c-start (q .M) fM g ∙ start-M;
-        isolated = isolated-as true false (eqb-same e) (eqb-other g);
-      })))
-      (λ e.
-      let fP : q .P ≢ b = apart lP refl in
-      let fN : q .N ≢ b = apart lN refl in
-      split (q .M) b
-      (λ g. right (record {
-        Q-b = Q-b g;
-        M-b = g;
-        P-in = c-used (q .P) uP (a-P e) fP;
-        N-in = c-used (q .N) uN e fN;
-        next-P = next-as false true (eqb-other e) (eqb-same g) (q .P) (a-P e) fP ∙ upd-same _ (q .P) (q .N);
-        prev-N = prev-as false true (eqb-other e) (eqb-same g) (q .N) e fN ∙ upd-same _ (q .N) (q .P);
-        loop-P = c-else (q .P) (a-P e) fP (λ z. l-m (sym lP ∙ z)) ∙ lP;
-        start-u = c-start (q .N) e fN ∙ start-N ∙ ap (d Start) (sym g) ∙ start-M;
-        start-v = c-start (q .N) e fN ∙ start-N;
-        isolated = isolated-as false true (eqb-other e) (eqb-same g);
-      }))
-      (λ g.
-      let fQ : q .Q ≢ mate b = λ z. apart refl lQ (sym z) in
-      let fM : q .M ≢ mate b = λ z. apart refl lM (sym z) in
-      both (record {
-        P-in = c-used (q .P) uP (a-P e) fP;
-        N-in = c-used (q .N) uN e fN;
-        Q-in = c-used (q .Q) uQ fQ (b-Q g);
-        M-in = c-used (q .M) uM fM g;
-        next-P = next-as false false (eqb-other e) (eqb-other g) (q .P) (a-P e) fP ∙ upd-off _ _ (apart lP lQ) ∙ upd-same _ (q .P) (q .M);
-        next-Q = next-as false false (eqb-other e) (eqb-other g) (q .Q) fQ (b-Q g) ∙ upd-same _ (q .Q) (q .N);
-        prev-M = prev-as false false (eqb-other e) (eqb-other g) (q .M) fM g ∙ upd-off _ _ (λ z. apart lN lM (sym z)) ∙ upd-same _ (q .M) (q .P);
-        prev-N = prev-as false false (eqb-other e) (eqb-other g) (q .N) e fN ∙ upd-same _ (q .N) (q .Q);
-        apart = apart lP lQ;
-        loop-P = c-else (q .P) (a-P e) fP (λ z. l-m (sym lP ∙ z)) ∙ lP;
-        loop-Q = c-new (q .Q) fQ (b-Q g) lQ;
-        start-M = c-start (q .M) fM g ∙ start-M;
-        start-N = c-start (q .N) e fN ∙ start-N;
-        isolated = isolated-as false false (eqb-other e) (eqb-other g);
-      })))
+  near = record {
+    at-a = split (q .N) (mate b) (λ e. inl (record
+        { before = P-a e; after = e; ends = ap (d Start) (sym e) ∙ start-N })) (λ e. inr (seated-a e));
+    at-b = split (q .M) b (λ g. inl (record { before = Q-b g; after = g; ends = sym start-M ∙ ap (d Start) g }))
+        (λ g. inr (seated-b g));
+    apart = apart lP lQ;
+    N-M = apart lN lM;
+    isolated = upd-same _ (q .l) _;
+  }
 
   -- ---- all
 
@@ -239,27 +260,31 @@ module _ {sh : Shape} {p : List ℤ} {d : Columns} (t : Sound sh p d) (zero : d 
       let fb = t .loop (q .m) (hb .loop-in) (hb .loop-used) in
       let ff = t .face (q .f) (fb .face-in) (fb .face-used) in
       record {
-        l-in = ha .loop-in;
-        m-in = hb .loop-in;
-        f-in = fb .face-in;
-        a-in = (ua .0, ua .1);
-        b-in = (o .used .0, o .used .1);
-        ab = ab;
-        ba = refl;
-        l-m = l-m;
-        l-used = λ z. ha .loop-used (sym (upd-off (d Face) 0 l-m) ∙ z);
-        u-some = ua .2;
-        v-some = o .used .2;
-        capacity = λ i. refl;
-        solid-used = λ i. refl;
-        vertex-used = λ i. refl;
-        solid-free = upd-same (d Solid) (q .f) 0;
-        solid-new = ap (λ i. d Solid (d Face (d Loop i))) (sym ab) ∙ t .solids .edge (mate b) ua ∙ sym (ap (c Solid) (upd-off (d Face) 0 l-m) ∙ upd-off (d Solid) 0 f0-f);
+        site = record {
+          l-in = ha .loop-in;
+          m-in = hb .loop-in;
+          f-in = fb .face-in;
+          a-in = (ua .0, ua .1);
+          b-in = (o .used .0, o .used .1);
+          ab = ab;
+          l-used = λ z. ha .loop-used (sym (upd-off (d Face) 0 l-m) ∙ z);
+          m-free = upd-same (d Face) (q .m) 0;
+          f-free = upd-same (d Solid) (q .f) 0;
+          a-free = upd-off _ _ a-b ∙ upd-same _ (mate b) 0;
+          b-free = upd-same _ b 0;
+          u-some = ua .2;
+          v-some = o .used .2;
+          near = near;
+        };
+        others = λ F e i. sym (loops-other (mendLoop d q) (changes (mendWrites sh d q) d) F
+            (not-same cutFields Loop F refl e) i
+            ∙ unwritten cutFields (mendWrites sh d q) refl d F e i);
+        solid-new = ap (λ i. d Solid (d Face (d Loop i))) (sym ab) ∙ t .solids .edge (mate b) ua
+            ∙ sym (ap (c Solid) (upd-off (d Face) 0 l-m) ∙ upd-off (d Solid) 0 f0-f);
         solid-else = λ i e. sym (upd-off (d Solid) 0 e);
         outer-free = upd-same (d Outer) (q .f) 0;
         outer-new = o .one (d Outer (q .f)) (ff .outer-in) (ff .outer-face);
         outer-else = λ i e. sym (upd-off (d Outer) 0 e);
-        face-free = upd-same (d Face) (q .m) 0;
         face-new = refl;
         face-else = λ i e. sym (upd-off (d Face) 0 e);
         first-free = upd-off _ _ m-l ∙ upd-same (d First) (q .m) 0;
@@ -268,7 +293,14 @@ module _ {sh : Shape} {p : List ℤ} {d : Columns} (t : Sound sh p d) (zero : d 
         isolated-l = not-isolated t (mate b) ua refl;
         isolated-m = not-isolated t b (o .used) refl;
         isolated-else = λ i e g. sym (upd-off _ _ e ∙ upd-off (d Isolated) 0 g);
-        zero-a = record { s = upd-off _ _ a-b ∙ upd-same _ (mate b) 0; l = upd-off _ _ a-b ∙ upd-same _ (mate b) 0; n = upd-off _ _ a-b ∙ upd-same _ (mate b) 0; p = upd-off _ _ a-b ∙ upd-same _ (mate b) 0 };
+        zero-a = record {
+          s = upd-off _ _ a-b ∙ upd-same _ (mate b) 0;
+          l = upd-off _ _ a-b
+              ∙ upd-same _ (mate b) 0;
+          n = upd-off _ _ a-b ∙ upd-same _ (mate b) 0;
+          p = upd-off _ _ a-b
+              ∙ upd-same _ (mate b) 0;
+        };
         zero-b = record { s = upd-same _ b 0; l = upd-same _ b 0; n = upd-same _ b 0; p = upd-same _ b 0 };
         start-a = refl;
         start-b = refl;
@@ -282,13 +314,16 @@ module _ {sh : Shape} {p : List ℤ} {d : Columns} (t : Sound sh p d) (zero : d 
         next-b = refl;
         next-P = nP;
         next-Q = nQ;
-        next-else = λ i e g x y. sym (upd-off _ _ g ∙ upd-off _ _ e ∙ upd-off _ _ (pick-ind (λ j. i ≢ j) (eqb (q .M) b) (q .P) (q .Q) x y) ∙ upd-off _ _ (pick-ind (λ j. i ≢ j) (eqb (q .N) (mate b)) (q .Q) (q .P) y x));
+        next-else = λ i e g x y. sym (upd-off _ _ g ∙ upd-off _ _ e
+            ∙ upd-off _ _ (pick-ind (λ j. i ≢ j) (eqb (q .M) b) (q .P) (q .Q) x y)
+            ∙ upd-off _ _ (pick-ind (λ j. i ≢ j) (eqb (q .N) (mate b)) (q .Q) (q .P) y x));
         prev-a = refl;
         prev-b = refl;
         prev-N = t .rules .undone (mate b) ua;
         prev-M = t .rules .undone b (o .used);
-        prev-else = λ i e g x y. sym (upd-off _ _ g ∙ upd-off _ _ e ∙ upd-off _ _ (pick-ind (λ j. i ≢ j) (eqb (q .N) (mate b)) (q .M) (q .N) y x) ∙ upd-off _ _ (pick-ind (λ j. i ≢ j) (eqb (q .M) b) (q .N) (q .M) x y));
-        near = near;
+        prev-else = λ i e g x y. sym (upd-off _ _ g ∙ upd-off _ _ e
+            ∙ upd-off _ _ (pick-ind (λ j. i ≢ j) (eqb (q .N) (mate b)) (q .M) (q .N) y x)
+            ∙ upd-off _ _ (pick-ind (λ j. i ≢ j) (eqb (q .M) b) (q .N) (q .M) x y));
       }
 
   -- m is the only loop of its face
@@ -296,5 +331,6 @@ module _ {sh : Shape} {p : List ℤ} {d : Columns} (t : Sound sh p d) (zero : d 
   kef-only i j e z = e (o .one i j z)
 
   -- first of l is the least that names it
-  pub kef-first : mendColumns sh d (spotAt d b) First (d Loop (mate b)) ≡ firstOf sh (mendColumns sh d (spotAt d b)) (d Loop (mate b))
+  pub kef-first : mendColumns sh d (spotAt d b) First (d Loop (mate b)) ≡ firstOf sh (mendColumns sh d (spotAt d b))
+      (d Loop (mate b))
   kef-first = upd-same _ (q .l) _

@@ -1,183 +1,117 @@
--- The rules of the loops and vertices once the edge is out: for each kind of corner, from those of d.
-use mathlib.Core.Path.{_≡_, refl, sym, ap, _∙_}
-use mathlib.Core.Logic.{_≢_}
+-- Rules 4 and 5 once the edge is out: the two loops are joined by an exchange, and the spur that the edge then is
+-- comes out.
+use mathlib.Core.Path.{_≡_, refl, sym, ap, _∙_, subst}
+use mathlib.Core.Logic.{_≢_, _⊎_, inl, inr, ⊎-elim}
 use Prim.Native.Nat.{ℕ, _*_}
 use Rattle.laws.specs.Bools.{split}
-use Rattle.laws.specs.Update.{upd-same, upd-off, relabel, relabel-at, relabel-off}
-use Rattle.laws.specs.Cycles.{alone}
-use Rattle.laws.specs.Moves.{But}
+use Rattle.laws.specs.Update.{relabel, relabel-at, relabel-off}
+use Rattle.laws.specs.Permutations.{inj}
+use Rattle.laws.specs.Cycles.{Cycles, agree}
+use Rattle.laws.specs.Moves.{Or, xchg, merge-cycles}
 use Rattle.layout.specs.declared.shape.Shape.{Shape}
 use Rattle.layout.specs.Mate.{mate}
 use Rattle.layout.specs.MateLaws.{mate-mate}
-use Rattle.layout.specs.Fields.{Loop, Next, Prev, Columns}
+use Rattle.layout.specs.Fields.{Start, Loop, Next, Prev, Columns}
 use Rattle.sound_tables.specs.EdgeIn.{Rules}
-use Rattle.sound_tables.specs.EdgeOut.{parted-rules, kef-loops}
-use Rattle.sound_tables.specs.Dummies.{agree-rules}
 use Rattle.sound_tables.specs.Sound.{halves, HalfUsed}
-use Rattle.sound_cuts.specs.Spikes.{spike-out}
-use Rattle.sound_cuts.specs.Pairs.{pair-out}
-use Rattle.sound_cuts.specs.Relation.{Spot, Both, Pair, Right, Left, Near, both, right, left, pair, Cut, a-b, b-a, off-a, off-b, used-a, used-b, used-to, but-used, used-but}
+use Rattle.sound_cuts.specs.Seats.{seat-out, xchg-back}
+use Rattle.sound_cuts.specs.Relation.{Spot, seat, spur, off-a, off-b, l-m, ba, Cut, used-a, used-b, used-to}
+use Rattle.sound_cuts.specs.Relation.{used-from, or-used, used-or, around}
+use Rattle.sound_cuts.specs.Spur.{With, vertexSeat, seat-place, vertex-place, a-new, b-new, Q-in, Q-a, next-spur}
+use Rattle.sound_cuts.specs.Spur.{next-mate}
 
-module _ {sh : Shape} {c d : Columns} {q : Spot} (k : Cut sh c d q) (r : Rules (2 * sh .edges) mate (HalfUsed sh d) (halves d)) where
+module _ {sh : Shape} {c d : Columns} {q : Spot} (k : Cut sh c d q)
+    (r : Rules (2 * sh .edges) mate (HalfUsed sh d) (halves d)) where
   -- as many half-edges
   abbrev n : ℕ
   n = 2 * sh .edges
 
-  -- those in use afterwards
-  abbrev W″ : ℕ → Type 0
-  W″ = But (q .a) (But (q .b) (HalfUsed sh d))
+  -- the mate of one in c is in c
+  mates : (i : ℕ) → HalfUsed sh c i → HalfUsed sh c (mate i)
+  mates i x = used-from k (mate i) (r .mate-in i (used-to k i x))
+      (λ e. off-b (k .site) i x (sym (mate-mate i) ∙ ap mate e ∙ k .site .ab))
+      (λ e. off-a (k .site) i x (sym (mate-mate i) ∙ ap mate e ∙ ba (k .site)))
 
-  -- ---- neither is alone
+  -- ---- loops
 
-  module _ (o : Both sh c q) where
-    -- the loops: that of b takes the name of a's
-    abbrev lab : ℕ → ℕ
-    lab = relabel (d Loop) (d Loop (q .b)) (d Loop (q .P))
+  -- Q is in the new loop
+  loop-Q : d Loop (q .Q) ≡ q .m
+  loop-Q = sym (r .loops .keeps (q .Q) (around k .2)) ∙ ap (d Loop) (k .next-Q) ∙ k .loop-b
 
-    -- the two differ
-    two : d Loop (q .b) ≢ d Loop (q .a)
-    two z = k .l-m (sym (k .loop-a) ∙ sym z ∙ k .loop-b)
+  -- the two loops are joined, and a and b come out
+  loops : Cycles n (HalfUsed sh c) (c Next) (c Loop)
+  loops = agree
+      (seat-out
+      (seat-out
+      (agree (merge-cycles (r .loops) (q .a) (q .Q) (used-a k) (around k .2) two) (used-or k) (or-used k)
+      (λ i x. back i (used-or k i x)) (λ i x. refl))
+      (b-new (k .site)) (inl (inl refl)))
+      (a-new (k .site)) (seat-place (k .site)))
+      (λ i x. x) (λ i x. x) (λ i x. refl) label
+    where
+      -- their names differ
+      two : d Loop (q .a) ≢ d Loop (q .Q)
+      two z = l-m (k .site) (sym (k .loop-a) ∙ z ∙ loop-Q)
 
-    -- P is in l
-    loop-P : d Loop (q .P) ≡ q .l
-    loop-P = sym (r .loops .keeps (q .P) (used-to k (q .P) (o .P-in))) ∙ ap (d Loop) (k .next-P) ∙ k .loop-a
+      -- Q is in use
+      Q-with : With sh c q (q .Q)
+      Q-with = ⊎-elim (λ e. inl e) (λ u. inr (inr u)) (Q-in (k .site))
 
-    -- the edge comes out
-    rules-both : Rules n mate (But (q .b) (But (q .a) (HalfUsed sh d))) (halves c)
-    rules-both =
-        let f1 : q .P ≢ q .a = off-a k (q .P) (o .P-in) in
-        let f2 : q .P ≢ q .b = off-b k (q .P) (o .P-in) in
-        let f3 : q .Q ≢ q .a = off-a k (q .Q) (o .Q-in) in
-        let f4 : q .Q ≢ q .b = off-b k (q .Q) (o .Q-in) in
-        let f5 : q .Q ≢ q .P = λ e. o .apart (sym e) in
-        let g1 : q .N ≢ q .a = off-a k (q .N) (o .N-in) in
-        let g2 : q .N ≢ q .b = off-b k (q .N) (o .N-in) in
-        let g3 : q .M ≢ q .a = off-a k (q .M) (o .M-in) in
-        let g4 : q .M ≢ q .b = off-b k (q .M) (o .M-in) in
-        let g5 : q .N ≢ q .M = λ e. f5 (sym (o .prev-N) ∙ ap (c Prev) e ∙ o .prev-M) in
-        let uP = used-to k (q .P) (o .P-in) in
-        let uQ = used-to k (q .Q) (o .Q-in) in
-        agree-rules
-        (parted-rules r mate-mate (q .b) (q .a) (q .Q) (q .P) (k .ba) (b-a k) (used-b k) uQ uP (k .next-Q) (k .next-P) f3 f2 (λ e. f4 (sym e)) (λ e. f1 (sym e)) lab
-        (kef-loops r mate-mate (q .b) (q .a) (q .Q) (q .P) (k .ba) (b-a k) (used-b k) uQ uP (k .next-Q) (k .next-P) f3 f2 (λ e. f4 (sym e)) (λ e. f1 (sym e)) two))
-        (λ i x. x) (λ i x. x)
-        (λ i x. sym (k .start-else i (x .0 .1) (x .1)) ∙ sym (upd-off _ _ (x .0 .1) ∙ upd-off _ _ (x .1)))
-        (λ i x. split (d Loop i) (d Loop (q .b))
-        (λ e. k .loop-new i (x .0 .0 .1) (x .1) (e ∙ k .loop-b) ∙ sym (upd-off _ _ (x .0 .1) ∙ upd-off _ _ (x .1) ∙ relabel-at (d Loop) _ _ e ∙ loop-P))
-        (λ e. sym (k .loop-else i (x .0 .0 .1) (x .0 .1) (λ z. e (z ∙ sym (k .loop-b)))) ∙ sym (upd-off _ _ (x .0 .1) ∙ upd-off _ _ (x .1) ∙ relabel-off (d Loop) _ _ e)))
-        (λ i x. split i (q .P)
-        (λ e. rw e (o .next-P ∙ sym (upd-off _ _ f1 ∙ upd-off _ _ f2 ∙ upd-same _ (q .P) _ ∙ k .next-b)))
-        (λ e. split i (q .Q)
-        (λ g. rw g (o .next-Q ∙ sym (upd-off _ _ f3 ∙ upd-off _ _ f4 ∙ upd-off _ _ f5 ∙ upd-same _ (q .Q) _ ∙ k .next-a)))
-        (λ g. sym (k .next-else i (x .0 .1) (x .1) e g) ∙ sym (upd-off _ _ (x .0 .1) ∙ upd-off _ _ (x .1) ∙ upd-off _ _ e ∙ upd-off _ _ g))))
-        (rw (k .next-a, k .next-b) (λ i x. split i (q .M)
-        (λ e. rw e (o .prev-M ∙ sym (upd-off _ _ g3 ∙ upd-off _ _ g4 ∙ upd-same _ (q .M) _)))
-        (λ e. split i (q .N)
-        (λ g. rw g (o .prev-N ∙ sym (upd-off _ _ g1 ∙ upd-off _ _ g2 ∙ upd-off _ _ g5 ∙ upd-same _ (q .N) _)))
-        (λ g. sym (k .prev-else i (x .0 .1) (x .1) g e) ∙ sym (upd-off _ _ (x .0 .1) ∙ upd-off _ _ (x .1) ∙ upd-off _ _ e ∙ upd-off _ _ g)))))
+      -- joined they are the spur's
+      back : (i : ℕ) → With sh c q i → spur c q i ≡ xchg (d Next) (q .a) (q .Q) i
+      back i x = xchg-back (spur c q) (d Next) (q .a) (q .Q) (λ e. Q-a (k .site) (sym e))
+          (next-spur k (q .a) (inr (inl refl))) (next-spur k (q .Q) Q-with) i (next-spur k i x)
 
-  -- ---- b is alone
+      -- with c's names
+      label : (i : ℕ) → HalfUsed sh c i → c Loop i ≡ relabel (d Loop) (d Loop (q .Q)) (d Loop (q .a)) i
+      label i x = split (d Loop i) (q .m)
+          (λ e. k .loop-new i (x .1) (off-b (k .site) i x) e
+          ∙ sym (relabel-at (d Loop) _ _ (e ∙ sym loop-Q) ∙ k .loop-a))
+          (λ e. sym (k .loop-else i (x .1) (off-a (k .site) i x) e)
+          ∙ sym (relabel-off (d Loop) _ _ (λ z. e (z ∙ loop-Q))))
 
-  -- then no other names its loop
-  module _ (e : d Next (q .b) ≡ q .b) where
-    -- so the others keep theirs
-    loop-same : (i : ℕ) → HalfUsed sh d i → i ≢ q .a → i ≢ q .b → d Loop i ≡ c Loop i
-    loop-same i x f g = k .loop-else i (x .1) f (λ z. g (alone (r .loops) (used-b k) e i x (z ∙ sym (k .loop-b))))
+  -- ---- vertices
 
-  -- b goes, a comes out after P
-  rules-right : Right sh c q → Rules n mate W″ (halves c)
-  rules-right o =
-      let al : d Next (q .b) ≡ q .b = k .next-b ∙ o .M-b in
-      spike-out r mate-mate (record {
-        ab = k .ab;
-        two = a-b k;
-        a-in = used-a k;
-        p-in = used-to k (q .P) (o .P-in);
-        p-a = off-a k (q .P) (o .P-in);
-        next′-p = k .next-P;
-        next′-b = al;
-        next-p = o .next-P ∙ sym (k .next-a);
-        next-o = λ i x e1 e2 e3. sym (k .next-else i e1 e2 e3 (λ z. e2 (z ∙ o .Q-b)));
-        prev-n = ap (c Prev) (k .next-a) ∙ o .prev-N;
-        prev-o = λ i x e1 e2 e3. sym (k .prev-else i e1 e2 (λ z. e3 (z ∙ sym (k .next-a))) (λ z. e2 (z ∙ o .M-b)));
-        start-o = λ i x e1 e2. sym (k .start-else i e1 e2);
-        loop-to = λ i j x y z. sym (loop-same al i (x .0 .0) (x .1) (x .0 .1)) ∙ z ∙ loop-same al j (y .0 .0) (y .1) (y .0 .1);
-        loop-from = λ i j x y z. loop-same al i (x .0 .0) (x .1) (x .0 .1) ∙ z ∙ sym (loop-same al j (y .0 .0) (y .1) (y .0 .1));
-      })
+  -- both halves come out
+  verts : Cycles n (HalfUsed sh c) (λ i. c Next (mate i)) (c Start)
+  verts = agree
+      (seat-out
+      (seat-out (agree (r .verts) (used-or k) (or-used k) (λ i x. sym (next-mate k mates i (used-or k i x)))
+      (λ i x. refl))
+      (b-new (k .site)) (inl at-b))
+      (a-new (k .site)) at-a)
+      (λ i x. x) (λ i x. x) (λ i x. refl) (λ i x. sym (k .start-else i (off-a (k .site) i x) (off-b (k .site) i x)))
+    where
+      -- the mate of Q is a or of c
+      at-b : Or (q .a) (HalfUsed sh c) (mate (q .Q))
+      at-b = ⊎-elim (λ e. inl (ap mate e ∙ ba (k .site))) (λ u. inr (mates (q .Q) u)) (Q-in (k .site))
 
-  -- ---- a is alone: what was in the new loop is in l
+      -- so is a's seat
+      at-a : HalfUsed sh c (vertexSeat q) ⊎ (vertexSeat q ≡ q .a)
+      at-a = ⊎-elim (λ o. inl (subst (HalfUsed sh c) (sym (o .1)) (mates (seat q) (o .0)))) (λ o. inr (o .1))
+          (vertex-place (k .site))
 
-  module _ (o : Left sh c q) where
-    -- a follows itself
-    al : d Next (q .a) ≡ q .a
-    al = k .next-a ∙ o .M-b
+  -- ---- all
 
-    -- no other is in l
-    not-l : (i : ℕ) → HalfUsed sh d i → i ≢ q .a → d Loop i ≢ q .l
-    not-l i x f z = f (alone (r .loops) (used-a k) al i x (z ∙ sym (k .loop-a)))
-
-    -- of two that get one loop, both were in m or none
-    turned : (i j : ℕ) → HalfUsed sh d i → HalfUsed sh d j → i ≢ q .b → j ≢ q .a → c Loop i ≡ c Loop j → d Loop i ≡ q .m → d Loop j ≡ q .m
-    turned i j x y e g z t = split (d Loop j) (q .m) (λ v. v) (λ v. absurd (not-l j y g (k .loop-else j (y .1) g v ∙ sym z ∙ k .loop-new i (x .1) e t)))
-
-    -- a goes, b comes out after Q
-    rules-left : Rules n mate (But (q .b) (But (q .a) (HalfUsed sh d))) (halves c)
-    rules-left = spike-out r mate-mate (record {
-      ab = k .ba;
-      two = b-a k;
-      a-in = used-b k;
-      p-in = used-to k (q .Q) (o .P-in);
-      p-a = off-b k (q .Q) (o .P-in);
-      next′-p = k .next-Q;
-      next′-b = al;
-      next-p = o .next-P ∙ sym (k .next-b);
-      next-o = λ i x e2 e1 e3. sym (k .next-else i e1 e2 (λ z. e1 (z ∙ o .Q-b)) e3);
-      prev-n = ap (c Prev) (k .next-b) ∙ o .prev-N;
-      prev-o = λ i x e2 e1 e3. sym (k .prev-else i e1 e2 (λ z. e1 (z ∙ o .M-b)) (λ z. e3 (z ∙ sym (k .next-b))));
-      start-o = λ i x e2 e1. sym (k .start-else i e1 e2);
-      loop-to = λ i j x y z. split (d Loop i) (q .m)
-          (λ t. k .loop-new i (x .0 .0 .1) (x .1) t ∙ sym (k .loop-new j (y .0 .0 .1) (y .1) (sym z ∙ t)))
-          (λ t. sym (k .loop-else i (x .0 .0 .1) (x .0 .1) t) ∙ z ∙ k .loop-else j (y .0 .0 .1) (y .0 .1) (λ g. t (z ∙ g)));
-      loop-from = λ i j x y z. split (d Loop i) (q .m)
-          (λ t. t ∙ sym (turned i j (x .0 .0) (y .0 .0) (x .1) (y .0 .1) z t))
-          (λ t. k .loop-else i (x .0 .0 .1) (x .0 .1) t ∙ z ∙ sym (k .loop-else j (y .0 .0 .1) (y .0 .1) (λ g. t (turned j i (y .0 .0) (x .0 .0) (y .1) (x .0 .1) (sym z) g))));
-    })
-
-  -- ---- both are alone
-
-  -- both go
-  rules-pair : Pair c q → Rules n mate W″ (halves c)
-  rules-pair o =
-      let al : d Next (q .b) ≡ q .b = k .next-b ∙ o .M-b in
-      pair-out r mate-mate (record {
-        ab = k .ab;
-        two = a-b k;
-        a-in = used-a k;
-        next-a = k .next-a ∙ o .N-a;
-        next-b = al;
-        next-o = λ i x e1 e2. sym (k .next-else i e1 e2 (λ z. e1 (z ∙ o .P-a)) (λ z. e2 (z ∙ o .Q-b)));
-        prev-o = λ i x e1 e2. sym (k .prev-else i e1 e2 (λ z. e1 (z ∙ o .N-a)) (λ z. e2 (z ∙ o .M-b)));
-        start-o = λ i x e1 e2. sym (k .start-else i e1 e2);
-        loop-o = λ i x e1 e2. sym (loop-same al i x e1 e2);
-      })
-
-  -- ---- whichever it is
+  -- previous undoes next
+  undone : (i : ℕ) → HalfUsed sh c i → c Prev (c Next i) ≡ i
+  undone i x = split i (q .P)
+      (λ e. ⊎-elim (λ o. absurd (off-a (k .site) i x (e ∙ o .before)))
+      (λ o. ap (λ j. c Prev (c Next j)) e ∙ ap (c Prev) (o .next) ∙ o .prev ∙ sym e) (k .site .near .at-a))
+      (λ e. split i (q .Q)
+      (λ g. ⊎-elim (λ o. absurd (off-b (k .site) i x (g ∙ o .before)))
+      (λ o. ap (λ j. c Prev (c Next j)) g ∙ ap (c Prev) (o .next) ∙ o .prev ∙ sym g) (k .site .near .at-b))
+      (λ g.
+      let u = used-to k i x in
+      let f = off-a (k .site) i x in
+      let h = off-b (k .site) i x in
+      let P = r .loops .perm in
+      ap (c Prev) (sym (k .next-else i f h e g))
+      ∙ sym (k .prev-else (d Next i)
+      (λ z. e (inj P u (around k .0) (z ∙ sym (k .next-P)))) (λ z. g (inj P u (around k .2) (z ∙ sym (k .next-Q))))
+      (λ z. f (inj P u (used-a k) (z ∙ sym (k .next-a)))) (λ z. h (inj P u (used-b k) (z ∙ sym (k .next-b)))))
+      ∙ r .undone i u))
 
   -- the rules without the edge
   pub mend-rules : Rules (2 * sh .edges) mate (HalfUsed sh c) (halves c)
-  mend-rules = by (k .near)
-    where
-      -- said of those in use in c
-      same : Rules n mate W″ (halves c) → Rules (2 * sh .edges) mate (HalfUsed sh c) (halves c)
-      same t = agree-rules t (but-used k) (used-but k) (λ i x. refl) (λ i x. refl) (λ i x. refl) (λ i x. refl)
-
-      -- in whatever order the two go
-      turn : Rules n mate (But (q .b) (But (q .a) (HalfUsed sh d))) (halves c) → Rules n mate W″ (halves c)
-      turn t = agree-rules t (λ i x. ((x .0 .0, x .1), x .0 .1)) (λ i x. ((x .0 .0, x .1), x .0 .1)) (λ i x. refl) (λ i x. refl) (λ i x. refl) (λ i x. refl)
-
-      -- in each case
-      by : Near sh c q → Rules (2 * sh .edges) mate (HalfUsed sh c) (halves c)
-      by (both o) = same (turn (rules-both o))
-      by (right o) = same (rules-right o)
-      by (left o) = same (turn (rules-left o))
-      by (pair o) = same (rules-pair o)
+  mend-rules = record { mate-in = mates; loops = loops; verts = verts; undone = undone }

@@ -1,103 +1,102 @@
--- What kef does to a list that shows the columns with the edge: it then shows those without it.
+-- kef on lists: what it stores in a list that shows the columns with the edge makes it show those without it.
 use mathlib.Core.Path.{_≡_, refl, sym, ap, _∙_, subst}
-use mathlib.Core.Logic.{_≢_, inr}
-use mathlib.Core.List.{List}
+use mathlib.Core.Logic.{_≢_, inl, inr, ⊎-elim}
+use mathlib.Core.Bool.{Bool, false}
+use mathlib.Core.List.{List, [], _∷_, _++_}
 use Prim.Native.Nat.{ℕ, _*_, _≤_}
 use native.Mathlib.Omega.{arith}
 use lib.Dec.{eqb}
 use lib.IntN.{ℤ}
-use Rattle.laws.specs.Bools.{pick, split, eqb-same, eqb-other}
-use Rattle.laws.specs.Update.{upd, upd-at, upd-off}
+use Rattle.laws.specs.Bools.{pick, pick-ind, split, eqb-same, eqb-other}
 use Rattle.layout.specs.declared.shape.Shape.{Shape}
 use Rattle.layout.specs.Layout.{loopFirst}
-use Rattle.euler.specs.Surgery.{edgeOut, relabelRun, putLoop, putFace, lower, renew}
-use Rattle.layout.specs.Fields.{Field, Capacity, SolidUsed, Solid, Outer, Face, First, Isolated, Start, Loop, Next, Prev, VertexUsed, Columns, capOf, change}
-use Rattle.sound_tables.specs.Cells.{Shows, shows-put, shows-agree, upd-near}
-use Rattle.sound_tables.specs.Sound.{In, halves, HalfUsed, firstOf, Sound}
+use Rattle.layout.specs.Fields.{Field, Solid, Outer, Face, First, Isolated, Start, Loop, Next, Prev, Columns, capOf}
+use Rattle.layout.specs.Fields.{sameField, by-fields}
+use Rattle.layout.specs.Writes.{Write, write, writes, changes}
+use Rattle.euler.specs.Surgery.{halfRecord, faceRecord, loopRecord, tied, relabelRun, lower, renew}
+use Rattle.sound_tables.specs.Cells.{Shows, shows-agree}
+use Rattle.sound_tables.specs.WriteLaws.{shows-writes}
+use Rattle.sound_tables.specs.Sound.{In, HalfUsed, firstOf, Sound}
 use Rattle.sound_tables.specs.Names.{lone-used}
 use Rattle.sound_tables.specs.FirstLow.{lower-one, lower-other, first-low}
-use Rattle.sound_tables.specs.Shown.{withoutEdge, withFirst, shows-no-edge, shows-first, shows-isolated}
-use Rattle.sound_cuts.specs.Relation.{Spot, Near, both, right, left, pair, Cut, off-a, off-b, used-b, around}
-use Rattle.sound_cuts.specs.Round.{withHalves, names-new, roundColumns, shows-round, round-other, round-in, round-off}
+use Rattle.sound_tables.specs.Shown.{withFirst, shows-first, shows-isolated}
+use Rattle.sound_cuts.specs.FieldLaws.{halfFields, patch, patch-other, not-same, outside, unwritten, settled}
+use Rattle.sound_cuts.specs.Relation.{Spot, tieP, tieN, tieP′, tieN′, restOf, AtA, AtB, seat, off-a, off-b}
+use Rattle.sound_cuts.specs.Relation.{first-corner, cutFields, Cut, used-b, around}
+use Rattle.sound_cuts.specs.Round.{names-new, roundColumns, shows-round, round-other, round-in, round-off}
+
+-- the edge comes out: the ties, and both halves cleared
+abbrev pub edgeOff : Spot → List Write
+edgeOff q =
+    tied (tieP q) (tieN q) ++ (tied (tieP′ q) (tieN′ q) ++ (halfRecord (q .b) 0 0 0 0 ++ halfRecord (q .a) 0 0 0 0))
+
+-- so does its face and its loop
+abbrev pub faceOff : Spot → List Write
+faceOff q = faceRecord (q .f) 0 0 ++ loopRecord (q .m) 0 0 0
 
 -- ---- who is tied to whom
 
--- p is followed by n and p′ by n′ once the edge is out, where one rest is empty the other closes on itself
-abbrev pub tieP : Spot → ℕ
-tieP q = pick (eqb (q .N) (q .a)) (q .Q) (q .P)
-
--- what follows p
-abbrev pub tieN : Spot → ℕ
-tieN q = pick (eqb (q .M) (q .b)) (q .N) (q .M)
-
--- the other that is followed
-abbrev pub tieP′ : Spot → ℕ
-tieP′ q = pick (eqb (q .M) (q .b)) (q .P) (q .Q)
-
--- what follows it
-abbrev pub tieN′ : Spot → ℕ
-tieN′ q = pick (eqb (q .N) (q .a)) (q .M) (q .N)
-
--- one half-edge of the loop that is left, or none
-abbrev pub restOf : Spot → ℕ
-restOf q = pick (eqb (q .M) (q .b)) (pick (eqb (q .N) (q .a)) 0 (q .N)) (q .M)
-
--- these ties turn next and previous of d into those of c
-pub record Tied (sh : Shape) (c d : Columns) (q : Spot) (p n p′ n′ : ℕ) : Type 0 where
-  pub p-in : HalfUsed sh d p
-  pub n-in : HalfUsed sh d n
-  pub p′-in : HalfUsed sh d p′
-  pub n′-in : HalfUsed sh d n′
-  pub next : (i : ℕ) → i ≢ q .a → i ≢ q .b → upd (upd (d Next) p n) p′ n′ i ≡ c Next i
-  pub prev : (i : ℕ) → i ≢ q .a → i ≢ q .b → upd (upd (d Prev) n p) n′ p′ i ≡ c Prev i
-
 module _ {sh : Shape} {c d : Columns} {q : Spot} (k : Cut sh c d q) where
-  -- in each of the four cases
-  pub tied : Near sh c q → Tied sh c d q (tieP q) (tieN q) (tieP′ q) (tieN′ q)
-  tied (both o) =
-      let w = around k in
-      rw (eqb-other (off-a k (q .N) (o .N-in)), eqb-other (off-b k (q .M) (o .M-in))) (record {
-        p-in = w .0;
-        n-in = w .3;
-        p′-in = w .2;
-        n′-in = w .1;
-        next = λ i e g. split i (q .Q) (λ z. upd-at _ _ z ∙ sym (ap (c Next) z ∙ o .next-Q))
-            (λ z. upd-off _ _ z ∙ split i (q .P) (λ y. upd-at _ _ y ∙ sym (ap (c Next) y ∙ o .next-P)) (λ y. upd-off _ _ y ∙ k .next-else i e g y z));
-        prev = λ i e g. split i (q .N) (λ z. upd-at _ _ z ∙ sym (ap (c Prev) z ∙ o .prev-N))
-            (λ z. upd-off _ _ z ∙ split i (q .M) (λ y. upd-at _ _ y ∙ sym (ap (c Prev) y ∙ o .prev-M)) (λ y. upd-off _ _ y ∙ k .prev-else i e g z y));
-      })
-  tied (right o) =
-      let w = around k in
-      rw (eqb-other (off-a k (q .N) (o .N-in)), eqb-same (o .M-b)) (record {
-        p-in = w .0;
-        n-in = w .1;
-        p′-in = w .0;
-        n′-in = w .1;
-        next = λ i e g. split i (q .P) (λ z. upd-at _ _ z ∙ sym (ap (c Next) z ∙ o .next-P)) (λ z. upd-off _ _ z ∙ upd-off _ _ z ∙ k .next-else i e g z (λ y. g (y ∙ o .Q-b)));
-        prev = λ i e g. split i (q .N) (λ z. upd-at _ _ z ∙ sym (ap (c Prev) z ∙ o .prev-N)) (λ z. upd-off _ _ z ∙ upd-off _ _ z ∙ k .prev-else i e g z (λ y. g (y ∙ o .M-b)));
-      })
-  tied (left o) =
-      let w = around k in
-      rw (eqb-same (o .M-b), eqb-other (off-b k (q .M) (o .N-in))) (record {
-        p-in = w .2;
-        n-in = w .3;
-        p′-in = w .2;
-        n′-in = w .3;
-        next = λ i e g. split i (q .Q) (λ z. upd-at _ _ z ∙ sym (ap (c Next) z ∙ o .next-P)) (λ z. upd-off _ _ z ∙ upd-off _ _ z ∙ k .next-else i e g (λ y. e (y ∙ o .Q-b)) z);
-        prev = λ i e g. split i (q .M) (λ z. upd-at _ _ z ∙ sym (ap (c Prev) z ∙ o .prev-N)) (λ z. upd-off _ _ z ∙ upd-off _ _ z ∙ k .prev-else i e g (λ y. e (y ∙ o .M-b)) z);
-      })
-  tied (pair o) =
-      let w = around k in
-      rw (eqb-same (o .N-a), eqb-same (o .M-b)) (record {
-        p-in = w .2;
-        n-in = w .1;
-        p′-in = w .0;
-        n′-in = w .3;
-        next = λ i e g. upd-off _ _ (λ z. e (z ∙ o .P-a)) ∙ upd-off _ _ (λ z. g (z ∙ o .Q-b)) ∙ k .next-else i e g (λ z. e (z ∙ o .P-a)) (λ z. g (z ∙ o .Q-b));
-        prev = λ i e g. upd-off _ _ (λ z. g (z ∙ o .M-b)) ∙ upd-off _ _ (λ z. e (z ∙ o .N-a)) ∙ k .prev-else i e g (λ z. e (z ∙ o .N-a)) (λ z. g (z ∙ o .M-b));
-      })
+  -- p and n follow each other in c, unless they are of the edge
+  abbrev Follow : ℕ → ℕ → Type 0
+  Follow p n = (p ≢ q .b → p ≢ q .a → c Next p ≡ n) × (n ≢ q .b → n ≢ q .a → c Prev n ≡ p)
 
-module _ {sh : Shape} {p : List ℤ} {c d : Columns} {q : Spot} (k : Cut sh c d q) (s : Sound sh p c) (t : Sound sh p d) {x : List ℕ} (y : Shows sh x d) where
+  -- so it is with the first two
+  tie : Follow (tieP q) (tieN q)
+  tie = go (k .site .near .at-a) (k .site .near .at-b)
+    where
+      -- in each case
+      go : AtA sh c q → AtB sh c q → Follow (tieP q) (tieN q)
+      go (inr o) B = let e = eqb-other (off-a (k .site) (q .N) (o .after)) in
+          (λ x y. rw e (o .next), λ x y. rw e (o .prev))
+      go (inl o) (inr r) =
+          let e = eqb-same (o .after) in
+          let g = eqb-other (off-b (k .site) (q .M) (r .after)) in
+          (λ x y. rw (e, g) (r .next ∙ rw e), λ x y. rw (e, g) (ap (c Prev) (sym (rw e)) ∙ r .prev))
+      go (inl o) (inl r) =
+          let e = eqb-same (o .after) in
+          let g = eqb-same (r .after) in
+          (λ x y. absurd (x (rw e (r .before))), λ x y. absurd (y (rw g (o .after))))
+
+  -- and with the others
+  tie′ : Follow (tieP′ q) (tieN′ q)
+  tie′ = go (k .site .near .at-a) (k .site .near .at-b)
+    where
+      -- in each case
+      go : AtA sh c q → AtB sh c q → Follow (tieP′ q) (tieN′ q)
+      go A (inr r) = let g = eqb-other (off-b (k .site) (q .M) (r .after)) in
+          (λ x y. rw g (r .next), λ x y. rw g (r .prev))
+      go (inr o) (inl r) =
+          let e = eqb-other (off-a (k .site) (q .N) (o .after)) in
+          let g = eqb-same (r .after) in
+          (λ x y. rw (e, g) (o .next ∙ rw g), λ x y. rw (e, g) (ap (c Prev) (sym (rw g)) ∙ o .prev))
+      go (inl o) (inl r) =
+          let e = eqb-same (o .after) in
+          let g = eqb-same (r .after) in
+          (λ x y. absurd (y (rw g (o .before))), λ x y. absurd (x (rw e (r .after))))
+
+  -- what is neither tied nor a does not stand before a
+  off-P : (i : ℕ) → i ≢ tieP q → i ≢ q .a → i ≢ q .P
+  off-P i x e z = ⊎-elim (λ o. e (z ∙ o .before)) (λ o. x (z ∙ rw (eqb-other (off-a (k .site) (q .N) (o .after)))))
+      (k .site .near .at-a)
+
+  -- nor after it
+  off-N : (i : ℕ) → i ≢ tieN′ q → i ≢ q .a → i ≢ q .N
+  off-N i x e z = ⊎-elim (λ o. e (z ∙ o .after)) (λ o. x (z ∙ rw (eqb-other (off-a (k .site) (q .N) (o .after)))))
+      (k .site .near .at-a)
+
+  -- and so with b
+  off-Q : (i : ℕ) → i ≢ tieP′ q → i ≢ q .b → i ≢ q .Q
+  off-Q i x e z = ⊎-elim (λ o. e (z ∙ o .before)) (λ o. x (z ∙ rw (eqb-other (off-b (k .site) (q .M) (o .after)))))
+      (k .site .near .at-b)
+
+  -- after it
+  off-M : (i : ℕ) → i ≢ tieN q → i ≢ q .b → i ≢ q .M
+  off-M i x e z = ⊎-elim (λ o. e (z ∙ o .after)) (λ o. x (z ∙ rw (eqb-other (off-b (k .site) (q .M) (o .after)))))
+      (k .site .near .at-b)
+
+module _ {sh : Shape} {p : List ℤ} {c d : Columns} {q : Spot} (k : Cut sh c d q) (s : Sound sh p c) (t : Sound sh p d)
+    {x : List ℕ} (y : Shows sh x d) where
   -- as many half-edges
   abbrev n : ℕ
   n = 2 * sh .edges
@@ -114,72 +113,89 @@ module _ {sh : Shape} {p : List ℤ} {c d : Columns} {q : Spot} (k : Cut sh c d 
 
   -- shows them
   shows-run : Shows sh z1 R
-  shows-run = subst (λ i. Shows sh (relabelRun sh x i (q .b) (q .l)) R) (k .next-b) (shows-round y (t .rules .loops) (q .b) (used-b k) (q .l))
+  shows-run = subst (λ i. Shows sh (relabelRun sh x i (q .b) (q .l)) R) (k .next-b)
+      (shows-round y (t .rules .loops) (q .b) (used-b k) (q .l))
 
   -- the loops are those of c
   run-loop : (i : ℕ) → i ≤ n → i ≢ q .a → i ≢ q .b → R Loop i ≡ c Loop i
   run-loop i h e g = split (d Loop i) (q .m)
-      (λ z. round-in y (t .rules .loops) (q .b) (used-b k) (q .l) i (names-new k t i h z) (z ∙ sym (k .loop-b)) g ∙ sym (k .loop-new i h g z))
-      (λ z. round-off y (t .rules .loops) (q .b) (used-b k) (q .l) i (inr (λ r. z (r ∙ k .loop-b))) ∙ k .loop-else i h e z)
+      (λ z. round-in y (t .rules .loops) (q .b) (used-b k) (q .l) i (names-new k t i h z) (z ∙ sym (k .loop-b)) g
+      ∙ sym (k .loop-new i h g z))
+      (λ z. round-off y (t .rules .loops) (q .b) (used-b k) (q .l) i (inr (λ r. z (r ∙ k .loop-b)))
+      ∙ k .loop-else i h e z)
 
-  -- a column cleared at both halves, which elsewhere is c's
-  cleared : (F : Field) (f : ℕ → ℕ) → c F (q .a) ≡ 0 → c F (q .b) ≡ 0 → (i : ℕ) → (i ≢ q .a → i ≢ q .b → f i ≡ c F i) → upd (upd f (q .b) 0) (q .a) 0 i ≡ c F i
-  cleared F f za zb i h = split i (q .a) (λ e. upd-at _ _ e ∙ sym (ap (c F) e ∙ za))
-      (λ e. upd-off _ _ e ∙ split i (q .b) (λ g. upd-at _ _ g ∙ sym (ap (c F) g ∙ zb)) (λ g. upd-off _ _ g ∙ h e g))
+  -- the other columns are as they were
+  run-other : (F : Field) → sameField Loop F ≡ false → (i : ℕ) → R F i ≡ d F i
+  run-other = round-other y (t .rules .loops) (q .b) (used-b k) (q .l)
 
-  -- the columns with the edge out
-  abbrev O : Columns
-  O = withoutEdge R (q .b) (tieP q) (tieN q) (tieP′ q) (tieN′ q)
+  -- the columns of the half-edges are c's, the others still d's
+  abbrev H : Columns
+  H = patch halfFields c d
 
-  -- the columns of the half-edges are c's
-  out-same : (F : Field) (i : ℕ) → i ≤ capOf sh F → O F i ≡ withHalves d (halves c) F i
-  out-same Capacity i h = round-other y (t .rules .loops) (q .b) (used-b k) (q .l) Capacity refl i
-  out-same SolidUsed i h = round-other y (t .rules .loops) (q .b) (used-b k) (q .l) SolidUsed refl i
-  out-same Solid i h = round-other y (t .rules .loops) (q .b) (used-b k) (q .l) Solid refl i
-  out-same Outer i h = round-other y (t .rules .loops) (q .b) (used-b k) (q .l) Outer refl i
-  out-same Face i h = round-other y (t .rules .loops) (q .b) (used-b k) (q .l) Face refl i
-  out-same First i h = round-other y (t .rules .loops) (q .b) (used-b k) (q .l) First refl i
-  out-same Isolated i h = round-other y (t .rules .loops) (q .b) (used-b k) (q .l) Isolated refl i
-  out-same VertexUsed i h = round-other y (t .rules .loops) (q .b) (used-b k) (q .l) VertexUsed refl i
-  out-same Start i h = rw (k .ba) (cleared Start (R Start) (k .zero-a .s) (k .zero-b .s) i (λ e g. round-other y (t .rules .loops) (q .b) (used-b k) (q .l) Start refl i ∙ k .start-else i e g))
-  out-same Loop i h = rw (k .ba) (cleared Loop (R Loop) (k .zero-a .l) (k .zero-b .l) i (run-loop i h))
-  out-same Next i h = rw (k .ba) (cleared Next _ (k .zero-a .n) (k .zero-b .n) i (λ e g.
-      upd-near (upd (R Next) (tieP q) (tieN q)) (upd (d Next) (tieP q) (tieN q)) (tieP′ q) (tieN′ q) i (upd-near (R Next) (d Next) (tieP q) (tieN q) i (round-other y (t .rules .loops) (q .b) (used-b k) (q .l) Next refl i)) ∙ tied k (k .near) .next i e g))
-  out-same Prev i h = rw (k .ba) (cleared Prev _ (k .zero-a .p) (k .zero-b .p) i (λ e g.
-      upd-near (upd (R Prev) (tieN q) (tieP q)) (upd (d Prev) (tieN q) (tieP q)) (tieN′ q) (tieP′ q) i (upd-near (R Prev) (d Prev) (tieN q) (tieP q) i (round-other y (t .rules .loops) (q .b) (used-b k) (q .l) Prev refl i)) ∙ tied k (k .near) .prev i e g))
+  -- so they are once the edge is out
+  out-same : (F : Field) (i : ℕ) → i ≤ capOf sh F → changes (edgeOff q) R F i ≡ H F i
+  out-same F i =
+      let start = settled Start (edgeOff q) R (c Start) i (λ e. k .zero-b .s, (k .zero-a .s, tt))
+      (λ g e. run-other Start refl i ∙ k .start-else i e g) in
+      let loop : i ≤ n → changes (edgeOff q) R Loop i ≡ c Loop i = λ h.
+      settled Loop (edgeOff q) R (c Loop) i (λ e. k .zero-b .l, (k .zero-a .l, tt)) (λ g e. run-loop i h e g) in
+      let next = settled Next (edgeOff q) R (c Next) i
+      (λ z. tie k .0, (tie′ k .0, (λ e. k .zero-b .n, (k .zero-a .n, tt))))
+      (λ x x′ g e. run-other Next refl i ∙ k .next-else i e g (off-P k i x e) (off-Q k i x′ g)) in
+      let prev = settled Prev (edgeOff q) R (c Prev) i
+      (λ z. tie k .1, (tie′ k .1, (λ e. k .zero-b .p, (k .zero-a .p, tt))))
+      (λ x x′ g e. run-other Prev refl i ∙ k .prev-else i e g (off-N k i x′ e) (off-M k i x g)) in
+      by-fields halfFields (λ F. i ≤ capOf sh F → changes (edgeOff q) R F i ≡ H F i)
+      (λ h. start, (loop, (λ h. next, (λ h. prev, tt))))
+      (λ F e h. unwritten halfFields (edgeOff q) refl R F e i ∙ run-other F (not-same halfFields Loop F refl e) i
+      ∙ sym (patch-other halfFields c d F e i)) F
 
   -- the list with the edge out
   abbrev z2 : List ℕ
-  z2 = edgeOut sh z1 (q .b) (tieP q) (tieN q) (tieP′ q) (tieN′ q)
+  z2 = writes sh (edgeOff q) z1
 
   -- shows them
-  shows-out : Shows sh z2 (withHalves d (halves c))
+  shows-out : Shows sh z2 H
   shows-out =
-      let r = tied k (k .near) in
-      let in2 : (i : ℕ) → HalfUsed sh d i → In n i = λ i w. (w .0, w .1) in
-      shows-agree (shows-no-edge shows-run (q .b) (tieP q) (tieN q) (tieP′ q) (tieN′ q) (k .b-in) (subst (In n) (sym (k .ba)) (k .a-in))
-      (in2 _ (r .p-in)) (in2 _ (r .n-in)) (in2 _ (r .p′-in)) (in2 _ (r .n′-in))) out-same
+      let a = k .site .a-in in
+      let b = k .site .b-in in
+      let o = around k in
+      let one : (t : Bool) (i j : ℕ) → HalfUsed sh d i → HalfUsed sh d j → In n (pick t i j) = λ t i j x y.
+      pick-ind (In n) t i j (x .0, x .1) (y .0, y .1) in
+      let A = eqb (q .N) (q .a) in
+      let B = eqb (q .M) (q .b) in
+      shows-agree (shows-writes (edgeOff q) shows-run (
+        one A (q .Q) (q .P) (o .2) (o .0),
+        (
+          one B (q .N) (q .M) (o .1) (o .3),
+          (
+            one B (q .P) (q .Q) (o .0) (o .2),
+            (
+              one A (q .M) (q .N) (o .3) (o .1),
+              (b, (b, (b, (b, (a, (a, (a, (a, tt)))))))),
+            ),
+          ),
+        ),
+      )) out-same
 
   -- ---- the records of face and loop, and the first of l
 
   -- with face and loop cleared
   abbrev e3 : Columns
-  e3 = change (change (change (change (change (withHalves d (halves c)) Solid (q .f) 0) Outer (q .f) 0) Face (q .m) 0) First (q .m) 0) Isolated (q .m) 0
+  e3 = changes (faceOff q) H
 
   -- the list then
   abbrev z3 : List ℕ
-  z3 = putLoop sh (putFace sh z2 (q .f) 0 0) (q .m) 0 0 0
+  z3 = writes sh (faceOff q) z2
 
   -- shows them
   shows-records : Shows sh z3 e3
-  shows-records =
-      let mi = k .m-in in
-      let fi = k .f-in in
-      shows-put (shows-put (shows-put (shows-put (shows-put shows-out Solid (q .f) 0 (fi .0) (fi .1)) Outer (q .f) 0 (fi .0) (fi .1)) Face (q .m) 0 (mi .0) (mi .1)) First (q .m) 0 (mi .0) (mi .1)) Isolated (q .m) 0 (mi .0) (mi .1)
+  shows-records = let m = k .site .m-in in let f = k .site .f-in in
+      shows-writes (faceOff q) shows-out (f, (f, (m, (m, (m, tt)))))
 
   -- the first of l in c
   first-l : c First (q .l) ≡ firstOf sh c (q .l)
-  first-l = s .loop (q .l) (k .l-in) (k .l-used) .first
+  first-l = s .loop (q .l) (k .site .l-in) (k .site .l-used) .first
 
   -- where l's first is looked for
   abbrev low : ℕ
@@ -192,57 +208,56 @@ module _ {sh : Shape} {p : List ℤ} {c d : Columns} {q : Spot} (k : Cut sh c d 
   -- what names l in c named l or m in d
   from : (i : ℕ) → In n i → c Loop i ≡ q .l → lower (loopFirst sh x (q .m)) (loopFirst sh x (q .l)) ≤ i
   from i j e =
-      let w : HalfUsed sh c i = (j .0, j .1, λ r. omega (arith, k .l-in .0, sym e ∙ s .half-free i j r .loop)) in
+      let w : HalfUsed sh c i = (j .0, j .1, λ r. omega (arith, k .site .l-in .0, sym e ∙ s .half-free i j r .loop)) in
       split (d Loop i) (q .m)
-      (λ z. let f = first-d (q .m) i (k .m-in) j z in lower-one _ _ i (f .0) (f .1))
-      (λ z. lower-other (loopFirst sh x (q .m)) _ i (first-d (q .l) i (k .l-in) j (k .loop-else i (j .1) (off-a k i w) z ∙ e) .1))
+      (λ z. let f = first-d (q .m) i (k .site .m-in) j z in lower-one _ _ i (f .0) (f .1))
+      (λ z. lower-other (loopFirst sh x (q .m)) _ i
+      (first-d (q .l) i (k .site .l-in) j (k .loop-else i (j .1) (off-a (k .site) i w) z ∙ e) .1))
 
   -- first and isolated vertex of l become c's
-  renewed : (h : ℕ) → HalfUsed sh c h → c Loop h ≡ q .l → c Isolated (q .l) ≡ 0 → Shows sh (renew sh z3 (q .l) low h (q .v)) (withFirst e3 (q .l) (c First (q .l)) (c Isolated (q .l)))
-  renewed h w e z = rw (first-l, z) (shows-first {U = HalfUsed sh c} shows-records (q .l) low h (q .v) (k .l-in) (s .rules .loops) w e
-      (λ i j g. (j .0, j .1, λ r. omega (arith, k .l-in .0, sym g ∙ s .half-free i j r .loop))) from)
+  renewed : (h : ℕ) → HalfUsed sh c h → c Loop h ≡ q .l → c Isolated (q .l) ≡ 0
+      → Shows sh (renew sh z3 (q .l) low h (q .v)) (withFirst e3 (q .l) (c First (q .l)) (c Isolated (q .l)))
+  renewed h w e z = rw (first-l, z) (shows-first {U = HalfUsed sh c} shows-records (q .l) low h (q .v) (k .site .l-in)
+      (s .rules .loops) w e
+      (λ i j g. (j .0, j .1, λ r. omega (arith, k .site .l-in .0, sym g ∙ s .half-free i j r .loop))) from)
 
-  -- the same for an equal half-edge
-  at : {i j : ℕ} → i ≡ j → Shows sh (renew sh z3 (q .l) low j (q .v)) (withFirst e3 (q .l) (c First (q .l)) (c Isolated (q .l))) → Shows sh (renew sh z3 (q .l) low i (q .v)) (withFirst e3 (q .l) (c First (q .l)) (c Isolated (q .l)))
-  at e = subst (λ i. Shows sh (renew sh z3 (q .l) low i (q .v)) (withFirst e3 (q .l) (c First (q .l)) (c Isolated (q .l)))) (sym e)
-
-  -- in each case
-  renew-l : Near sh c q → Shows sh (renew sh z3 (q .l) low (restOf q) (q .v)) (withFirst e3 (q .l) (c First (q .l)) (c Isolated (q .l)))
-  renew-l (both o) =
-      let e : restOf q ≡ q .M = rw (eqb-other (off-b k (q .M) (o .M-in))) in
-      at e (renewed (q .M) (o .M-in) (ap (c Loop) (sym (o .next-P)) ∙ s .rules .loops .keeps (q .P) (o .P-in) ∙ o .loop-P) (o .isolated))
-  renew-l (right o) =
-      let e : restOf q ≡ q .N = rw (eqb-same (o .M-b), eqb-other (off-a k (q .N) (o .N-in))) in
-      at e (renewed (q .N) (o .N-in) (ap (c Loop) (sym (o .next-P)) ∙ s .rules .loops .keeps (q .P) (o .P-in) ∙ o .loop-P) (o .isolated))
-  renew-l (left o) =
-      let e : restOf q ≡ q .M = rw (eqb-other (off-b k (q .M) (o .N-in))) in
-      at e (renewed (q .M) (o .N-in) (ap (c Loop) (sym (o .next-P)) ∙ s .rules .loops .keeps (q .Q) (o .P-in) ∙ o .loop-P) (o .isolated))
-  renew-l (pair o) =
-      let e : restOf q ≡ 0 = rw (eqb-same (o .M-b), eqb-same (o .N-a)) in
-      let r : c First (q .l) ≡ 0 = lone-used s (q .l) (k .l-in) (λ g. k .u-some (sym (o .isolated) ∙ g)) .0 in
-      at e (rw (r, o .isolated ∙ o .start) (shows-isolated shows-records (q .l) low (q .v) (k .l-in)))
+  -- whichever the corners
+  renew-l : Shows sh (renew sh z3 (q .l) low (restOf q) (q .v))
+      (withFirst e3 (q .l) (c First (q .l)) (c Isolated (q .l)))
+  renew-l = ⊎-elim
+      (λ o. renewed (restOf q) (o .1 .corner)
+      (ap (c Loop) (sym (o .1 .next)) ∙ s .rules .loops .keeps (seat q) (o .1 .before) ∙ o .1 .loop) (o .2))
+      (λ o.
+      let f : c First (q .l) ≡ 0 = lone-used s (q .l) (k .site .l-in) (λ g. k .site .u-some (sym (o .2) ∙ g)) .0 in
+      let e : restOf q ≡ 0 = rw (eqb-same (o .0 .after), eqb-same (o .1 .after)) in
+      subst (λ i. Shows sh (renew sh z3 (q .l) low i (q .v))
+      (withFirst e3 (q .l) (c First (q .l)) (c Isolated (q .l)))) (sym e)
+      (rw (f, o .2 ∙ o .0 .ends) (shows-isolated shows-records (q .l) low (q .v) (k .site .l-in))))
+      (first-corner (k .site))
 
   -- the list after kef
   abbrev pub mendList : List ℕ
   mendList = renew sh z3 (q .l) (lower (loopFirst sh x (q .m)) (loopFirst sh x (q .l))) (restOf q) (q .v)
 
-  -- shows the columns without the edge
+  -- first and isolated vertex of l
+  abbrev firsts : List Write
+  firsts = write First (q .l) (c First (q .l)) ∷ write Isolated (q .l) (c Isolated (q .l)) ∷ []
+
+  -- with them these are the columns of c
+  last : (F : Field) (i : ℕ) → changes firsts e3 F i ≡ c F i
+  last F i =
+      let solid = settled Solid (faceOff q) H (c Solid) i (k .site .f-free, tt) (k .solid-else i) in
+      let outer = settled Outer (faceOff q) H (c Outer) i (k .outer-free, tt) (k .outer-else i) in
+      let face = settled Face (faceOff q) H (c Face) i (k .site .m-free, tt) (k .face-else i) in
+      let first = settled First (faceOff q ++ firsts) H (c First) i (λ e. k .first-free, (refl, tt))
+      (λ e g. k .first-else i g e) in
+      let isolated = settled Isolated (faceOff q ++ firsts) H (c Isolated) i (λ e. k .isolated-free, (refl, tt))
+      (λ e g. k .isolated-else i g e) in
+      by-fields cutFields (λ F. changes firsts e3 F i ≡ c F i)
+      (solid, (outer, (face, (first, (isolated, (refl, (refl, (refl, (refl, tt)))))))))
+      (λ F e. unwritten cutFields firsts refl e3 F e i ∙ unwritten cutFields (faceOff q) refl H F e i
+      ∙ patch-other halfFields c d F (outside cutFields halfFields refl F e) i ∙ k .others F e i) F
+
+  -- the list after kef shows the columns without the edge
   pub mend-shows : Shows sh mendList c
-  mend-shows = shows-agree (renew-l (k .near)) (λ F i h. last F i)
-    where
-      -- these are the columns of c
-      last : (F : Field) (i : ℕ) → withFirst e3 (q .l) (c First (q .l)) (c Isolated (q .l)) F i ≡ c F i
-      last Capacity i = k .capacity i
-      last SolidUsed i = k .solid-used i
-      last Solid i = split i (q .f) (λ e. upd-at _ _ e ∙ sym (ap (c Solid) e ∙ k .solid-free)) (λ e. upd-off _ _ e ∙ k .solid-else i e)
-      last Outer i = split i (q .f) (λ e. upd-at _ _ e ∙ sym (ap (c Outer) e ∙ k .outer-free)) (λ e. upd-off _ _ e ∙ k .outer-else i e)
-      last Face i = split i (q .m) (λ e. upd-at _ _ e ∙ sym (ap (c Face) e ∙ k .face-free)) (λ e. upd-off _ _ e ∙ k .face-else i e)
-      last First i = split i (q .l) (λ e. upd-at _ _ e ∙ sym (ap (c First) e))
-          (λ e. upd-off _ _ e ∙ split i (q .m) (λ g. upd-at _ _ g ∙ sym (ap (c First) g ∙ k .first-free)) (λ g. upd-off _ _ g ∙ k .first-else i e g))
-      last Isolated i = split i (q .l) (λ e. upd-at _ _ e ∙ sym (ap (c Isolated) e))
-          (λ e. upd-off _ _ e ∙ split i (q .m) (λ g. upd-at _ _ g ∙ sym (ap (c Isolated) g ∙ k .isolated-free)) (λ g. upd-off _ _ g ∙ k .isolated-else i e g))
-      last Start i = refl
-      last Loop i = refl
-      last Next i = refl
-      last Prev i = refl
-      last VertexUsed i = k .vertex-used i
+  mend-shows = shows-agree renew-l (λ F i h. last F i)

@@ -1,4 +1,5 @@
--- Rule 6 once the edge is out: the face of b is joined to that of a.
+-- Rule 6 (the faces of a solid hang together across edges) once the edge is out: what named the face of b names that
+-- of a.
 use mathlib.Core.Path.{_≡_, sym, ap, _∙_, subst}
 use mathlib.Core.Logic.{_≢_}
 use mathlib.Core.List.{List}
@@ -14,26 +15,27 @@ use Rattle.sound_tables.specs.Faces.{Share}
 use Rattle.sound_tables.specs.Solids.{Solids}
 use Rattle.sound_tables.specs.Sound.{In, HalfUsed, FaceUsed, side, Sound}
 use Rattle.sound_cuts.specs.KefRules.{mend-rules}
-use Rattle.sound_cuts.specs.Relation.{Spot, Cut, off-a, off-b, used-to, each}
+use Rattle.sound_cuts.specs.Relation.{Spot, off-a, off-b, l-m, ba, Cut, used-to, each}
 
 -- m is the only loop of f
 abbrev pub Only : Shape → Columns → Spot → Type 0
 Only sh d q = (n : ℕ) → In (sh .loops) n → n ≢ q .m → d Face n ≢ q .f
 
-module _ {sh : Shape} {p : List ℤ} {c d : Columns} {q : Spot} (k : Cut sh c d q) (only : Only sh d q) (t : Sound sh p d) where
+module _ {sh : Shape} {p : List ℤ} {c d : Columns} {q : Spot} (k : Cut sh c d q) (only : Only sh d q)
+    (t : Sound sh p d) where
   -- the face of l
   abbrev f0 : ℕ
   f0 = c Face (q .l)
 
   -- it is another
   pub f0-f : c Face (q .l) ≢ q .f
-  f0-f e = only (q .l) (k .l-in) (k .l-m) (k .face-else (q .l) (k .l-m) ∙ e)
+  f0-f e = only (q .l) (k .site .l-in) (l-m (k .site)) (k .face-else (q .l) (l-m (k .site)) ∙ e)
 
   -- and in use
   pub old-used : FaceUsed sh c (c Face (q .l))
   old-used =
-      let e = k .face-else (q .l) (k .l-m) in
-      let r = t .loop (q .l) (k .l-in) (λ z. k .l-used (sym e ∙ z)) in
+      let e = k .face-else (q .l) (l-m (k .site)) in
+      let r = t .loop (q .l) (k .site .l-in) (λ z. k .site .l-used (sym e ∙ z)) in
       let i : In (sh .faces) f0 = subst (In (sh .faces)) e (r .face-in) in
       (i .0, i .1, λ z. r .face-used (ap (d Solid) e ∙ k .solid-else f0 f0-f ∙ z))
 
@@ -48,14 +50,17 @@ module _ {sh : Shape} {p : List ℤ} {c d : Columns} {q : Spot} (k : Cut sh c d 
   -- a side becomes what φ says
   side-φ : (i : ℕ) → HalfUsed sh c i → side c i ≡ φ (side d i)
   side-φ i x = split (d Loop i) (q .m)
-      (λ e. ap (c Face) (k .loop-new i (x .1) (off-b k i x) e) ∙ sym (upd-at (λ g. g) f0 (ap (d Face) e ∙ k .face-new)))
+      (λ e. ap (c Face) (k .loop-new i (x .1) (off-b (k .site) i x) e)
+      ∙ sym (upd-at (λ g. g) f0 (ap (d Face) e ∙ k .face-new)))
       (λ e. let r = t .half i (x .0, x .1) (used-to k i x .2) in
       let z : side d i ≢ q .f = only (d Loop i) (r .loop-in) e in
-      ap (c Face) (sym (k .loop-else i (x .1) (off-a k i x) e)) ∙ sym (k .face-else (d Loop i) e) ∙ sym (upd-off (λ g. g) f0 z))
+      ap (c Face) (sym (k .loop-else i (x .1) (off-a (k .site) i x) e)) ∙ sym (k .face-else (d Loop i) e)
+      ∙ sym (upd-off (λ g. g) f0 z))
 
   -- what φ gives is in use, in the same solid
   φ-used : (g : ℕ) → FaceUsed sh d g → FaceUsed sh c (φ g)
-  φ-used g x = split g (q .f) (λ e. subst (FaceUsed sh c) (sym (upd-at (λ g. g) f0 e)) old-used) (λ e. subst (FaceUsed sh c) (sym (upd-off (λ g. g) f0 e)) (face-from g x e))
+  φ-used g x = split g (q .f) (λ e. subst (FaceUsed sh c) (sym (upd-at (λ g. g) f0 e)) old-used)
+      (λ e. subst (FaceUsed sh c) (sym (upd-off (λ g. g) f0 e)) (face-from g x e))
 
   -- and its solid is the same
   φ-solid : (g : ℕ) → c Solid (φ g) ≡ d Solid g
@@ -65,7 +70,7 @@ module _ {sh : Shape} {p : List ℤ} {c d : Columns} {q : Spot} (k : Cut sh c d 
 
   -- both sides of the edge become the face of l
   φ-a : φ (side d (q .a)) ≡ f0
-  φ-a = ap φ (ap (d Face) (k .loop-a) ∙ k .face-else (q .l) (k .l-m)) ∙ upd-off (λ g. g) f0 f0-f
+  φ-a = ap φ (ap (d Face) (k .loop-a) ∙ k .face-else (q .l) (l-m (k .site))) ∙ upd-off (λ g. g) f0 f0-f
 
   -- the same of b
   φ-b : φ (side d (q .b)) ≡ f0
@@ -78,8 +83,8 @@ module _ {sh : Shape} {p : List ℤ} {c d : Columns} {q : Spot} (k : Cut sh c d 
   -- a step of d is a chain of c
   step : (i : ℕ) → HalfUsed sh d i → L (φ (side d i)) (φ (side d (mate i)))
   step = each k (λ i. L (φ (side d i)) (φ (side d (mate i))))
-      (same (φ-a ∙ sym (ap (λ j. φ (side d j)) (k .ab) ∙ φ-b)))
-      (same (φ-b ∙ sym (ap (λ j. φ (side d j)) (k .ba) ∙ φ-a)))
+      (same (φ-a ∙ sym (ap (λ j. φ (side d j)) (k .site .ab) ∙ φ-b)))
+      (same (φ-b ∙ sym (ap (λ j. φ (side d j)) (ba (k .site)) ∙ φ-a)))
       (λ i x. link (i, x, side-φ i x, side-φ (mate i) (mend-rules k (t .rules) .mate-in i x)))
 
   -- rule 6 without the edge
@@ -87,12 +92,16 @@ module _ {sh : Shape} {p : List ℤ} {c d : Columns} {q : Spot} (k : Cut sh c d 
   mend-solids =
       let mate-in = mend-rules k (t .rules) .mate-in in
       record {
-        side-in = λ i x. subst (FaceUsed sh c) (sym (side-φ i x)) (φ-used (side d i) (t .solids .side-in i (used-to k i x)));
-        edge = λ i x. ap (c Solid) (side-φ (mate i) (mate-in i x)) ∙ φ-solid (side d (mate i)) ∙ t .solids .edge i (used-to k i x) ∙ sym (φ-solid (side d i)) ∙ ap (c Solid) (sym (side-φ i x));
+        side-in = λ i x. subst (FaceUsed sh c) (sym (side-φ i x))
+            (φ-used (side d i) (t .solids .side-in i (used-to k i x)));
+        edge = λ i x. ap (c Solid) (side-φ (mate i) (mate-in i x)) ∙ φ-solid (side d (mate i))
+            ∙ t .solids .edge i (used-to k i x) ∙ sym (φ-solid (side d i)) ∙ ap (c Solid) (sym (side-φ i x));
         one = λ g h x y e.
-            let nf : (g : ℕ) → FaceUsed sh c g → g ≢ q .f = λ g x z. x .2 (ap (c Solid) z ∙ k .solid-free) in
-            let to : (g : ℕ) → FaceUsed sh c g → FaceUsed sh d g = λ g x. (x .0, x .1, λ z. x .2 (sym (k .solid-else g (nf g x)) ∙ z)) in
+            let nf : (g : ℕ) → FaceUsed sh c g → g ≢ q .f = λ g x z. x .2 (ap (c Solid) z ∙ k .site .f-free) in
+            let to : (g : ℕ) → FaceUsed sh c g → FaceUsed sh d g =
+            λ g x. (x .0, x .1, λ z. x .2 (sym (k .solid-else g (nf g x)) ∙ z)) in
             subst (λ i. L i h) (upd-off (λ g. g) f0 (nf g x)) (subst (L (φ g)) (upd-off (λ g. g) f0 (nf h y))
-            (map-linked φ (λ i j r. subst (λ z. L z (φ j)) (ap φ (r .2)) (subst (L (φ (side d (r .0)))) (ap φ (r .3)) (step (r .0) (r .1))))
+            (map-linked φ (λ i j r. subst (λ z. L z (φ j)) (ap φ (r .2))
+            (subst (L (φ (side d (r .0)))) (ap φ (r .3)) (step (r .0) (r .1))))
             (t .solids .one g h (to g x) (to h y) (k .solid-else g (nf g x) ∙ e ∙ sym (k .solid-else h (nf h y))))));
       }

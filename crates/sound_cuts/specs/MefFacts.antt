@@ -1,4 +1,5 @@
--- What an accepted mef says of its operands.
+-- What is known of the operands of an accepted mef: they are in range, in use or free as they should be, and name
+-- corners of the loop.
 use mathlib.Core.Path.{_≡_, refl, _∙_, subst}
 use mathlib.Core.Logic.{_≢_}
 use mathlib.Core.Bool.{true, not, _&&_, _||_}
@@ -49,40 +50,59 @@ pub record MefFacts (sh : Shape) (c : Columns) (o : Operator) : Type 0 where
   pub way : w ≤ 3
 
 -- the test, taken apart
-test-says : (sh : Shape) (x : List ℕ) (l h1 h2 w : ℕ) → mefTest sh x l h1 h2 w ≡ true → T (corner sh x l h1) × T (corner sh x l h2) × (2 ≤ w → (h1 ≡ h2) × (h1 ≢ 0))
+test-says : (sh : Shape) (x : List ℕ) (l h1 h2 w : ℕ) → mefTest sh x l h1 h2 w ≡ true → T (corner sh x l h1)
+    × T (corner sh x l h2) × (2 ≤ w → (h1 ≡ h2) × (h1 ≢ 0))
 unfolding mefTest
 test-says sh x l h1 h2 w t =
-    let r = every-T (corner sh x l h1 ∷ corner sh x l h2 ∷ (not (leb 2 w) || (eqb h1 h2 && not (eqb h1 0))) ∷ []) (true-T t) in (
+    let r = every-T (corner sh x l h1 ∷ corner sh x l h2 ∷ (not (leb 2 w) || (eqb h1 h2 && not (eqb h1 0))) ∷ [])
+    (true-T t) in (
       r .0,
       r .1 .0,
-      λ h. let s = and-T (eqb h1 h2) (not (eqb h1 0)) (imp-T (leb 2 w) (eqb h1 h2 && not (eqb h1 0)) (r .1 .1 .0) (le→leb 2 w h)) in
+      λ h. let s = and-T (eqb h1 h2) (not (eqb h1 0))
+          (imp-T (leb 2 w) (eqb h1 h2 && not (eqb h1 0)) (r .1 .1 .0) (le→leb 2 w h)) in
           (eqb→eq h1 h2 (s .0), λ z. T-not (eqb h1 0) (s .1) (true-T (eqb-same z))),
     )
 
 -- all from the refusal 0
-pub mef-facts : (sh : Shape) (x : List ℕ) (o : Operator) → Capacities sh → length (o .args) ≡ 8 → o .code ≡ 5 → refusalOf sh x o ≡ 0 → MefFacts sh (own sh x) o
+pub mef-facts : (sh : Shape) (x : List ℕ) (o : Operator) → Capacities sh → length (o .args) ≡ 8 → o .code ≡ 5
+    → refusalOf sh x o ≡ 0 → MefFacts sh (own sh x) o
 unfolding pattern rows useWord condition
 mef-facts sh x o caps len e h =
     let a = by-place sh x o 5 len refl e h in
     let r = a .range in
     let u = a .used in
-    let n0 : Number (sh .loops) (getD (o .args) 0 (pos 0)) = number (limits sh) 6 _ refl refl (omega (arith, caps .loops)) (r 0 (lit≤ tt)) in
-    let n1 : (getD (o .args) 1 (pos 0) ≡ pos (operandOf o 1)) × (operandOf o 1 ≤ 2 * sh .edges) = number-or-none (limits sh) 10 _ refl (omega (arith, caps .edges)) (r 1 (lit≤ tt)) in
-    let n2 : (getD (o .args) 2 (pos 0) ≡ pos (operandOf o 2)) × (operandOf o 2 ≤ 2 * sh .edges) = number-or-none (limits sh) 10 _ refl (omega (arith, caps .edges)) (r 2 (lit≤ tt)) in
-    let n3 : Number (sh .edges) (getD (o .args) 3 (pos 0)) = number (limits sh) 8 _ refl refl (omega (arith, caps .edges)) (r 3 (lit≤ tt)) in
-    let n4 : Number (sh .faces) (getD (o .args) 4 (pos 0)) = number (limits sh) 5 _ refl refl (omega (arith, caps .faces)) (r 4 (lit≤ tt)) in
-    let n5 : Number (sh .loops) (getD (o .args) 5 (pos 0)) = number (limits sh) 7 _ refl refl (omega (arith, caps .loops)) (r 5 (lit≤ tt)) in
-    let n6 : (getD (o .args) 6 (pos 0) ≡ pos (operandOf o 6)) × (operandOf o 6 ≤ 3) = number-or-none (limits sh) 13 _ refl (lit≤ tt) (r 6 (lit≤ tt)) in
+    let n0 : Number (sh .loops) (getD (o .args) 0 (pos 0)) =
+    number (limits sh) 6 _ refl refl (omega (arith, caps .loops)) (r 0 (lit≤ tt)) in
+    let n1 : (getD (o .args) 1 (pos 0) ≡ pos (operandOf o 1)) × (operandOf o 1 ≤ 2 * sh .edges) =
+    number-or-none (limits sh) 10 _ refl (omega (arith, caps .edges)) (r 1 (lit≤ tt)) in
+    let n2 : (getD (o .args) 2 (pos 0) ≡ pos (operandOf o 2)) × (operandOf o 2 ≤ 2 * sh .edges) =
+    number-or-none (limits sh) 10 _ refl (omega (arith, caps .edges)) (r 2 (lit≤ tt)) in
+    let n3 : Number (sh .edges) (getD (o .args) 3 (pos 0)) =
+    number (limits sh) 8 _ refl refl (omega (arith, caps .edges)) (r 3 (lit≤ tt)) in
+    let n4 : Number (sh .faces) (getD (o .args) 4 (pos 0)) =
+    number (limits sh) 5 _ refl refl (omega (arith, caps .faces)) (r 4 (lit≤ tt)) in
+    let n5 : Number (sh .loops) (getD (o .args) 5 (pos 0)) =
+    number (limits sh) 7 _ refl refl (omega (arith, caps .loops)) (r 5 (lit≤ tt)) in
+    let n6 : (getD (o .args) 6 (pos 0) ≡ pos (operandOf o 6)) × (operandOf o 6 ≤ 3) =
+    number-or-none (limits sh) 13 _ refl (lit≤ tt) (r 6 (lit≤ tt)) in
     let s1 : operandOf o 1 ≤ 8192 = omega (arith, n1 .1, caps .edges) in
     let s2 : operandOf o 2 ≤ 8192 = omega (arith, n2 .1, caps .edges) in
     let s6 : operandOf o 6 ≤ 8192 = omega (arith, n6 .1) in
-    let is : o ≡ mefOf (operandOf o 0) (operandOf o 1) (operandOf o 2) (operandOf o 3) (operandOf o 4) (operandOf o 5) (operandOf o 6) = λ t. record {
+    let is : o ≡ mefOf (operandOf o 0) (operandOf o 1) (operandOf o 2) (operandOf o 3) (operandOf o 4) (operandOf o 5)
+    (operandOf o 6) = λ t. record {
       code = e t;
       count = a .count t;
-      args = (eight (o .args) len ∙ (λ i. n0 .is i ∷ n1 .0 i ∷ n2 .0 i ∷ n3 .is i ∷ n4 .is i ∷ n5 .is i ∷ n6 .0 i ∷ a .rest 7 (lit≤ tt) refl i ∷ [])) t;
+      args = (eight (o .args) len ∙ (λ i. n0 .is i ∷ n1 .0 i ∷ n2 .0 i ∷ n3 .is i ∷ n4 .is i ∷ n5 .is i ∷ n6 .0 i
+          ∷ a .rest 7 (lit≤ tt) refl i ∷ [])) t;
     } in
     let t = test-says sh x (operandOf o 0) (operandOf o 1) (operandOf o 2) (operandOf o 6)
-    (rw (le-leb (operandOf o 0) 8192 (n0 .small), le-leb (operandOf o 1) 8192 s1, le-leb (operandOf o 2) 8192 s2, le-leb (operandOf o 6) 8192 s6) at (subst (λ q. condition sh x q ≡ true) is (a .holds))) in
+    (rw (
+      le-leb (operandOf o 0) 8192 (n0 .small),
+      le-leb (operandOf o 1) 8192 s1,
+      le-leb
+          (operandOf o 2) 8192 s2,
+      le-leb (operandOf o 6) 8192 s6,
+    ) at (subst (λ q. condition sh x q ≡ true) is (a .holds))) in
     record {
       l = operandOf o 0;
       h1 = operandOf o 1;

@@ -1,32 +1,35 @@
 -- mef as an operator: a good table stays good, and its inverse gives everything back.
 use mathlib.Core.Path.{_≡_, refl, sym, ap, _∙_, subst}
-use mathlib.Core.Logic.{_≢_, inl, inr, ⊎-elim}
+use mathlib.Core.Logic.{_≢_, _⊎_, inl, inr, ⊎-elim}
+use mathlib.Core.Bool.{Bool, true, false, not, _&&_}
 use mathlib.Core.List.{List}
-use Prim.Native.Nat.{ℕ, _+_, _≤_, _<_}
+use Prim.Native.Nat.{ℕ, _+_, _*_, _≤_, _<_}
 use native.Mathlib.Omega.{arith}
+use lib.Dec.{eqb}
 use lib.IntN.{ℤ}
 use lib.ListN.{length}
-use Rattle.laws.specs.Bools.{split, le?}
+use Rattle.laws.specs.Bools.{pick, split, le?, eqb-same, eqb-other}
 use Rattle.script.specs.declared.Operator.{Operator}
 use Rattle.layout.specs.declared.shape.Shape.{Shape}
 use Rattle.layout.specs.Mate.{mate}
 use Rattle.layout.specs.MateLaws.{mate-range}
 use Rattle.euler.specs.Surgery.{halfBy, wayOf}
 use Rattle.euler.specs.Exec.{refusalOf}
+use Rattle.sound_tables.specs.Mates.{mate-other}
 use Rattle.sound_tables.specs.EdgeIn.{prev-in, next-prev, prev-loop}
 use Rattle.layout.specs.Fields.{Isolated, Start, Loop, Next, Prev, Columns}
-use Rattle.sound_tables.specs.Sound.{HalfUsed}
+use Rattle.sound_tables.specs.Sound.{In, HalfUsed}
 use Rattle.sound_tables.specs.HalfNumbers.{edge-by, way-rest, mate-edge}
 use Rattle.sound_tables.specs.Names.{not-isolated, free-halves}
 use Rattle.sound_tables.specs.Good.{own, Good}
 use Rattle.sound_tables.specs.CornerTest.{CornerAt}
 use Rattle.sound_tables.specs.Undone.{Kept, Undone}
-use Rattle.sound_cuts.specs.Relation.{Spot, Both, Spike, Pair, Near, both, right, left, pair, Cut}
+use Rattle.sound_cuts.specs.Relation.{Spot, restOf, endOf, Alone, Seated, Site}
 use Rattle.sound_cuts.specs.MefSound.{cut-sound}
-use Rattle.sound_cuts.specs.MefOperands.{mefOf, Canon, canon-both, canon-right, canon-left, canon-pair}
+use Rattle.sound_cuts.specs.MefOperands.{mefOf, wayBack}
 use Rattle.sound_cuts.specs.MefAccepted.{mefAt}
 use Rattle.sound_cuts.specs.Exact.{mef-kept, mef-undone}
-use Rattle.sound_cuts.specs.MefPlace.{cutColumns, MefPlace, mef-cut}
+use Rattle.sound_cuts.specs.MefPlace.{mef-cut}
 use Rattle.sound_cuts.specs.MefLoops.{labelled}
 use Rattle.sound_cuts.specs.MefFacts.{MefFacts, mef-facts}
 
@@ -41,133 +44,210 @@ module _ {sh : Shape} {x : List ℕ} {p : List ℤ} (g : Good sh x p) {o : Opera
 
   -- the edge between P and N, Q and M, from u and v
   abbrev spot : ℕ → ℕ → ℕ → ℕ → ℕ → ℕ → Spot
-  spot u v P N Q M = record { l = r .l; m = r .m; f = r .f; a = halfBy (r .e) (r .w); b = mate (halfBy (r .e) (r .w)); u = u; v = v; P = P; N = N; Q = Q; M = M }
+  spot u v P N Q M = record {
+    l = r .l;
+    m = r .m;
+    f = r .f;
+    a = halfBy (r .e) (r .w);
+    b = mate
+        (halfBy (r .e) (r .w));
+    u = u;
+    v = v;
+    P = P;
+    N = N;
+    Q = Q;
+    M = M;
+  }
 
   -- the operator
   abbrev op : Operator
   op = mefOf (r .l) (r .h1) (r .h2) (r .e) (r .f) (r .m) (r .w)
 
-  -- its place
-  place : (u v P N Q M : ℕ) → u ≢ 0 → v ≢ 0 → Near sh c (spot u v P N Q M) → MefPlace sh c (spot u v P N Q M)
-  place u v P N Q M hu hv k =
-      let h = free-halves (g .sound) (r .e) (r .w) (r .e-in) (r .e-free) in
-      record {
-        l-in = r .l-in;
-        m-in = r .m-in;
-        f-in = r .f-in;
-        a-in = h .0;
-        b-in = mate-range a (sh .edges) (h .0 .0) (h .0 .1);
-        ab = refl;
-        l-used = r .l-used;
-        m-free = r .m-free;
-        f-free = r .f-free;
-        a-free = h .1;
-        b-free = h .2;
-        u-some = hu;
-        v-some = hv;
-        near = k;
-      }
+  -- the edge is free
+  free : In (2 * sh .edges) a × (c Start a ≡ 0) × (c Start (mate a) ≡ 0)
+  free = free-halves (g .sound) (r .e) (r .w) (r .e-in) (r .e-free)
 
-  -- both, where the operands are those of the corners
-  holds-at : (u v P N Q M : ℕ) → MefPlace sh c (spot u v P N Q M) → ((d : Columns) → Cut sh c d (spot u v P N Q M) → Canon (spot u v P N Q M) (r .h1) (r .h2) (r .w)) → Kept sh x p op × Undone sh x p op
-  holds-at u v P N Q M w cn =
-      let q = spot u v P N Q M in
-      let L = labelled (g .sound) refl w in
-      let k = mef-cut (g .sound) refl w (L .lab) (L .parts) in
+  -- half-edges in use are not a
+  off-a : (i : ℕ) → HalfUsed sh c i → i ≢ a
+  off-a i x e = x .2 (ap (c Start) e ∙ free .1)
+
+  -- nor its mate
+  off-b : (i : ℕ) → HalfUsed sh c i → i ≢ mate a
+  off-b i x e = x .2 (ap (c Start) e ∙ free .2)
+
+  -- the half that stands before corner h, and before N
+  seated : (h N : ℕ) → HalfUsed sh c h → c Loop h ≡ r .l → HalfUsed sh c N
+      → Seated sh c (r .l) (c Start h) (c Prev h) N h
+  seated h N x lo y = record {
+    before = prev-in (g .sound .rules) h x;
+    after = y;
+    corner = x;
+    next = next-prev (g .sound .rules) h x;
+    prev = refl;
+    loop = prev-loop (g .sound .rules) h x ∙ lo;
+    start = refl;
+  }
+
+  -- ---- how the edge stands, whether a (A) and its mate (B) are alone, and that the operands ask for this
+
+  record Choice (A B : Bool) (u v P N Q M : ℕ) : Type 0 where
+    A-is : eqb N a ≡ A
+    B-is : eqb M (mate a) ≡ B
+    at-a : Alone (spot u v P N Q M) a P N ⊎ Seated sh c (r .l) u P N (pick B N M)
+    at-b : Alone (spot u v P N Q M) (mate a) Q M ⊎ Seated sh c (r .l) v Q M (pick A M N)
+    apart : P ≢ Q
+    N-M : N ≢ M
+    isolated : c Isolated (r .l) ≡ pick (A && B) u 0
+    u-some : u ≢ 0
+    v-some : v ≢ 0
+    h1-is : pick B (pick A 0 N) M ≡ r .h1
+    h2-is : pick A (pick B 0 M) N ≡ r .h2
+    w-is : wayOf a + pick (A && not B) 2 0 ≡ r .w
+
+  -- its place
+  place : {A B : Bool} {u v P N Q M : ℕ} → Choice A B u v P N Q M → Site sh c (spot u v P N Q M)
+  place y = record {
+    l-in = r .l-in;
+    m-in = r .m-in;
+    f-in = r .f-in;
+    a-in = free .0;
+    b-in = mate-range a (sh .edges) (free .0 .0) (free .0 .1);
+    ab = refl;
+    l-used = r .l-used;
+    m-free = r .m-free;
+    f-free = r .f-free;
+    a-free = free .1;
+    b-free = free .2;
+    u-some = y .u-some;
+    v-some = y .v-some;
+    near = record {
+      at-a = rw (y .B-is) (y .at-a);
+      at-b = rw (y .A-is) (y .at-b);
+      apart = y .apart;
+      N-M = y .N-M;
+      isolated = rw (y .A-is, y .B-is) (y .isolated);
+    };
+  }
+
+  -- then both hold
+  holds-at : {A B : Bool} {u v P N Q M : ℕ} → Choice A B u v P N Q M → Kept sh x p op × Undone sh x p op
+  holds-at {u = u} {v} {P} {N} {Q} {M} y =
+      let L = labelled (g .sound) refl (place y) in
+      let k = mef-cut (g .sound) refl (place y) (L .lab) (L .parts) in
       let t = cut-sound k (L .marked) (g .sound) in
-      let y = cn (cutColumns sh c (L .lab) q) k in
-      let e : mefAt q ≡ op = λ i. mefOf (r .l) (y .h1-is i) (y .h2-is i) ((mate-edge a (w .a-in .0) ∙ edge-by (r .e) (r .w) (r .e-in .0)) i) (r .f) (r .m) (y .w-is i) in
+      let e1 : restOf (spot u v P N Q M) ≡ r .h1 = rw (y .A-is, y .B-is) (y .h1-is) in
+      let e2 : endOf (spot u v P N Q M) ≡ r .h2 = rw (y .A-is, y .B-is) (y .h2-is) in
+      let e3 : wayBack (spot u v P N Q M) ≡ r .w = rw (y .A-is, y .B-is) (y .w-is) in
+      let e4 = mate-edge a (free .0 .0) ∙ edge-by (r .e) (r .w) (r .e-in .0) in
+      let e : mefAt (spot u v P N Q M) ≡ op = λ i. mefOf (r .l) (e1 i) (e2 i) (e4 i) (r .f) (r .m) (e3 i) in
       subst (λ z. Kept sh x p z × Undone sh x p z) e (mef-kept g k t, mef-undone g k t)
 
   -- ---- by the corners
 
+  -- the halves differ
+  a-b : a ≢ mate a
+  a-b = mate-other a (free .0 .0)
+
   -- the way of a low w, and of a high one
-  way-low : r .w < 2 → wayOf a ≡ r .w
-  way-low h = way-rest (r .e) (r .w) (r .e-in .0) ∙ omega (arith, h)
+  way-low : r .w < 2 → wayOf a + 0 ≡ r .w
+  way-low h = omega (arith, h, way-rest (r .e) (r .w) (r .e-in .0))
 
   -- the same of a high one
   way-high : 2 ≤ r .w → wayOf a + 2 ≡ r .w
   way-high h = omega (arith, h, r .way, way-rest (r .e) (r .w) (r .e-in .0))
 
-  -- canonical operands, said of these
-  canon-as : {q : Spot} {h1 h2 w : ℕ} → Canon q h1 h2 w → h1 ≡ r .h1 → h2 ≡ r .h2 → w ≡ r .w → Canon q (r .h1) (r .h2) (r .w)
-  canon-as y e1 e2 e3 = record { h1-is = y .h1-is ∙ e1; h2-is = y .h2-is ∙ e2; w-is = y .w-is ∙ e3 }
-
   -- one corner h
-  module _ (w : HalfUsed sh c (r .h1)) (lo : c Loop (r .h1) ≡ r .l) (same : r .h1 ≡ r .h2) where
+  module _ (y : HalfUsed sh c (r .h1)) (lo : c Loop (r .h1) ≡ r .l) (same : r .h1 ≡ r .h2) where
     -- the corner
     abbrev h : ℕ
     h = r .h1
 
-    -- half k is alone there
-    spike : (k : ℕ) → Spike sh c (r .l) k (c Start h) (c Start h) (c Prev h) h k k
-    spike k = record {
-      Q-b = refl;
-      M-b = refl;
-      P-in = prev-in (g .sound .rules) h w;
-      N-in = w;
-      next-P = next-prev (g .sound .rules) h w;
-      prev-N = refl;
-      loop-P = prev-loop (g .sound .rules) h w ∙ lo;
-      start-u = refl;
-      start-v = refl;
-      isolated = not-isolated (g .sound) h w lo;
+    -- with a low way b is alone
+    right : r .w < 2 → Choice false true (c Start h) (c Start h) (c Prev h) h (mate a) (mate a)
+    right lw = record {
+      A-is = eqb-other (off-a h y);
+      B-is = eqb-same {m = mate a} refl;
+      at-a = inr (seated h h y lo y);
+      at-b = inl (record { before = refl; after = refl; ends = refl });
+      apart = off-b (c Prev h) (prev-in (g .sound .rules) h y);
+      N-M = off-b h y;
+      isolated = not-isolated (g .sound) h y lo;
+      u-some = y .2;
+      v-some = y .2;
+      h1-is = refl;
+      h2-is = same;
+      w-is = way-low lw;
     }
 
-    -- with a low way b is
-    holds-right : r .w < 2 → Kept sh x p op × Undone sh x p op
-    holds-right lw = holds-at (c Start h) (c Start h) (c Prev h) h (mate a) (mate a)
-        (place (c Start h) (c Start h) (c Prev h) h (mate a) (mate a) (w .2) (w .2) (right (spike (mate a))))
-        (λ d k. canon-as (canon-right k (spike (mate a))) refl same (way-low lw))
-
-    -- with a high one a
-    holds-left : 2 ≤ r .w → Kept sh x p op × Undone sh x p op
-    holds-left lw = holds-at (c Start h) (c Start h) a a (c Prev h) h
-        (place (c Start h) (c Start h) a a (c Prev h) h (w .2) (w .2) (left (spike a)))
-        (λ d k. canon-as (canon-left k (spike a)) refl same (way-high lw))
+    -- with a high one a is
+    left : 2 ≤ r .w → Choice true false (c Start h) (c Start h) a a (c Prev h) h
+    left hw = record {
+      A-is = eqb-same {m = a} refl;
+      B-is = eqb-other (off-b h y);
+      at-a = inl (record { before = refl; after = refl; ends = refl });
+      at-b = inr (seated h h y lo y);
+      apart = λ e. off-a (c Prev h) (prev-in (g .sound .rules) h y) (sym e);
+      N-M = λ e. off-a h y (sym e);
+      isolated = not-isolated (g .sound) h y lo;
+      u-some = y .2;
+      v-some = y .2;
+      h1-is = refl;
+      h2-is = same;
+      w-is = way-high hw;
+    }
 
   -- two corners
-  holds-both : HalfUsed sh c (r .h1) → c Loop (r .h1) ≡ r .l → HalfUsed sh c (r .h2) → c Loop (r .h2) ≡ r .l → r .h1 ≢ r .h2 → r .w < 2 → Kept sh x p op × Undone sh x p op
-  holds-both w1 l1 w2 l2 ne lw =
-      let h1 = r .h1 in
-      let h2 = r .h2 in
-      let y : Both sh c (spot (c Start h1) (c Start h2) (c Prev h1) h2 (c Prev h2) h1) = record {
-        P-in = prev-in (g .sound .rules) h1 w1;
-        N-in = w2;
-        Q-in = prev-in (g .sound .rules) h2 w2;
-        M-in = w1;
-        next-P = next-prev (g .sound .rules) h1 w1;
-        next-Q = next-prev (g .sound .rules) h2 w2;
-        prev-M = refl;
-        prev-N = refl;
-        apart = λ e. ne (sym (next-prev (g .sound .rules) h1 w1) ∙ ap (c Next) e ∙ next-prev (g .sound .rules) h2 w2);
-        loop-P = prev-loop (g .sound .rules) h1 w1 ∙ l1;
-        loop-Q = prev-loop (g .sound .rules) h2 w2 ∙ l2;
-        start-M = refl;
-        start-N = refl;
-        isolated = not-isolated (g .sound) h1 w1 l1;
-      } in
-      holds-at (c Start h1) (c Start h2) (c Prev h1) h2 (c Prev h2) h1 (place (c Start h1) (c Start h2) (c Prev h1) h2 (c Prev h2) h1 (w1 .2) (w2 .2) (both y))
-      (λ d k. canon-as (canon-both k y) refl refl (way-low lw))
+  both : HalfUsed sh c (r .h1) → c Loop (r .h1) ≡ r .l → HalfUsed sh c (r .h2) → c Loop (r .h2) ≡ r .l → r .h1 ≢ r .h2
+      → r .w < 2
+      → Choice false false (c Start (r .h1)) (c Start (r .h2)) (c Prev (r .h1)) (r .h2) (c Prev (r .h2)) (r .h1)
+  both y1 l1 y2 l2 ne lw = record {
+    A-is = eqb-other (off-a (r .h2) y2);
+    B-is = eqb-other (off-b (r .h1) y1);
+    at-a = inr (seated (r .h1) (r .h2) y1 l1 y2);
+    at-b = inr (seated (r .h2) (r .h1) y2 l2 y1);
+    apart = λ e. ne (sym (next-prev (g .sound .rules) (r .h1) y1) ∙ ap (c Next) e
+        ∙ next-prev (g .sound .rules) (r .h2) y2);
+    N-M = λ e. ne (sym e);
+    isolated = not-isolated (g .sound) (r .h1) y1 l1;
+    u-some = y1 .2;
+    v-some = y2 .2;
+    h1-is = refl;
+    h2-is = refl;
+    w-is = way-low lw;
+  }
 
   -- at an isolated loop
-  holds-pair : r .h1 ≡ 0 → r .h2 ≡ 0 → c Isolated (r .l) ≢ 0 → r .w < 2 → Kept sh x p op × Undone sh x p op
-  holds-pair e1 e2 i lw =
-      let u = c Isolated (r .l) in
-      let y : Pair c (spot u u a a (mate a) (mate a)) = record { P-a = refl; N-a = refl; Q-b = refl; M-b = refl; start = refl; isolated = refl } in
-      holds-at u u a a (mate a) (mate a) (place u u a a (mate a) (mate a) i i (pair y)) (λ d k. canon-as (canon-pair k y) (sym e1) (sym e2) (way-low lw))
+  pair : r .h1 ≡ 0 → r .h2 ≡ 0 → c Isolated (r .l) ≢ 0 → r .w < 2
+      → Choice true true (c Isolated (r .l)) (c Isolated (r .l)) a a (mate a) (mate a)
+  pair e1 e2 i lw = record {
+    A-is = eqb-same {m = a} refl;
+    B-is = eqb-same {m = mate a} refl;
+    at-a = inl (record { before = refl; after = refl; ends = refl });
+    at-b = inl (record { before = refl; after = refl; ends = refl });
+    apart = a-b;
+    N-M = a-b;
+    isolated = refl;
+    u-some = i;
+    v-some = i;
+    h1-is = sym e1;
+    h2-is = sym e2;
+    w-is = way-low lw;
+  }
 
   -- whichever they are
   holds : CornerAt sh c (r .l) (r .h1) → CornerAt sh c (r .l) (r .h2) → Kept sh x p op × Undone sh x p op
-  holds (inl y) (inl z) = ⊎-elim (λ h. absurd (r .high h .1 (y .0))) (λ h. holds-pair (y .0) (z .0) (y .1) h) (le? 2 (r .w))
+  holds (inl y) (inl z) = ⊎-elim (λ h. absurd (r .high h .1 (y .0))) (λ h. holds-at (pair (y .0) (z .0) (y .1) h))
+      (le? 2 (r .w))
   holds (inl y) (inr z) = absurd (y .1 (not-isolated (g .sound) (r .h2) (z .0) (z .1)))
   holds (inr y) (inl z) = absurd (z .1 (not-isolated (g .sound) (r .h1) (y .0) (y .1)))
   holds (inr y) (inr z) = split (r .h1) (r .h2)
-      (λ e. ⊎-elim (λ h. holds-left (y .0) (y .1) e h) (λ h. holds-right (y .0) (y .1) e h) (le? 2 (r .w)))
-      (λ e. ⊎-elim (λ h. absurd (e (r .high h .0))) (λ h. holds-both (y .0) (y .1) (z .0) (z .1) e h) (le? 2 (r .w)))
+      (λ e. ⊎-elim (λ h. holds-at (left (y .0) (y .1) e h)) (λ h. holds-at (right (y .0) (y .1) e h)) (le? 2 (r .w)))
+      (λ e. ⊎-elim (λ h. absurd (e (r .high h .0))) (λ h. holds-at (both (y .0) (y .1) (z .0) (z .1) e h))
+      (le? 2 (r .w)))
 
 -- both for mef
-pub mef-holds : (sh : Shape) (x : List ℕ) (p : List ℤ) (o : Operator) → Good sh x p → length (o .args) ≡ 8 → o .code ≡ 5 → refusalOf sh x o ≡ 0 → Kept sh x p o × Undone sh x p o
+pub mef-holds : (sh : Shape) (x : List ℕ) (p : List ℤ) (o : Operator) → Good sh x p → length (o .args) ≡ 8
+    → o .code ≡ 5 → refusalOf sh x o ≡ 0 → Kept sh x p o × Undone sh x p o
 mef-holds sh x p o g len e h =
     let r = mef-facts sh x o (g .capacities) len e h in
     subst (λ q. Kept sh x p q × Undone sh x p q) (sym (r .is)) (holds g r (r .corner1) (r .corner2))

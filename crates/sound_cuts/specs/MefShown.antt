@@ -1,119 +1,120 @@
--- What mef does to a list that shows the columns without the edge: it then shows those with it.
-use mathlib.Core.Path.{_≡_, refl, sym, ap, _∙_, subst}
-use mathlib.Core.Logic.{inl, inr}
-use mathlib.Core.List.{List}
+-- mef on lists: what it stores in a list that shows the columns without the edge makes it show those with it.
+use mathlib.Core.Path.{_≡_, refl, sym, _∙_, subst}
+use mathlib.Core.Logic.{_≢_, _⊎_, inl, inr}
+use mathlib.Core.Bool.{false}
+use mathlib.Core.List.{List, [], _∷_, _++_}
 use Prim.Native.Nat.{ℕ, _*_, _≤_}
 use native.Mathlib.Omega.{arith}
 use lib.IntN.{ℤ}
 use Rattle.laws.specs.Bools.{split}
-use Rattle.laws.specs.Update.{upd, upd-at, upd-off}
+use Rattle.laws.specs.Update.{upd-at, upd-off}
 use Rattle.layout.specs.declared.shape.Shape.{Shape}
 use Rattle.layout.specs.Layout.{faceSolid, loopFace, loopFirst}
-use Rattle.euler.specs.Surgery.{edgeIn, relabelRun, putLoop, putFace, lower, renew}
-use Rattle.layout.specs.Fields.{Field, Capacity, SolidUsed, Solid, Outer, Face, First, Isolated, Start, Loop, Next, Prev, VertexUsed, Columns, capOf, change}
-use Rattle.sound_tables.specs.Cells.{Shows, shows-put, shows-agree}
-use Rattle.sound_tables.specs.EdgeIn.{Halves}
-use Rattle.sound_tables.specs.Sound.{In, halves, HalfUsed, firstOf, Sound}
+use Rattle.layout.specs.Fields.{Field, Solid, Outer, Face, First, Isolated, Start, Loop, Next, Prev, Columns, capOf}
+use Rattle.layout.specs.Fields.{sameField, by-fields}
+use Rattle.layout.specs.Writes.{Write, write, writes, changes}
+use Rattle.euler.specs.Surgery.{relabelRun, loopRecord, faceRecord, lower, renew}
+use Rattle.sound_tables.specs.Cells.{Shows, shows-agree}
+use Rattle.sound_tables.specs.WriteLaws.{shows-writes}
+use Rattle.sound_tables.specs.Sound.{In, HalfUsed, firstOf, Sound}
 use Rattle.sound_tables.specs.FirstLow.{lower-new, first-low}
-use Rattle.sound_tables.specs.Shown.{withEdge, withFirst, shows-edge, shows-first}
-use Rattle.sound_cuts.specs.Relation.{Spot, Cut, used-a, used-b, around}
-use Rattle.sound_cuts.specs.Round.{withHalves, names-new, roundColumns, shows-round, round-other, round-in, round-off}
+use Rattle.sound_tables.specs.Shown.{shows-first}
+use Rattle.sound_cuts.specs.FieldLaws.{halfFields, patch, patch-other, not-same, outside, unwritten, settled}
+use Rattle.sound_cuts.specs.Relation.{Spot, cutFields, l-m, Cut, used-a, used-b, around}
+use Rattle.sound_cuts.specs.MefPlace.{edgeAt}
+use Rattle.sound_cuts.specs.Round.{names-new, roundColumns, shows-round, round-other, round-in, round-off}
 
--- the four columns when the edge is in and the run not yet given its loop
-abbrev pub edged : Columns → Columns → Spot → Halves
-edged c d q = record { start = d Start; loop = upd (upd (c Loop) (q .a) (q .l)) (q .b) (q .m); next = d Next; prev = d Prev }
-
-module _ {sh : Shape} {p : List ℤ} {c d : Columns} {q : Spot} (k : Cut sh c d q) (t : Sound sh p d) {x : List ℕ} (s : Shows sh x c) where
+module _ {sh : Shape} {p : List ℤ} {c d : Columns} {q : Spot} (k : Cut sh c d q) (t : Sound sh p d) {x : List ℕ}
+    (s : Shows sh x c) where
   -- as many half-edges
   abbrev n : ℕ
   n = 2 * sh .edges
 
   -- ---- the edge goes in
 
-  -- start is that of d
-  in-start : (i : ℕ) → upd (upd (c Start) (q .a) (q .u)) (q .b) (q .v) i ≡ d Start i
-  in-start i = split i (q .b) (λ e. upd-at _ _ e ∙ sym (ap (d Start) e ∙ k .start-b))
-      (λ e. upd-off _ _ e ∙ split i (q .a) (λ g. upd-at _ _ g ∙ sym (ap (d Start) g ∙ k .start-a)) (λ g. upd-off _ _ g ∙ sym (k .start-else i g e)))
-
-  -- next is that of d
-  in-next : (i : ℕ) → upd (upd (upd (upd (c Next) (q .a) (q .N)) (q .b) (q .M)) (q .P) (q .a)) (q .Q) (q .b) i ≡ d Next i
-  in-next i = split i (q .Q) (λ e. upd-at _ _ e ∙ sym (ap (d Next) e ∙ k .next-Q))
-      (λ e. upd-off _ _ e ∙ split i (q .P) (λ g. upd-at _ _ g ∙ sym (ap (d Next) g ∙ k .next-P))
-      (λ g. upd-off _ _ g ∙ split i (q .b) (λ f. upd-at _ _ f ∙ sym (ap (d Next) f ∙ k .next-b))
-      (λ f. upd-off _ _ f ∙ split i (q .a) (λ h. upd-at _ _ h ∙ sym (ap (d Next) h ∙ k .next-a)) (λ h. upd-off _ _ h ∙ sym (k .next-else i h f g e)))))
-
-  -- previous is that of d
-  in-prev : (i : ℕ) → upd (upd (upd (upd (c Prev) (q .a) (q .P)) (q .b) (q .Q)) (q .N) (q .a)) (q .M) (q .b) i ≡ d Prev i
-  in-prev i = split i (q .M) (λ e. upd-at _ _ e ∙ sym (ap (d Prev) e ∙ k .prev-M))
-      (λ e. upd-off _ _ e ∙ split i (q .N) (λ g. upd-at _ _ g ∙ sym (ap (d Prev) g ∙ k .prev-N))
-      (λ g. upd-off _ _ g ∙ split i (q .b) (λ f. upd-at _ _ f ∙ sym (ap (d Prev) f ∙ k .prev-b))
-      (λ f. upd-off _ _ f ∙ split i (q .a) (λ h. upd-at _ _ h ∙ sym (ap (d Prev) h ∙ k .prev-a)) (λ h. upd-off _ _ h ∙ sym (k .prev-else i h f g e)))))
-
-  -- so with every column, but the loops of the run
-  edge-same : (F : Field) (i : ℕ) → withEdge c (q .a) (q .u) (q .l) (q .N) (q .P) (q .v) (q .m) (q .M) (q .Q) F i ≡ withHalves c (edged c d q) F i
-  edge-same Capacity i = refl
-  edge-same SolidUsed i = refl
-  edge-same Solid i = refl
-  edge-same Outer i = refl
-  edge-same Face i = refl
-  edge-same First i = refl
-  edge-same Isolated i = refl
-  edge-same Start i = rw (k .ab) (in-start i)
-  edge-same Loop i = rw (k .ab)
-  edge-same Next i = rw (k .ab) (in-next i)
-  edge-same Prev i = rw (k .ab) (in-prev i)
-  edge-same VertexUsed i = refl
-
-  -- the list shows them
-  shows-edged : Shows sh (edgeIn sh x (q .a) (q .u) (q .l) (q .N) (q .P) (q .v) (q .m) (q .M) (q .Q)) (withHalves c (edged c d q))
-  shows-edged =
-      let o = around k in
-      shows-agree (shows-edge s (q .a) (q .u) (q .l) (q .N) (q .P) (q .v) (q .m) (q .M) (q .Q) (k .a-in) (subst (In n) (sym (k .ab)) (k .b-in))
-      (o .1 .0, o .1 .1) (o .0 .0, o .0 .1) (o .3 .0, o .3 .1) (o .2 .0, o .2 .1)) (λ F i h. edge-same F i)
-
-  -- ---- the run
-
   -- the list with the edge
   abbrev z1 : List ℕ
-  z1 = edgeIn sh x (q .a) (q .u) (q .l) (q .N) (q .P) (q .v) (q .m) (q .M) (q .Q)
+  z1 = writes sh (edgeAt q) x
+
+  -- its columns: the loops of the run are still the old ones
+  abbrev E : Columns
+  E = patch (Start ∷ Next ∷ Prev ∷ []) d (changes (edgeAt q) c)
+
+  -- start is that of d
+  in-start : (i : ℕ) → changes (edgeAt q) c Start i ≡ d Start i
+  in-start i = settled Start (edgeAt q) c (d Start) i (λ e. k .start-a, (k .start-b, tt))
+      (λ e g. sym (k .start-else i e g))
+
+  -- next is that of d
+  in-next : (i : ℕ) → changes (edgeAt q) c Next i ≡ d Next i
+  in-next i = settled Next (edgeAt q) c (d Next) i
+      (λ e g h. k .next-a, (λ e g. k .next-b, (λ e. k .next-P, (k .next-Q, tt))))
+      (λ e g h j. sym (k .next-else i e g h j))
+
+  -- previous is that of d
+  in-prev : (i : ℕ) → changes (edgeAt q) c Prev i ≡ d Prev i
+  in-prev i = settled Prev (edgeAt q) c (d Prev) i
+      (λ e g h. k .prev-a, (λ e g. k .prev-b, (λ e. k .prev-N, (k .prev-M, tt))))
+      (λ e g h j. sym (k .prev-else i e g h j))
+
+  -- the list shows them
+  shows-edged : Shows sh z1 E
+  shows-edged =
+      let P = around k .0 in let N = around k .1 in let Q = around k .2 in let M = around k .3 in
+      let a = k .site .a-in in let b = k .site .b-in in
+      shows-agree (shows-writes (edgeAt q) s
+      (a, (a, (a, (a, (b, (b, (b, (b, ((P .0, P .1), ((N .0, N .1), ((Q .0, Q .1), ((M .0, M .1), tt)))))))))))))
+      (λ F i h. by-fields (Start ∷ Next ∷ Prev ∷ []) (λ F. changes (edgeAt q) c F i ≡ E F i)
+      (in-start i, (in-next i, (in-prev i, tt)))
+      (λ F e. sym (patch-other (Start ∷ Next ∷ Prev ∷ []) d (changes (edgeAt q) c) F e i)) F)
+
+  -- ---- the run
 
   -- the columns after the walk
   abbrev R : Columns
   R = roundColumns shows-edged (t .rules .loops) (q .b) (used-b k) (q .m)
 
+  -- the other columns are as they were
+  run-other : (F : Field) → sameField Loop F ≡ false → (i : ℕ) → R F i ≡ E F i
+  run-other = round-other shows-edged (t .rules .loops) (q .b) (used-b k) (q .m)
+
+  -- what is not of the run keeps its loop
+  run-off : (i : ℕ) → (i ≡ q .b) ⊎ (d Loop i ≢ d Loop (q .b)) → R Loop i ≡ E Loop i
+  run-off = round-off shows-edged (t .rules .loops) (q .b) (used-b k) (q .m)
+
   -- the loops are those of d
   run-loop : (i : ℕ) → i ≤ n → R Loop i ≡ d Loop i
   run-loop i h = split (d Loop i) (q .m)
       (λ e. split i (q .b)
-      (λ g. round-off shows-edged (t .rules .loops) (q .b) (used-b k) (q .m) i (inl g) ∙ upd-at _ _ g ∙ sym e)
-      (λ g. round-in shows-edged (t .rules .loops) (q .b) (used-b k) (q .m) i (names-new k t i h e) (e ∙ sym (k .loop-b)) g ∙ sym e))
-      (λ e. round-off shows-edged (t .rules .loops) (q .b) (used-b k) (q .m) i (inr (λ g. e (g ∙ k .loop-b))) ∙ upd-off _ _ (λ g. e (ap (d Loop) g ∙ k .loop-b))
-      ∙ split i (q .a) (λ g. upd-at _ _ g ∙ sym (ap (d Loop) g ∙ k .loop-a)) (λ g. upd-off _ _ g ∙ sym (k .loop-else i h g e)))
+      (λ g. run-off i (inl g) ∙ upd-at _ _ g ∙ sym e)
+      (λ g. round-in shows-edged (t .rules .loops) (q .b) (used-b k) (q .m) i (names-new k t i h e)
+      (e ∙ sym (k .loop-b)) g ∙ sym e))
+      (λ e. run-off i (inr (λ g. e (g ∙ k .loop-b))) ∙ settled Loop (edgeAt q) c (d Loop) i
+      (λ g. k .loop-a, (k .loop-b, tt)) (λ g f. sym (k .loop-else i h g e)))
 
-  -- and the other columns are as they were
-  run-same : (F : Field) (i : ℕ) → i ≤ capOf sh F → R F i ≡ withHalves c (halves d) F i
-  run-same Capacity i h = round-other shows-edged (t .rules .loops) (q .b) (used-b k) (q .m) Capacity refl i
-  run-same SolidUsed i h = round-other shows-edged (t .rules .loops) (q .b) (used-b k) (q .m) SolidUsed refl i
-  run-same Solid i h = round-other shows-edged (t .rules .loops) (q .b) (used-b k) (q .m) Solid refl i
-  run-same Outer i h = round-other shows-edged (t .rules .loops) (q .b) (used-b k) (q .m) Outer refl i
-  run-same Face i h = round-other shows-edged (t .rules .loops) (q .b) (used-b k) (q .m) Face refl i
-  run-same First i h = round-other shows-edged (t .rules .loops) (q .b) (used-b k) (q .m) First refl i
-  run-same Isolated i h = round-other shows-edged (t .rules .loops) (q .b) (used-b k) (q .m) Isolated refl i
-  run-same Start i h = round-other shows-edged (t .rules .loops) (q .b) (used-b k) (q .m) Start refl i
-  run-same Loop i h = run-loop i h
-  run-same Next i h = round-other shows-edged (t .rules .loops) (q .b) (used-b k) (q .m) Next refl i
-  run-same Prev i h = round-other shows-edged (t .rules .loops) (q .b) (used-b k) (q .m) Prev refl i
-  run-same VertexUsed i h = round-other shows-edged (t .rules .loops) (q .b) (used-b k) (q .m) VertexUsed refl i
+  -- the columns of the half-edges are d's, the others still c's
+  abbrev H : Columns
+  H = patch halfFields d c
 
-  -- the list shows them
-  shows-run : Shows sh (relabelRun sh z1 (q .M) (q .b) (q .m)) (withHalves c (halves d))
-  shows-run = subst (λ i. Shows sh (relabelRun sh z1 i (q .b) (q .m)) (withHalves c (halves d))) (k .next-b) (shows-agree (shows-round shows-edged (t .rules .loops) (q .b) (used-b k) (q .m)) run-same)
-
-  -- ---- the records of loop and face, and the firsts
+  -- so they are
+  run-same : (F : Field) (i : ℕ) → i ≤ capOf sh F → R F i ≡ H F i
+  run-same F i = by-fields halfFields (λ F. i ≤ capOf sh F → R F i ≡ H F i)
+      (λ h. run-other Start refl i, (run-loop i, (λ h. run-other Next refl i, (λ h. run-other Prev refl i, tt))))
+      (λ F e h. run-other F (not-same halfFields Loop F refl e) i
+      ∙ patch-other (Start ∷ Next ∷ Prev ∷ []) d (changes (edgeAt q) c) F
+      (outside halfFields (Start ∷ Next ∷ Prev ∷ []) refl F e) i
+      ∙ unwritten halfFields (edgeAt q) refl c F e i ∙ sym (patch-other halfFields d c F e i)) F
 
   -- the list after the walk
   abbrev z2 : List ℕ
   z2 = relabelRun sh z1 (q .M) (q .b) (q .m)
+
+  -- shows them
+  shows-run : Shows sh z2 H
+  shows-run = subst (λ i. Shows sh (relabelRun sh z1 i (q .b) (q .m)) H) (k .next-b)
+      (shows-agree (shows-round shows-edged (t .rules .loops) (q .b) (used-b k) (q .m)) run-same)
+
+  -- ---- the records of loop and face, and the firsts
 
   -- what names a loop in d is in use
   names : (l : ℕ) → In (sh .loops) l → (i : ℕ) → In n i → d Loop i ≡ l → HalfUsed sh d i
@@ -122,69 +123,80 @@ module _ {sh : Shape} {p : List ℤ} {c d : Columns} {q : Spot} (k : Cut sh c d 
   -- the solid of l's face, as it is read
   solid-read : faceSolid sh x (loopFace sh x (q .l)) ≡ c Solid (c Face (q .l))
   solid-read =
-      let e = s .at Face (q .l) (k .l-in .1) in
-      let g = k .face-else (q .l) (k .l-m) in
-      let r = t .loop (q .l) (k .l-in) (λ z. k .l-used (sym g ∙ z)) in
+      let e = s .at Face (q .l) (k .site .l-in .1) in
+      let g = k .face-else (q .l) (l-m (k .site)) in
+      let r = t .loop (q .l) (k .site .l-in) (λ z. k .site .l-used (sym g ∙ z)) in
       rw e (s .at Solid (c Face (q .l)) (subst (λ y. y ≤ sh .faces) g (r .face-in .1)))
 
-  -- the columns, store by store
-  abbrev e3 : Columns
-  e3 = change (change (change (change (change (withHalves c (halves d)) Face (q .m) (q .f)) First (q .m) 0) Isolated (q .m) 0) Solid (q .f) (c Solid (c Face (q .l)))) Outer (q .f) (q .m)
+  -- the new loop and the new face, in solid o
+  abbrev recordsAt : ℕ → List Write
+  recordsAt o = loopRecord (q .m) (q .f) 0 0 ++ faceRecord (q .f) o (q .m)
 
-  -- with the firsts anew
-  abbrev e4 : Columns
-  e4 = withFirst (withFirst e3 (q .l) (firstOf sh d (q .l)) 0) (q .m) (firstOf sh d (q .m)) 0
+  -- where the firsts are looked for
+  abbrev low : ℕ → ℕ
+  low g = lower g (lower (q .a) (q .b))
 
   -- the list after mef
   abbrev pub cutList : List ℕ
   cutList =
       renew sh
-      (renew sh (putFace sh (putLoop sh z2 (q .m) (q .f) 0 0) (q .f) (faceSolid sh x (loopFace sh x (q .l))) (q .m))
-      (q .l) (lower (loopFirst sh x (q .l)) (lower (q .a) (q .b))) (q .a) 0)
-      (q .m) (lower (loopFirst sh x (q .l)) (lower (q .a) (q .b))) (q .b) 0
+      (renew sh (writes sh (recordsAt (faceSolid sh x (loopFace sh x (q .l)))) z2) (q .l) (low (loopFirst sh x (q .l)))
+      (q .a) 0)
+      (q .m) (low (loopFirst sh x (q .l))) (q .b) 0
 
-  -- shows the columns with the edge
+  -- loop and face as they are written
+  abbrev records : List Write
+  records = recordsAt (c Solid (c Face (q .l)))
+
+  -- the columns with them
+  abbrev e3 : Columns
+  e3 = changes records H
+
+  -- the firsts
+  abbrev firsts : List Write
+  firsts =
+      write First (q .l) (firstOf sh d (q .l)) ∷ write Isolated (q .l) 0 ∷ write First (q .m) (firstOf sh d (q .m))
+      ∷ write Isolated (q .m) 0 ∷ []
+
+  -- with them these are the columns of d
+  last : (F : Field) (i : ℕ) → changes firsts e3 F i ≡ d F i
+  last F i =
+      let l-used = t .loop (q .l) (k .site .l-in)
+      (λ z. k .site .l-used (sym (k .face-else (q .l) (l-m (k .site))) ∙ z)) in
+      let m-used = t .loop (q .m) (k .site .m-in) (λ z. omega (arith, k .site .f-in .0, sym (k .face-new) ∙ z)) in
+      let solid = settled Solid records H (d Solid) i (k .solid-new, tt) (λ e. sym (k .solid-else i e)) in
+      let outer = settled Outer records H (d Outer) i (k .outer-new, tt) (λ e. sym (k .outer-else i e)) in
+      let face = settled Face records H (d Face) i (k .face-new, tt) (λ e. sym (k .face-else i e)) in
+      let first = settled First firsts e3 (d First) i (λ e. l-used .first, (m-used .first, tt))
+      (λ e g. upd-off _ _ g ∙ sym (k .first-else i e g)) in
+      let isolated = settled Isolated firsts e3 (d Isolated) i (λ e. k .isolated-l, (k .isolated-m, tt))
+      (λ e g. upd-off _ _ g ∙ sym (k .isolated-else i e g)) in
+      by-fields cutFields (λ F. changes firsts e3 F i ≡ d F i)
+      (solid, (outer, (face, (first, (isolated, (refl, (refl, (refl, (refl, tt)))))))))
+      (λ F e. unwritten cutFields firsts refl e3 F e i ∙ unwritten cutFields records refl H F e i
+      ∙ patch-other halfFields d c F (outside cutFields halfFields refl F e) i ∙ sym (k .others F e i)) F
+
+  -- the list after mef shows the columns with the edge
   pub cut-shows : Sound sh p c → Shows sh cutList d
-  cut-shows a = rw (solid-read, s .at First (q .l) (k .l-in .1)) (
-      let low = lower (c First (q .l)) (lower (q .a) (q .b)) in
-      let mi = k .m-in in
-      let fi = k .f-in in
-      let s3 = shows-put (shows-put (shows-put shows-run Face (q .m) (q .f) (mi .0) (mi .1)) First (q .m) 0 (mi .0) (mi .1)) Isolated (q .m) 0 (mi .0) (mi .1) in
-      let s4 = shows-put (shows-put s3 Solid (q .f) (c Solid (c Face (q .l))) (fi .0) (fi .1)) Outer (q .f) (q .m) (fi .0) (fi .1) in
-      let s5 = shows-first {U = HalfUsed sh d} s4 (q .l) low (q .a) 0 (k .l-in) (t .rules .loops) (used-a k) (k .loop-a) (names (q .l) (k .l-in)) (low-l a) in
-      let s6 = shows-first {U = HalfUsed sh d} s5 (q .m) low (q .b) 0 mi (t .rules .loops) (used-b k) (k .loop-b) (names (q .m) mi) (low-m a) in
-      shows-agree s6 (λ F i h. last F i))
+  cut-shows r = rw (solid-read, s .at First (q .l) (k .site .l-in .1)) (
+      let m = k .site .m-in in
+      let f = k .site .f-in in
+      let s3 = shows-writes records shows-run (m, (m, (m, (f, (f, tt))))) in
+      let s4 = shows-first {U = HalfUsed sh d} s3 (q .l) (low (c First (q .l))) (q .a) 0 (k .site .l-in)
+      (t .rules .loops) (used-a k)
+      (k .loop-a) (names (q .l) (k .site .l-in)) low-l in
+      let s5 = shows-first {U = HalfUsed sh d} s4 (q .m) (low (c First (q .l))) (q .b) 0 m (t .rules .loops) (used-b k)
+      (k .loop-b)
+      (names (q .m) m) low-m in
+      shows-agree s5 (λ F i h. last F i))
     where
-      -- where l's first is looked for
-      low-l : Sound sh p c → (i : ℕ) → In n i → d Loop i ≡ q .l → lower (c First (q .l)) (lower (q .a) (q .b)) ≤ i
-      low-l a i j e = lower-new (c First (q .l)) (q .a) (q .b) i (k .a-in .0)
-          (λ f g. first-low a (q .l) i (k .l-in .0) j (sym (k .loop-else i (j .1) f (λ z. k .l-m (sym e ∙ z))) ∙ e))
+      -- none of l is below that
+      low-l : (i : ℕ) → In n i → d Loop i ≡ q .l → low (c First (q .l)) ≤ i
+      low-l i j e = lower-new (c First (q .l)) (q .a) (q .b) i (k .site .a-in .0)
+          (λ f g. first-low r (q .l) i (k .site .l-in .0) j
+          (sym (k .loop-else i (j .1) f (λ z. l-m (k .site) (sym e ∙ z))) ∙ e))
 
-      -- and m's
-      low-m : Sound sh p c → (i : ℕ) → In n i → d Loop i ≡ q .m → lower (c First (q .l)) (lower (q .a) (q .b)) ≤ i
-      low-m a i j e = lower-new (c First (q .l)) (q .a) (q .b) i (k .a-in .0) (λ f g. first-low a (q .l) i (k .l-in .0) j (k .loop-new i (j .1) g e))
-
-      -- the first of l in d
-      first-l : firstOf sh d (q .l) ≡ d First (q .l)
-      first-l = sym (t .loop (q .l) (k .l-in) (λ z. k .l-used (sym (k .face-else (q .l) (k .l-m)) ∙ z)) .first)
-
-      -- the first of m in d
-      first-m : firstOf sh d (q .m) ≡ d First (q .m)
-      first-m = sym (t .loop (q .m) (k .m-in) (λ z. omega (arith, k .f-in .0, sym (k .face-new) ∙ z)) .first)
-
-      -- these are the columns of d
-      last : (F : Field) (i : ℕ) → e4 F i ≡ d F i
-      last Capacity i = sym (k .capacity i)
-      last SolidUsed i = sym (k .solid-used i)
-      last Solid i = split i (q .f) (λ e. upd-at _ _ e ∙ sym (ap (d Solid) e ∙ k .solid-new)) (λ e. upd-off _ _ e ∙ sym (k .solid-else i e))
-      last Outer i = split i (q .f) (λ e. upd-at _ _ e ∙ sym (ap (d Outer) e ∙ k .outer-new)) (λ e. upd-off _ _ e ∙ sym (k .outer-else i e))
-      last Face i = split i (q .m) (λ e. upd-at _ _ e ∙ sym (ap (d Face) e ∙ k .face-new)) (λ e. upd-off _ _ e ∙ sym (k .face-else i e))
-      last First i = split i (q .m) (λ e. upd-at _ _ e ∙ first-m ∙ sym (ap (d First) e))
-          (λ e. upd-off _ _ e ∙ split i (q .l) (λ g. upd-at _ _ g ∙ first-l ∙ sym (ap (d First) g)) (λ g. upd-off _ _ g ∙ upd-off _ _ e ∙ sym (k .first-else i g e)))
-      last Isolated i = split i (q .m) (λ e. upd-at _ _ e ∙ sym (ap (d Isolated) e ∙ k .isolated-m))
-          (λ e. upd-off _ _ e ∙ split i (q .l) (λ g. upd-at _ _ g ∙ sym (ap (d Isolated) g ∙ k .isolated-l)) (λ g. upd-off _ _ g ∙ upd-off _ _ e ∙ sym (k .isolated-else i g e)))
-      last Start i = refl
-      last Loop i = refl
-      last Next i = refl
-      last Prev i = refl
-      last VertexUsed i = sym (k .vertex-used i)
+      -- nor of m
+      low-m : (i : ℕ) → In n i → d Loop i ≡ q .m → low (c First (q .l)) ≤ i
+      low-m i j e = lower-new (c First (q .l)) (q .a) (q .b) i (k .site .a-in .0)
+          (λ f g. first-low r (q .l) i (k .site .l-in .0) j (k .loop-new i (j .1) g e))

@@ -1,4 +1,5 @@
--- The walk from next of a half-edge b up to b, seen through the columns: it gives another loop to all of b's cycle but b. (mef and kef both go it.)
+-- The walk that mef and kef both make, from next of a half-edge b up to b, seen through the columns: it gives another
+-- loop to all of b's cycle but b.
 use mathlib.Core.Path.{_≡_, sym, ap, _∙_}
 use mathlib.Core.Logic.{_≢_, _⊎_, ⊎-elim}
 use mathlib.Core.Bool.{false}
@@ -13,35 +14,21 @@ use Rattle.laws.specs.Cycles.{Cycles}
 use Rattle.laws.specs.Walks.{chain}
 use Rattle.layout.specs.declared.shape.Shape.{Shape}
 use Rattle.euler.specs.Surgery.{relabelRun}
-use Rattle.layout.specs.Fields.{Field, Capacity, SolidUsed, Solid, Outer, Face, First, Isolated, Start, Loop, Next, Prev, VertexUsed, Columns, sameField}
+use Rattle.layout.specs.Fields.{Field, Loop, Next, Columns, sameField}
 use Rattle.sound_tables.specs.Cells.{Shows}
-use Rattle.sound_tables.specs.EdgeIn.{Halves}
 use Rattle.sound_tables.specs.Sound.{In, HalfUsed, Sound}
 use Rattle.sound_tables.specs.Walking.{runColumns, shows-relabel, run-met, run-off, run-other, way-round, on-the-way}
 use Rattle.sound_cuts.specs.Relation.{Spot, Cut}
 
--- the columns c with others for the half-edges
-abbrev pub withHalves : Columns → Halves → Columns
-withHalves c h Capacity = c Capacity
-withHalves c h SolidUsed = c SolidUsed
-withHalves c h Solid = c Solid
-withHalves c h Outer = c Outer
-withHalves c h Face = c Face
-withHalves c h First = c First
-withHalves c h Isolated = c Isolated
-withHalves c h Start = h .start
-withHalves c h Loop = h .loop
-withHalves c h Next = h .next
-withHalves c h Prev = h .prev
-withHalves c h VertexUsed = c VertexUsed
-
 -- a half-edge that names the new loop m is in use
-pub names-new : {sh : Shape} {p : List ℤ} {c d : Columns} {q : Spot} → Cut sh c d q → Sound sh p d → (i : ℕ) → i ≤ 2 * sh .edges → d Loop i ≡ q .m → HalfUsed sh d i
+pub names-new : {sh : Shape} {p : List ℤ} {c d : Columns} {q : Spot} → Cut sh c d q → Sound sh p d → (i : ℕ)
+    → i ≤ 2 * sh .edges → d Loop i ≡ q .m → HalfUsed sh d i
 names-new {sh} {d = d} k t i h e = split i 0 (λ z. absurd (k .loop-zero (ap (d Loop) (sym z) ∙ e))) (λ z.
     let j : In (2 * sh .edges) i = (omega arith, h) in
-    (j .0, h, λ r. omega (arith, k .m-in .0, sym e ∙ t .half-free i j r .loop)))
+    (j .0, h, λ r. omega (arith, k .site .m-in .0, sym e ∙ t .half-free i j r .loop)))
 
-module _ {sh : Shape} {x : List ℕ} {e : Columns} {U : ℕ → Type 0} {lab : ℕ → ℕ} (s : Shows sh x e) (y : Cycles (2 * sh .edges) U (e Next) lab) (b : ℕ) (w : U b) (l : ℕ) where
+module _ {sh : Shape} {x : List ℕ} {e : Columns} {U : ℕ → Type 0} {lab : ℕ → ℕ} (s : Shows sh x e)
+    (y : Cycles (2 * sh .edges) U (e Next) lab) (b : ℕ) (w : U b) (l : ℕ) where
   -- the columns after the walk
   abbrev pub roundColumns : Columns
   roundColumns = runColumns e (e Next b) (way-round y b w .0) l
@@ -59,10 +46,13 @@ module _ {sh : Shape} {x : List ℕ} {e : Columns} {U : ℕ → Type 0} {lab : �
 
   -- those of b's cycle have l
   pub round-in : (i : ℕ) → U i → lab i ≡ lab b → i ≢ b → roundColumns Loop i ≡ l
-  round-in i u h f = ⊎-elim (λ z. absurd (f z)) (λ z. ap (roundColumns Loop) (sym (z .2)) ∙ run-met e (way-round y b w .0) (e Next b) l (z .0) (z .1)) (on-the-way y b w (way-round y b w .2) i u h)
+  round-in i u h f = ⊎-elim (λ z. absurd (f z))
+      (λ z. ap (roundColumns Loop) (sym (z .2)) ∙ run-met e (way-round y b w .0) (e Next b) l (z .0) (z .1))
+      (on-the-way y b w (way-round y b w .2) i u h)
 
   -- b and the others what they had
   pub round-off : (i : ℕ) → (i ≡ b) ⊎ (lab i ≢ lab b) → roundColumns Loop i ≡ e Loop i
   round-off i h = run-off e (way-round y b w .0) (e Next b) l i (λ t z g. ⊎-elim
       (λ f. way-round y b w .2 .first t z (g ∙ f))
-      (λ f. f (ap lab (sym g) ∙ sym (linked-same lab (λ a c p. sym (y .keeps a (p .0)) ∙ ap lab (p .1)) (chain (y .perm .f-in) t (e Next b) (y .perm .f-in b w))) ∙ y .keeps b w)) h)
+      (λ f. f (ap lab (sym g) ∙ sym (linked-same lab (λ a c p. sym (y .keeps a (p .0)) ∙ ap lab (p .1))
+      (chain (y .perm .f-in) t (e Next b) (y .perm .f-in b w))) ∙ y .keeps b w)) h)

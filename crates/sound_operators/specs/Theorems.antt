@@ -24,7 +24,7 @@ use Rattle.sound_spurs.specs.MevAccepted.{mev-kept}
 use Rattle.sound_spurs.specs.MevExact.{mev-undone}
 use Rattle.sound_spurs.specs.KevExact.{kev-holds}
 use Rattle.sound_cuts.specs.MefHolds.{mef-holds}
-use Rattle.sound_cuts.specs.KefHolds.{kef-holds}
+use Rattle.sound_cuts.specs.Exact.{kef-holds}
 use Rattle.sound_bridges.specs.Exact.{mekr-holds, kemr-holds}
 use Rattle.sound_holes.specs.Exact.{kfmrh-holds, mfkrh-holds}
 use Rattle.sound_splits.specs.Exact.{semv-holds, jekv-holds}
