@@ -2,7 +2,7 @@
 -- that lies in the same loop, and its mate in the loop of the other's mate.
 use mathlib.Core.Path.{_≡_, refl, sym, ap, _∙_, subst}
 use mathlib.Core.Logic.{_≢_, inl, inr}
-use mathlib.Core.Bool.{true}
+use mathlib.Core.Bool.{false}
 use mathlib.Core.List.{List}
 use Prim.Native.Nat.{ℕ, _*_, _≤_}
 use native.Mathlib.Omega.{arith}
@@ -11,12 +11,12 @@ use Rattle.laws.specs.Bools.{split}
 use Rattle.laws.specs.Linked.{link, map-linked}
 use Rattle.layout.specs.declared.shape.Shape.{Shape}
 use Rattle.layout.specs.Mate.{mate}
-use Rattle.layout.specs.Fields.{Field, SolidUsed, Solid, Outer, Face, Isolated, Start, Loop, VertexUsed, Columns}
+use Rattle.layout.specs.Fields.{Field, SolidUsed, Solid, Outer, Face, Isolated, Start, Loop, VertexUsed, Columns, among}
 use Rattle.sound_tables.specs.EdgeIn.{Rules}
 use Rattle.sound_tables.specs.Solids.{Solids}
 use Rattle.sound_tables.specs.Sound.{In, halves, HalfUsed, FaceUsed, side, firstOf, FaceSound, FirstOrIsolated, LoopSound, HalfSound, VertexSound, alone, joined, PointSound, Sound}
 use Rattle.sound_tables.specs.Labels.{label-found, label-some, label-none, none-label}
-use Rattle.sound_splits.specs.Relation.{Tidy, sound-tidy, plain}
+use Rattle.sound_splits.specs.Relation.{Tidy, sound-tidy, moved}
 
 -- each half-edge of d has one of c in its loop, with its mate in the loop of its mate
 abbrev pub Matched : Shape → Columns → Columns → Type 0
@@ -42,7 +42,8 @@ pub vertex-carried : {sh : Shape} {c d : Columns} (w : ℕ) → ((l : ℕ) → d
 vertex-carried w e to from (alone l i q u s) = alone l i (e l ∙ q) (λ l′ i′ q′. u l′ i′ (sym (e l′) ∙ q′)) (λ k j z. let y = from (k, j, z) in s (y .0) (y .1) (y .2))
 vertex-carried w e to from (joined s k j q) = let y = to (k, j, q) in joined (λ l i z. s l i (sym (e l) ∙ z)) (y .0) (y .1) (y .2)
 
-module _ {sh : Shape} {p : List ℤ} {c d : Columns} (a : Sound sh p c) (same : (F : Field) → plain F ≡ true → (i : ℕ) → d F i ≡ c F i) (t : Tidy sh d)
+module _ {sh : Shape} {p : List ℤ} {c d : Columns} (a : Sound sh p c)
+    (same : (F : Field) → among moved F ≡ false → (i : ℕ) → d F i ≡ c F i) (lone : (l : ℕ) → d Isolated l ≡ c Isolated l) (t : Tidy sh d)
     (md : Matched sh c d) (mc : Matched sh d c) where
   -- the side of what is matched
   side-by : {i j : ℕ} → d Loop i ≡ c Loop j → side d i ≡ side c j
@@ -82,9 +83,9 @@ module _ {sh : Shape} {p : List ℤ} {c d : Columns} (a : Sound sh p c) (same : 
     carried-either l i (inl y) =
         let b = label-found (2 * sh .edges) (c Loop) l (λ z. y .0 (sound-tidy a .first l i ∙ z)) in
         let s = named-by d c (sound-tidy a) mc l (i .0) (firstOf sh c l, b .range, b .label) in
-        inl ((λ z. label-some (2 * sh .edges) (d Loop) l (s .0) (s .1) (s .2) (sym (t .first l i) ∙ z)), same Isolated refl l ∙ y .1)
+        inl ((λ z. label-some (2 * sh .edges) (d Loop) l (s .0) (s .1) (s .2) (sym (t .first l i) ∙ z)), lone l ∙ y .1)
     carried-either l i (inr y) =
-        let e = same Isolated refl l in
+        let e = lone l in
         let h : c Isolated l ≢ 0 = λ z. omega (arith, y .1 .0, z) in
         inr (
           t .first l i ∙ label-none (2 * sh .edges) (d Loop) l (λ k j z.
@@ -131,7 +132,7 @@ module _ {sh : Shape} {p : List ℤ} {c d : Columns} (a : Sound sh p c) (same : 
             t .first l i ∙ label-none (2 * sh .edges) (d Loop) l (λ k j z.
                 let s = named-by c d t md l (i .0) (k, j, z) in
                 none-label (2 * sh .edges) (c Loop) l (sym (sound-tidy a .first l i) ∙ r .0) (s .0) (s .1) (s .2)),
-            same Isolated refl l ∙ r .1,
+            lone l ∙ r .1,
           );
       loop = λ l i h. carried-loop l i (a .loop l i (λ z. h (same Face refl l ∙ z)));
       half-free = t .half;

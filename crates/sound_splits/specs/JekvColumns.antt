@@ -1,7 +1,6 @@
 -- The columns after jekv, as the stores make them, are those of which the table before is a division.
 use mathlib.Core.Path.{_≡_, refl, sym, ap, _∙_, subst}
 use mathlib.Core.Logic.{_≢_}
-use mathlib.Core.Bool.{true}
 use mathlib.Core.List.{List, [], _∷_, _++_}
 use Prim.Native.Nat.{ℕ, _*_}
 use native.Mathlib.Omega.{arith}
@@ -12,17 +11,16 @@ use Rattle.laws.specs.Permutations.{inj}
 use Rattle.layout.specs.declared.shape.Shape.{Shape}
 use Rattle.layout.specs.Mate.{mate}
 use Rattle.layout.specs.MateLaws.{mate-mate}
-use Rattle.layout.specs.Fields.{Field, First, Isolated, Start, Loop, Next, Prev, VertexUsed, Columns, change}
+use Rattle.layout.specs.Fields.{First, Isolated, Start, Loop, Next, Prev, VertexUsed, Columns}
 use Rattle.sound_tables.specs.Mates.{mate-other}
 use Rattle.sound_tables.specs.EdgeIn.{prev-in, next-prev}
 use Rattle.sound_tables.specs.Sound.{In, HalfUsed, firstOf, HalfFree, Sound}
 use Rattle.sound_tables.specs.Names.{not-isolated}
 use Rattle.layout.specs.Writes.{Write, write, changes}
 use Rattle.euler.specs.Surgery.{halfRecord, tied}
-use Rattle.sound_tables.specs.Shown.{withFirst}
 use Rattle.sound_splits.specs.CycleMoves.{swapFor, swap-back}
-use Rattle.sound_splits.specs.Firsts.{clear-zero, far-first, first-set}
-use Rattle.sound_splits.specs.Relation.{Tidy, sound-tidy, plain, by-plain, Place, fore, aft, Split}
+use Rattle.sound_splits.specs.Firsts.{closed, closed-others, clear-zero, far-first, first-set}
+use Rattle.sound_splits.specs.Relation.{Tidy, sound-tidy, Place, fore, aft, Split}
 
 -- n comes after k, is of another edge, and after its mate comes k's mate
 pub record Joint (sh : Shape) (d : Columns) (k n : ℕ) : Type 0 where
@@ -38,15 +36,9 @@ jekvWrites d k n q =
     tied k (d Next n) ++ (tied q (mate k) ++ (write Start (mate k) (d Start (mate n))
     ∷ (halfRecord n 0 0 0 0 ++ halfRecord (mate n) 0 0 0 0)))
 
-abbrev pub jekvHalves : Columns → ℕ → ℕ → ℕ → Columns
-jekvHalves d k n q = changes (jekvWrites d k n q) d
-
 -- with the firsts of the two loops, and n's start free
 abbrev pub jekvColumns : Shape → Columns → ℕ → ℕ → ℕ → Columns
-jekvColumns sh d k n q =
-    change (withFirst (withFirst (jekvHalves d k n q)
-    (d Loop k) (firstOf sh (jekvHalves d k n q) (d Loop k)) 0)
-    (d Loop (mate k)) (firstOf sh (jekvHalves d k n q) (d Loop (mate k))) 0) VertexUsed (d Start n) 0
+jekvColumns sh d k n q = closed sh (jekvWrites d k n q) d (d Loop k) (d Loop (mate k)) (d Start n) 0
 
 module _ {sh : Shape} {p : List ℤ} {d : Columns} (a : Sound sh p d) {k n : ℕ} (o : Joint sh d k n) where
   -- what comes before n's mate once k is joined
@@ -214,11 +206,6 @@ module _ {sh : Shape} {p : List ℤ} {d : Columns} (a : Sound sh p d) {k n : ℕ
   b-loop : d Loop (mate n) ≡ d Loop (mate k)
   b-loop = sym (ap (d Loop) (sym (o .next-b)) ∙ a .rules .loops .keeps (mate n) b-used)
 
-  -- the other columns stay
-  jekv-same : (F : Field) → plain F ≡ true → (i : ℕ) → d F i ≡ c F i
-  jekv-same = by-plain (λ F. (i : ℕ) → d F i ≡ c F i) (λ i. refl) (λ i. refl) (λ i. refl) (λ i. refl) (λ i. refl)
-      (λ i. sym (clear-zero (d Isolated) (d Loop k) (d Loop (mate k)) (not-isolated a k (o .k-used) refl) (not-isolated a (mate k) m-used refl) i))
-
   -- firsts and free half-edges
   jekv-tidy : Tidy sh c
   jekv-tidy = record {
@@ -246,7 +233,8 @@ module _ {sh : Shape} {p : List ℤ} {d : Columns} (a : Sound sh p d) {k n : ℕ
   pub jekv-split : Split sh (jekvColumns sh d k n (swapFor n k (d Prev (mate n)))) d k n (d Start n)
   jekv-split = record {
     place = joint-place;
-    same = jekv-same;
+    others = λ F e i. sym (closed-others sh (jekvWrites d k n q) d (d Loop k) (d Loop (mate k)) (d Start n) 0 refl F e i);
+    isolated = λ i. sym (clear-zero (d Isolated) (d Loop k) (d Loop (mate k)) (not-isolated a k (o .k-used) refl) (not-isolated a (mate k) m-used refl) i);
     v-used = let h = a .half n (n-used .0, n-used .1) (n-used .2) in
         let x = a .vertex-mark (d Start n) (h .start-in) in
         let y : d VertexUsed (d Start n) ≢ 0 = h .start-used in

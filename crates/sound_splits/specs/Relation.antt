@@ -3,8 +3,8 @@
 -- relation read from d to c: each side settles the other.
 use mathlib.Core.Path.{_≡_, sym, ap, _∙_, subst}
 use mathlib.Core.Logic.{_≢_}
-use mathlib.Core.Bool.{Bool, true, false, false≢true}
-use mathlib.Core.List.{List}
+use mathlib.Core.Bool.{false}
+use mathlib.Core.List.{List, [], _∷_}
 use Prim.Native.Nat.{ℕ, _*_}
 use native.Mathlib.Omega.{arith}
 use lib.IntN.{ℤ}
@@ -13,7 +13,7 @@ use Rattle.laws.specs.Update.{upd-at, upd-same, upd-off}
 use Rattle.layout.specs.declared.shape.Shape.{Shape}
 use Rattle.layout.specs.Mate.{mate}
 use Rattle.layout.specs.MateLaws.{mate-mate}
-use Rattle.layout.specs.Fields.{Field, Capacity, SolidUsed, Solid, Outer, Face, First, Isolated, Start, Loop, Next, Prev, VertexUsed, Columns}
+use Rattle.layout.specs.Fields.{Field, Face, First, Isolated, Start, Loop, Next, Prev, VertexUsed, Columns, among}
 use Rattle.sound_tables.specs.Mates.{mate-other}
 use Rattle.sound_tables.specs.Sound.{In, HalfUsed, firstOf, HalfFree, Sound}
 use Rattle.sound_tables.specs.Labels.{label-none}
@@ -34,35 +34,9 @@ sound-tidy {sh} {c = c} a = record {
   half = a .half-free;
 }
 
--- the columns that semv leaves as they are
-abbrev pub plain : Field → Bool
-plain Capacity = true
-plain SolidUsed = true
-plain Solid = true
-plain Outer = true
-plain Face = true
-plain First = false
-plain Isolated = true
-plain Start = false
-plain Loop = false
-plain Next = false
-plain Prev = false
-plain VertexUsed = false
-
--- a statement about each of them
-pub by-plain : (Q : Field → Type 0) → Q Capacity → Q SolidUsed → Q Solid → Q Outer → Q Face → Q Isolated → (F : Field) → plain F ≡ true → Q F
-by-plain Q q1 q2 q3 q4 q5 q6 Capacity e = q1
-by-plain Q q1 q2 q3 q4 q5 q6 SolidUsed e = q2
-by-plain Q q1 q2 q3 q4 q5 q6 Solid e = q3
-by-plain Q q1 q2 q3 q4 q5 q6 Outer e = q4
-by-plain Q q1 q2 q3 q4 q5 q6 Face e = q5
-by-plain Q q1 q2 q3 q4 q5 q6 First e = absurd (false≢true e)
-by-plain Q q1 q2 q3 q4 q5 q6 Isolated e = q6
-by-plain Q q1 q2 q3 q4 q5 q6 Start e = absurd (false≢true e)
-by-plain Q q1 q2 q3 q4 q5 q6 Loop e = absurd (false≢true e)
-by-plain Q q1 q2 q3 q4 q5 q6 Next e = absurd (false≢true e)
-by-plain Q q1 q2 q3 q4 q5 q6 Prev e = absurd (false≢true e)
-by-plain Q q1 q2 q3 q4 q5 q6 VertexUsed e = absurd (false≢true e)
+-- the fields that the stores of a division name
+abbrev pub moved : List Field
+moved = First ∷ Isolated ∷ Start ∷ Loop ∷ Next ∷ Prev ∷ VertexUsed ∷ []
 
 -- k is in use; n, its mate and v are free
 pub record Place (sh : Shape) (c : Columns) (k n v : ℕ) : Type 0 where
@@ -86,7 +60,8 @@ aft k n = swapFor k n
 -- v divides k in c, which gives d
 pub record Split (sh : Shape) (c d : Columns) (k n v : ℕ) : Type 0 where
   pub place : Place sh c k n v
-  pub same : (F : Field) → plain F ≡ true → (i : ℕ) → d F i ≡ c F i
+  pub others : (F : Field) → among moved F ≡ false → (i : ℕ) → d F i ≡ c F i
+  pub isolated : (l : ℕ) → d Isolated l ≡ c Isolated l
   pub v-used : d VertexUsed v ≡ 1
   pub used : (w : ℕ) → w ≢ v → d VertexUsed w ≡ c VertexUsed w
   pub start-m : d Start (mate k) ≡ v

@@ -1,7 +1,6 @@
 -- The columns after semv, as the stores make them, are a division of k at v.
 use mathlib.Core.Path.{_≡_, refl, sym, ap, _∙_}
 use mathlib.Core.Logic.{_≢_}
-use mathlib.Core.Bool.{true}
 use mathlib.Core.List.{List, [], _∷_, _++_}
 use Prim.Native.Nat.{ℕ, _*_}
 use native.Mathlib.Omega.{arith}
@@ -11,15 +10,14 @@ use Rattle.laws.specs.Update.{upd, upd-at, upd-same, upd-off}
 use Rattle.layout.specs.declared.shape.Shape.{Shape}
 use Rattle.layout.specs.Mate.{mate}
 use Rattle.sound_tables.specs.EdgeIn.{prev-in, next-prev}
-use Rattle.layout.specs.Fields.{Field, First, Isolated, Start, Loop, Next, Prev, VertexUsed, Columns, change}
+use Rattle.layout.specs.Fields.{First, Isolated, Start, Loop, Next, Prev, VertexUsed, Columns}
 use Rattle.sound_tables.specs.Sound.{In, HalfUsed, firstOf, HalfFree, Sound}
 use Rattle.sound_tables.specs.Names.{not-isolated}
-use Rattle.layout.specs.Writes.{Write, changes}
+use Rattle.layout.specs.Writes.{Write, write, changes}
 use Rattle.euler.specs.Surgery.{halfRecord, seated}
-use Rattle.sound_tables.specs.Shown.{withFirst}
 use Rattle.sound_splits.specs.CycleMoves.{swapFor, swap-back}
-use Rattle.sound_splits.specs.Firsts.{clear-zero, far-first, first-set}
-use Rattle.sound_splits.specs.Relation.{Tidy, sound-tidy, plain, by-plain, Place, fore, aft, Split, off-n, off-b, n≢b, n≢k, n≢m, b≢m}
+use Rattle.sound_splits.specs.Firsts.{closed, closed-others, clear-zero, far-first, first-set}
+use Rattle.sound_splits.specs.Relation.{Tidy, sound-tidy, Place, fore, aft, Split, off-n, off-b, n≢b, n≢k, n≢m, b≢m}
 
 -- half-edge n from v in loop l goes in between k and A
 abbrev pub afterWrites : ℕ → ℕ → ℕ → ℕ → ℕ → List Write
@@ -28,16 +26,15 @@ afterWrites k n v l A = halfRecord n v l A k ++ seated k n A
 abbrev pub withAfter : Columns → ℕ → ℕ → ℕ → ℕ → ℕ → Columns
 withAfter c k n v l A = changes (afterWrites k n v l A) c
 
--- the half-edges after semv: n after k, then n's mate between q and m, which starts at v
-abbrev pub semvHalves : Columns → ℕ → ℕ → ℕ → ℕ → Columns
-semvHalves c k n v q = change (withAfter (withAfter c k n v (c Loop k) (c Next k)) q (mate n) (c Start (mate k)) (c Loop (mate k)) (mate k)) Start (mate k) v
+-- what semv stores to the half-edges: n after k, then n's mate between q and m, which starts at v
+abbrev pub semvWrites : Columns → ℕ → ℕ → ℕ → ℕ → List Write
+semvWrites c k n v q =
+    afterWrites k n v (c Loop k) (c Next k)
+    ++ (afterWrites q (mate n) (c Start (mate k)) (c Loop (mate k)) (mate k) ++ (write Start (mate k) v ∷ []))
 
 -- with the firsts of the two loops, and v in use
 abbrev pub semvColumns : Shape → Columns → ℕ → ℕ → ℕ → ℕ → Columns
-semvColumns sh c k n v q =
-    change (withFirst (withFirst (semvHalves c k n v q)
-    (c Loop k) (firstOf sh (semvHalves c k n v q) (c Loop k)) 0)
-    (c Loop (mate k)) (firstOf sh (semvHalves c k n v q) (c Loop (mate k))) 0) VertexUsed v 1
+semvColumns sh c k n v q = closed sh (semvWrites c k n v q) c (c Loop k) (c Loop (mate k)) v 1
 
 module _ {sh : Shape} {p : List ℤ} {c : Columns} (a : Sound sh p c) {k n v : ℕ} (o : Place sh c k n v) where
   -- what comes before m once n is in
@@ -86,11 +83,6 @@ module _ {sh : Shape} {p : List ℤ} {c : Columns} (a : Sound sh p c) {k n v : �
       (λ e. ap (d Prev) (upd-at (λ j. j) (mate n) e) ∙ upd-off _ (mate n) (b≢m o) ∙ upd-same _ (mate n) q ∙ ap (λ j. aft k n (c Prev j)) (sym e))
       (λ e. ap (d Prev) (upd-off (λ j. j) (mate n) e) ∙ upd-off _ (mate n) e ∙ upd-off _ q (off-b o i u) ∙ first-prev i u)
 
-  -- the other columns stay
-  semv-same : (F : Field) → plain F ≡ true → (i : ℕ) → d F i ≡ c F i
-  semv-same = by-plain (λ F. (i : ℕ) → d F i ≡ c F i) (λ i. refl) (λ i. refl) (λ i. refl) (λ i. refl) (λ i. refl)
-      (clear-zero (c Isolated) (c Loop k) (c Loop (mate k)) (not-isolated a k (o .k-used) refl) (not-isolated a (mate k) (o .m-used) refl))
-
   -- the loops of the new half-edges
   loop-n : d Loop n ≡ c Loop k
   loop-n = upd-off _ _ (n≢b o) ∙ upd-same (c Loop) n (c Loop k)
@@ -134,7 +126,8 @@ module _ {sh : Shape} {p : List ℤ} {c : Columns} (a : Sound sh p c) {k n v : �
   pub semv-split : Split sh c (semvColumns sh c k n v (aft k n (c Prev (mate k)))) k n v
   semv-split = record {
     place = o;
-    same = semv-same;
+    others = closed-others sh (semvWrites c k n v q) c (c Loop k) (c Loop (mate k)) v 1 refl;
+    isolated = clear-zero (c Isolated) (c Loop k) (c Loop (mate k)) (not-isolated a k (o .k-used) refl) (not-isolated a (mate k) (o .m-used) refl);
     v-used = upd-same (c VertexUsed) v 1;
     used = λ w e. upd-off (c VertexUsed) 1 e;
     start-m = upd-same _ (mate k) v;

@@ -13,15 +13,17 @@ use Rattle.layout.specs.Mate.{mate}
 use Rattle.euler.specs.Surgery.{renew}
 use Rattle.euler.specs.Operators.{insertAfter, semvLinks, jekvLinks}
 use Rattle.sound_tables.specs.EdgeIn.{next-prev, prev-in}
-use Rattle.layout.specs.Fields.{First, Start, Loop, Next, Prev, VertexUsed, Columns, change}
+use Rattle.layout.specs.Fields.{First, Start, Loop, Next, Prev, VertexUsed, Columns}
+use Rattle.layout.specs.Writes.{changes}
 use Rattle.sound_tables.specs.Cells.{Shows, shows-put}
-use Rattle.sound_tables.specs.Sound.{In, HalfUsed, firstOf, Sound}
+use Rattle.sound_tables.specs.Sound.{In, HalfUsed, Sound}
 use Rattle.sound_tables.specs.Names.{start-unnamed}
 use Rattle.sound_tables.specs.FirstLow.{lower-new, first-low}
 use Rattle.euler.specs.Surgery.{tied}
 use Rattle.sound_tables.specs.WriteLaws.{shows-writes}
-use Rattle.sound_tables.specs.Shown.{withFirst, shows-first}
+use Rattle.sound_tables.specs.Shown.{shows-first}
 use Rattle.sound_splits.specs.CycleMoves.{swapFor}
+use Rattle.sound_splits.specs.Firsts.{closing}
 use Rattle.sound_splits.specs.Relation.{Tidy, Place, aft, off-n, off-b, used-old}
 use Rattle.sound_splits.specs.SplitRules.{split-rules, join-rules}
 use Rattle.sound_splits.specs.SemvColumns.{afterWrites, withAfter, semvColumns, first-next, first-prev, next-in, semv-split}
@@ -38,7 +40,7 @@ shows-after {sh} {x} s k n v l A e ik jn ia =
 shows-close : {sh : Shape} {y : List ℕ} {H : Columns} {U : ℕ → Type 0} → Shows sh y H → (k m l1 low1 l2 low2 v t : ℕ) → In (sh .loops) l1 → In (sh .loops) l2 → In (sh .vertices) v
     → Cycles (2 * sh .edges) U (H Next) (H Loop) → U k → U m → H Loop k ≡ l1 → H Loop m ≡ l2 → ((i l : ℕ) → 1 ≤ l → In (2 * sh .edges) i → H Loop i ≡ l → U i)
     → ((i : ℕ) → In (2 * sh .edges) i → H Loop i ≡ l1 → low1 ≤ i) → ((i : ℕ) → In (2 * sh .edges) i → H Loop i ≡ l2 → low2 ≤ i)
-    → Shows sh (setVertexUsed sh (renew sh (renew sh y l1 low1 k 0) l2 low2 m 0) v t) (change (withFirst (withFirst H l1 (firstOf sh H l1) 0) l2 (firstOf sh H l2) 0) VertexUsed v t)
+    → Shows sh (setVertexUsed sh (renew sh (renew sh y l1 low1 k 0) l2 low2 m 0) v t) (changes (closing sh H l1 l2 v t) H)
 shows-close s k m l1 low1 l2 low2 v t i1 i2 iv cy uk um e1 e2 all h1 h2 =
     shows-put
     (shows-first (shows-first s l1 low1 k 0 i1 cy uk e1 (λ i j e. all i l1 (i1 .0) j e) h1) l2 low2 m 0 i2 cy um e2 (λ i j e. all i l2 (i2 .0) j e) h2)

@@ -56,14 +56,14 @@ module _ {sh : Shape} {c d : Columns} {k n v : ℕ} (r : Split sh c d k n v) whe
 
   -- the table after the division is sound
   pub split-sound : {p q : List ℤ} → Sound sh p c → ((w : ℕ) → In (sh .vertices) w → PointSound q d w) → Sound sh q d
-  split-sound a points = carried a (r .same) (r .tidy-d) (matched-after (a .rules .mate-in)) (matched-before (a .rules .mate-in))
+  split-sound a points = carried a (r .others) (r .isolated) (r .tidy-d) (matched-after (a .rules .mate-in)) (matched-before (a .rules .mate-in))
       (λ l i h u. used-after (c Isolated l) u .1)
       (used-was r (λ i. In (sh .vertices) (d Start i) × (d VertexUsed (d Start i) ≢ 0)) (at-v n (r .start-n)) (old (mate k) (r .place .m-used) (mate n) (r .start-b))
       (λ i u. split i (mate k) (λ e. at-v i (ap (d Start) e ∙ r .start-m)) (λ e. old i u i (r .start i e (off-n (r .place) i u) (off-b (r .place) i u)))))
       (λ w i. split w v (λ e. rw e (rw (r .v-used) (omega arith))) (λ e. rw (r .used w e) (a .vertex-mark w i)))
       (λ w i h. split w v
-      (λ e. subst (VertexSound sh d) (sym e) (joined (λ l j z. isolated-unnamed a v (r .place .v-in) (r .place .v-free) l j (sym (r .same Isolated refl l) ∙ z)) n (r .place .n-in) (r .start-n)))
-      (λ e. vertex-carried w (r .same Isolated refl) (started-after w (i .0)) (started-before w e) (a .vertex w i (λ z. h (r .used w e ∙ z)))))
+      (λ e. subst (VertexSound sh d) (sym e) (joined (λ l j z. isolated-unnamed a v (r .place .v-in) (r .place .v-free) l j (sym (r .isolated l) ∙ z)) n (r .place .n-in) (r .start-n)))
+      (λ e. vertex-carried w (r .isolated) (started-after w (i .0)) (started-before w e) (a .vertex w i (λ z. h (r .used w e ∙ z)))))
       points
       (split-rules r (a .rules) (λ i u. start-unnamed a v (r .place .v-in) (r .place .v-free) i (u .0, u .1)))
     where
@@ -81,7 +81,7 @@ module _ {sh : Shape} {c d : Columns} {k n v : ℕ} (r : Split sh c d k n v) whe
 
   -- the table before the division is sound
   pub join-sound : {p q : List ℤ} → Sound sh p d → ((w : ℕ) → In (sh .vertices) w → PointSound q c w) → Sound sh q c
-  join-sound a points = carried a (λ F e i. sym (r .same F e i)) (r .tidy-c) (matched-before mates) (matched-after mates)
+  join-sound a points = carried a (λ F e i. sym (r .others F e i)) (λ l. sym (r .isolated l)) (r .tidy-c) (matched-before mates) (matched-after mates)
       (λ l i h u. keep (d Isolated l) (not-isolated l i (a .vertex v (r .place .v-in) (λ z. omega (arith, sym (r .v-used) ∙ z)))) u)
       (λ i u.
       let w = fore-in r i u in
@@ -89,7 +89,7 @@ module _ {sh : Shape} {c d : Columns} {k n v : ℕ} (r : Split sh c d k n v) whe
       let e = start-fore r i u in
       (subst (In (sh .vertices)) e (s .start-in), keep (c Start i) (not-v i u) (subst (λ t. d VertexUsed t ≢ 0) e (s .start-used))))
       (λ w i. split w v (λ e. rw e (rw (r .place .v-free) (omega arith))) (λ e. rw (sym (r .used w e)) (a .vertex-mark w i)))
-      (λ w i h. let u = used-after w h in vertex-carried w (λ l. sym (r .same Isolated refl l)) (started-before w (u .0)) (started-after w (i .0)) (a .vertex w i (u .1)))
+      (λ w i h. let u = used-after w h in vertex-carried w (λ l. sym (r .isolated l)) (started-before w (u .0)) (started-after w (i .0)) (a .vertex w i (u .1)))
       points
       (join-rules r (a .rules))
     where

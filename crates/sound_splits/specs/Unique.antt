@@ -1,15 +1,15 @@
 -- Each side of a division settles the other: two tables that come from one are equal, and two that lead to one are.
-use mathlib.Core.Path.{_≡_, refl, sym, ap, _∙_}
+use mathlib.Core.Path.{_≡_, sym, ap, _∙_}
 use Prim.Native.Nat.{ℕ, _*_, _≤_}
 use lib.Dec.{eqb}
 use Rattle.laws.specs.Bools.{split}
 use Rattle.laws.specs.Search.{least-ext}
 use Rattle.layout.specs.declared.shape.Shape.{Shape}
 use Rattle.layout.specs.Mate.{mate}
-use Rattle.layout.specs.Fields.{Field, Capacity, SolidUsed, Solid, Outer, Face, First, Isolated, Start, Loop, Next, Prev, VertexUsed, Columns, capOf}
+use Rattle.layout.specs.Fields.{Field, First, Isolated, Start, Loop, Next, Prev, VertexUsed, Columns, capOf, by-fields}
 use Rattle.sound_tables.specs.Sound.{In, HalfUsed}
 use Rattle.sound_splits.specs.CycleMoves.{swapFor, swap-back}
-use Rattle.sound_splits.specs.Relation.{Tidy, Split, off-n, off-b, by-next, by-prev}
+use Rattle.sound_splits.specs.Relation.{Tidy, moved, Split, off-n, off-b, by-next, by-prev}
 
 -- tidy columns with the same loops have the same firsts
 first-same : {sh : Shape} {c d : Columns} → Tidy sh c → Tidy sh d → ((i : ℕ) → In (2 * sh .edges) i → c Loop i ≡ d Loop i) → (l : ℕ) → In (sh .loops) l → c First l ≡ d First l
@@ -37,18 +37,26 @@ module _ {sh : Shape} {c d e : Columns} {k n v : ℕ} (r : Split sh c d k n v) (
 
   -- what comes from one table is one
   pub unique-after : (F : Field) (i : ℕ) → 1 ≤ i → i ≤ capOf sh F → d F i ≡ e F i
-  unique-after Capacity i a b = r .same Capacity refl i ∙ sym (s .same Capacity refl i)
-  unique-after SolidUsed i a b = r .same SolidUsed refl i ∙ sym (s .same SolidUsed refl i)
-  unique-after Solid i a b = r .same Solid refl i ∙ sym (s .same Solid refl i)
-  unique-after Outer i a b = r .same Outer refl i ∙ sym (s .same Outer refl i)
-  unique-after Face i a b = r .same Face refl i ∙ sym (s .same Face refl i)
-  unique-after First i a b = first-same (r .tidy-d) (s .tidy-d) (λ j h. loop-d j) i (a, b)
-  unique-after Isolated i a b = r .same Isolated refl i ∙ sym (s .same Isolated refl i)
-  unique-after Start i a b = start-d i
-  unique-after Loop i a b = loop-d i
-  unique-after Next i a b = next-d i (a, b)
-  unique-after Prev i a b = prev-d i (a, b)
-  unique-after VertexUsed i a b = split i v (λ z. rw z (r .v-used ∙ sym (s .v-used))) (λ z. r .used i z ∙ sym (s .used i z))
+  unique-after = by-fields moved (λ F. (i : ℕ) → 1 ≤ i → i ≤ capOf sh F → d F i ≡ e F i) (
+    λ i a b. first-same (r .tidy-d) (s .tidy-d) (λ j h. loop-d j) i (a, b),
+    (
+      λ i a b. r .isolated i ∙ sym (s .isolated i),
+      (
+        λ i a b. start-d i,
+        (
+          λ i a b. loop-d i,
+          (
+            λ i a b. next-d i (a, b),
+            (
+              λ i a b. prev-d i (a, b),
+              (λ i a b. split i v (λ z. rw z (r .v-used ∙ sym (s .v-used))) (λ z. r .used i z ∙ sym (s .used i z)), tt),
+            ),
+          ),
+        ),
+      ),
+    ),
+  )
+      (λ F h i a b. r .others F h i ∙ sym (s .others F h i))
 
 -- ---- c is settled by d
 
@@ -79,15 +87,23 @@ module _ {sh : Shape} {c e d : Columns} {k n v : ℕ} (r : Split sh c d k n v) (
 
   -- what leads to one table is one
   pub unique-before : (F : Field) (i : ℕ) → 1 ≤ i → i ≤ capOf sh F → c F i ≡ e F i
-  unique-before Capacity i a b = sym (r .same Capacity refl i) ∙ s .same Capacity refl i
-  unique-before SolidUsed i a b = sym (r .same SolidUsed refl i) ∙ s .same SolidUsed refl i
-  unique-before Solid i a b = sym (r .same Solid refl i) ∙ s .same Solid refl i
-  unique-before Outer i a b = sym (r .same Outer refl i) ∙ s .same Outer refl i
-  unique-before Face i a b = sym (r .same Face refl i) ∙ s .same Face refl i
-  unique-before First i a b = first-same (r .tidy-c) (s .tidy-c) loop-c i (a, b)
-  unique-before Isolated i a b = sym (r .same Isolated refl i) ∙ s .same Isolated refl i
-  unique-before Start i a b = start-c i
-  unique-before Loop i a b = loop-c i (a, b)
-  unique-before Next i a b = next-c i (a, b)
-  unique-before Prev i a b = prev-c i (a, b)
-  unique-before VertexUsed i a b = split i v (λ z. rw z (r .place .v-free ∙ sym (s .place .v-free))) (λ z. sym (r .used i z) ∙ s .used i z)
+  unique-before = by-fields moved (λ F. (i : ℕ) → 1 ≤ i → i ≤ capOf sh F → c F i ≡ e F i) (
+    λ i a b. first-same (r .tidy-c) (s .tidy-c) loop-c i (a, b),
+    (
+      λ i a b. sym (r .isolated i) ∙ s .isolated i,
+      (
+        λ i a b. start-c i,
+        (
+          λ i a b. loop-c i (a, b),
+          (
+            λ i a b. next-c i (a, b),
+            (
+              λ i a b. prev-c i (a, b),
+              (λ i a b. split i v (λ z. rw z (r .place .v-free ∙ sym (s .place .v-free))) (λ z. sym (r .used i z) ∙ s .used i z), tt),
+            ),
+          ),
+        ),
+      ),
+    ),
+  )
+      (λ F h i a b. sym (r .others F h i) ∙ s .others F h i)
