@@ -19,7 +19,7 @@ use Rattle.sound_tables.specs.Dummies.{spurred, spur-rules, dropped, drop-rules
 use Rattle.sound_tables.specs.Sound.{HalfUsed, Sound}
 use Rattle.sound_tables.specs.Names.{start-unnamed, isolated-unnamed, not-isolated}
 use Rattle.sound_tables.specs.WithDummies.{upTo-low, upTo-high, extended, Dummy, Member, sound-corners, dummy-of, dummy-loop, dummy-start}
-use Rattle.sound_spurs.specs.MevSound.{mevColumns, MevPlace, kb, off-k, off-b, start-k, start-b, start-old, loop-k, loop-b, loop-old, new-k, new-b, half-stays, half-was, dummy-stays}
+use Rattle.sound_spurs.specs.MevSound.{NewEdge, mevColumns, MevPlace, MevRules⁺, kb, off-k, off-b, start-k, start-b, start-old, loop-k, loop-b, loop-old, new-k, new-b, half-stays, half-was, dummy-stays}
 
 -- the same cycles among fewer or more numbers
 resize-cycles : {n m : ℕ} {U : ℕ → Type 0} {f lab : ℕ → ℕ} → Cycles n U f lab → ((i : ℕ) → U i → i ≤ m) → Cycles m U f lab
@@ -28,7 +28,10 @@ resize-cycles c h = record { perm = record { low = c .perm .low; high = h; f-in 
 resize : {n m : ℕ} {mate : ℕ → ℕ} {U : ℕ → Type 0} {h : Halves} → Rules n mate U h → ((i : ℕ) → U i → i ≤ m) → Rules m mate U h
 resize r h = record { mate-in = r .mate-in; loops = resize-cycles (r .loops) h; verts = resize-cycles (r .verts) h; undone = r .undone }
 
-module _ {sh : Shape} {p : List ℤ} {c : Columns} (a : Sound sh p c) {l k u v P N : ℕ} (o : MevPlace sh c l k u v P N) where
+module _ {sh : Shape} {p : List ℤ} {c : Columns} (a : Sound sh p c) {E : NewEdge} (o : MevPlace sh c E) where
+  open NewEdge E using (loop as l, half as k, to as v)
+
+  -- the number of half-edges
   abbrev n : ℕ
   n = 2 * sh .edges
 
@@ -40,7 +43,7 @@ module _ {sh : Shape} {p : List ℤ} {c : Columns} (a : Sound sh p c) {l k u v P
   H = extended sh c
 
   abbrev d : Columns
-  d = mevColumns sh c l k u v P N
+  d = mevColumns sh c E
 
   free-member : (i : ℕ) → i ≤ n → c Start i ≡ 0 → ¬ Member sh c i
   free-member i h z = ⊎-elim (λ w. w .2 z) (λ w. omega (arith, h, w .0))
@@ -78,9 +81,19 @@ module _ {sh : Shape} {p : List ℤ} {c : Columns} (a : Sound sh p c) {l k u v P
       let e : i - n ≢ l = λ z. w .2 (ap (d Isolated) z ∙ upd-same (c Isolated) l 0) in
       (inr (inr (inr (w .0, w .1, λ z. w .2 (upd-off (c Isolated) 0 e ∙ z)))), λ x. e)
 
+-- the edge in loop l, half-edge k to the new vertex v, at a half-edge h
+abbrev pub besideEdge : Columns → ℕ → ℕ → ℕ → ℕ → NewEdge
+besideEdge c l k v h = record { loop = l; half = k; from = c Start h; to = v; before = c Prev h; after = h }
+
+-- and at an isolated loop
+abbrev pub loneEdge : Columns → ℕ → ℕ → ℕ → NewEdge
+loneEdge c l k v = record { loop = l; half = k; from = c Isolated l; to = v; before = mate k; after = k }
+
 -- ---- at a half-edge h of the loop
 
-module _ {sh : Shape} {p : List ℤ} {c : Columns} (a : Sound sh p c) {l k v h : ℕ} (hu : HalfUsed sh c h) (hl : c Loop h ≡ l) (o : MevPlace sh c l k (c Start h) v (c Prev h) h) where
+module _ {sh : Shape} {p : List ℤ} {c : Columns} (a : Sound sh p c) {l k v h : ℕ} (hu : HalfUsed sh c h) (hl : c Loop h ≡ l)
+    (o : MevPlace sh c (besideEdge c l k v h)) where
+  -- the number of half-edges
   abbrev n₁ : ℕ
   n₁ = 2 * sh .edges
 
@@ -88,7 +101,7 @@ module _ {sh : Shape} {p : List ℤ} {c : Columns} (a : Sound sh p c) {l k v h :
   P₁ = c Prev h
 
   abbrev d₁ : Columns
-  d₁ = mevColumns sh c l k (c Start h) v (c Prev h) h
+  d₁ = mevColumns sh c (besideEdge c l k v h)
 
   abbrev H₁ : Halves
   H₁ = spurred (extended sh c) k (mate k) (c Prev h) v
@@ -146,13 +159,15 @@ module _ {sh : Shape} {p : List ℤ} {c : Columns} (a : Sound sh p c) {l k v h :
       i (no-dummy i)
 
   -- the rules with dummies afterwards
-  pub mev-at-half : Rules (2 * sh .edges + sh .loops) (mate⁺ (sh .edges)) (Member sh d₁) (extended sh d₁)
+  pub mev-at-half : MevRules⁺ sh c (besideEdge c l k v h)
   mev-at-half = resize (agree-rules (spur a o (c Prev h) (inl pu)) (λ i w. to-member a o i (no-dummy i) w) (λ i w. from-member a o i w .0) at-start at-loop at-next at-prev)
       (λ i. ⊎-elim (λ w. omega (arith, w .1)) (λ w. w .1))
 
 -- ---- at an isolated loop: its dummy y goes in the end
 
-module _ {sh : Shape} {p : List ℤ} {c : Columns} (a : Sound sh p c) {l k v : ℕ} (isolated : c Isolated l ≢ 0) (o : MevPlace sh c l k (c Isolated l) v (mate k) k) where
+module _ {sh : Shape} {p : List ℤ} {c : Columns} (a : Sound sh p c) {l k v : ℕ} (isolated : c Isolated l ≢ 0)
+    (o : MevPlace sh c (loneEdge c l k v)) where
+  -- the number of half-edges
   abbrev n₂ : ℕ
   n₂ = 2 * sh .edges
 
@@ -160,7 +175,7 @@ module _ {sh : Shape} {p : List ℤ} {c : Columns} (a : Sound sh p c) {l k v : �
   y = 2 * sh .edges + l
 
   abbrev d₂ : Columns
-  d₂ = mevColumns sh c l k (c Isolated l) v (mate k) k
+  d₂ = mevColumns sh c (loneEdge c l k v)
 
   abbrev S₂ : Halves
   S₂ = spurred (extended sh c) k (mate k) (2 * sh .edges + l) v
@@ -246,7 +261,7 @@ module _ {sh : Shape} {p : List ℤ} {c : Columns} (a : Sound sh p c) {l k v : �
       i (other-dummy i (w .1)) (w .0)
 
   -- the rules with dummies afterwards
-  pub mev-at-isolated : Rules (2 * sh .edges + sh .loops) (mate⁺ (sh .edges)) (Member sh d₂) (extended sh d₂)
+  pub mev-at-isolated : MevRules⁺ sh c (loneEdge c l k v)
   mev-at-isolated = resize (agree-rules without (λ i w. to-member a o i (other-dummy i (w .1)) (w .0))
       (λ i w. let r = from-member a o i w in (r .0, λ e. not-y i w r e)) to-start to-loop to-next to-prev)
       (λ i. ⊎-elim (λ w. omega (arith, w .1)) (λ w. w .1))

@@ -1,8 +1,8 @@
--- mev on the columns: an edge k, b goes in at a corner of loop l, from its vertex u to the new vertex v. P comes before the edge and N after it; at an
--- isolated corner these are b and k. What is left to show for each kind of corner are the rules with dummies (`MevCorners`).
+-- mev on the columns: a new edge goes in at a corner of a loop, from its vertex to a new one. What is left to show for
+-- each kind of corner are the rules with dummies (`MevRules`).
 use mathlib.Core.Path.{_≡_, sym, ap, _∙_, subst}
 use mathlib.Core.Logic.{_≢_, _⊎_, inl, inr, ⊎-elim}
-use mathlib.Core.List.{List}
+use mathlib.Core.List.{List, [], _∷_}
 use Prim.Native.Nat.{ℕ, _+_, _-_, _*_}
 use native.Mathlib.Omega.{arith}
 use lib.Dec.{eqb}
@@ -14,39 +14,75 @@ use Rattle.laws.specs.Linked.{link, map-linked}
 use Rattle.layout.specs.declared.shape.Shape.{Shape}
 use Rattle.layout.specs.Mate.{mate}
 use Rattle.layout.specs.MateLaws.{mate-mate}
-use Rattle.layout.specs.Fields.{Solid, Face, First, Isolated, Start, Loop, Next, Prev, VertexUsed, Columns, change}
+use Rattle.layout.specs.Fields.{Solid, Face, First, Isolated, Start, Loop, Next, Prev, VertexUsed, Columns}
+use Rattle.layout.specs.Writes.{Write, write, changes}
+use Rattle.euler.specs.Surgery.{edgeWrites}
 use Rattle.sound_tables.specs.Mates.{mate⁺, mate-other}
 use Rattle.sound_tables.specs.EdgeIn.{Rules}
 use Rattle.sound_tables.specs.Solids.{Solids}
 use Rattle.sound_tables.specs.Sound.{In, HalfUsed, FaceUsed, side, firstOf, LoopSound, HalfSound, HalfFree, PointSound, Sound, half-by}
 use Rattle.sound_tables.specs.Names.{lone-kept}
 use Rattle.sound_tables.specs.WithDummies.{upTo-low, upTo-high, extended, Dummy, Member, Corners, sound-corners, corners-rules, corners-loop, corners-vertex}
-use Rattle.sound_tables.specs.Shown.{withEdge, withFirst}
+
+-- an edge that goes in: `half` in loop `loop`, from vertex `from` to the new vertex `to`; `before` comes before it, `after` behind its mate
+pub record NewEdge : Type 0 where
+  pub loop : ℕ
+  pub half : ℕ
+  pub from : ℕ
+  pub to : ℕ
+  pub before : ℕ
+  pub after : ℕ
+
+-- the stores to half-edges
+abbrev pub edgeStores : NewEdge → List Write
+edgeStores E = edgeWrites (E .half) (E .from) (E .loop) (mate (E .half)) (E .before) (E .to) (E .loop) (E .after) (E .half)
+
+-- the columns with the edge in
+abbrev pub edged : Columns → NewEdge → Columns
+edged c E = changes (edgeStores E) c
+
+-- the stores to the loop, whose first is then f, and to the new vertex
+abbrev pub endStores : NewEdge → ℕ → List Write
+endStores E f = write First (E .loop) f ∷ write Isolated (E .loop) 0 ∷ write VertexUsed (E .to) 1 ∷ []
 
 -- the columns afterwards
-abbrev pub mevColumns : Shape → Columns → ℕ → ℕ → ℕ → ℕ → ℕ → ℕ → Columns
-mevColumns sh c l k u v P N = change (withFirst (withEdge c k u l (mate k) P v l N k) l (firstOf sh (withEdge c k u l (mate k) P v l N k) l) 0) VertexUsed v 1
+abbrev pub mevColumns : Shape → Columns → NewEdge → Columns
+mevColumns sh c E = changes (endStores E (firstOf sh (edged c E) (E .loop))) (edged c E)
+
+-- the corner where it goes in: an isolated vertex, where the edge is the whole loop, or a half-edge `after` of the loop
+abbrev pub AtCorner : Shape → Columns → NewEdge → Type 0
+AtCorner sh c E =
+    ((E .before ≡ mate (E .half)) × (E .after ≡ E .half) × (c Isolated (E .loop) ≡ E .from))
+    ⊎ (HalfUsed sh c (E .before) × HalfUsed sh c (E .after) × (c Next (E .before) ≡ E .after) × (c Prev (E .after) ≡ E .before)
+    × (c Isolated (E .loop) ≡ 0))
 
 -- the edge and the vertex are free, the loop and the corner's vertex in use
-pub record MevPlace (sh : Shape) (c : Columns) (l k u v P N : ℕ) : Type 0 where
-  pub loop-in : In (sh .loops) l
-  pub loop-used : c Face l ≢ 0
-  pub half-in : In (2 * sh .edges) k
-  pub mate-in : In (2 * sh .edges) (mate k)
-  pub half-free : c Start k ≡ 0
-  pub mate-free : c Start (mate k) ≡ 0
-  pub vertex-in : In (sh .vertices) v
-  pub vertex-free : c VertexUsed v ≡ 0
-  pub corner-in : In (sh .vertices) u
-  pub corner-used : c VertexUsed u ≢ 0
-  pub before : (P ≡ mate k) ⊎ HalfUsed sh c P
-  pub after : (N ≡ k) ⊎ HalfUsed sh c N
-  pub isolated : (c Isolated l ≡ 0) ⊎ (c Isolated l ≡ u)
+pub record MevPlace (sh : Shape) (c : Columns) (E : NewEdge) : Type 0 where
+  pub loop-in : In (sh .loops) (E .loop)
+  pub loop-used : c Face (E .loop) ≢ 0
+  pub half-in : In (2 * sh .edges) (E .half)
+  pub mate-in : In (2 * sh .edges) (mate (E .half))
+  pub half-free : c Start (E .half) ≡ 0
+  pub mate-free : c Start (mate (E .half)) ≡ 0
+  pub vertex-in : In (sh .vertices) (E .to)
+  pub vertex-free : c VertexUsed (E .to) ≡ 0
+  pub corner-in : In (sh .vertices) (E .from)
+  pub corner-used : c VertexUsed (E .from) ≢ 0
+  pub corner : AtCorner sh c E
 
-module _ {sh : Shape} {c : Columns} {l k u v P N : ℕ} (o : MevPlace sh c l k u v P N) where
+-- the rules with dummies, for the columns afterwards
+abbrev pub MevRules⁺ : Shape → Columns → NewEdge → Type 0
+MevRules⁺ sh c E =
+    Rules (2 * sh .edges + sh .loops) (mate⁺ (sh .edges)) (Member sh (mevColumns sh c E)) (extended sh (mevColumns sh c E))
+
+module _ {sh : Shape} {c : Columns} {E : NewEdge} (o : MevPlace sh c E) where
+  open NewEdge E using (loop as l, half as k, from as u, to as v, before as P, after as N)
+
+  -- the columns afterwards
   abbrev d : Columns
-  d = mevColumns sh c l k u v P N
+  d = mevColumns sh c E
 
+  -- the number of half-edges
   abbrev n : ℕ
   n = 2 * sh .edges
 
@@ -97,9 +133,8 @@ module _ {sh : Shape} {c : Columns} {l k u v P N : ℕ} (o : MevPlace sh c l k u
   pub dummy-stays : (i : ℕ) → i - n ≢ l → Dummy sh c i → Dummy sh d i
   dummy-stays i e w = (w .0, w .1, λ z. w .2 (sym (upd-off (c Isolated) 0 e) ∙ z))
 
-  module _ {p q : List ℤ} (a : Sound sh p c)
-      (rules⁺ : Rules (2 * sh .edges + sh .loops) (mate⁺ (sh .edges)) (Member sh (mevColumns sh c l k u v P N)) (extended sh (mevColumns sh c l k u v P N)))
-      (points : (w : ℕ) → In (sh .vertices) w → PointSound q (mevColumns sh c l k u v P N) w) where
+  module _ {p q : List ℤ} (a : Sound sh p c) (rules⁺ : MevRules⁺ sh c E)
+      (points : (w : ℕ) → In (sh .vertices) w → PointSound q (mevColumns sh c E) w) where
     -- ---- members of loops and vertices
 
     loop-member : (m : ℕ) → (i : ℕ) → Member sh c i → extended sh c .loop i ≡ m → (j : ℕ) × Member sh d j × (extended sh d .loop j ≡ m)
@@ -115,8 +150,9 @@ module _ {sh : Shape} {c : Columns} {l k u v P N : ℕ} (o : MevPlace sh c l k u
     vertex-member w y i (inr x) e =
         let f : c Isolated (i - n) ≡ w = sym (upTo-high n (c Start) (λ j. c Isolated (j - n)) i (x .0)) ∙ e in
         split (i - n) l
-        (λ z. ⊎-elim (λ g. absurd (omega (arith, y .0, sym f ∙ ap (c Isolated) z ∙ g)))
-        (λ g. (k, inl new-k, upTo-low n (d Start) (λ j. d Isolated (j - n)) k (o .half-in .1) ∙ start-k ∙ sym g ∙ ap (c Isolated) (sym z) ∙ f)) (o .isolated))
+        (λ z. ⊎-elim
+        (λ g. (k, inl new-k, upTo-low n (d Start) (λ j. d Isolated (j - n)) k (o .half-in .1) ∙ start-k ∙ sym (g .2) ∙ ap (c Isolated) (sym z) ∙ f))
+        (λ g. absurd (omega (arith, y .0, sym f ∙ ap (c Isolated) z ∙ g .4))) (o .corner))
         (λ z. (i, inr (dummy-stays i z x), upTo-high n (d Start) (λ j. d Isolated (j - n)) i (x .0) ∙ upd-off (c Isolated) 0 z ∙ f))
 
     mev-corners : Corners sh d
@@ -172,8 +208,8 @@ module _ {sh : Shape} {c : Columns} {l k u v P N : ℕ} (o : MevPlace sh c l k u
     mev-half-free i j z =
         let w = free-half i j z in
         let r = a .half-free i j (w .2) in
-        let x : i ≢ P = λ e. ⊎-elim (λ g. w .1 (e ∙ g)) (λ g. g .2 (ap (c Start) (sym e) ∙ w .2)) (o .before) in
-        let y : i ≢ N = λ e. ⊎-elim (λ g. w .0 (e ∙ g)) (λ g. g .2 (ap (c Start) (sym e) ∙ w .2)) (o .after) in
+        let x : i ≢ P = λ e. ⊎-elim (λ g. w .1 (e ∙ g .0)) (λ g. g .0 .2 (ap (c Start) (sym e) ∙ w .2)) (o .corner) in
+        let y : i ≢ N = λ e. ⊎-elim (λ g. w .0 (e ∙ g .1)) (λ g. g .1 .2 (ap (c Start) (sym e) ∙ w .2)) (o .corner) in
         record {
           loop = loop-old i (w .0) (w .1) ∙ r .loop;
           next = upd-off _ (mate k) (w .0) ∙ upd-off _ k x ∙ upd-off _ N (w .1) ∙ upd-off (c Next) (mate k) (w .0) ∙ r .next;

@@ -1,5 +1,5 @@
--- A spur goes out: k, its mate a just after it, p before k. Both leave their loop; a is alone at its vertex, which goes with it. Where p is a, the two were
--- the whole loop, and k was alone at its vertex too.
+-- Rules 4 and 5 when a spur goes out: k, its mate a just after it, p before k. Both leave their loop; a is alone at its
+-- vertex, which goes with it. Where p is a, the two were the whole loop, and k was alone at its vertex too.
 use mathlib.Core.Path.{_≡_, sym, ap, _∙_, subst}
 use mathlib.Core.Logic.{_≢_}
 use Prim.Native.Nat.{ℕ}
