@@ -14,11 +14,19 @@ use Rattle.laws.specs.Moves.{Or, But, ins-cycles, out-cycles}
 abbrev pub swapFor : ℕ → ℕ → ℕ → ℕ
 swapFor a b = upd (λ i. i) a b
 
+-- a itself
+pub swap-at : {a i : ℕ} (b : ℕ) → i ≡ a → swapFor a b i ≡ b
+swap-at b e = upd-at (λ j. j) b e
+
+-- another
+pub swap-off : {a i : ℕ} (b : ℕ) → i ≢ a → swapFor a b i ≡ i
+swap-off b h = upd-off (λ j. j) b h
+
 -- and back, for what is not b
 pub swap-back : (a b i : ℕ) → i ≢ b → swapFor b a (swapFor a b i) ≡ i
 swap-back a b i h = split i a
-    (λ e. ap (swapFor b a) (upd-at (λ i. i) b e) ∙ upd-same (λ i. i) b a ∙ sym e)
-    (λ e. ap (swapFor b a) (upd-off (λ i. i) b e) ∙ upd-off (λ i. i) a h)
+    (λ e. ap (swapFor b a) (swap-at b e) ∙ swap-at {a = b} a refl ∙ sym e)
+    (λ e. ap (swapFor b a) (swap-off b e) ∙ swap-off a h)
 
 module _ {n : ℕ} {U : ℕ → Type 0} {f lab : ℕ → ℕ} (c : Cycles n U f lab) (x z : ℕ) where
   -- x goes in before z, with z's label: what went to z goes to x
@@ -30,8 +38,8 @@ module _ {n : ℕ} {U : ℕ → Type 0} {f lab : ℕ → ℕ} (c : Cycles n U f 
       (λ i. ⊎-elim
       (λ e. rw e (upd-same _ x z ∙ sym (upd-off _ x (λ q. off (y .0) (y .1) (sym q)) ∙ upd-same f x (f (y .0)) ∙ y .2)))
       (λ w. upd-off _ z (off i w) ∙ split i (y .0)
-      (λ e. upd-at (λ i. i) x (ap f e ∙ y .2) ∙ sym (upd-at _ x e))
-      (λ e. upd-off (λ i. i) x (λ q. e (inj (c .perm) w (y .1) (q ∙ sym (y .2)))) ∙ sym (upd-off _ x e ∙ upd-off f (f (y .0)) (off i w)))))
+      (λ e. swap-at x (ap f e ∙ y .2) ∙ sym (upd-at _ x e))
+      (λ e. swap-off x (λ q. e (inj (c .perm) w (y .1) (q ∙ sym (y .2)))) ∙ sym (upd-off _ x e ∙ upd-off f (f (y .0)) (off i w)))))
       (λ i w. ap (λ t. upd lab x t i) (ap lab (sym (y .2)) ∙ c .keeps (y .0) (y .1)))
 
   -- x, which comes before z, goes out: what went to x goes to z
@@ -41,8 +49,8 @@ module _ {n : ℕ} {U : ℕ → Type 0} {f lab : ℕ → ℕ} (c : Cycles n U f 
       let x≢y : x ≢ y .0 = λ q. h (sym (y .2) ∙ ap f (sym q) ∙ e) in
       agree (out-cycles c x (y .0) (y .1) (y .2) x≢y) (λ i w. w) (λ i w. w)
       (λ i w. split i (y .0)
-      (λ q. upd-at (λ i. i) z (ap f q ∙ y .2) ∙ sym (upd-at f (f x) q ∙ e))
-      (λ q. upd-off (λ i. i) z (λ r. q (inj (c .perm) (w .0) (y .1) (r ∙ sym (y .2)))) ∙ sym (upd-off f (f x) q)))
+      (λ q. swap-at z (ap f q ∙ y .2) ∙ sym (upd-at f (f x) q ∙ e))
+      (λ q. swap-off z (λ r. q (inj (c .perm) (w .0) (y .1) (r ∙ sym (y .2)))) ∙ sym (upd-off f (f x) q)))
       (λ i w. refl)
 
 -- each element of U is given the name φ of it, and ψ gives the old name back

@@ -18,7 +18,7 @@ use Rattle.sound_tables.specs.Sound.{In, HalfUsed, firstOf, HalfFree, Sound}
 use Rattle.sound_tables.specs.Names.{not-isolated}
 use Rattle.layout.specs.Writes.{Write, write, changes}
 use Rattle.euler.specs.Surgery.{halfRecord, tied}
-use Rattle.sound_splits.specs.CycleMoves.{swapFor, swap-back}
+use Rattle.sound_splits.specs.CycleMoves.{swapFor, swap-at, swap-off, swap-back}
 use Rattle.sound_splits.specs.Firsts.{closed, closed-others, clear-zero, far-first, first-set}
 use Rattle.sound_splits.specs.Relation.{Tidy, sound-tidy, Place, fore, aft, Split}
 
@@ -94,7 +94,7 @@ module _ {sh : Shape} {p : List ℤ} {d : Columns} (a : Sound sh p d) {k n : ℕ
   P≢k e = n≢b (sym (o .next-k) ∙ ap (d Next) (sym e) ∙ next-P)
 
   pub q-used : HalfUsed sh d q
-  q-used = split P n (λ e. subst (HalfUsed sh d) (sym (upd-at (λ j. j) k e)) (o .k-used)) (λ e. subst (HalfUsed sh d) (sym (upd-off (λ j. j) k e)) P-used)
+  q-used = split P n (λ e. subst (HalfUsed sh d) (sym (swap-at k e)) (o .k-used)) (λ e. subst (HalfUsed sh d) (sym (swap-off k e)) P-used)
 
   -- q is read as what comes before n's mate
   aft-q : aft k n q ≡ P
@@ -130,12 +130,12 @@ module _ {sh : Shape} {p : List ℤ} {d : Columns} (a : Sound sh p d) {k n : ℕ
   -- what is read for one in use is in use, and not n's mate
   aft-in : (i : ℕ) → HalfUsed sh c i → HalfUsed sh d (aft k n i) × (aft k n i ≢ mate n)
   aft-in i u = split i k
-      (λ e. let x = sym (upd-at (λ j. j) n e) in (subst (HalfUsed sh d) x n-used, λ z. n≢b (x ∙ z)))
-      (λ e. let x = sym (upd-off (λ j. j) n e) in (subst (HalfUsed sh d) x (was i u .0), λ z. was i u .2 (x ∙ z)))
+      (λ e. let x = sym (swap-at n e) in (subst (HalfUsed sh d) x n-used, λ z. n≢b (x ∙ z)))
+      (λ e. let x = sym (swap-off n e) in (subst (HalfUsed sh d) x (was i u .0), λ z. was i u .2 (x ∙ z)))
 
   -- once k is joined
   tied-next : (i : ℕ) → upd (d Next) k (d Next n) i ≡ d Next (aft k n i)
-  tied-next i = split i k (λ e. upd-at (d Next) _ e ∙ ap (d Next) (sym (upd-at (λ j. j) n e))) (λ e. upd-off (d Next) _ e ∙ ap (d Next) (sym (upd-off (λ j. j) n e)))
+  tied-next i = split i k (λ e. upd-at (d Next) _ e ∙ ap (d Next) (sym (swap-at n e))) (λ e. upd-off (d Next) _ e ∙ ap (d Next) (sym (swap-off n e)))
 
   -- what follows one in use: k's mate after q, else what followed what is read for it
   next-q : c Next q ≡ mate k
@@ -143,11 +143,11 @@ module _ {sh : Shape} {p : List ℤ} {d : Columns} (a : Sound sh p d) {k n : ℕ
     where
       -- q is not n
       q≢n : q ≢ n
-      q≢n = split P n (λ e z. k≢n (sym (upd-at (λ j. j) k e) ∙ z)) (λ e z. e (sym (upd-off (λ j. j) k e) ∙ z))
+      q≢n = split P n (λ e z. k≢n (sym (swap-at k e) ∙ z)) (λ e z. e (sym (swap-off k e) ∙ z))
 
       -- n's mate is not its own next
       q≢b : q ≢ mate n
-      q≢b z = split P n (λ e. k≢b (sym (upd-at (λ j. j) k e) ∙ z)) (λ e. m≢b (sym (o .next-b) ∙ ap (d Next) (sym z ∙ upd-off (λ j. j) k e) ∙ next-P))
+      q≢b z = split P n (λ e. k≢b (sym (swap-at k e) ∙ z)) (λ e. m≢b (sym (o .next-b) ∙ ap (d Next) (sym z ∙ swap-off k e) ∙ next-P))
 
   next-o : (i : ℕ) → HalfUsed sh c i → i ≢ q → c Next i ≡ d Next (aft k n i)
   next-o i u e = upd-off _ 0 (was i u .2) ∙ upd-off _ 0 (was i u .1) ∙ upd-off _ (mate k) e ∙ tied-next i
@@ -155,11 +155,11 @@ module _ {sh : Shape} {p : List ℤ} {d : Columns} (a : Sound sh p d) {k n : ℕ
   -- what follows what is read for one in use
   jekv-next : (i : ℕ) → HalfUsed sh c i → d Next (aft k n i) ≡ fore k n (c Next i)
   jekv-next i u = split i q
-      (λ e. ap (λ j. d Next (aft k n j)) e ∙ ap (d Next) aft-q ∙ next-P ∙ sym (upd-at (λ j. j) (mate n) (ap (c Next) e ∙ next-q)))
+      (λ e. ap (λ j. d Next (aft k n j)) e ∙ ap (d Next) aft-q ∙ next-P ∙ sym (swap-at (mate n) (ap (c Next) e ∙ next-q)))
       (λ e.
       let x = aft-in i u in
       let y = next-o i u e in
-      sym (upd-off (λ j. j) (mate n) (λ z. x .1 (inj (a .rules .loops .perm) (x .0) b-used (sym y ∙ z ∙ sym (o .next-b)))) ∙ y))
+      sym (swap-off (mate n) (λ z. x .1 (inj (a .rules .loops .perm) (x .0) b-used (sym y ∙ z ∙ sym (o .next-b)))) ∙ y))
 
   -- none in use is followed by n's mate
   jekv-next-old : (i : ℕ) → HalfUsed sh c i → c Next i ≢ mate n
@@ -178,10 +178,10 @@ module _ {sh : Shape} {p : List ℤ} {d : Columns} (a : Sound sh p d) {k n : ℕ
   -- what precedes what is read for one in use
   jekv-prev : (i : ℕ) → HalfUsed sh c i → d Prev (fore k n i) ≡ aft k n (c Prev i)
   jekv-prev i u = split i (mate k)
-      (λ e. ap (d Prev) (upd-at (λ j. j) (mate n) e) ∙ sym (ap (aft k n) (ap (c Prev) e ∙ prev-m) ∙ aft-q))
-      (λ e. ap (d Prev) (upd-off (λ j. j) (mate n) e) ∙ split i (d Next n)
-      (λ f. ap (d Prev) f ∙ a .rules .undone n n-used ∙ sym (upd-at (λ j. j) n (prev-o i u e ∙ upd-at (d Prev) k f)))
-      (λ f. let y = prev-o i u e ∙ upd-off (d Prev) k f in sym (upd-off (λ j. j) n (λ z. before-k i u (sym y ∙ z)) ∙ y)))
+      (λ e. ap (d Prev) (swap-at (mate n) e) ∙ sym (ap (aft k n) (ap (c Prev) e ∙ prev-m) ∙ aft-q))
+      (λ e. ap (d Prev) (swap-off (mate n) e) ∙ split i (d Next n)
+      (λ f. ap (d Prev) f ∙ a .rules .undone n n-used ∙ sym (swap-at n (prev-o i u e ∙ upd-at (d Prev) k f)))
+      (λ f. let y = prev-o i u e ∙ upd-off (d Prev) k f in sym (swap-off n (λ z. before-k i u (sym y ∙ z)) ∙ y)))
     where
       -- k comes before n only
       before-k : (i : ℕ) → HalfUsed sh c i → d Prev i ≢ k
@@ -190,7 +190,7 @@ module _ {sh : Shape} {p : List ℤ} {d : Columns} (a : Sound sh p d) {k n : ℕ
   -- none in use is preceded by n
   jekv-prev-old : (i : ℕ) → HalfUsed sh c i → c Prev i ≢ n
   jekv-prev-old i u z = split i (mate k)
-      (λ e. split P n (λ f. k≢n (sym (upd-at (λ j. j) k f) ∙ sym prev-m ∙ ap (c Prev) (sym e) ∙ z)) (λ f. f (sym (upd-off (λ j. j) k f) ∙ sym prev-m ∙ ap (c Prev) (sym e) ∙ z)))
+      (λ e. split P n (λ f. k≢n (sym (swap-at k f) ∙ sym prev-m ∙ ap (c Prev) (sym e) ∙ z)) (λ f. f (sym (swap-off k f) ∙ sym prev-m ∙ ap (c Prev) (sym e) ∙ z)))
       (λ e. split i (d Next n)
       (λ f. k≢n (sym (prev-o i u e ∙ upd-at (d Prev) k f) ∙ z))
       (λ f. f (sym (next-prev (a .rules) i (was i u .0)) ∙ ap (d Next) (sym (prev-o i u e ∙ upd-off (d Prev) k f) ∙ z))))

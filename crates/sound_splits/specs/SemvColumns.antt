@@ -15,7 +15,7 @@ use Rattle.sound_tables.specs.Sound.{In, HalfUsed, firstOf, HalfFree, Sound}
 use Rattle.sound_tables.specs.Names.{not-isolated}
 use Rattle.layout.specs.Writes.{Write, write, changes}
 use Rattle.euler.specs.Surgery.{halfRecord, seated}
-use Rattle.sound_splits.specs.CycleMoves.{swapFor, swap-back}
+use Rattle.sound_splits.specs.CycleMoves.{swapFor, swap-at, swap-off, swap-back}
 use Rattle.sound_splits.specs.Firsts.{closed, closed-others, clear-zero, far-first, first-set}
 use Rattle.sound_splits.specs.Relation.{Tidy, sound-tidy, Place, fore, aft, Split, off-n, off-b, n≢b, n≢k, n≢m, b≢m}
 
@@ -51,37 +51,37 @@ module _ {sh : Shape} {p : List ℤ} {c : Columns} (a : Sound sh p c) {k n v : �
 
   -- what is read for one in use is neither k nor n's mate
   aft-k : (i : ℕ) → aft k n i ≢ k
-  aft-k i = split i k (λ e z. n≢k o (sym (upd-at (λ j. j) n e) ∙ z)) (λ e z. e (sym (upd-off (λ j. j) n e) ∙ z))
+  aft-k i = split i k (λ e z. n≢k o (sym (swap-at n e) ∙ z)) (λ e z. e (sym (swap-off n e) ∙ z))
 
   aft-b : (i : ℕ) → HalfUsed sh c i → aft k n i ≢ mate n
-  aft-b i u = split i k (λ e z. n≢b o (sym (upd-at (λ j. j) n e) ∙ z)) (λ e z. off-b o i u (sym (upd-off (λ j. j) n e) ∙ z))
+  aft-b i u = split i k (λ e z. n≢b o (sym (swap-at n e) ∙ z)) (λ e z. off-b o i u (sym (swap-off n e) ∙ z))
 
   -- before n's mate goes in
   pub first-next : (i : ℕ) → HalfUsed sh c i → upd (upd (c Next) n (c Next k)) k n (aft k n i) ≡ c Next i
   first-next i u = split i k
-      (λ e. ap (upd (upd (c Next) n (c Next k)) k n) (upd-at (λ j. j) n e) ∙ upd-off _ n (n≢k o) ∙ upd-same (c Next) n (c Next k) ∙ ap (c Next) (sym e))
-      (λ e. ap (upd (upd (c Next) n (c Next k)) k n) (upd-off (λ j. j) n e) ∙ upd-off _ n e ∙ upd-off (c Next) (c Next k) (off-n o i u))
+      (λ e. ap (upd (upd (c Next) n (c Next k)) k n) (swap-at n e) ∙ upd-off _ n (n≢k o) ∙ upd-same (c Next) n (c Next k) ∙ ap (c Next) (sym e))
+      (λ e. ap (upd (upd (c Next) n (c Next k)) k n) (swap-off n e) ∙ upd-off _ n e ∙ upd-off (c Next) (c Next k) (off-n o i u))
 
   pub first-prev : (i : ℕ) → HalfUsed sh c i → upd (upd (c Prev) n k) (c Next k) n i ≡ aft k n (c Prev i)
   first-prev i u = split i (c Next k)
-      (λ e. upd-at _ n e ∙ sym (upd-at (λ j. j) n (ap (c Prev) e ∙ a .rules .undone k (o .k-used))))
-      (λ e. upd-off _ n e ∙ upd-off (c Prev) k (off-n o i u) ∙ sym (upd-off (λ j. j) n (λ z. e (sym (next-prev (a .rules) i u) ∙ ap (c Next) z))))
+      (λ e. upd-at _ n e ∙ sym (swap-at n (ap (c Prev) e ∙ a .rules .undone k (o .k-used))))
+      (λ e. upd-off _ n e ∙ upd-off (c Prev) k (off-n o i u) ∙ sym (swap-off n (λ z. e (sym (next-prev (a .rules) i u) ∙ ap (c Next) z))))
 
   -- what follows what is read for one in use
   semv-next : (i : ℕ) → HalfUsed sh c i → d Next (aft k n i) ≡ fore k n (c Next i)
   semv-next i u = split (aft k n i) q
       (λ e.
       let z : i ≡ c Prev (mate k) = sym (swap-back k n i (off-n o i u)) ∙ ap (swapFor n k) e ∙ swap-back k n _ (off-n o _ (prev-in (a .rules) (mate k) (o .m-used))) in
-      upd-at _ (mate n) e ∙ sym (upd-at (λ j. j) (mate n) (ap (c Next) z ∙ next-prev (a .rules) (mate k) (o .m-used))))
+      upd-at _ (mate n) e ∙ sym (swap-at (mate n) (ap (c Next) z ∙ next-prev (a .rules) (mate k) (o .m-used))))
       (λ e.
       let z : c Next i ≢ mate k = λ y. e (ap (aft k n) (sym (a .rules .undone i u) ∙ ap (c Prev) y)) in
-      upd-off _ (mate n) e ∙ upd-off _ (mate k) (aft-b i u) ∙ first-next i u ∙ sym (upd-off (λ j. j) (mate n) z))
+      upd-off _ (mate n) e ∙ upd-off _ (mate k) (aft-b i u) ∙ first-next i u ∙ sym (swap-off (mate n) z))
 
   -- what precedes what is read for one in use
   semv-prev : (i : ℕ) → HalfUsed sh c i → d Prev (fore k n i) ≡ aft k n (c Prev i)
   semv-prev i u = split i (mate k)
-      (λ e. ap (d Prev) (upd-at (λ j. j) (mate n) e) ∙ upd-off _ (mate n) (b≢m o) ∙ upd-same _ (mate n) q ∙ ap (λ j. aft k n (c Prev j)) (sym e))
-      (λ e. ap (d Prev) (upd-off (λ j. j) (mate n) e) ∙ upd-off _ (mate n) e ∙ upd-off _ q (off-b o i u) ∙ first-prev i u)
+      (λ e. ap (d Prev) (swap-at (mate n) e) ∙ upd-off _ (mate n) (b≢m o) ∙ upd-same _ (mate n) q ∙ ap (λ j. aft k n (c Prev j)) (sym e))
+      (λ e. ap (d Prev) (swap-off (mate n) e) ∙ upd-off _ (mate n) e ∙ upd-off _ q (off-b o i u) ∙ first-prev i u)
 
   -- the loops of the new half-edges
   loop-n : d Loop n ≡ c Loop k
@@ -115,7 +115,7 @@ module _ {sh : Shape} {p : List ℤ} {c : Columns} (a : Sound sh p c) {k n v : �
           let w : c Start i ≡ 0 = sym (start-o i e f g) ∙ z in
           let r = a .half-free i j w in
           let x : (h : ℕ) → HalfUsed sh c h → i ≢ h = λ h u y. u .2 (ap (c Start) (sym y) ∙ w) in
-          let y : i ≢ q = split (c Prev (mate k)) k (λ s t. f (t ∙ upd-at (λ j. j) n s)) (λ s t. x (c Prev (mate k)) (prev-in (a .rules) (mate k) (o .m-used)) (t ∙ upd-off (λ j. j) n s)) in
+          let y : i ≢ q = split (c Prev (mate k)) k (λ s t. f (t ∙ swap-at n s)) (λ s t. x (c Prev (mate k)) (prev-in (a .rules) (mate k) (o .m-used)) (t ∙ swap-off n s)) in
           record {
             loop = loop-o i f g ∙ r .loop;
             next = upd-off _ (mate n) y ∙ upd-off _ (mate k) g ∙ upd-off _ n (x k (o .k-used)) ∙ upd-off (c Next) (c Next k) f ∙ r .next;

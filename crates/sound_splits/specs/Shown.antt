@@ -22,7 +22,7 @@ use Rattle.sound_tables.specs.FirstLow.{lower-new, first-low}
 use Rattle.euler.specs.Surgery.{tied}
 use Rattle.sound_tables.specs.WriteLaws.{shows-writes}
 use Rattle.sound_tables.specs.Shown.{shows-first}
-use Rattle.sound_splits.specs.CycleMoves.{swapFor}
+use Rattle.sound_splits.specs.CycleMoves.{swapFor, swap-at, swap-off}
 use Rattle.sound_splits.specs.Firsts.{closing}
 use Rattle.sound_splits.specs.Relation.{Tidy, Place, aft, off-n, off-b, used-old}
 use Rattle.sound_splits.specs.SplitRules.{split-rules, join-rules}
@@ -62,7 +62,7 @@ semv-shows {sh} {x} {c = c} {k} {n} {v} s a o =
     let im : In (2 * sh .edges) (mate k) = (o .m-used .0, o .m-used .1) in
     let A = next-in a o k (o .k-used) in
     let P = prev-in (a .rules) (mate k) (o .m-used) in
-    let iq : In (2 * sh .edges) q = split (c Prev (mate k)) k (λ e. subst (In (2 * sh .edges)) (sym (upd-at (λ j. j) n e)) (o .n-in)) (λ e. subst (In (2 * sh .edges)) (sym (upd-off (λ j. j) n e)) (P .0, P .1)) in
+    let iq : In (2 * sh .edges) q = split (c Prev (mate k)) k (λ e. subst (In (2 * sh .edges)) (sym (swap-at n e)) (o .n-in)) (λ e. subst (In (2 * sh .edges)) (sym (swap-off n e)) (P .0, P .1)) in
     let s1 = shows-after s k n v (c Loop k) (c Next k) refl ik (o .n-in) (A .0, A .1) in
     let s2 = shows-after s1 q (mate n) (c Start (mate k)) (c Loop (mate k)) (mate k) (first-next a o (c Prev (mate k)) P ∙ next-prev (a .rules) (mate k) (o .m-used)) iq (o .b-in) im in
     let s3 = shows-put s2 Start (mate k) v (im .0) (im .1) in
@@ -112,5 +112,5 @@ jekv-shows {sh} {x} {d = d} {k} {n} s a o =
     -- what comes before n's mate once k is joined
     before : HalfUsed sh d n → HalfUsed sh d (mate n) → upd (d Prev) (d Next n) k (mate n) ≡ swapFor n k (d Prev (mate n))
     before nu bu = split (mate n) (d Next n)
-        (λ e. upd-at (d Prev) k e ∙ sym (upd-at (λ j. j) k (ap (d Prev) e ∙ a .rules .undone n nu)))
-        (λ e. upd-off (d Prev) k e ∙ sym (upd-off (λ j. j) k (λ z. e (sym (next-prev (a .rules) (mate n) bu) ∙ ap (d Next) z))))
+        (λ e. upd-at (d Prev) k e ∙ sym (swap-at k (ap (d Prev) e ∙ a .rules .undone n nu)))
+        (λ e. upd-off (d Prev) k e ∙ sym (swap-off k (λ z. e (sym (next-prev (a .rules) (mate n) bu) ∙ ap (d Next) z))))

@@ -35,36 +35,32 @@ module _ {sh : Shape} {c d e : Columns} {k n v : ℕ} (r : Split sh c d k n v) (
   prev-d = by-prev r (λ i. d Prev i ≡ e Prev i) (r .prev-m ∙ sym (s .prev-m)) (r .prev-n ∙ sym (s .prev-n)) (λ i u. r .prev i u ∙ sym (s .prev i u))
       (λ i j z. r .tidy-d .half i j z .prev ∙ sym (s .tidy-d .half i j (sym (start-d i) ∙ z) .prev))
 
+  -- firsts and isolated vertices of loops
+  first-d : (l : ℕ) → In (sh .loops) l → d First l ≡ e First l
+  first-d = first-same (r .tidy-d) (s .tidy-d) (λ i h. loop-d i)
+
+  isolated-d : (l : ℕ) → d Isolated l ≡ e Isolated l
+  isolated-d l = r .isolated l ∙ sym (s .isolated l)
+
+  -- marks of vertices
+  used-d : (w : ℕ) → d VertexUsed w ≡ e VertexUsed w
+  used-d w = split w v (λ z. rw z (r .v-used ∙ sym (s .v-used))) (λ z. r .used w z ∙ sym (s .used w z))
+
   -- what comes from one table is one
   pub unique-after : (F : Field) (i : ℕ) → 1 ≤ i → i ≤ capOf sh F → d F i ≡ e F i
-  unique-after = by-fields moved (λ F. (i : ℕ) → 1 ≤ i → i ≤ capOf sh F → d F i ≡ e F i) (
-    λ i a b. first-same (r .tidy-d) (s .tidy-d) (λ j h. loop-d j) i (a, b),
-    (
-      λ i a b. r .isolated i ∙ sym (s .isolated i),
-      (
-        λ i a b. start-d i,
-        (
-          λ i a b. loop-d i,
-          (
-            λ i a b. next-d i (a, b),
-            (
-              λ i a b. prev-d i (a, b),
-              (λ i a b. split i v (λ z. rw z (r .v-used ∙ sym (s .v-used))) (λ z. r .used i z ∙ sym (s .used i z)), tt),
-            ),
-          ),
-        ),
-      ),
-    ),
-  )
-      (λ F h i a b. r .others F h i ∙ sym (s .others F h i))
+  unique-after F i a b = by-fields moved (λ F. (i : ℕ) → In (capOf sh F) i → d F i ≡ e F i)
+      (first-d, (λ i h. isolated-d i, (λ i h. used-d i, (λ i h. start-d i, (λ i h. loop-d i, (next-d, (prev-d, tt)))))))
+      (λ F h i j. r .others F h i ∙ sym (s .others F h i)) F i (a, b)
 
 -- ---- c is settled by d
 
 module _ {sh : Shape} {c e d : Columns} {k n v : ℕ} (r : Split sh c d k n v) (s : Split sh e d k n v) where
+  open Split r using (place as o)
+
   -- column by column
   start-c : (i : ℕ) → c Start i ≡ e Start i
-  start-c i = split i (mate k) (λ z. rw z (sym (r .start-b) ∙ s .start-b)) λ f. split i n (λ z. rw z (r .place .n-free ∙ sym (s .place .n-free))) λ g. split i (mate n)
-      (λ z. rw z (r .place .b-free ∙ sym (s .place .b-free))) (λ h. sym (r .start i f g h) ∙ s .start i f g h)
+  start-c i = split i (mate k) (λ z. rw z (sym (r .start-b) ∙ s .start-b)) λ f. split i n (λ z. rw z (o .n-free ∙ sym (s .place .n-free))) λ g. split i (mate n)
+      (λ z. rw z (o .b-free ∙ sym (s .place .b-free))) (λ h. sym (r .start i f g h) ∙ s .start i f g h)
 
   -- a half-edge is free in both, or in use in both
   either-c : (Q : ℕ → Type 0) → ((i : ℕ) → In (2 * sh .edges) i → c Start i ≡ 0 → e Start i ≡ 0 → Q i) → ((i : ℕ) → HalfUsed sh c i → HalfUsed sh e i → Q i) → (i : ℕ) → In (2 * sh .edges) i → Q i
@@ -73,7 +69,7 @@ module _ {sh : Shape} {c e d : Columns} {k n v : ℕ} (r : Split sh c d k n v) (
   loop-c : (i : ℕ) → In (2 * sh .edges) i → c Loop i ≡ e Loop i
   loop-c = either-c (λ i. c Loop i ≡ e Loop i)
       (λ i j z y. r .tidy-c .half i j z .loop ∙ sym (s .tidy-c .half i j y .loop))
-      (λ i u w. let f = off-n (r .place) i u in let g = off-b (r .place) i u in sym (r .loop i f g) ∙ s .loop i f g)
+      (λ i u w. let f = off-n o i u in let g = off-b o i u in sym (r .loop i f g) ∙ s .loop i f g)
 
   next-c : (i : ℕ) → In (2 * sh .edges) i → c Next i ≡ e Next i
   next-c = either-c (λ i. c Next i ≡ e Next i)
@@ -85,25 +81,19 @@ module _ {sh : Shape} {c e d : Columns} {k n v : ℕ} (r : Split sh c d k n v) (
       (λ i j z y. r .tidy-c .half i j z .prev ∙ sym (s .tidy-c .half i j y .prev))
       (λ i u w. sym (swap-back k n (c Prev i) (r .prev-old i u)) ∙ ap (swapFor n k) (sym (r .prev i u) ∙ s .prev i w) ∙ swap-back k n (e Prev i) (s .prev-old i w))
 
+  -- firsts and isolated vertices of loops
+  first-c : (l : ℕ) → In (sh .loops) l → c First l ≡ e First l
+  first-c = first-same (r .tidy-c) (s .tidy-c) loop-c
+
+  isolated-c : (l : ℕ) → c Isolated l ≡ e Isolated l
+  isolated-c l = sym (r .isolated l) ∙ s .isolated l
+
+  -- marks of vertices
+  used-c : (w : ℕ) → c VertexUsed w ≡ e VertexUsed w
+  used-c w = split w v (λ z. rw z (o .v-free ∙ sym (s .place .v-free))) (λ z. sym (r .used w z) ∙ s .used w z)
+
   -- what leads to one table is one
   pub unique-before : (F : Field) (i : ℕ) → 1 ≤ i → i ≤ capOf sh F → c F i ≡ e F i
-  unique-before = by-fields moved (λ F. (i : ℕ) → 1 ≤ i → i ≤ capOf sh F → c F i ≡ e F i) (
-    λ i a b. first-same (r .tidy-c) (s .tidy-c) loop-c i (a, b),
-    (
-      λ i a b. sym (r .isolated i) ∙ s .isolated i,
-      (
-        λ i a b. start-c i,
-        (
-          λ i a b. loop-c i (a, b),
-          (
-            λ i a b. next-c i (a, b),
-            (
-              λ i a b. prev-c i (a, b),
-              (λ i a b. split i v (λ z. rw z (r .place .v-free ∙ sym (s .place .v-free))) (λ z. sym (r .used i z) ∙ s .used i z), tt),
-            ),
-          ),
-        ),
-      ),
-    ),
-  )
-      (λ F h i a b. sym (r .others F h i) ∙ s .others F h i)
+  unique-before F i a b = by-fields moved (λ F. (i : ℕ) → In (capOf sh F) i → c F i ≡ e F i)
+      (first-c, (λ i h. isolated-c i, (λ i h. used-c i, (λ i h. start-c i, (loop-c, (next-c, (prev-c, tt)))))))
+      (λ F h i j. sym (r .others F h i) ∙ s .others F h i) F i (a, b)
