@@ -1,7 +1,7 @@
 -- The columns after jekv, as the stores make them, are those of which the table before is a division.
 use mathlib.Core.Path.{_≡_, refl, sym, ap, _∙_, subst}
 use mathlib.Core.Logic.{_≢_}
-use mathlib.Core.List.{List, [], _∷_, _++_}
+use mathlib.Core.List.{List, _∷_, _++_}
 use Prim.Native.Nat.{ℕ, _*_}
 use native.Mathlib.Omega.{arith}
 use lib.IntN.{ℤ}
@@ -16,7 +16,7 @@ use Rattle.sound_tables.specs.Mates.{mate-other}
 use Rattle.sound_tables.specs.EdgeIn.{prev-in, next-prev}
 use Rattle.sound_tables.specs.Sound.{In, HalfUsed, firstOf, HalfFree, Sound}
 use Rattle.sound_tables.specs.Names.{not-isolated}
-use Rattle.layout.specs.Writes.{Write, write, changes}
+use Rattle.layout.specs.Writes.{Write, write}
 use Rattle.euler.specs.Surgery.{halfRecord, tied}
 use Rattle.sound_splits.specs.CycleMoves.{swapFor, swap-at, swap-off, swap-back}
 use Rattle.sound_splits.specs.Firsts.{closed, closed-others, clear-zero, far-first, first-set}

@@ -16,9 +16,9 @@ use Rattle.layout.specs.declared.shape.Shape.{Shape}
 use Rattle.layout.specs.Mate.{mate, edgeOf}
 use Rattle.layout.specs.Points.{coordinate, rangeTest}
 use Rattle.layout.specs.Fields.{Field, Face, First, Isolated, Start, Loop, Next, Prev, VertexUsed, Columns, capOf}
-use Rattle.layout.specs.Writes.{Write, write, changes}
+use Rattle.layout.specs.Writes.{write, changes}
 use Rattle.euler.specs.Surgery.{putPoint, noEdgeWrites}
-use Rattle.euler.specs.Exec.{refusalOf, linksAfter, inverse}
+use Rattle.euler.specs.Exec.{refusalOf}
 use Rattle.sound_tables.specs.Cells.{Shows, shows-ext}
 use Rattle.sound_tables.specs.Mates.{mate-other}
 use Rattle.sound_tables.specs.Sound.{HalfUsed, firstOf, Sound}
@@ -26,11 +26,11 @@ use Rattle.sound_tables.specs.Names.{not-isolated}
 use Rattle.sound_tables.specs.HalfNumbers.{edge-by, way-by, way-small, half-is, edge-in, second-half}
 use Rattle.sound_tables.specs.PointLists.{put-at, put-back, put-cleared, all-three}
 use Rattle.sound_tables.specs.Good.{own, Good, good-shows}
-use Rattle.sound_tables.specs.CornerTest.{CornerAt, cornerLeft}
+use Rattle.sound_tables.specs.CornerTest.{CornerAt}
 use Rattle.sound_tables.specs.WriteLaws.{Apart, frame}
 use Rattle.sound_tables.specs.Undone.{Kept, Undone}
 use Rattle.sound_spurs.specs.WriteBack.{Restores, restored, other-item}
-use Rattle.sound_spurs.specs.Relation.{Spur, spurOf, used-b, in-k, in-b, in-N, next-P, prev-b, prev-N, Nb, whole-P, spur-loop-b, spur-loop-N, spur-loop-in, spur-loop-used, spur-start-N, near-in, far-in, far-used}
+use Rattle.sound_spurs.specs.Relation.{Spur, spurOf, in-k, in-b, in-N, next-P, prev-b, prev-N, Nb, whole-P, spur-loop-b, spur-loop-N, spur-loop-in, spur-loop-used, spur-start-N, near-in, far-in, far-used}
 use Rattle.sound_spurs.specs.MevSound.{NewEdge, edgeStores, edged, endStores, mevColumns, MevPlace, kb, off-k, off-b, start-k, start-b, loop-k}
 use Rattle.sound_spurs.specs.KevSound.{outStores, kevOut, lastStores, kevColumns, Left, columns-out, out-start-k, out-start-b}
 use Rattle.sound_spurs.specs.MevAccepted.{Mev, mevOf, newHalf, MevFits, mev-facts, newEdge, mevList, mevPoints, mev-links, mev-points, mev-inverse, mev-accepted, mev-place, mev-corner, mev-shows, mev-good}
