@@ -2,12 +2,12 @@
 -- stores back (`restored`).
 use mathlib.Core.Path.{_≡_, refl, sym, ap, _∙_, subst}
 use mathlib.Core.Logic.{_≢_, inl, inr, ⊎-elim}
-use mathlib.Core.List.{List, [], _∷_}
+use mathlib.Core.List.{List, [], _∷_, _++_}
 use Prim.Native.Nat.{ℕ, _*_, _≤_}
 use native.Mathlib.Omega.{arith}
 use lib.Dec.{T, eqb}
 use lib.IntN.{ℤ, pos}
-use lib.ListN.{length}
+use lib.ListN.{length, drop}
 use Rattle.laws.specs.Bools.{pick, split, eqb-same, eqb-other}
 use Rattle.laws.specs.Search.{least-ext}
 use Rattle.laws.specs.Update.{upd-same, upd-off}
@@ -17,7 +17,7 @@ use Rattle.layout.specs.Mate.{mate, edgeOf}
 use Rattle.layout.specs.Points.{coordinate, rangeTest}
 use Rattle.layout.specs.Fields.{Field, Face, First, Isolated, Start, Loop, Next, Prev, VertexUsed, Columns, capOf}
 use Rattle.layout.specs.Writes.{write, changes}
-use Rattle.euler.specs.Surgery.{putPoint, noEdgeWrites}
+use Rattle.euler.specs.Surgery.{putPoint, halfRecord, noEdgeWrites}
 use Rattle.euler.specs.Exec.{refusalOf}
 use Rattle.sound_tables.specs.Cells.{Shows, shows-ext}
 use Rattle.sound_tables.specs.Mates.{mate-other}
@@ -58,35 +58,26 @@ module _ {sh : Shape} {c : Columns} {E : NewEdge} (o : MevPlace sh c E) where
       (λ w. rw (w .1) (upd-same _ k (mate k)) ∙ sym (w .0))
       (λ w. upd-off _ _ (λ z. off-k o N (w .1) (sym z)) ∙ upd-off _ k (kb o) ∙ upd-off _ k (kb o) ∙ upd-same (c Prev) k P) (o .corner)
 
+  -- what came after P, where that is not the mate
+  after-P : P ≢ mate k → N ≡ c Next P
+  after-P d = ⊎-elim (λ w. absurd (d (w .0))) (λ w. sym (w .2)) (o .corner)
+
+  -- what came before N, where that is not k
+  before-N : N ≢ k → P ≡ c Prev N
+  before-N d = ⊎-elim (λ w. absurd (d (w .1))) (λ w. sym (w .3)) (o .corner)
+
   -- the stores that take the edge out again are of the old words
   out-restores : {p : List ℤ} → Sound sh p c → Restores c (noEdgeWrites k P N k (mate k))
   out-restores a =
       let fk = a .half-free k (o .half-in) (o .half-free) in
-      let fb = a .half-free (mate k) (o .mate-in) (o .mate-free) in (
-        λ h. ⊎-elim (λ w. absurd (other-item (h 9) (w .0))) (λ w. sym (w .2)) (o .corner),
-        (
-          λ h. ⊎-elim (λ w. absurd (other-item (h 5) (w .1))) (λ w. sym (w .3)) (o .corner),
-          (
-            λ h. absurd (other-item (h 3) refl),
-            (
-              λ h. absurd (other-item (h 7) refl),
-              (
-                λ h. sym (o .half-free),
-                (
-                  λ h. sym (fk .loop),
-                  (
-                    λ h. sym (fk .next),
-                    (
-                      λ h. sym (fk .prev),
-                      (λ h. sym (o .mate-free), (λ h. sym (fb .loop), (λ h. sym (fb .next), (λ h. sym (fb .prev), tt)))),
-                    ),
-                  ),
-                ),
-              ),
-            ),
-          ),
-        ),
-      )
+      let fb = a .half-free (mate k) (o .mate-in) (o .mate-free) in
+      let of-b : Restores c (halfRecord (mate k) 0 0 0 0) =
+      (λ h. sym (o .mate-free), (λ h. sym (fb .loop), (λ h. sym (fb .next), (λ h. sym (fb .prev), tt)))) in
+      let of-k : Restores c (halfRecord k 0 0 0 0 ++ halfRecord (mate k) 0 0 0 0) =
+      (λ h. sym (o .half-free), (λ h. sym (fk .loop), (λ h. sym (fk .next), (λ h. sym (fk .prev), of-b)))) in
+      let covered : Restores c (drop 2 (noEdgeWrites k P N k (mate k))) =
+      (λ h. absurd (other-item (h 3) refl), (λ h. absurd (other-item (h 7) refl), of-k)) in
+      (λ h. after-P (other-item (h 9)), (λ h. before-N (other-item (h 5)), covered))
 
 module _ {sh : Shape} {x : List ℕ} {p : List ℤ} (g : Good sh x p) {m : Mev} (r : MevFits sh (own sh x) m) where
   -- the columns before
@@ -307,31 +298,12 @@ module _ {sh : Shape} {x : List ℕ} {p : List ℤ} (g : Good sh x p) {k : ℕ} 
 
   -- what mev stores to the half-edges are the old words
   in-restores : Restores kc (edgeStores kE)
-  in-restores = (
-    λ h. refl,
-    (
-      λ h. refl,
-      (
-        λ h. sym nk,
-        (
-          λ h. refl,
-          (
-            λ h. refl,
-            (
-              λ h. sym (spur-loop-b sp),
-              (
-                λ h. refl,
-                (
-                  λ h. sym (prev-b sp),
-                  (λ h. sym (next-P sp), (λ h. sym (prev-b sp), (λ h. sym nk, (λ h. sym (prev-N sp), tt)))),
-                ),
-              ),
-            ),
-          ),
-        ),
-      ),
-    ),
-  )
+  in-restores =
+      let ties : Restores kc (drop 8 (edgeStores kE)) =
+      (λ h. sym (next-P sp), (λ h. sym (prev-b sp), (λ h. sym nk, (λ h. sym (prev-N sp), tt)))) in
+      let of-b : Restores kc (drop 4 (edgeStores kE)) =
+      (λ h. refl, (λ h. sym (spur-loop-b sp), (λ h. refl, (λ h. sym (prev-b sp), ties)))) in
+      (λ h. refl, (λ h. refl, (λ h. sym nk, (λ h. refl, of-b))))
 
   -- what is as before once the edge is in: all but what mev stores last
   in-back : (F : Field) (n : ℕ) → n ≤ capOf sh F → Apart (lastStores kc k 0 0) F n → edged kY kE F n ≡ kc F n

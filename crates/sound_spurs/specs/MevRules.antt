@@ -3,7 +3,7 @@
 use mathlib.Core.Path.{_≡_, refl, sym, ap, _∙_, subst}
 use mathlib.Core.Logic.{_≢_, inl, inr, ⊎-elim}
 use mathlib.Core.List.{List}
-use Prim.Native.Nat.{ℕ, _+_, _-_, _*_, _≤_}
+use Prim.Native.Nat.{ℕ, _+_, _-_, _*_, _≤_, _<_}
 use native.Mathlib.Omega.{arith}
 use lib.IntN.{ℤ}
 use Rattle.laws.specs.Bools.{split}
@@ -18,8 +18,8 @@ use Rattle.sound_tables.specs.EdgeIn.{Halves, Rules, prev-in, next-prev}
 use Rattle.sound_tables.specs.Dummies.{spurred, spur-rules, dropped, drop-rules, agree-rules}
 use Rattle.sound_tables.specs.Sound.{HalfUsed, Sound}
 use Rattle.sound_tables.specs.Names.{start-unnamed, isolated-unnamed, not-isolated}
-use Rattle.sound_tables.specs.WithDummies.{upTo-low, upTo-high, extended, Dummy, Member, sound-corners, dummy-of, dummy-loop, dummy-start}
-use Rattle.sound_spurs.specs.MevSound.{NewEdge, mevColumns, MevPlace, MevRules⁺, kb, off-k, off-b, start-k, start-b, start-old, loop-k, loop-b, loop-old, new-k, new-b, half-stays, half-was, dummy-stays}
+use Rattle.sound_tables.specs.WithDummies.{upTo-low, upTo-high, extended, Dummy, Member, sound-corners, dummy-of}
+use Rattle.sound_spurs.specs.MevSound.{NewEdge, mevColumns, MevPlace, MevRules⁺, kb, off-k, off-b, new-k, new-b, half-stays, half-was, dummy-stays}
 
 -- the same cycles among fewer or more numbers
 resize-cycles : {n m : ℕ} {U : ℕ → Type 0} {f lab : ℕ → ℕ} → Cycles n U f lab → ((i : ℕ) → U i → i ≤ m) → Cycles m U f lab
@@ -67,13 +67,19 @@ module _ {sh : Shape} {p : List ℤ} {c : Columns} (a : Sound sh p c) {E : NewEd
       (λ e. omega (arith, o .half-in .1, e)) (λ e. omega (arith, o .mate-in .1, e))
       (o .half-in .0) (omega (arith, o .half-in .1)) (o .mate-in .0) (omega (arith, o .mate-in .1)) (omega arith) (omega arith) w member-loop member-start
 
-  -- a statement about each member of c but the dummy of l, about k and about its mate
-  each : (Q : ℕ → Type 0) → Q k → Q (mate k) → ((i : ℕ) → HalfUsed sh c i → Q i) → ((i : ℕ) → Dummy sh c i → i - n ≢ l → Q i) → (i : ℕ) → (Dummy sh c i → i - n ≢ l) → Or (mate k) (Or k (Member sh c)) i → Q i
-  each Q qk qb qh qd i h = ⊎-elim (λ e. subst Q (sym e) qb) (⊎-elim (λ e. subst Q (sym e) qk) (⊎-elim (λ w. qh i w) (λ w. qd i w (h w))))
+  -- a statement about each member of c but the dummy of l, about k and about its mate; with what tells the places apart
+  each : (Q : ℕ → Type 0) → Q k → Q (mate k)
+      → ((i : ℕ) → HalfUsed sh c i → i ≤ n → i ≢ k → i ≢ mate k → Q i)
+      → ((i : ℕ) → Dummy sh c i → n < i → i ≢ k → i ≢ mate k → i - n ≢ l → Q i)
+      → (i : ℕ) → (Dummy sh c i → i - n ≢ l) → Or (mate k) (Or k (Member sh c)) i → Q i
+  each Q qk qb qh qd i h = ⊎-elim (λ e. subst Q (sym e) qb) (⊎-elim (λ e. subst Q (sym e) qk) (⊎-elim
+      (λ w. qh i w (w .1) (off-k o i w) (off-b o i w))
+      (λ w. qd i w (w .0) (λ e. omega (arith, w .0, o .half-in .1, e)) (λ e. omega (arith, w .0, o .mate-in .1, e)) (h w))))
 
   -- which are the members afterwards
   to-member : (i : ℕ) → (Dummy sh c i → i - n ≢ l) → Or (mate k) (Or k (Member sh c)) i → Member sh d i
-  to-member = each (Member sh d) (inl (new-k o)) (inl (new-b o)) (λ i w. inl (half-stays o i w)) (λ i w e. inr (dummy-stays o i e w))
+  to-member = each (Member sh d) (inl (new-k o)) (inl (new-b o)) (λ i w m e f. inl (half-stays o i w))
+      (λ i w m e f g. inr (dummy-stays o i g w))
 
   from-member : (i : ℕ) → Member sh d i → Or (mate k) (Or k (Member sh c)) i × (Dummy sh c i → i - n ≢ l)
   from-member i (inl w) = (half-was o {Q = Or (mate k) (Or k (Member sh c))} (inr (inl refl)) (inl refl) (λ j x. inr (inr (inl x))) i w, λ x. absurd (omega (arith, w .1, x .0)))
@@ -109,54 +115,42 @@ module _ {sh : Shape} {p : List ℤ} {c : Columns} (a : Sound sh p c) {l k v h :
   pu : HalfUsed sh c (c Prev h)
   pu = prev-in (a .rules) h hu
 
-  np : extended sh c .next (c Prev h) ≡ h
-  np = upTo-low n₁ (c Next) (λ j. j) (c Prev h) (pu .1) ∙ next-prev (a .rules) h hu
-
   no-dummy : (i : ℕ) → Dummy sh c i → i - n₁ ≢ l
   no-dummy i w e = w .2 (ap (c Isolated) e ∙ not-isolated a h hu hl)
 
-  p-loop : extended sh c .loop (c Prev h) ≡ l
-  p-loop = upTo-low n₁ (c Loop) (λ j. j - n₁) (c Prev h) (pu .1) ∙ sym (a .rules .loops .keeps (c Prev h) pu) ∙ ap (c Loop) (next-prev (a .rules) h hu) ∙ hl
+  -- P is of the loop
+  p-loop : c Loop (c Prev h) ≡ l
+  p-loop = sym (a .rules .loops .keeps (c Prev h) pu) ∙ ap (c Loop) (next-prev (a .rules) h hu) ∙ hl
 
+  -- what tells the places apart
+  known : {A : Type 0} → (k ≤ n₁ → mate k ≤ n₁ → P₁ ≤ n₁ → h ≤ n₁ → k ≢ mate k → mate k ≢ k → P₁ ≢ k → P₁ ≢ mate k → k ≢ P₁
+      → mate k ≢ P₁ → h ≢ k → h ≢ mate k → k ≢ h → mate k ≢ h → c Next P₁ ≡ h → A) → A
+  known f = f (o .half-in .1) (o .mate-in .1) (pu .1) (hu .1) (kb o) (λ z. kb o (sym z)) (off-k o P₁ pu) (off-b o P₁ pu)
+      (λ z. off-k o P₁ pu (sym z)) (λ z. off-b o P₁ pu (sym z)) (off-k o h hu) (off-b o h hu)
+      (λ z. off-k o h hu (sym z)) (λ z. off-b o h hu (sym z)) (next-prev (a .rules) h hu)
+
+  -- column by column
   at-start : (i : ℕ) → Or (mate k) (Or k (Member sh c)) i → extended sh d₁ .start i ≡ H₁ .start i
-  at-start i = each a o (λ i. extended sh d₁ .start i ≡ H₁ .start i)
-      (upTo-low n₁ (d₁ Start) _ k (o .half-in .1) ∙ start-k o ∙ sym (upd-off _ v (kb o) ∙ upd-same _ k _ ∙ ap (extended sh c .start) np ∙ upTo-low n₁ (c Start) _ h (hu .1)))
-      (upTo-low n₁ (d₁ Start) _ (mate k) (o .mate-in .1) ∙ start-b o ∙ sym (upd-same _ (mate k) v))
-      (λ i w. upTo-low n₁ (d₁ Start) _ i (w .1) ∙ start-old o i (off-k o i w) (off-b o i w) ∙ sym (upd-off _ v (off-b o i w) ∙ upd-off _ _ (off-k o i w) ∙ upTo-low n₁ (c Start) _ i (w .1)))
-      (λ i w e. upTo-high n₁ (d₁ Start) _ i (w .0) ∙ upd-off (c Isolated) 0 e ∙ sym (upd-off _ v (λ z. omega (arith, w .0, o .mate-in .1, z)) ∙ upd-off _ _ (λ z. omega (arith, w .0, o .half-in .1, z)) ∙ upTo-high n₁ (c Start) _ i (w .0)))
-      i (no-dummy i)
+  at-start i = known λ k1 b1 p1 h1 c1 c2 c3 c4 c5 c6 c7 c8 c9 c10 np. each a o (λ i. extended sh d₁ .start i ≡ H₁ .start i)
+      (simp (upTo-low, upd-same, upd-off, np)) (simp (upTo-low, upd-same, upd-off))
+      (λ i w m e f. simp (upTo-low, upd-off)) (λ i w m e f g. simp (upTo-high, upd-off)) i (no-dummy i)
 
   at-loop : (i : ℕ) → Or (mate k) (Or k (Member sh c)) i → extended sh d₁ .loop i ≡ H₁ .loop i
-  at-loop i = each a o (λ i. extended sh d₁ .loop i ≡ H₁ .loop i)
-      (upTo-low n₁ (d₁ Loop) _ k (o .half-in .1) ∙ loop-k o ∙ sym (upd-off _ _ (kb o) ∙ upd-same _ k _ ∙ p-loop))
-      (upTo-low n₁ (d₁ Loop) _ (mate k) (o .mate-in .1) ∙ loop-b o ∙ sym (upd-same _ (mate k) _ ∙ p-loop))
-      (λ i w. upTo-low n₁ (d₁ Loop) _ i (w .1) ∙ loop-old o i (off-k o i w) (off-b o i w) ∙ sym (upd-off _ _ (off-b o i w) ∙ upd-off _ _ (off-k o i w) ∙ upTo-low n₁ (c Loop) _ i (w .1)))
-      (λ i w e. upTo-high n₁ (d₁ Loop) _ i (w .0) ∙ sym (upd-off _ _ (λ z. omega (arith, w .0, o .mate-in .1, z)) ∙ upd-off _ _ (λ z. omega (arith, w .0, o .half-in .1, z)) ∙ upTo-high n₁ (c Loop) _ i (w .0)))
-      i (no-dummy i)
+  at-loop i = known λ k1 b1 p1 h1 c1 c2 c3 c4 c5 c6 c7 c8 c9 c10 np. each a o (λ i. extended sh d₁ .loop i ≡ H₁ .loop i)
+      (simp (upTo-low, upd-same, upd-off) (sym p-loop)) (simp (upTo-low, upd-same, upd-off) (sym p-loop))
+      (λ i w m e f. simp (upTo-low, upd-off)) (λ i w m e f g. simp (upTo-high, upd-off)) i (no-dummy i)
 
   at-next : (i : ℕ) → Or (mate k) (Or k (Member sh c)) i → extended sh d₁ .next i ≡ H₁ .next i
-  at-next i = each a o (λ i. extended sh d₁ .next i ≡ H₁ .next i)
-      (upTo-low n₁ (d₁ Next) _ k (o .half-in .1) ∙ upd-same _ k (mate k) ∙ sym (upd-off _ _ (kb o) ∙ upd-same _ k (mate k)))
-      (upTo-low n₁ (d₁ Next) _ (mate k) (o .mate-in .1) ∙ upd-off _ _ (λ z. kb o (sym z)) ∙ upd-off _ _ (λ z. off-b o P₁ pu (sym z)) ∙ upd-same _ (mate k) h ∙ sym (upd-same _ (mate k) _ ∙ np))
-      (λ i w. upTo-low n₁ (d₁ Next) _ i (w .1) ∙ upd-off _ _ (off-k o i w) ∙ split i P₁
-      (λ e. rw e (upd-same _ P₁ k ∙ sym (upd-off _ _ (off-b o P₁ pu) ∙ upd-off _ _ (off-k o P₁ pu) ∙ upd-same _ P₁ k)))
-      (λ e. upd-off _ k e ∙ upd-off _ h (off-b o i w) ∙ upd-off (c Next) (mate k) (off-k o i w)
-      ∙ sym (upd-off _ _ (off-b o i w) ∙ upd-off _ _ (off-k o i w) ∙ upd-off _ k e ∙ upTo-low n₁ (c Next) _ i (w .1))))
-      (λ i w e. upTo-high n₁ (d₁ Next) _ i (w .0) ∙ sym (upd-off _ _ (λ z. omega (arith, w .0, o .mate-in .1, z)) ∙ upd-off _ _ (λ z. omega (arith, w .0, o .half-in .1, z))
-      ∙ upd-off _ k (λ z. omega (arith, w .0, pu .1, z)) ∙ upTo-high n₁ (c Next) _ i (w .0)))
-      i (no-dummy i)
+  at-next i = known λ k1 b1 p1 h1 c1 c2 c3 c4 c5 c6 c7 c8 c9 c10 np. each a o (λ i. extended sh d₁ .next i ≡ H₁ .next i)
+      (simp (upTo-low, upd-same, upd-off)) (simp (upTo-low, upd-same, upd-off, np))
+      (λ i w m e f. split i P₁ (λ z. rw z (simp (upTo-low, upd-same, upd-off))) (λ z. simp (upTo-low, upd-off)))
+      (λ i w m e f g. let z : i ≢ P₁ = λ y. omega arith in simp (upTo-high, upd-off)) i (no-dummy i)
 
   at-prev : (i : ℕ) → Or (mate k) (Or k (Member sh c)) i → extended sh d₁ .prev i ≡ H₁ .prev i
-  at-prev i = each a o (λ i. extended sh d₁ .prev i ≡ H₁ .prev i)
-      (upTo-low n₁ (d₁ Prev) _ k (o .half-in .1) ∙ upd-off _ _ (λ z. off-k o h hu (sym z)) ∙ upd-off _ k (kb o) ∙ upd-off _ k (kb o) ∙ upd-same (c Prev) k P₁ ∙ sym (upd-same _ k P₁))
-      (upTo-low n₁ (d₁ Prev) _ (mate k) (o .mate-in .1) ∙ upd-off _ _ (λ z. off-b o h hu (sym z)) ∙ upd-same _ (mate k) k ∙ sym (upd-off _ _ (λ z. kb o (sym z)) ∙ upd-same _ (mate k) k))
-      (λ i w. upTo-low n₁ (d₁ Prev) _ i (w .1) ∙ split i h
-      (λ e. rw e (upd-same _ h (mate k) ∙ sym (upd-off _ _ (off-k o h hu) ∙ upd-off _ _ (off-b o h hu) ∙ rw np (upd-same _ h (mate k)))))
-      (λ e. upd-off _ _ e ∙ upd-off _ k (off-b o i w) ∙ upd-off _ k (off-b o i w) ∙ upd-off (c Prev) P₁ (off-k o i w)
-      ∙ sym (upd-off _ _ (off-k o i w) ∙ upd-off _ _ (off-b o i w) ∙ upd-off _ _ (λ z. e (z ∙ np)) ∙ upTo-low n₁ (c Prev) _ i (w .1))))
-      (λ i w e. upTo-high n₁ (d₁ Prev) _ i (w .0) ∙ sym (upd-off _ _ (λ z. omega (arith, w .0, o .half-in .1, z)) ∙ upd-off _ _ (λ z. omega (arith, w .0, o .mate-in .1, z))
-      ∙ upd-off _ _ (λ z. omega (arith, w .0, hu .1, z ∙ np)) ∙ upTo-high n₁ (c Prev) _ i (w .0)))
-      i (no-dummy i)
+  at-prev i = known λ k1 b1 p1 h1 c1 c2 c3 c4 c5 c6 c7 c8 c9 c10 np. each a o (λ i. extended sh d₁ .prev i ≡ H₁ .prev i)
+      (simp (upTo-low, upd-same, upd-off)) (simp (upTo-low, upd-same, upd-off))
+      (λ i w m e f. split i h (λ z. rw z (simp (upTo-low, np, upd-same, upd-off))) (λ z. simp (upTo-low, np, upd-off)))
+      (λ i w m e f g. let z : i ≢ h = λ y. omega arith in simp (upTo-low, upTo-high, np, upd-off)) i (no-dummy i)
 
   -- the rules with dummies afterwards
   pub mev-at-half : MevRules⁺ sh c (besideEdge c l k v h)
@@ -196,9 +190,6 @@ module _ {sh : Shape} {p : List ℤ} {c : Columns} (a : Sound sh p c) {l k v : �
   yb e = omega (arith, y-dummy .0, o .mate-in .1, e)
 
   -- after the dummy comes k, and after the mate the dummy
-  next-y : S₂ .next y ≡ k
-  next-y = upd-off _ _ yb ∙ upd-off _ _ yk ∙ upd-same _ y k
-
   next-b : S₂ .next (mate k) ≡ y
   next-b = upd-same _ (mate k) _ ∙ y-next
 
@@ -209,56 +200,40 @@ module _ {sh : Shape} {p : List ℤ} {c : Columns} (a : Sound sh p c) {l k v : �
   other-dummy : (i : ℕ) → i ≢ y → Dummy sh c i → i - n₂ ≢ l
   other-dummy i e w z = e (omega (arith, w .0, z))
 
-  of-loop : extended sh c .loop y ≡ l
-  of-loop = dummy-loop sh c l (o .loop-in)
+  -- half-edges and dummies of other loops are not y
+  low-y : (i : ℕ) → i ≤ n₂ → i ≢ y
+  low-y i h e = omega (arith, h, y-dummy .0, e)
 
-  -- half-edges and other dummies are neither k nor its mate nor y
-  low-y : (i : ℕ) → HalfUsed sh c i → i ≢ y
-  low-y i w e = omega (arith, w .1, y-dummy .0, e)
-
-  high-k : (i : ℕ) → Dummy sh c i → i ≢ k
-  high-k i w e = omega (arith, w .0, o .half-in .1, e)
-
-  high-b : (i : ℕ) → Dummy sh c i → i ≢ mate k
-  high-b i w e = omega (arith, w .0, o .mate-in .1, e)
-
-  -- a dummy of another loop is not y
   other-y : (i : ℕ) → i - n₂ ≢ l → i ≢ y
   other-y i h e = h (omega (arith, e))
 
+  -- what tells the places apart
+  known₂ : {A : Type 0} → (k ≤ n₂ → mate k ≤ n₂ → n₂ < y → k ≢ mate k → mate k ≢ k → y ≢ k → k ≢ y → y ≢ mate k → mate k ≢ y
+      → y - n₂ ≡ l → A) → A
+  known₂ f = f (o .half-in .1) (o .mate-in .1) (y-dummy .0) (kb o) (λ z. kb o (sym z)) yk (λ z. yk (sym z)) yb (λ z. yb (sym z)) (omega arith)
+
+  -- column by column
   to-start : (i : ℕ) → But y (Or (mate k) (Or k (Member sh c))) i → extended sh d₂ .start i ≡ H₂ .start i
-  to-start i w = each a o (λ i. extended sh d₂ .start i ≡ H₂ .start i)
-      (upTo-low n₂ (d₂ Start) _ k (o .half-in .1) ∙ start-k o ∙ sym (upd-off _ v (kb o) ∙ upd-same _ k _ ∙ ap (extended sh c .start) y-next ∙ dummy-start sh c l (o .loop-in)))
-      (upTo-low n₂ (d₂ Start) _ (mate k) (o .mate-in .1) ∙ start-b o ∙ sym (upd-same _ (mate k) v))
-      (λ i w. upTo-low n₂ (d₂ Start) _ i (w .1) ∙ start-old o i (off-k o i w) (off-b o i w) ∙ sym (upd-off _ v (off-b o i w) ∙ upd-off _ _ (off-k o i w) ∙ upTo-low n₂ (c Start) _ i (w .1)))
-      (λ i w e. upTo-high n₂ (d₂ Start) _ i (w .0) ∙ upd-off (c Isolated) 0 e ∙ sym (upd-off _ v (high-b i w) ∙ upd-off _ _ (high-k i w) ∙ upTo-high n₂ (c Start) _ i (w .0)))
-      i (other-dummy i (w .1)) (w .0)
+  to-start i w = known₂ λ k1 b1 y1 c1 c2 c3 c4 c5 c6 yl. each a o (λ i. extended sh d₂ .start i ≡ H₂ .start i)
+      (simp (upTo-low, upTo-high, upd-same, upd-off, yl)) (simp (upTo-low, upd-same, upd-off))
+      (λ i w m e f. simp (upTo-low, upd-off)) (λ i w m e f g. simp (upTo-high, upd-off)) i (other-dummy i (w .1)) (w .0)
 
   to-loop : (i : ℕ) → But y (Or (mate k) (Or k (Member sh c))) i → extended sh d₂ .loop i ≡ H₂ .loop i
-  to-loop i w = each a o (λ i. extended sh d₂ .loop i ≡ H₂ .loop i)
-      (upTo-low n₂ (d₂ Loop) _ k (o .half-in .1) ∙ loop-k o ∙ sym (upd-off _ _ (kb o) ∙ upd-same _ k _ ∙ of-loop))
-      (upTo-low n₂ (d₂ Loop) _ (mate k) (o .mate-in .1) ∙ loop-b o ∙ sym (upd-same _ (mate k) _ ∙ of-loop))
-      (λ i w. upTo-low n₂ (d₂ Loop) _ i (w .1) ∙ loop-old o i (off-k o i w) (off-b o i w) ∙ sym (upd-off _ _ (off-b o i w) ∙ upd-off _ _ (off-k o i w) ∙ upTo-low n₂ (c Loop) _ i (w .1)))
-      (λ i w e. upTo-high n₂ (d₂ Loop) _ i (w .0) ∙ sym (upd-off _ _ (high-b i w) ∙ upd-off _ _ (high-k i w) ∙ upTo-high n₂ (c Loop) _ i (w .0)))
-      i (other-dummy i (w .1)) (w .0)
+  to-loop i w = known₂ λ k1 b1 y1 c1 c2 c3 c4 c5 c6 yl. each a o (λ i. extended sh d₂ .loop i ≡ H₂ .loop i)
+      (simp (upTo-low, upTo-high, upd-same, upd-off, yl)) (simp (upTo-low, upTo-high, upd-same, upd-off, yl))
+      (λ i w m e f. simp (upTo-low, upd-off)) (λ i w m e f g. simp (upTo-high, upd-off)) i (other-dummy i (w .1)) (w .0)
 
   to-next : (i : ℕ) → But y (Or (mate k) (Or k (Member sh c))) i → extended sh d₂ .next i ≡ H₂ .next i
-  to-next i w = each a o (λ i. extended sh d₂ .next i ≡ H₂ .next i)
-      (upTo-low n₂ (d₂ Next) _ k (o .half-in .1) ∙ upd-same _ k (mate k) ∙ sym (upd-off _ _ (kb o) ∙ upd-off _ _ (kb o) ∙ upd-same _ k (mate k)))
-      (upTo-low n₂ (d₂ Next) _ (mate k) (o .mate-in .1) ∙ upd-off _ _ (λ z. kb o (sym z)) ∙ upd-same _ (mate k) k ∙ sym (upd-same _ (mate k) _ ∙ next-y))
-      (λ i w. upTo-low n₂ (d₂ Next) _ i (w .1) ∙ upd-off _ _ (off-k o i w) ∙ upd-off _ _ (off-b o i w) ∙ upd-off _ _ (off-b o i w) ∙ upd-off (c Next) _ (off-k o i w)
-      ∙ sym (upd-off _ _ (off-b o i w) ∙ upd-off _ _ (off-b o i w) ∙ upd-off _ _ (off-k o i w) ∙ upd-off _ k (low-y i w) ∙ upTo-low n₂ (c Next) _ i (w .1)))
-      (λ i w e. upTo-high n₂ (d₂ Next) _ i (w .0) ∙ sym (upd-off _ _ (high-b i w) ∙ upd-off _ _ (high-b i w) ∙ upd-off _ _ (high-k i w) ∙ upd-off _ k (other-y i e) ∙ upTo-high n₂ (c Next) _ i (w .0)))
-      i (other-dummy i (w .1)) (w .0)
+  to-next i w = known₂ λ k1 b1 y1 c1 c2 c3 c4 c5 c6 yl. each a o (λ i. extended sh d₂ .next i ≡ H₂ .next i)
+      (simp (upTo-low, upTo-high, upd-same, upd-off)) (simp (upTo-low, upTo-high, upd-same, upd-off))
+      (λ i w m e f. let z = low-y i m in simp (upTo-low, upTo-high, upd-same, upd-off))
+      (λ i w m e f g. let z = other-y i g in simp (upTo-high, upd-same, upd-off)) i (other-dummy i (w .1)) (w .0)
 
   to-prev : (i : ℕ) → But y (Or (mate k) (Or k (Member sh c))) i → extended sh d₂ .prev i ≡ H₂ .prev i
-  to-prev i w = each a o (λ i. extended sh d₂ .prev i ≡ H₂ .prev i)
-      (upTo-low n₂ (d₂ Prev) _ k (o .half-in .1) ∙ upd-same _ k (mate k) ∙ sym (rw next-y (upd-same _ k (mate k))))
-      (upTo-low n₂ (d₂ Prev) _ (mate k) (o .mate-in .1) ∙ upd-off _ _ (λ z. kb o (sym z)) ∙ upd-same _ (mate k) k ∙ sym (upd-off _ _ (λ z. kb o (sym (z ∙ next-y))) ∙ upd-off _ _ (λ z. kb o (sym z)) ∙ upd-same _ (mate k) k))
-      (λ i w. upTo-low n₂ (d₂ Prev) _ i (w .1) ∙ upd-off _ _ (off-k o i w) ∙ upd-off _ _ (off-b o i w) ∙ upd-off _ _ (off-b o i w) ∙ upd-off (c Prev) _ (off-k o i w)
-      ∙ sym (upd-off _ _ (λ z. off-k o i w (z ∙ next-y)) ∙ upd-off _ _ (off-k o i w) ∙ upd-off _ _ (off-b o i w) ∙ upd-off _ _ (λ z. low-y i w (z ∙ y-next)) ∙ upTo-low n₂ (c Prev) _ i (w .1)))
-      (λ i w e. upTo-high n₂ (d₂ Prev) _ i (w .0) ∙ sym (upd-off _ _ (λ z. high-k i w (z ∙ next-y)) ∙ upd-off _ _ (high-k i w) ∙ upd-off _ _ (high-b i w) ∙ upd-off _ _ (λ z. other-y i e (z ∙ y-next)) ∙ upTo-high n₂ (c Prev) _ i (w .0)))
-      i (other-dummy i (w .1)) (w .0)
+  to-prev i w = known₂ λ k1 b1 y1 c1 c2 c3 c4 c5 c6 yl. each a o (λ i. extended sh d₂ .prev i ≡ H₂ .prev i)
+      (simp (upTo-low, upTo-high, upd-same, upd-off)) (simp (upTo-low, upTo-high, upd-same, upd-off))
+      (λ i w m e f. let z = low-y i m in simp (upTo-low, upTo-high, upd-same, upd-off))
+      (λ i w m e f g. let z = other-y i g in simp (upTo-high, upd-same, upd-off)) i (other-dummy i (w .1)) (w .0)
 
   -- the rules with dummies afterwards
   pub mev-at-isolated : MevRules⁺ sh c (loneEdge c l k v)
