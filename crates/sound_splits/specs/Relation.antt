@@ -108,6 +108,11 @@ module _ {sh : Shape} {c : Columns} {k n v : ℕ} (o : Place sh c k n v) where
   pub b≢m : mate n ≢ mate k
   b≢m e = off-b (mate k) (o .m-used) (sym e)
 
+  -- all of it, for `simp` to find
+  pub apart : {A : Type 0} → (n ≢ mate n → mate n ≢ n → n ≢ k → k ≢ n → n ≢ mate k → mate k ≢ n → mate n ≢ k → k ≢ mate n
+      → mate n ≢ mate k → mate k ≢ mate n → A) → A
+  apart f = f n≢b (λ z. n≢b (sym z)) n≢k (λ z. n≢k (sym z)) n≢m (λ z. n≢m (sym z)) b≢k (λ z. b≢k (sym z)) b≢m (λ z. b≢m (sym z))
+
   -- the mate of what is read for m is read for k
   pub mate-fore : (i : ℕ) → mate (fore k n i) ≡ aft k n (mate i)
   mate-fore i = split i (mate k)

@@ -17,7 +17,7 @@ use Rattle.layout.specs.Writes.{Write, write, changes}
 use Rattle.euler.specs.Surgery.{halfRecord, seated}
 use Rattle.sound_splits.specs.CycleMoves.{swapFor, swap-at, swap-off, swap-back}
 use Rattle.sound_splits.specs.Firsts.{closed, closed-others, clear-zero, far-first, first-set}
-use Rattle.sound_splits.specs.Relation.{Tidy, sound-tidy, Place, fore, aft, Split, off-n, off-b, n≢b, n≢k, n≢m, b≢m}
+use Rattle.sound_splits.specs.Relation.{Tidy, sound-tidy, Place, fore, aft, Split, off-n, off-b, n≢b, n≢k, apart}
 
 -- half-edge n from v in loop l goes in between k and A
 abbrev pub afterWrites : ℕ → ℕ → ℕ → ℕ → ℕ → List Write
@@ -45,6 +45,13 @@ module _ {sh : Shape} {p : List ℤ} {c : Columns} (a : Sound sh p c) {k n v : �
   abbrev d : Columns
   d = semvColumns sh c k n v (aft k n (c Prev (mate k)))
 
+  -- what came before m
+  abbrev P : ℕ
+  P = c Prev (mate k)
+
+  P-used : HalfUsed sh c (c Prev (mate k))
+  P-used = prev-in (a .rules) (mate k) (o .m-used)
+
   -- next of one in use is in use
   pub next-in : (i : ℕ) → HalfUsed sh c i → HalfUsed sh c (c Next i)
   next-in = a .rules .loops .perm .f-in
@@ -58,45 +65,56 @@ module _ {sh : Shape} {p : List ℤ} {c : Columns} (a : Sound sh p c) {k n v : �
 
   -- before n's mate goes in
   pub first-next : (i : ℕ) → HalfUsed sh c i → upd (upd (c Next) n (c Next k)) k n (aft k n i) ≡ c Next i
-  first-next i u = split i k
-      (λ e. ap (upd (upd (c Next) n (c Next k)) k n) (swap-at n e) ∙ upd-off _ n (n≢k o) ∙ upd-same (c Next) n (c Next k) ∙ ap (c Next) (sym e))
-      (λ e. ap (upd (upd (c Next) n (c Next k)) k n) (swap-off n e) ∙ upd-off _ n e ∙ upd-off (c Next) (c Next k) (off-n o i u))
+  first-next i u = apart o λ c1 c2 c3 c4 c5 c6 c7 c8 c9 c10.
+      split i k (λ e. rw e (simp (upd-same, upd-off))) (λ e. let f = off-n o i u in simp upd-off)
 
   pub first-prev : (i : ℕ) → HalfUsed sh c i → upd (upd (c Prev) n k) (c Next k) n i ≡ aft k n (c Prev i)
   first-prev i u = split i (c Next k)
       (λ e. upd-at _ n e ∙ sym (swap-at n (ap (c Prev) e ∙ a .rules .undone k (o .k-used))))
-      (λ e. upd-off _ n e ∙ upd-off (c Prev) k (off-n o i u) ∙ sym (swap-off n (λ z. e (sym (next-prev (a .rules) i u) ∙ ap (c Next) z))))
+      (λ e.
+      let f = off-n o i u in
+      let g : c Prev i ≢ k = λ z. e (sym (next-prev (a .rules) i u) ∙ ap (c Next) z) in
+      simp upd-off)
 
   -- what follows what is read for one in use
   semv-next : (i : ℕ) → HalfUsed sh c i → d Next (aft k n i) ≡ fore k n (c Next i)
   semv-next i u = split (aft k n i) q
       (λ e.
-      let z : i ≡ c Prev (mate k) = sym (swap-back k n i (off-n o i u)) ∙ ap (swapFor n k) e ∙ swap-back k n _ (off-n o _ (prev-in (a .rules) (mate k) (o .m-used))) in
+      let z : i ≡ P = sym (swap-back k n i (off-n o i u)) ∙ ap (swapFor n k) e ∙ swap-back k n P (off-n o P P-used) in
       upd-at _ (mate n) e ∙ sym (swap-at (mate n) (ap (c Next) z ∙ next-prev (a .rules) (mate k) (o .m-used))))
       (λ e.
       let z : c Next i ≢ mate k = λ y. e (ap (aft k n) (sym (a .rules .undone i u) ∙ ap (c Prev) y)) in
-      upd-off _ (mate n) e ∙ upd-off _ (mate k) (aft-b i u) ∙ first-next i u ∙ sym (swap-off (mate n) z))
+      let f = aft-b i u in
+      simp upd-off (first-next i u))
 
   -- what precedes what is read for one in use
   semv-prev : (i : ℕ) → HalfUsed sh c i → d Prev (fore k n i) ≡ aft k n (c Prev i)
-  semv-prev i u = split i (mate k)
-      (λ e. ap (d Prev) (swap-at (mate n) e) ∙ upd-off _ (mate n) (b≢m o) ∙ upd-same _ (mate n) q ∙ ap (λ j. aft k n (c Prev j)) (sym e))
-      (λ e. ap (d Prev) (swap-off (mate n) e) ∙ upd-off _ (mate n) e ∙ upd-off _ q (off-b o i u) ∙ first-prev i u)
+  semv-prev i u = apart o λ c1 c2 c3 c4 c5 c6 c7 c8 c9 c10.
+      split i (mate k) (λ e. rw e (simp (upd-same, upd-off))) (λ e. let f = off-b o i u in simp upd-off (first-prev i u))
 
   -- the loops of the new half-edges
   loop-n : d Loop n ≡ c Loop k
-  loop-n = upd-off _ _ (n≢b o) ∙ upd-same (c Loop) n (c Loop k)
+  loop-n = apart o λ c1 c2 c3 c4 c5 c6 c7 c8 c9 c10. simp (upd-same, upd-off)
 
   loop-b : d Loop (mate n) ≡ c Loop (mate k)
-  loop-b = upd-same _ (mate n) _
+  loop-b = simp upd-same
 
   -- and of the others
   loop-o : (i : ℕ) → i ≢ n → i ≢ mate n → d Loop i ≡ c Loop i
-  loop-o i e f = upd-off _ _ f ∙ upd-off (c Loop) (c Loop k) e
+  loop-o i e f = simp upd-off
 
-  -- where the others start
+  -- where m, the new half-edges and the others start
+  start-m : d Start (mate k) ≡ v
+  start-m = simp upd-same
+
+  start-n : d Start n ≡ v
+  start-n = apart o λ c1 c2 c3 c4 c5 c6 c7 c8 c9 c10. simp (upd-same, upd-off)
+
+  start-b : d Start (mate n) ≡ c Start (mate k)
+  start-b = apart o λ c1 c2 c3 c4 c5 c6 c7 c8 c9 c10. simp (upd-same, upd-off)
+
   start-o : (i : ℕ) → i ≢ mate k → i ≢ n → i ≢ mate n → d Start i ≡ c Start i
-  start-o i e f g = upd-off _ v e ∙ upd-off _ _ g ∙ upd-off (c Start) v f
+  start-o i e f g = simp upd-off
 
   -- firsts and free half-edges
   semv-tidy : Tidy sh d
@@ -109,18 +127,16 @@ module _ {sh : Shape} {p : List ℤ} {c : Columns} (a : Sound sh p c) {k n v : �
       -- a free half-edge was free
       free : (i : ℕ) → In (2 * sh .edges) i → d Start i ≡ 0 → HalfFree sh d i
       free i j z =
-          let e : i ≢ mate k = λ y. omega (arith, o .v-in .0, sym (upd-same _ (mate k) v) ∙ ap (d Start) (sym y) ∙ z) in
-          let f : i ≢ n = λ y. omega (arith, o .v-in .0, sym (upd-off _ v (n≢m o) ∙ upd-off _ _ (n≢b o) ∙ upd-same (c Start) n v) ∙ ap (d Start) (sym y) ∙ z) in
-          let g : i ≢ mate n = λ y. o .m-used .2 (sym (upd-off _ v (b≢m o) ∙ upd-same _ (mate n) _) ∙ ap (d Start) (sym y) ∙ z) in
+          let e : i ≢ mate k = λ y. omega (arith, o .v-in .0, sym start-m ∙ ap (d Start) (sym y) ∙ z) in
+          let f : i ≢ n = λ y. omega (arith, o .v-in .0, sym start-n ∙ ap (d Start) (sym y) ∙ z) in
+          let g : i ≢ mate n = λ y. o .m-used .2 (sym start-b ∙ ap (d Start) (sym y) ∙ z) in
           let w : c Start i ≡ 0 = sym (start-o i e f g) ∙ z in
           let r = a .half-free i j w in
           let x : (h : ℕ) → HalfUsed sh c h → i ≢ h = λ h u y. u .2 (ap (c Start) (sym y) ∙ w) in
-          let y : i ≢ q = split (c Prev (mate k)) k (λ s t. f (t ∙ swap-at n s)) (λ s t. x (c Prev (mate k)) (prev-in (a .rules) (mate k) (o .m-used)) (t ∙ swap-off n s)) in
-          record {
-            loop = loop-o i f g ∙ r .loop;
-            next = upd-off _ (mate n) y ∙ upd-off _ (mate k) g ∙ upd-off _ n (x k (o .k-used)) ∙ upd-off (c Next) (c Next k) f ∙ r .next;
-            prev = upd-off _ (mate n) e ∙ upd-off _ q g ∙ upd-off _ n (x (c Next k) (next-in k (o .k-used))) ∙ upd-off (c Prev) k f ∙ r .prev;
-          }
+          let y : i ≢ q = split P k (λ s t. f (t ∙ swap-at n s)) (λ s t. x P P-used (t ∙ swap-off n s)) in
+          let x1 = x k (o .k-used) in
+          let x2 = x (c Next k) (next-in k (o .k-used)) in
+          record { loop = loop-o i f g ∙ r .loop; next = simp upd-off (r .next); prev = simp upd-off (r .prev) }
 
   -- v divides k
   pub semv-split : Split sh c (semvColumns sh c k n v (aft k n (c Prev (mate k)))) k n v
@@ -130,18 +146,18 @@ module _ {sh : Shape} {p : List ℤ} {c : Columns} (a : Sound sh p c) {k n v : �
     isolated = clear-zero (c Isolated) (c Loop k) (c Loop (mate k)) (not-isolated a k (o .k-used) refl) (not-isolated a (mate k) (o .m-used) refl);
     v-used = upd-same (c VertexUsed) v 1;
     used = λ w e. upd-off (c VertexUsed) 1 e;
-    start-m = upd-same _ (mate k) v;
-    start-n = upd-off _ v (n≢m o) ∙ upd-off _ _ (n≢b o) ∙ upd-same (c Start) n v;
-    start-b = upd-off _ v (b≢m o) ∙ upd-same _ (mate n) _;
+    start-m = start-m;
+    start-n = start-n;
+    start-b = start-b;
     start = start-o;
     loop-n = loop-n;
     loop-b = loop-b;
     loop = loop-o;
-    next-k = upd-off _ (mate n) (λ z. aft-k _ (sym z)) ∙ upd-off _ (mate k) (off-b o k (o .k-used)) ∙ upd-same _ k n;
-    next-b = upd-off _ (mate n) (λ z. aft-b _ (prev-in (a .rules) (mate k) (o .m-used)) (sym z)) ∙ upd-same _ (mate n) (mate k);
+    next-k = apart o λ c1 c2 c3 c4 c5 c6 c7 c8 c9 c10. let q≢k : k ≢ q = λ z. aft-k P (sym z) in simp (upd-same, upd-off);
+    next-b = apart o λ c1 c2 c3 c4 c5 c6 c7 c8 c9 c10. let q≢b : mate n ≢ q = λ z. aft-b P P-used (sym z) in simp (upd-same, upd-off);
     next = semv-next;
-    prev-m = upd-same _ (mate k) (mate n);
-    prev-n = upd-off _ (mate n) (n≢m o) ∙ upd-off _ q (n≢b o) ∙ upd-off _ n (λ z. off-n o (c Next k) (next-in k (o .k-used)) (sym z)) ∙ upd-same (c Prev) n k;
+    prev-m = simp upd-same;
+    prev-n = apart o λ c1 c2 c3 c4 c5 c6 c7 c8 c9 c10. let f : n ≢ c Next k = λ z. off-n o (c Next k) (next-in k (o .k-used)) (sym z) in simp (upd-same, upd-off);
     prev = semv-prev;
     next-old = λ i u. off-b o (c Next i) (next-in i u);
     prev-old = λ i u. off-n o (c Prev i) (prev-in (a .rules) i u);
