@@ -3,7 +3,7 @@
 use mathlib.Core.Path.{_≡_, refl, sym, ap, _∙_, subst}
 use mathlib.Core.Logic.{⊎-elim}
 use mathlib.Core.List.{List}
-use Prim.Native.Nat.{ℕ, _*_, _≤_, _<_}
+use Prim.Native.Nat.{ℕ, _*_, _≤_}
 use native.Mathlib.Omega.{arith}
 use lib.Dec.{T, lit≤}
 use lib.IntN.{ℤ, pos}
@@ -13,13 +13,13 @@ use Rattle.layout.specs.declared.shape.Shape.{Shape}
 use Rattle.layout.specs.Mate.{mate, edgeOf}
 use Rattle.layout.specs.MateLaws.{mate-range}
 use Rattle.layout.specs.Points.{coordinate, rangeTest}
-use Rattle.euler.specs.Surgery.{halfBy, wayOf, putPoint}
+use Rattle.euler.specs.Surgery.{putPoint}
 use Rattle.euler.specs.Operators.{semvLinks, jekvLinks}
 use Rattle.euler.specs.Exec.{refusalOf}
 use Rattle.layout.specs.Fields.{Start, Next, Prev, VertexUsed, Columns}
 use Rattle.sound_tables.specs.Cells.{Shows, shows-ext}
 use Rattle.sound_tables.specs.Sound.{Sound}
-use Rattle.sound_tables.specs.PointLists.{three, all-three, put-length, put-at, put-back, put-cleared, points-new, points-cleared}
+use Rattle.sound_tables.specs.PointLists.{all-three, put-length, put-at, put-back, put-cleared, points-new, points-cleared}
 use Rattle.sound_tables.specs.Good.{own, Good, good-shows, good-after}
 use Rattle.sound_tables.specs.Undone.{Kept, Undone}
 use Rattle.sound_splits.specs.CycleMoves.{swapFor}

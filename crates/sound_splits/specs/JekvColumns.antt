@@ -89,6 +89,11 @@ module _ {sh : Shape} {p : List ℤ} {d : Columns} (a : Sound sh p d) {k n : ℕ
   k≢n : k ≢ n
   k≢n e = o .n≢k (sym e)
 
+  -- all of it, for `simp` to find
+  apart₂ : {A : Type 0} → (n ≢ mate n → k ≢ mate k → mate k ≢ k → k ≢ mate n → mate n ≢ k → mate k ≢ mate n → mate n ≢ mate k
+      → mate k ≢ n → k ≢ n → A) → A
+  apart₂ f = f n≢b k≢m (λ z. k≢m (sym z)) k≢b (λ z. k≢b (sym z)) m≢b (λ z. m≢b (sym z)) m≢n k≢n
+
   -- k does not come before n's mate
   P≢k : P ≢ k
   P≢k e = n≢b (sym (o .next-k) ∙ ap (d Next) (sym e) ∙ next-P)
@@ -102,17 +107,24 @@ module _ {sh : Shape} {p : List ℤ} {d : Columns} (a : Sound sh p d) {k n : ℕ
 
   -- what is in use afterwards was so, and is not of n's edge
   start-o : (i : ℕ) → i ≢ mate k → i ≢ n → i ≢ mate n → d Start i ≡ c Start i
-  start-o i e f g = sym (upd-off _ 0 g ∙ upd-off _ 0 f ∙ upd-off (d Start) _ e)
+  start-o i e f g = simp upd-off
+
+  -- n and its mate are cleared, in every column of half-edges
+  start-n : c Start n ≡ 0
+  start-n = let e = n≢b in simp (upd-same, upd-off)
+
+  start-b0 : c Start (mate n) ≡ 0
+  start-b0 = simp upd-same
 
   was : (i : ℕ) → HalfUsed sh c i → HalfUsed sh d i × (i ≢ n) × (i ≢ mate n)
   was i u =
-      let f : i ≢ n = λ e. u .2 (ap (c Start) e ∙ upd-off _ 0 n≢b ∙ upd-same _ n 0) in
-      let g : i ≢ mate n = λ e. u .2 (ap (c Start) e ∙ upd-same _ (mate n) 0) in
+      let f : i ≢ n = λ e. u .2 (ap (c Start) e ∙ start-n) in
+      let g : i ≢ mate n = λ e. u .2 (ap (c Start) e ∙ start-b0) in
       (split i (mate k) (λ e. subst (HalfUsed sh d) (sym e) m-used) (λ e. (u .0, u .1, λ z. u .2 (sym (start-o i e f g) ∙ z))), f, g)
 
   -- k's mate starts where n's mate did
   start-b : d Start (mate n) ≡ c Start (mate k)
-  start-b = sym (upd-off _ 0 m≢b ∙ upd-off _ 0 m≢n ∙ upd-same (d Start) (mate k) _)
+  start-b = apart₂ λ c1 c2 c3 c4 c5 c6 c7 c8 c9. simp (upd-same, upd-off)
 
   -- k is in use afterwards, n, its mate and its start are free
   joint-place : Place sh c k n (d Start n)
@@ -121,8 +133,8 @@ module _ {sh : Shape} {p : List ℤ} {d : Columns} (a : Sound sh p d) {k n : ℕ
     m-used = (m-used .0, m-used .1, λ z. b-used .2 (start-b ∙ z));
     n-in = (n-used .0, n-used .1);
     b-in = (b-used .0, b-used .1);
-    n-free = upd-off _ 0 n≢b ∙ upd-same _ n 0;
-    b-free = upd-same _ (mate n) 0;
+    n-free = start-n;
+    b-free = start-b0;
     v-in = a .half n (n-used .0, n-used .1) (n-used .2) .start-in;
     v-free = upd-same (d VertexUsed) (d Start n) 0;
   }
@@ -135,11 +147,11 @@ module _ {sh : Shape} {p : List ℤ} {d : Columns} (a : Sound sh p d) {k n : ℕ
 
   -- once k is joined
   tied-next : (i : ℕ) → upd (d Next) k (d Next n) i ≡ d Next (aft k n i)
-  tied-next i = split i k (λ e. upd-at (d Next) _ e ∙ ap (d Next) (sym (swap-at n e))) (λ e. upd-off (d Next) _ e ∙ ap (d Next) (sym (swap-off n e)))
+  tied-next i = split i k (λ e. rw e (simp upd-same)) (λ e. simp upd-off)
 
   -- what follows one in use: k's mate after q, else what followed what is read for it
   next-q : c Next q ≡ mate k
-  next-q = upd-off _ 0 q≢b ∙ upd-off _ 0 q≢n ∙ upd-same _ q (mate k)
+  next-q = let e = q≢b in let f = q≢n in simp (upd-same, upd-off)
     where
       -- q is not n
       q≢n : q ≢ n
@@ -150,7 +162,7 @@ module _ {sh : Shape} {p : List ℤ} {d : Columns} (a : Sound sh p d) {k n : ℕ
       q≢b z = split P n (λ e. k≢b (sym (swap-at k e) ∙ z)) (λ e. m≢b (sym (o .next-b) ∙ ap (d Next) (sym z ∙ swap-off k e) ∙ next-P))
 
   next-o : (i : ℕ) → HalfUsed sh c i → i ≢ q → c Next i ≡ d Next (aft k n i)
-  next-o i u e = upd-off _ 0 (was i u .2) ∙ upd-off _ 0 (was i u .1) ∙ upd-off _ (mate k) e ∙ tied-next i
+  next-o i u e = let f = was i u .1 in let g = was i u .2 in simp upd-off (tied-next i)
 
   -- what follows what is read for one in use
   jekv-next : (i : ℕ) → HalfUsed sh c i → d Next (aft k n i) ≡ fore k n (c Next i)
@@ -169,11 +181,11 @@ module _ {sh : Shape} {p : List ℤ} {d : Columns} (a : Sound sh p d) {k n : ℕ
 
   -- what precedes k's mate
   prev-m : c Prev (mate k) ≡ q
-  prev-m = upd-off _ 0 m≢b ∙ upd-off _ 0 m≢n ∙ upd-same _ (mate k) q
+  prev-m = apart₂ λ c1 c2 c3 c4 c5 c6 c7 c8 c9. simp (upd-same, upd-off)
 
   -- what precedes another
   prev-o : (i : ℕ) → HalfUsed sh c i → i ≢ mate k → c Prev i ≡ upd (d Prev) (d Next n) k i
-  prev-o i u e = upd-off _ 0 (was i u .2) ∙ upd-off _ 0 (was i u .1) ∙ upd-off _ q e
+  prev-o i u e = let f = was i u .1 in let g = was i u .2 in simp upd-off
 
   -- what precedes what is read for one in use
   jekv-prev : (i : ℕ) → HalfUsed sh c i → d Prev (fore k n i) ≡ aft k n (c Prev i)
@@ -197,7 +209,7 @@ module _ {sh : Shape} {p : List ℤ} {d : Columns} (a : Sound sh p d) {k n : ℕ
 
   -- the others lie in their loops
   loop-o : (i : ℕ) → i ≢ n → i ≢ mate n → d Loop i ≡ c Loop i
-  loop-o i e f = sym (upd-off _ 0 f ∙ upd-off (d Loop) 0 e)
+  loop-o i e f = simp upd-off
 
   -- n lies in k's loop, and n's mate in that of k's mate
   n-loop : d Loop n ≡ d Loop k
@@ -210,10 +222,10 @@ module _ {sh : Shape} {p : List ℤ} {d : Columns} (a : Sound sh p d) {k n : ℕ
   jekv-tidy : Tidy sh c
   jekv-tidy = record {
     first = λ l i. first-set (d First) (firstOf sh c) (d Loop k) (d Loop (mate k)) l (λ e f. sound-tidy a .first l i
-        ∙ sym (far-first sh c d n (upd-off _ 0 n≢b ∙ upd-same _ n 0) (upd-same _ (mate n) 0) loop-o l (i .0) (λ z. e (sym z ∙ n-loop)) (λ z. f (sym z ∙ b-loop))));
+        ∙ sym (far-first sh c d n (let e = n≢b in simp (upd-same, upd-off)) (simp upd-same) loop-o l (i .0) (λ z. e (sym z ∙ n-loop)) (λ z. f (sym z ∙ b-loop))));
     half = λ i j z. split i (mate n)
-        (λ e. rw e (record { loop = upd-same _ (mate n) 0; next = upd-same _ (mate n) 0; prev = upd-same _ (mate n) 0 })) λ g. split i n
-        (λ e. rw e (record { loop = upd-off _ 0 n≢b ∙ upd-same _ n 0; next = upd-off _ 0 n≢b ∙ upd-same _ n 0; prev = upd-off _ 0 n≢b ∙ upd-same _ n 0 })) λ f. free i j z f g;
+        (λ e. rw e (record { loop = simp upd-same; next = simp upd-same; prev = simp upd-same })) λ g. split i n
+        (λ e. rw e (let h = n≢b in record { loop = simp (upd-same, upd-off); next = simp (upd-same, upd-off); prev = simp (upd-same, upd-off) })) λ f. free i j z f g;
   }
     where
       -- a free half-edge that was free
@@ -223,11 +235,10 @@ module _ {sh : Shape} {p : List ℤ} {d : Columns} (a : Sound sh p d) {k n : ℕ
           let w : d Start i ≡ 0 = start-o i e f g ∙ z in
           let r = a .half-free i j w in
           let x : (h : ℕ) → HalfUsed sh d h → i ≢ h = λ h u y. u .2 (ap (d Start) (sym y) ∙ w) in
-          record {
-            loop = sym (loop-o i f g) ∙ r .loop;
-            next = upd-off _ 0 g ∙ upd-off _ 0 f ∙ upd-off _ (mate k) (x q q-used) ∙ upd-off (d Next) _ (x k (o .k-used)) ∙ r .next;
-            prev = upd-off _ 0 g ∙ upd-off _ 0 f ∙ upd-off _ q e ∙ upd-off (d Prev) k (x (d Next n) (a .rules .loops .perm .f-in n n-used)) ∙ r .prev;
-          }
+          let x1 = x q q-used in
+          let x2 = x k (o .k-used) in
+          let x3 = x (d Next n) (a .rules .loops .perm .f-in n n-used) in
+          record { loop = sym (loop-o i f g) ∙ r .loop; next = simp upd-off (r .next); prev = simp upd-off (r .prev) }
 
   -- n's start divides k
   pub jekv-split : Split sh (jekvColumns sh d k n (swapFor n k (d Prev (mate n)))) d k n (d Start n)
