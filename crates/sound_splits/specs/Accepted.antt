@@ -1,4 +1,5 @@
--- semv and jekv as operators: their operands, what it says that they are accepted, and what they do to links and points.
+-- semv and jekv as operators: their operands, what it says that they are accepted, and what they do to links and
+-- points.
 use mathlib.Core.Path.{_≡_, refl, ap, _∙_}
 use mathlib.Core.Logic.{_≢_, ⊎-elim}
 use mathlib.Core.Bool.{true, not}
@@ -22,7 +23,10 @@ use Rattle.euler.specs.Exec.{limits, useWord, condition, refusalOf, linksAfter,
 use Rattle.layout.specs.Fields.{Start, Next, VertexUsed, Columns}
 use Rattle.sound_tables.specs.Sound.{In, HalfUsed}
 use Rattle.sound_tables.specs.PointLists.{three, all-three}
-use Rattle.sound_tables.specs.Accepted.{by-place, eight, accepted-back, ranges-cons, uses-cons, item-cons, use-old, old-use, use-new, new-use, use-none, in-range, Number, number, number-or-none, coordinate-range, unused-range, unused-use, in-range-or-none, three-range, three-use}
+use Rattle.sound_tables.specs.Accepted.{by-place, eight, accepted-back, ranges-cons, uses-cons, item-cons, use-old}
+use Rattle.sound_tables.specs.Accepted.{old-use, use-new, new-use, use-none, in-range, Number, number, number-or-none}
+use Rattle.sound_tables.specs.Accepted.{coordinate-range, unused-range, unused-use, in-range-or-none, three-range}
+use Rattle.sound_tables.specs.Accepted.{three-use}
 use Rattle.sound_tables.specs.Good.{own, Capacities}
 use Rattle.sound_tables.specs.HalfNumbers.{mate-edge, same-edge}
 use Rattle.sound_tables.specs.OneOperand.{oneOf, one-operand, one-accepted}
@@ -81,12 +85,15 @@ semv-facts sh x o caps len e h =
     let r = a .range in
     let u = a .used in
     let arg : ℕ → ℤ = λ i. getD (o .args) i (pos 0) in
-    let n0 : Number (2 * sh .edges) (arg 0) = number (limits sh) 9 _ refl refl (omega (arith, caps .edges)) (r 0 (lit≤ tt)) in
-    let n1 : Number (sh .edges) (arg 1) = number (limits sh) 8 _ refl refl (omega (arith, caps .edges)) (r 1 (lit≤ tt)) in
+    let n0 : Number (2 * sh .edges) (arg 0) = number (limits sh) 9 _ refl refl (omega (arith, caps .edges))
+    (r 0 (lit≤ tt)) in
+    let n1 : Number (sh .edges) (arg 1) = number (limits sh) 8 _ refl refl (omega (arith, caps .edges))
+    (r 1 (lit≤ tt)) in
     let n2 : Number (sh .vertices) (arg 2) =
     number (limits sh) 11 _ refl refl (omega (arith, caps .vertices)) (r 2 (lit≤ tt)) in
     let n3 : (arg 3 ≡ pos (operandOf o 3)) × (operandOf o 3 ≤ 1) =
     number-or-none (limits sh) 12 _ refl (lit≤ tt) (r 3 (lit≤ tt)) in
+    let k-used = use-old sh x 9 (operandOf o 0) (omega (arith, n0 .range)) refl (u 0 (lit≤ tt) (n0 .small)) in
     record {
       operands = record {
         half = operandOf o 0;
@@ -101,17 +108,19 @@ semv-facts sh x o caps len e h =
         code = e t;
         count = a .count t;
         args = (eight (o .args) len
-            ∙ (λ i. n0 .is i ∷ n1 .is i ∷ n2 .is i ∷ n3 .0 i ∷ arg 4 ∷ arg 5 ∷ arg 6 ∷ a .rest 7 (lit≤ tt) refl i ∷ [])) t;
+            ∙ (λ i. n0 .is i ∷ n1 .is i ∷ n2 .is i ∷ n3 .0 i ∷ arg 4 ∷ arg 5 ∷ arg 6 ∷ a .rest 7 (lit≤ tt) refl i
+            ∷ [])) t;
       };
       fits = record {
-        half = (n0 .range .0, n0 .range .1, use-old sh x 9 (operandOf o 0) (omega (arith, n0 .range)) refl (u 0 (lit≤ tt) (n0 .small)));
+        half = (n0 .range .0, n0 .range .1, k-used);
         edge-in = n1 .range;
         edge-free = use-new sh x 8 (operandOf o 1) (omega (arith, n1 .range)) refl (u 1 (lit≤ tt) (n1 .small));
         vertex-in = n2 .range;
         vertex-free = use-new sh x 11 (operandOf o 2) (omega (arith, n2 .range)) refl (u 2 (lit≤ tt) (n2 .small));
         way = n3 .1;
         range = all-three (λ q. T (rangeTest q)) _ _ _ (coordinate-range (limits sh) (arg 4) (r 4 (lit≤ tt)))
-            (coordinate-range (limits sh) (arg 5) (r 5 (lit≤ tt))) (coordinate-range (limits sh) (arg 6) (r 6 (lit≤ tt)));
+            (coordinate-range (limits sh) (arg 5) (r 5 (lit≤ tt)))
+            (coordinate-range (limits sh) (arg 6) (r 6 (lit≤ tt)));
       };
     }
 
@@ -135,7 +144,10 @@ module _ (sh : Shape) (x : List ℕ) (caps : Capacities sh) {m : Semv} (r : Semv
   -- the links afterwards
   pub semv-links : linksAfter sh x (semvOf m) ≡ semvLinks sh x (m .half) (newHalf m) (m .vertex)
   unfolding linksAfter
-  semv-links = rw (le-leb (m .half) 8192 kn, le-leb (m .edge) 8192 en, le-leb (m .vertex) 8192 vn, le-leb (m .way) 8192 wn)
+  semv-links =
+      let k = le-leb (m .half) 8192 kn in
+      let v = le-leb (m .vertex) 8192 vn in
+      rw (k, le-leb (m .edge) 8192 en, v, le-leb (m .way) 8192 wn)
 
   -- the vertex gets its point
   pub semv-points : (p : List ℤ) → pointsAfter sh x p (semvOf m) ≡ putPoint p (m .vertex) (m .x) (m .y) (m .z)
@@ -184,14 +196,16 @@ pub record JekvFacts (sh : Shape) (x : List ℕ) (o : Operator) : Type 0 where
   pub test : jekvTest sh x k ≡ true
 
 -- all from the refusal 0
-pub jekv-facts : (sh : Shape) (x : List ℕ) (o : Operator) → Capacities sh → length (o .args) ≡ 8 → o .code ≡ 12 → refusalOf sh x o ≡ 0 → JekvFacts sh x o
+pub jekv-facts : (sh : Shape) (x : List ℕ) (o : Operator) → Capacities sh → length (o .args) ≡ 8 → o .code ≡ 12
+    → refusalOf sh x o ≡ 0 → JekvFacts sh x o
 unfolding pattern rows useWord condition
 jekv-facts sh x o caps len e h =
     let a = one-operand sh x 12 9 refl refl refl refl (omega (arith, caps .edges)) refl o len e h in
     record { k = a .n; is = a .is; half = (a .range .0, a .range .1, a .used); test = rw (a .small) at (a .holds) }
 
 -- its test finds a joint
-pub tested-joint : (sh : Shape) (x : List ℕ) (k : ℕ) → HalfUsed sh (own sh x) k → jekvTest sh x k ≡ true → Joint sh (own sh x) k (own sh x Next k)
+pub tested-joint : (sh : Shape) (x : List ℕ) (k : ℕ) → HalfUsed sh (own sh x) k → jekvTest sh x k ≡ true
+    → Joint sh (own sh x) k (own sh x Next k)
 unfolding jekvTest
 tested-joint sh x k u t =
     let n = own sh x Next k in
@@ -226,7 +240,9 @@ module _ (sh : Shape) (x : List ℕ) (k n : ℕ) (caps : Capacities sh) (o : Joi
   joint-tested : jekvTest sh x k ≡ true
   unfolding jekvTest
   joint-tested = rw (o .next-k) (T-true (T-and (not (eqb (edgeOf n) (edgeOf k))) (eqb (own sh x Next (mate n)) (mate k))
-      (not-T (eqb (edgeOf n) (edgeOf k)) (λ t. ⊎-elim (o .n≢k) (o .n≢m) (same-edge n k n1 (o .k-used .0) (eqb→eq _ _ t)))) (true-T (eqb-same (o .next-b)))))
+      (not-T (eqb (edgeOf n) (edgeOf k))
+      (λ t. ⊎-elim (o .n≢k) (o .n≢m) (same-edge n k n1 (o .k-used .0) (eqb→eq _ _ t))))
+      (true-T (eqb-same (o .next-b)))))
 
   -- what it does
   pub jekv-links : linksAfter sh x (jekvOf k) ≡ jekvLinks sh x k n
@@ -246,4 +262,5 @@ module _ (sh : Shape) (x : List ℕ) (k n : ℕ) (caps : Capacities sh) (o : Joi
   -- and accepted
   pub jekv-accepted : refusalOf sh x (jekvOf k) ≡ 0
   unfolding pattern rows useWord condition
-  jekv-accepted = one-accepted sh x 12 9 refl refl refl refl (omega (arith, caps .edges)) refl k (o .k-used .0, o .k-used .1) (o .k-used .2) (rw k-small joint-tested)
+  jekv-accepted = one-accepted sh x 12 9 refl refl refl refl (omega (arith, caps .edges)) refl k
+      (o .k-used .0, o .k-used .1) (o .k-used .2) (rw k-small joint-tested)

@@ -1,5 +1,5 @@
--- The pair semv and jekv: a good table stays good, and each undoes the other to the word. Both are one relation between the columns (`Split`),
--- which each side settles.
+-- The pair semv and jekv: a good table stays good, and each undoes the other to the word. Both are one relation between
+-- the columns (`Split`), which each side settles.
 use mathlib.Core.Path.{_≡_, refl, sym, ap, _∙_, subst}
 use mathlib.Core.Logic.{⊎-elim}
 use mathlib.Core.List.{List}
@@ -19,7 +19,8 @@ use Rattle.euler.specs.Exec.{refusalOf}
 use Rattle.layout.specs.Fields.{Start, Next, Prev, VertexUsed, Columns}
 use Rattle.sound_tables.specs.Cells.{Shows, shows-ext}
 use Rattle.sound_tables.specs.Sound.{Sound}
-use Rattle.sound_tables.specs.PointLists.{all-three, put-length, put-at, put-back, put-cleared, points-new, points-cleared}
+use Rattle.sound_tables.specs.PointLists.{all-three, put-length, put-at, put-back, put-cleared, points-new}
+use Rattle.sound_tables.specs.PointLists.{points-cleared}
 use Rattle.sound_tables.specs.Good.{own, Good, good-shows, good-after}
 use Rattle.sound_tables.specs.Undone.{Kept, Undone}
 use Rattle.sound_splits.specs.CycleMoves.{swapFor}
@@ -31,7 +32,9 @@ use Rattle.sound_splits.specs.JekvColumns.{Joint, jekvColumns, jekv-spli
 use Rattle.sound_splits.specs.Shown.{semv-shows, jekv-shows}
 use Rattle.sound_tables.specs.HalfNumbers.{edge-by, way-by, way-small, half-is, second-half}
 use Rattle.sound_tables.specs.Names.{free-halves}
-use Rattle.sound_splits.specs.Accepted.{Semv, semvOf, jekvOf, newHalf, SemvFits, jekvBack, semv-facts, semv-links, semv-points, semv-inverse, semv-accepted, jekv-facts, tested-joint, jekv-links, jekv-points, jekv-inverse, jekv-accepted}
+use Rattle.sound_splits.specs.Accepted.{Semv, semvOf, jekvOf, newHalf, SemvFits, jekvBack, semv-facts, semv-links}
+use Rattle.sound_splits.specs.Accepted.{semv-points, semv-inverse, semv-accepted, jekv-facts, tested-joint}
+use Rattle.sound_splits.specs.Accepted.{jekv-links, jekv-points, jekv-inverse, jekv-accepted}
 
 -- ---- semv
 
@@ -50,7 +53,8 @@ module _ {sh : Shape} {x : List ℕ} {p : List ℤ} (g : Good sh x p) {m : Semv}
 
   -- the columns afterwards
   abbrev d : Columns
-  d = semvColumns sh (own sh x) (m .half) (newHalf m) (m .vertex) (aft (m .half) (newHalf m) (own sh x Prev (mate (m .half))))
+  d = semvColumns sh (own sh x) (m .half) (newHalf m) (m .vertex)
+      (aft (m .half) (newHalf m) (own sh x Prev (mate (m .half))))
 
   -- the links
   abbrev y : List ℕ
@@ -121,7 +125,8 @@ module _ {sh : Shape} {x : List ℕ} {p : List ℤ} (g : Good sh x p) {m : Semv}
   -- jekv leads back
   semv-back : jekvLinks sh y k n ≡ x
   semv-back = shows-ext (jekv-shows y-shows d-sound d-joint) (good-shows g)
-      (unique-before (jekv-split d-sound d-joint) (subst (λ t. Split sh (own sh x) d k n t) (sym (divided .start-n)) divided))
+      (unique-before (jekv-split d-sound d-joint)
+      (subst (λ t. Split sh (own sh x) d k n t) (sym (divided .start-n)) divided))
 
   -- jekv gives everything back
   semv-undone : Undone sh x p (semvOf m)
@@ -135,8 +140,10 @@ module _ {sh : Shape} {x : List ℕ} {p : List ℤ} (g : Good sh x p) {m : Semv}
       record {
         accepted = rw (el, ei) (jekv-accepted sh y k n (g .capacities) y-joint n1);
         links = rw (el, ei) (jekv-links sh y k n (g .capacities) y-joint n1 ∙ semv-back);
-        points = rw (el, ep, ei) (jekv-points sh y k n (g .capacities) y-joint n1 q ∙ ap (λ t. putPoint q t (pos 0) (pos 0) (pos 0)) y-start
-            ∙ put-cleared (sh .vertices) p v (m .x) (m .y) (m .z) (g .points) (r .vertex-in) (g .sound .point v (r .vertex-in) .zero (r .vertex-free)));
+        points = rw (el, ep, ei)
+            (jekv-points sh y k n (g .capacities) y-joint n1 q ∙ ap (λ t. putPoint q t (pos 0) (pos 0) (pos 0)) y-start
+            ∙ put-cleared (sh .vertices) p v (m .x) (m .y) (m .z) (g .points) (r .vertex-in)
+            (g .sound .point v (r .vertex-in) .zero (r .vertex-free)));
         again = rw (el, ep, ei) (jekv-inverse sh y k n (g .capacities) y-joint n1 q ∙ (λ t. semvOf (record {
           half = k;
           edge = edge-by (m .edge) (m .way) (r .edge-in .0) t;
@@ -180,7 +187,8 @@ module _ {sh : Shape} {x : List ℕ} {p : List ℤ} (g : Good sh x p) {k n : ℕ
   -- and it is sound
   c-sound : Sound sh kq kc
   c-sound = join-sound rejoined (g .sound)
-      (points-cleared sh p (own sh x) kc kv (g .points) (rejoined .place .v-in) (g .sound .point) (λ w h. sym (rejoined .used w h)))
+      (points-cleared sh p (own sh x) kc kv (g .points) (rejoined .place .v-in) (g .sound .point)
+      (λ w h. sym (rejoined .used w h)))
 
   -- a good table stays good
   jekv-kept : Kept sh x p (jekvOf k)
@@ -196,7 +204,8 @@ module _ {sh : Shape} {x : List ℕ} {p : List ℤ} (g : Good sh x p) {k n : ℕ
       record {
         half = (w .k-used .0, w .k-used .1, λ h. w .k-used .2 (sym (ky-shows .at Start k (w .k-used .1)) ∙ h));
         edge-in = (omega (arith, n1), u);
-        edge-free = ky-shows .at Start (2 * edgeOf n) (omega (arith, u)) ∙ ⊎-elim (λ h. ap (kc Start) h ∙ w .n-free) (λ h. ap (kc Start) h ∙ w .b-free) (second-half n);
+        edge-free = ky-shows .at Start (2 * edgeOf n) (omega (arith, u)) ∙ ⊎-elim (λ h. ap (kc Start) h ∙ w .n-free)
+            (λ h. ap (kc Start) h ∙ w .b-free) (second-half n);
         vertex-in = w .v-in;
         vertex-free = ky-shows .at VertexUsed kv (w .v-in .1) ∙ w .v-free;
         way = way-small n;
@@ -205,7 +214,8 @@ module _ {sh : Shape} {x : List ℕ} {p : List ℤ} (g : Good sh x p) {k n : ℕ
 
   -- semv leads back
   jekv-back : semvLinks sh ky k n kv ≡ x
-  jekv-back = shows-ext (semv-shows ky-shows c-sound (rejoined .place)) (good-shows g) (unique-after (semv-split c-sound (rejoined .place)) rejoined)
+  jekv-back = shows-ext (semv-shows ky-shows c-sound (rejoined .place)) (good-shows g)
+      (unique-after (semv-split c-sound (rejoined .place)) rejoined)
 
   -- semv gives everything back
   jekv-undone : Undone sh x p (jekvOf k)
@@ -215,21 +225,25 @@ module _ {sh : Shape} {x : List ℕ} {p : List ℤ} (g : Good sh x p) {k n : ℕ
       let ei = jekv-inverse sh x k n (g .capacities) o n1 p in
       record {
         accepted = rw (el, ei) (semv-accepted sh ky (g .capacities) ky-fits);
-        links = rw (el, ei) (semv-links sh ky (g .capacities) ky-fits ∙ ap (λ t. semvLinks sh ky k t kv) (half-is n n1) ∙ jekv-back);
-        points = rw (el, ep, ei) (semv-points sh ky (g .capacities) ky-fits kq ∙ put-back (sh .vertices) p kv (pos 0) (pos 0) (pos 0) (g .points) (rejoined .place .v-in));
+        links = rw (el, ei) (semv-links sh ky (g .capacities) ky-fits ∙ ap (λ t. semvLinks sh ky k t kv) (half-is n n1)
+            ∙ jekv-back);
+        points = rw (el, ep, ei) (semv-points sh ky (g .capacities) ky-fits kq ∙ put-back (sh .vertices) p kv (pos 0)
+            (pos 0) (pos 0) (g .points) (rejoined .place .v-in));
         again = rw (el, ep, ei) (semv-inverse sh ky (g .capacities) ky-fits kq);
       }
 
 -- ---- as operators
 
 -- both for semv
-pub semv-holds : (sh : Shape) (x : List ℕ) (p : List ℤ) (o : Operator) → Good sh x p → length (o .args) ≡ 8 → o .code ≡ 11 → refusalOf sh x o ≡ 0 → Kept sh x p o × Undone sh x p o
+pub semv-holds : (sh : Shape) (x : List ℕ) (p : List ℤ) (o : Operator) → Good sh x p → length (o .args) ≡ 8
+    → o .code ≡ 11 → refusalOf sh x o ≡ 0 → Kept sh x p o × Undone sh x p o
 semv-holds sh x p o g len e h =
     let f = semv-facts sh x o (g .capacities) len e h in
     subst (λ q. Kept sh x p q × Undone sh x p q) (sym (f .is)) (semv-kept g (f .fits), semv-undone g (f .fits))
 
 -- both for jekv
-pub jekv-holds : (sh : Shape) (x : List ℕ) (p : List ℤ) (o : Operator) → Good sh x p → length (o .args) ≡ 8 → o .code ≡ 12 → refusalOf sh x o ≡ 0 → Kept sh x p o × Undone sh x p o
+pub jekv-holds : (sh : Shape) (x : List ℕ) (p : List ℤ) (o : Operator) → Good sh x p → length (o .args) ≡ 8
+    → o .code ≡ 12 → refusalOf sh x o ≡ 0 → Kept sh x p o × Undone sh x p o
 jekv-holds sh x p o g len e h =
     let f = jekv-facts sh x o (g .capacities) len e h in
     let j = tested-joint sh x (f .k) (f .half) (f .test) in

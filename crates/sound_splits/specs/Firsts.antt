@@ -1,4 +1,5 @@
--- What both directions of a division need to know of loops: which have a first half-edge, and that the first of a loop away from it stays.
+-- What both directions of a division need to know of loops: which have a first half-edge, and that the first of a loop
+-- away from it stays.
 use mathlib.Core.Path.{_≡_, refl, sym, ap, _∙_}
 use mathlib.Core.Logic.{_≢_}
 use mathlib.Core.Bool.{true, false}
@@ -39,8 +40,10 @@ clear-zero f a b x y i = split i b
     (λ e. upd-at _ 0 e ∙ sym (ap f e ∙ y))
     (λ e. upd-off _ 0 e ∙ split i a (λ g. upd-at f 0 g ∙ sym (ap f g ∙ x)) (λ g. upd-off f 0 g))
 
--- n and its mate name no loop in c and two loops in d; all others name the same, so other loops have the same first half-edge
-pub far-first : (sh : Shape) (c d : Columns) (n : ℕ) → c Loop n ≡ 0 → c Loop (mate n) ≡ 0 → ((i : ℕ) → i ≢ n → i ≢ mate n → d Loop i ≡ c Loop i)
+-- n and its mate name no loop in c and two loops in d; all others name the same, so other loops have the same first
+-- half-edge
+pub far-first : (sh : Shape) (c d : Columns) (n : ℕ) → c Loop n ≡ 0 → c Loop (mate n) ≡ 0
+    → ((i : ℕ) → i ≢ n → i ≢ mate n → d Loop i ≡ c Loop i)
     → (l : ℕ) → 1 ≤ l → d Loop n ≢ l → d Loop (mate n) ≢ l → firstOf sh c l ≡ firstOf sh d l
 far-first sh c d n zn zb e l h xn xb = least-ext (2 * sh .edges) _ _ (λ i _ _. split i n
     (λ f. rw f (eqb-other (none zn) ∙ sym (eqb-other xn))) λ f. split i (mate n)

@@ -30,7 +30,8 @@ pub record Joint (sh : Shape) (d : Columns) (k n : ℕ) : Type 0 where
   pub n≢m : n ≢ mate k
   pub next-b : d Next (mate n) ≡ mate k
 
--- the half-edges after jekv: k is followed by what comes after n, q by k's mate, which starts where n's did; both halves of n's edge are cleared
+-- the half-edges after jekv: k is followed by what comes after n, q by k's mate, which starts where n's did; both
+-- halves of n's edge are cleared
 abbrev pub jekvWrites : Columns → ℕ → ℕ → ℕ → List Write
 jekvWrites d k n q =
     tied k (d Next n) ++ (tied q (mate k) ++ (write Start (mate k) (d Start (mate n))
@@ -90,7 +91,8 @@ module _ {sh : Shape} {p : List ℤ} {d : Columns} (a : Sound sh p d) {k n : ℕ
   k≢n e = o .n≢k (sym e)
 
   -- all of it, for `simp` to find
-  apart₂ : {A : Type 0} → (n ≢ mate n → k ≢ mate k → mate k ≢ k → k ≢ mate n → mate n ≢ k → mate k ≢ mate n → mate n ≢ mate k
+  apart₂ : {A : Type 0} → (n ≢ mate n → k ≢ mate k → mate k ≢ k → k ≢ mate n → mate n ≢ k → mate k ≢ mate n
+      → mate n ≢ mate k
       → mate k ≢ n → k ≢ n → A) → A
   apart₂ f = f n≢b k≢m (λ z. k≢m (sym z)) k≢b (λ z. k≢b (sym z)) m≢b (λ z. m≢b (sym z)) m≢n k≢n
 
@@ -99,7 +101,8 @@ module _ {sh : Shape} {p : List ℤ} {d : Columns} (a : Sound sh p d) {k n : ℕ
   P≢k e = n≢b (sym (o .next-k) ∙ ap (d Next) (sym e) ∙ next-P)
 
   pub q-used : HalfUsed sh d q
-  q-used = split P n (λ e. subst (HalfUsed sh d) (sym (swap-at k e)) (o .k-used)) (λ e. subst (HalfUsed sh d) (sym (swap-off k e)) P-used)
+  q-used = split P n (λ e. subst (HalfUsed sh d) (sym (swap-at k e)) (o .k-used))
+      (λ e. subst (HalfUsed sh d) (sym (swap-off k e)) P-used)
 
   -- q is read as what comes before n's mate
   aft-q : aft k n q ≡ P
@@ -120,7 +123,8 @@ module _ {sh : Shape} {p : List ℤ} {d : Columns} (a : Sound sh p d) {k n : ℕ
   was i u =
       let f : i ≢ n = λ e. u .2 (ap (c Start) e ∙ start-n) in
       let g : i ≢ mate n = λ e. u .2 (ap (c Start) e ∙ start-b0) in
-      (split i (mate k) (λ e. subst (HalfUsed sh d) (sym e) m-used) (λ e. (u .0, u .1, λ z. u .2 (sym (start-o i e f g) ∙ z))), f, g)
+      let h : i ≢ mate k → d Start i ≢ 0 = λ e z. u .2 (sym (start-o i e f g) ∙ z) in
+      (split i (mate k) (λ e. subst (HalfUsed sh d) (sym e) m-used) (λ e. (u .0, u .1, h e)), f, g)
 
   -- k's mate starts where n's mate did
   start-b : d Start (mate n) ≡ c Start (mate k)
@@ -159,7 +163,8 @@ module _ {sh : Shape} {p : List ℤ} {d : Columns} (a : Sound sh p d) {k n : ℕ
 
       -- n's mate is not its own next
       q≢b : q ≢ mate n
-      q≢b z = split P n (λ e. k≢b (sym (swap-at k e) ∙ z)) (λ e. m≢b (sym (o .next-b) ∙ ap (d Next) (sym z ∙ swap-off k e) ∙ next-P))
+      q≢b z = split P n (λ e. k≢b (sym (swap-at k e) ∙ z))
+          (λ e. m≢b (sym (o .next-b) ∙ ap (d Next) (sym z ∙ swap-off k e) ∙ next-P))
 
   next-o : (i : ℕ) → HalfUsed sh c i → i ≢ q → c Next i ≡ d Next (aft k n i)
   next-o i u e = let f = was i u .1 in let g = was i u .2 in simp upd-off (tied-next i)
@@ -167,7 +172,8 @@ module _ {sh : Shape} {p : List ℤ} {d : Columns} (a : Sound sh p d) {k n : ℕ
   -- what follows what is read for one in use
   jekv-next : (i : ℕ) → HalfUsed sh c i → d Next (aft k n i) ≡ fore k n (c Next i)
   jekv-next i u = split i q
-      (λ e. ap (λ j. d Next (aft k n j)) e ∙ ap (d Next) aft-q ∙ next-P ∙ sym (swap-at (mate n) (ap (c Next) e ∙ next-q)))
+      (λ e. ap (λ j. d Next (aft k n j)) e ∙ ap (d Next) aft-q ∙ next-P
+      ∙ sym (swap-at (mate n) (ap (c Next) e ∙ next-q)))
       (λ e.
       let x = aft-in i u in
       let y = next-o i u e in
@@ -177,7 +183,9 @@ module _ {sh : Shape} {p : List ℤ} {d : Columns} (a : Sound sh p d) {k n : ℕ
   jekv-next-old : (i : ℕ) → HalfUsed sh c i → c Next i ≢ mate n
   jekv-next-old i u z = split i q
       (λ e. m≢b (sym next-q ∙ ap (c Next) (sym e) ∙ z))
-      (λ e. e (sym (swap-back k n i (was i u .1)) ∙ ap (swapFor n k) (inj (a .rules .loops .perm) (aft-in i u .0) P-used (sym (next-o i u e) ∙ z ∙ sym next-P))))
+      (λ e. e (sym (swap-back k n i (was i u .1))
+      ∙ ap (swapFor n k) (inj (a .rules .loops .perm) (aft-in i u .0) P-used
+      (sym (next-o i u e) ∙ z ∙ sym next-P))))
 
   -- what precedes k's mate
   prev-m : c Prev (mate k) ≡ q
@@ -202,10 +210,12 @@ module _ {sh : Shape} {p : List ℤ} {d : Columns} (a : Sound sh p d) {k n : ℕ
   -- none in use is preceded by n
   jekv-prev-old : (i : ℕ) → HalfUsed sh c i → c Prev i ≢ n
   jekv-prev-old i u z = split i (mate k)
-      (λ e. split P n (λ f. k≢n (sym (swap-at k f) ∙ sym prev-m ∙ ap (c Prev) (sym e) ∙ z)) (λ f. f (sym (swap-off k f) ∙ sym prev-m ∙ ap (c Prev) (sym e) ∙ z)))
+      (λ e. split P n (λ f. k≢n (sym (swap-at k f) ∙ sym prev-m ∙ ap (c Prev) (sym e) ∙ z))
+      (λ f. f (sym (swap-off k f) ∙ sym prev-m ∙ ap (c Prev) (sym e) ∙ z)))
       (λ e. split i (d Next n)
       (λ f. k≢n (sym (prev-o i u e ∙ upd-at (d Prev) k f) ∙ z))
-      (λ f. f (sym (next-prev (a .rules) i (was i u .0)) ∙ ap (d Next) (sym (prev-o i u e ∙ upd-off (d Prev) k f) ∙ z))))
+      (λ f. f (sym (next-prev (a .rules) i (was i u .0))
+      ∙ ap (d Next) (sym (prev-o i u e ∙ upd-off (d Prev) k f) ∙ z))))
 
   -- the others lie in their loops
   loop-o : (i : ℕ) → i ≢ n → i ≢ mate n → d Loop i ≡ c Loop i
@@ -218,14 +228,23 @@ module _ {sh : Shape} {p : List ℤ} {d : Columns} (a : Sound sh p d) {k n : ℕ
   b-loop : d Loop (mate n) ≡ d Loop (mate k)
   b-loop = sym (ap (d Loop) (sym (o .next-b)) ∙ a .rules .loops .keeps (mate n) b-used)
 
+  -- n and its mate are all zero
+  n-zero : HalfFree sh c n
+  n-zero = let h = n≢b in
+      record { loop = simp (upd-same, upd-off); next = simp (upd-same, upd-off); prev = simp (upd-same, upd-off) }
+
+  b-zero : HalfFree sh c (mate n)
+  b-zero = record { loop = simp upd-same; next = simp upd-same; prev = simp upd-same }
+
   -- firsts and free half-edges
   jekv-tidy : Tidy sh c
   jekv-tidy = record {
     first = λ l i. first-set (d First) (firstOf sh c) (d Loop k) (d Loop (mate k)) l (λ e f. sound-tidy a .first l i
-        ∙ sym (far-first sh c d n (let e = n≢b in simp (upd-same, upd-off)) (simp upd-same) loop-o l (i .0) (λ z. e (sym z ∙ n-loop)) (λ z. f (sym z ∙ b-loop))));
+        ∙ sym (far-first sh c d n (n-zero .loop) (b-zero .loop) loop-o l (i .0) (λ z. e (sym z ∙ n-loop))
+        (λ z. f (sym z ∙ b-loop))));
     half = λ i j z. split i (mate n)
-        (λ e. rw e (record { loop = simp upd-same; next = simp upd-same; prev = simp upd-same })) λ g. split i n
-        (λ e. rw e (let h = n≢b in record { loop = simp (upd-same, upd-off); next = simp (upd-same, upd-off); prev = simp (upd-same, upd-off) })) λ f. free i j z f g;
+        (λ e. rw e b-zero) λ g. split i n
+        (λ e. rw e n-zero) λ f. free i j z f g;
   }
     where
       -- a free half-edge that was free
@@ -244,8 +263,10 @@ module _ {sh : Shape} {p : List ℤ} {d : Columns} (a : Sound sh p d) {k n : ℕ
   pub jekv-split : Split sh (jekvColumns sh d k n (swapFor n k (d Prev (mate n)))) d k n (d Start n)
   jekv-split = record {
     place = joint-place;
-    others = λ F e i. sym (closed-others sh (jekvWrites d k n q) d (d Loop k) (d Loop (mate k)) (d Start n) 0 refl F e i);
-    isolated = λ i. sym (clear-zero (d Isolated) (d Loop k) (d Loop (mate k)) (not-isolated a k (o .k-used) refl) (not-isolated a (mate k) m-used refl) i);
+    others = λ F e i. sym
+        (closed-others sh (jekvWrites d k n q) d (d Loop k) (d Loop (mate k)) (d Start n) 0 refl F e i);
+    isolated = λ i. sym (clear-zero (d Isolated) (d Loop k) (d Loop (mate k)) (not-isolated a k (o .k-used) refl)
+        (not-isolated a (mate k) m-used refl) i);
     v-used = let h = a .half n (n-used .0, n-used .1) (n-used .2) in
         let x = a .vertex-mark (d Start n) (h .start-in) in
         let y : d VertexUsed (d Start n) ≢ 0 = h .start-used in

@@ -1,6 +1,6 @@
--- semv as a relation between the columns before, c, and after, d: vertex v divides half-edge k. Its mate is m, the new half-edge after k is n, and
--- n's mate b stands before m. After it b is to the vertex what m was (`fore`), and n to what follows k what k was (`aft`). jekv is the same
--- relation read from d to c: each side settles the other.
+-- semv as a relation between the columns before, c, and after, d: vertex v divides half-edge k. Its mate is m, the new
+-- half-edge after k is n, and n's mate b stands before m. After it b is to the vertex what m was (`fore`), and n to
+-- what follows k what k was (`aft`). jekv is the same relation read from d to c: each side settles the other.
 use mathlib.Core.Path.{_≡_, refl, sym, ap, _∙_, subst}
 use mathlib.Core.Logic.{_≢_}
 use mathlib.Core.Bool.{false}
@@ -109,9 +109,11 @@ module _ {sh : Shape} {c : Columns} {k n v : ℕ} (o : Place sh c k n v) where
   b≢m e = off-b (mate k) (o .m-used) (sym e)
 
   -- all of it, for `simp` to find
-  pub apart : {A : Type 0} → (n ≢ mate n → mate n ≢ n → n ≢ k → k ≢ n → n ≢ mate k → mate k ≢ n → mate n ≢ k → k ≢ mate n
+  pub apart : {A : Type 0} → (n ≢ mate n → mate n ≢ n → n ≢ k → k ≢ n → n ≢ mate k → mate k ≢ n → mate n ≢ k
+      → k ≢ mate n
       → mate n ≢ mate k → mate k ≢ mate n → A) → A
-  apart f = f n≢b (λ z. n≢b (sym z)) n≢k (λ z. n≢k (sym z)) n≢m (λ z. n≢m (sym z)) b≢k (λ z. b≢k (sym z)) b≢m (λ z. b≢m (sym z))
+  apart f = f n≢b (λ z. n≢b (sym z)) n≢k (λ z. n≢k (sym z)) n≢m (λ z. n≢m (sym z)) b≢k (λ z. b≢k (sym z)) b≢m
+      (λ z. b≢m (sym z))
 
   -- the mate of what is read for m is read for k
   pub mate-fore : (i : ℕ) → mate (fore k n i) ≡ aft k n (mate i)
@@ -123,6 +125,10 @@ module _ {sh : Shape} {c : Columns} {k n v : ℕ} (o : Place sh c k n v) where
 
 module _ {sh : Shape} {c d : Columns} {k n v : ℕ} (r : Split sh c d k n v) where
   open Split r using (place as o)
+
+  -- the loop of one that was in use
+  pub loop-old : (i : ℕ) → HalfUsed sh c i → d Loop i ≡ c Loop i
+  loop-old i u = r .loop i (off-n o i u) (off-b o i u)
 
   -- n, its mate and all that were in use are in use
   pub used-n : HalfUsed sh d n
@@ -141,19 +147,24 @@ module _ {sh : Shape} {c d : Columns} {k n v : ℕ} (r : Split sh c d k n v) whe
   )
 
   -- and no other
-  pub used-was : (Q : ℕ → Type 0) → Q n → Q (mate n) → ((i : ℕ) → HalfUsed sh c i → Q i) → (i : ℕ) → HalfUsed sh d i → Q i
-  used-was Q qn qb qo i u = split i n (λ e. subst Q (sym e) qn) λ e. split i (mate n) (λ f. subst Q (sym f) qb) λ f. split i (mate k)
+  pub used-was : (Q : ℕ → Type 0) → Q n → Q (mate n) → ((i : ℕ) → HalfUsed sh c i → Q i) → (i : ℕ) → HalfUsed sh d i
+      → Q i
+  used-was Q qn qb qo i u = split i n (λ e. subst Q (sym e) qn) λ e. split i (mate n)
+      (λ f. subst Q (sym f) qb) λ f. split i (mate k)
       (λ g. qo i (subst (HalfUsed sh c) (sym g) (o .m-used)))
       (λ g. qo i (u .0, u .1, λ z. u .2 (r .start i g e f ∙ z)))
 
   -- a statement about each half-edge: k, b, those read for one in use before, the free ones
-  pub by-next : (Q : ℕ → Type 0) → Q k → Q (mate n) → ((i : ℕ) → HalfUsed sh c i → Q (aft k n i)) → ((i : ℕ) → In (2 * sh .edges) i → d Start i ≡ 0 → Q i) → (i : ℕ) → In (2 * sh .edges) i → Q i
+  pub by-next : (Q : ℕ → Type 0) → Q k → Q (mate n) → ((i : ℕ) → HalfUsed sh c i → Q (aft k n i))
+      → ((i : ℕ) → In (2 * sh .edges) i → d Start i ≡ 0 → Q i) → (i : ℕ) → In (2 * sh .edges) i → Q i
   by-next Q qk qb qo qf i j = split (d Start i) 0 (λ z. qf i j z) (λ u. used-was Q
       (subst Q (swap-at {a = k} n refl) (qo k (o .k-used))) qb
       (λ i w. split i k (λ e. subst Q (sym e) qk) (λ e. subst Q (swap-off n e) (qo i w))) i (j .0, j .1, u))
 
   -- the same for the other direction: m, n, those read for one in use before, the free ones
-  pub by-prev : (Q : ℕ → Type 0) → Q (mate k) → Q n → ((i : ℕ) → HalfUsed sh c i → Q (fore k n i)) → ((i : ℕ) → In (2 * sh .edges) i → d Start i ≡ 0 → Q i) → (i : ℕ) → In (2 * sh .edges) i → Q i
+  pub by-prev : (Q : ℕ → Type 0) → Q (mate k) → Q n → ((i : ℕ) → HalfUsed sh c i → Q (fore k n i))
+      → ((i : ℕ) → In (2 * sh .edges) i → d Start i ≡ 0 → Q i) → (i : ℕ) → In (2 * sh .edges) i → Q i
   by-prev Q qm qn qo qf i j = split (d Start i) 0 (λ z. qf i j z) (λ u. used-was Q
       qn (subst Q (swap-at {a = mate k} (mate n) refl) (qo (mate k) (o .m-used)))
-      (λ i w. split i (mate k) (λ e. subst Q (sym e) qm) (λ e. subst Q (swap-off (mate n) e) (qo i w))) i (j .0, j .1, u))
+      (λ i w. split i (mate k) (λ e. subst Q (sym e) qm) (λ e. subst Q (swap-off (mate n) e) (qo i w))) i
+      (j .0, j .1, u))

@@ -90,7 +90,8 @@ module _ {sh : Shape} {p : List ℤ} {c : Columns} (a : Sound sh p c) {k n v : �
   -- what precedes what is read for one in use
   semv-prev : (i : ℕ) → HalfUsed sh c i → d Prev (fore k n i) ≡ aft k n (c Prev i)
   semv-prev i u = apart o λ c1 c2 c3 c4 c5 c6 c7 c8 c9 c10.
-      split i (mate k) (λ e. rw e (simp (upd-same, upd-off))) (λ e. let f = off-b o i u in simp upd-off (first-prev i u))
+      split i (mate k) (λ e. rw e (simp (upd-same, upd-off)))
+      (λ e. let f = off-b o i u in simp upd-off (first-prev i u))
 
   -- the loops of the new half-edges
   loop-n : d Loop n ≡ c Loop k
@@ -120,7 +121,9 @@ module _ {sh : Shape} {p : List ℤ} {c : Columns} (a : Sound sh p c) {k n v : �
   semv-tidy : Tidy sh d
   semv-tidy = record {
     first = λ l i. first-set (c First) (firstOf sh d) (c Loop k) (c Loop (mate k)) l (λ e f. sound-tidy a .first l i
-        ∙ far-first sh c d n (a .half-free n (o .n-in) (o .n-free) .loop) (a .half-free (mate n) (o .b-in) (o .b-free) .loop) loop-o l (i .0) (λ z. e (sym z ∙ loop-n)) (λ z. f (sym z ∙ loop-b)));
+        ∙ far-first sh c d n (a .half-free n (o .n-in) (o .n-free) .loop)
+        (a .half-free (mate n) (o .b-in) (o .b-free) .loop) loop-o l (i .0) (λ z. e (sym z ∙ loop-n))
+        (λ z. f (sym z ∙ loop-b)));
     half = free;
   }
     where
@@ -143,7 +146,8 @@ module _ {sh : Shape} {p : List ℤ} {c : Columns} (a : Sound sh p c) {k n v : �
   semv-split = record {
     place = o;
     others = closed-others sh (semvWrites c k n v q) c (c Loop k) (c Loop (mate k)) v 1 refl;
-    isolated = clear-zero (c Isolated) (c Loop k) (c Loop (mate k)) (not-isolated a k (o .k-used) refl) (not-isolated a (mate k) (o .m-used) refl);
+    isolated = clear-zero (c Isolated) (c Loop k) (c Loop (mate k)) (not-isolated a k (o .k-used) refl)
+        (not-isolated a (mate k) (o .m-used) refl);
     v-used = upd-same (c VertexUsed) v 1;
     used = λ w e. upd-off (c VertexUsed) 1 e;
     start-m = start-m;
@@ -153,11 +157,14 @@ module _ {sh : Shape} {p : List ℤ} {c : Columns} (a : Sound sh p c) {k n v : �
     loop-n = loop-n;
     loop-b = loop-b;
     loop = loop-o;
-    next-k = apart o λ c1 c2 c3 c4 c5 c6 c7 c8 c9 c10. let q≢k : k ≢ q = λ z. aft-k P (sym z) in simp (upd-same, upd-off);
-    next-b = apart o λ c1 c2 c3 c4 c5 c6 c7 c8 c9 c10. let q≢b : mate n ≢ q = λ z. aft-b P P-used (sym z) in simp (upd-same, upd-off);
+    next-k = apart o λ c1 c2 c3 c4 c5 c6 c7 c8 c9 c10. let q≢k : k ≢ q = λ z. aft-k P (sym z) in
+        simp (upd-same, upd-off);
+    next-b = apart o λ c1 c2 c3 c4 c5 c6 c7 c8 c9 c10. let q≢b : mate n ≢ q = λ z. aft-b P P-used (sym z) in
+        simp (upd-same, upd-off);
     next = semv-next;
     prev-m = simp upd-same;
-    prev-n = apart o λ c1 c2 c3 c4 c5 c6 c7 c8 c9 c10. let f : n ≢ c Next k = λ z. off-n o (c Next k) (next-in k (o .k-used)) (sym z) in simp (upd-same, upd-off);
+    prev-n = apart o λ c1 c2 c3 c4 c5 c6 c7 c8 c9 c10. let f : n ≢ c Next k =
+        λ z. off-n o (c Next k) (next-in k (o .k-used)) (sym z) in simp (upd-same, upd-off);
     prev = semv-prev;
     next-old = λ i u. off-b o (c Next i) (next-in i u);
     prev-old = λ i u. off-n o (c Prev i) (prev-in (a .rules) i u);

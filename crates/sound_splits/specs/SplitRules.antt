@@ -1,5 +1,5 @@
--- Rules 4 and 5 on both sides of a division. Among the loops n goes in after k, and b before m. Among the vertices b takes m's place, and m and n make a
--- vertex of their own.
+-- Rules 4 and 5 (the cycles of loops and of vertices) on both sides of a division. Among the loops n goes in after k,
+-- and b before m. Among the vertices b takes m's place, and m and n make a vertex of their own.
 use mathlib.Core.Path.{_≡_, refl, sym, ap, _∙_, subst}
 use mathlib.Core.Logic.{_≢_, inl, inr, ⊎-elim}
 use Prim.Native.Nat.{ℕ, _*_}
@@ -13,8 +13,10 @@ use Rattle.layout.specs.MateLaws.{mate-mate}
 use Rattle.layout.specs.Fields.{Start, Loop, Next, Prev, Columns}
 use Rattle.sound_tables.specs.EdgeIn.{Rules}
 use Rattle.sound_tables.specs.Sound.{halves, HalfUsed}
-use Rattle.sound_splits.specs.CycleMoves.{swapFor, swap-at, swap-off, swap-back, before-cycles, before-out, rename}
-use Rattle.sound_splits.specs.Relation.{fore, aft, Split, off-n, off-b, n≢b, n≢k, n≢m, b≢k, b≢m, mate-fore, used-n, used-b, used-old, used-was, by-next}
+use Rattle.sound_splits.specs.CycleMoves.{swapFor, swap-at, swap-off, swap-back, before-cycles, before-out}
+use Rattle.sound_splits.specs.CycleMoves.{rename}
+use Rattle.sound_splits.specs.Relation.{fore, aft, Split, off-n, off-b, n≢b, n≢k, n≢m, b≢k, b≢m, apart, mate-fore}
+use Rattle.sound_splits.specs.Relation.{used-n, used-b, used-old, used-was, by-next}
 
 module _ {sh : Shape} {c d : Columns} {k n v : ℕ} (r : Split sh c d k n v) where
   open Split r using (place as o)
@@ -72,29 +74,30 @@ module _ {sh : Shape} {c d : Columns} {k n v : ℕ} (r : Split sh c d k n v) whe
 
   -- ---- from c to d
 
-  module _ (a : Rules (2 * sh .edges) mate (HalfUsed sh c) (halves c)) (fresh : (i : ℕ) → HalfUsed sh c i → c Start i ≢ v) where
+  module _ (a : Rules (2 * sh .edges) mate (HalfUsed sh c) (halves c))
+      (fresh : (i : ℕ) → HalfUsed sh c i → c Start i ≢ v) where
     -- n goes in after k, b before m
-    inserted : Cycles N (Or (mate n) (Or n U)) (upd (λ i. fore k n (ins (c Next) n k i)) (mate n) (mate k)) (upd (upd (c Loop) n (c Loop k)) (mate n) (upd (c Loop) n (c Loop k) (mate k)))
-    inserted = before-cycles (ins-cycles (a .loops) n k (λ u. u .2 (o .n-free)) (o .n-in .0) (o .n-in .1) (o .k-used)) (mate n) (mate k)
+    inserted : Cycles N (Or (mate n) (Or n U)) (upd (λ i. fore k n (ins (c Next) n k i)) (mate n) (mate k))
+        (upd (upd (c Loop) n (c Loop k)) (mate n) (upd (c Loop) n (c Loop k) (mate k)))
+    inserted = before-cycles (ins-cycles (a .loops) n k (λ u. u .2 (o .n-free)) (o .n-in .0) (o .n-in .1) (o .k-used))
+        (mate n) (mate k)
         (⊎-elim (λ e. n≢b o (sym e)) (λ u. u .2 (o .b-free))) (o .b-in .0) (o .b-in .1) (inr (o .m-used))
 
     -- that is the loops of d
     split-loops : Cycles N U′ (d Next) (d Loop)
     split-loops = agree inserted
-        (λ i. ⊎-elim (λ e. subst U′ (sym e) (used-b r)) (⊎-elim (λ e. subst U′ (sym e) (used-n r)) (λ u. used-old r i u)))
+        (λ i. ⊎-elim (λ e. subst U′ (sym e) (used-b r))
+        (⊎-elim (λ e. subst U′ (sym e) (used-n r)) (λ u. used-old r i u)))
         (used-was r (Or (mate n) (Or n U)) (inr (inl refl)) (inl refl) (λ i u. inr (inr u)))
-        (λ i. ⊎-elim
-        (λ e. rw e (r .next-b ∙ sym (upd-same _ (mate n) (mate k))))
-        (⊎-elim
-        (λ e. rw e (next-n ∙ sym (upd-off _ (mate k) (n≢b o) ∙ ap (fore k n) (upd-off _ n (n≢k o) ∙ upd-same (c Next) n (c Next k)))))
-        (λ u. split i k
-        (λ e. rw e (r .next-k ∙ sym (upd-off _ (mate k) (λ z. b≢k o (sym z)) ∙ ap (fore k n) (upd-same _ k n) ∙ swap-off (mate n) (n≢m o))))
-        (λ e. next-o i u e ∙ sym (upd-off _ (mate k) (off-b o i u) ∙ ap (fore k n) (upd-off _ n e ∙ upd-off (c Next) (c Next k) (off-n o i u)))))))
-        (λ i. ⊎-elim
-        (λ e. rw e (r .loop-b ∙ sym (upd-same _ (mate n) _ ∙ upd-off (c Loop) (c Loop k) (λ z. n≢m o (sym z)))))
-        (⊎-elim
-        (λ e. rw e (r .loop-n ∙ sym (upd-off _ _ (n≢b o) ∙ upd-same (c Loop) n (c Loop k))))
-        (λ u. r .loop i (off-n o i u) (off-b o i u) ∙ sym (upd-off _ _ (off-b o i u) ∙ upd-off (c Loop) (c Loop k) (off-n o i u)))))
+        (λ i. apart o λ c1 c2 c3 c4 c5 c6 c7 c8 c9 c10. ⊎-elim
+        (λ e. rw e (r .next-b ∙ sym (simp upd-same)))
+        (⊎-elim (λ e. rw e (next-n ∙ sym (simp (upd-same, upd-off))))
+        (λ u. let f = off-n o i u in let g = off-b o i u in split i k
+        (λ e. rw e (r .next-k ∙ sym (simp (upd-same, upd-off)))) (λ e. next-o i u e ∙ sym (simp upd-off)))))
+        (λ i. apart o λ c1 c2 c3 c4 c5 c6 c7 c8 c9 c10. ⊎-elim
+        (λ e. rw e (r .loop-b ∙ sym (simp (upd-same, upd-off))))
+        (⊎-elim (λ e. rw e (r .loop-n ∙ sym (simp (upd-same, upd-off))))
+        (λ u. let f = off-n o i u in let g = off-b o i u in r .loop i f g ∙ sym (simp upd-off))))
 
     -- b takes the place of m
     renamed : Cycles N U₁ (λ i. d Next (mate i)) (d Start)
@@ -121,7 +124,8 @@ module _ {sh : Shape} {c d : Columns} {k n v : ℕ} (r : Split sh c d k n v) whe
       f-x = upd-same _ (mate k) (mate k);
       f-o = λ i e. upd-off _ (mate k) e;
       lab-x = λ i u z. fresh (swapFor (mate n) (mate k) i) (fore-out i u)
-          (sym (start-fore (swapFor (mate n) (mate k) i) (fore-out i u)) ∙ ap (d Start) (swap-back (mate n) (mate k) i (u .1)) ∙ z ∙ r .start-m);
+          (sym (start-fore (swapFor (mate n) (mate k) i) (fore-out i u))
+          ∙ ap (d Start) (swap-back (mate n) (mate k) i (u .1)) ∙ z ∙ r .start-m);
       lab-o = λ i e. refl;
     })
 
@@ -147,13 +151,15 @@ module _ {sh : Shape} {c d : Columns} {k n v : ℕ} (r : Split sh c d k n v) whe
     split-undone i u = by-next r (λ i. U′ i → d Prev (d Next i) ≡ i)
         (λ w. ap (d Prev) (r .next-k) ∙ r .prev-n)
         (λ w. ap (d Prev) (r .next-b) ∙ r .prev-m)
-        (λ i w _. ap (d Prev) (r .next i w) ∙ r .prev (c Next i) (a .loops .perm .f-in i w) ∙ ap (aft k n) (a .undone i w))
+        (λ i w _. ap (d Prev) (r .next i w) ∙ r .prev (c Next i) (a .loops .perm .f-in i w)
+        ∙ ap (aft k n) (a .undone i w))
         (λ i j z w. absurd (w .2 z)) i (u .0, u .1) u
 
     -- the rules after the division
     pub split-rules : Rules (2 * sh .edges) mate (HalfUsed sh d) (halves d)
     split-rules = record {
-      mate-in = used-was r (λ i. U′ (mate i)) (used-b r) (subst U′ (sym (mate-mate n)) (used-n r)) (λ i u. used-old r (mate i) (a .mate-in i u));
+      mate-in = used-was r (λ i. U′ (mate i)) (used-b r) (subst U′ (sym (mate-mate n)) (used-n r))
+          (λ i u. used-old r (mate i) (a .mate-in i u));
       loops = split-loops;
       verts = split-verts;
       undone = split-undone;
@@ -173,7 +179,8 @@ module _ {sh : Shape} {c d : Columns} {k n v : ℕ} (r : Split sh c d k n v) whe
 
     -- and back
     old-out : (i : ℕ) → But (mate n) (But n U′) i → U i
-    old-out i u = used-was r (λ i. i ≢ n → i ≢ mate n → U i) (λ e f. absurd (e refl)) (λ e f. absurd (f refl)) (λ i w e f. w) i (u .0 .0) (u .0 .1) (u .1)
+    old-out i u = used-was r (λ i. i ≢ n → i ≢ mate n → U i) (λ e f. absurd (e refl)) (λ e f. absurd (f refl))
+        (λ i w e f. w) i (u .0 .0) (u .0 .1) (u .1)
 
     -- that is the loops of c
     join-loops : Cycles N U (c Next) (c Loop)
@@ -181,7 +188,8 @@ module _ {sh : Shape} {c d : Columns} {k n v : ℕ} (r : Split sh c d k n v) whe
         (λ i u. let w = old-out i u in
         sym (ap (swapFor (mate n) (mate k)) (split i k
         (λ e. upd-at (d Next) (d Next n) e ∙ next-n ∙ ap (λ j. fore k n (c Next j)) (sym e))
-        (λ e. upd-off (d Next) (d Next n) e ∙ next-o i w e)) ∙ swap-back (mate k) (mate n) (c Next i) (r .next-old i w)))
+        (λ e. upd-off (d Next) (d Next n) e ∙ next-o i w e)) ∙ swap-back (mate k) (mate n) (c Next i)
+        (r .next-old i w)))
         (λ i u. sym (r .loop i (u .0 .1) (u .1)))
 
     -- n goes
@@ -212,7 +220,10 @@ module _ {sh : Shape} {c d : Columns} {k n v : ℕ} (r : Split sh c d k n v) whe
 
     -- mates stay in use
     mate-in-c : (i : ℕ) → U i → U (mate i)
-    mate-in-c i u = old-out (mate i) ((a .mate-in i (used-old r i u), λ z. off-b o i u (sym (mate-mate i) ∙ ap mate z)), λ z. off-n o i u (sym (mate-mate i) ∙ ap mate z ∙ mate-mate n))
+    mate-in-c i u =
+        let f : mate i ≢ n = λ z. off-b o i u (sym (mate-mate i) ∙ ap mate z) in
+        let g : mate i ≢ mate n = λ z. off-n o i u (sym (mate-mate i) ∙ ap mate z ∙ mate-mate n) in
+        old-out (mate i) ((a .mate-in i (used-old r i u), f), g)
 
     -- m takes the place of b
     join-verts : Cycles N U (λ i. c Next (mate i)) (c Start)
@@ -226,8 +237,10 @@ module _ {sh : Shape} {c d : Columns} {k n v : ℕ} (r : Split sh c d k n v) whe
       step = λ j u.
           let i = swapFor (mate n) (mate k) j in
           let w = mate-in-c i (fore-out j u) in
-          sym (swap-back (mate k) (mate n) (c Next (mate i)) (r .next-old (mate i) w)) ∙ ap (swapFor (mate n) (mate k)) (sym (sigma-fore i w) ∙ ap (λ t. d Next (mate t)) (swap-back (mate n) (mate k) j (u .1)));
-      label = λ j u. sym (start-fore (swapFor (mate n) (mate k) j) (fore-out j u)) ∙ ap (d Start) (swap-back (mate n) (mate k) j (u .1));
+          sym (swap-back (mate k) (mate n) (c Next (mate i)) (r .next-old (mate i) w)) ∙ ap (swapFor (mate n) (mate k))
+          (sym (sigma-fore i w) ∙ ap (λ t. d Next (mate t)) (swap-back (mate n) (mate k) j (u .1)));
+      label = λ j u. sym (start-fore (swapFor (mate n) (mate k) j) (fore-out j u))
+          ∙ ap (d Start) (swap-back (mate n) (mate k) j (u .1));
     })
 
     -- previous undoes next
@@ -236,11 +249,13 @@ module _ {sh : Shape} {c d : Columns} {k n v : ℕ} (r : Split sh c d k n v) whe
         let w = join-loops .perm .f-in i u in
         let x : d Next (aft k n i) ≡ fore k n (c Next i) = r .next i u in
         sym (swap-back k n (c Prev (c Next i)) (r .prev-old (c Next i) w))
-        ∙ ap (swapFor n k) (sym (r .prev (c Next i) w) ∙ ap (d Prev) (sym x) ∙ a .undone (aft k n i) (aft-in i u)) ∙ swap-back k n i (off-n o i u)
+        ∙ ap (swapFor n k) (sym (r .prev (c Next i) w) ∙ ap (d Prev) (sym x) ∙ a .undone (aft k n i) (aft-in i u))
+        ∙ swap-back k n i (off-n o i u)
       where
         -- what is read for one in use is in use
         aft-in : (i : ℕ) → U i → U′ (aft k n i)
-        aft-in i u = split i k (λ e. subst U′ (sym (swap-at n e)) (used-n r)) (λ e. subst U′ (sym (swap-off n e)) (used-old r i u))
+        aft-in i u = split i k (λ e. subst U′ (sym (swap-at n e)) (used-n r))
+            (λ e. subst U′ (sym (swap-off n e)) (used-old r i u))
 
     -- the rules before the division
     pub join-rules : Rules (2 * sh .edges) mate (HalfUsed sh c) (halves c)

@@ -12,15 +12,18 @@ use Rattle.sound_splits.specs.CycleMoves.{swapFor, swap-back}
 use Rattle.sound_splits.specs.Relation.{Tidy, moved, Split, off-n, off-b, by-next, by-prev}
 
 -- tidy columns with the same loops have the same firsts
-first-same : {sh : Shape} {c d : Columns} → Tidy sh c → Tidy sh d → ((i : ℕ) → In (2 * sh .edges) i → c Loop i ≡ d Loop i) → (l : ℕ) → In (sh .loops) l → c First l ≡ d First l
-first-same {sh} s t e l i = s .first l i ∙ least-ext (2 * sh .edges) _ _ (λ k a b. ap (λ m. eqb m l) (e k (a, b))) ∙ sym (t .first l i)
+first-same : {sh : Shape} {c d : Columns} → Tidy sh c → Tidy sh d
+    → ((i : ℕ) → In (2 * sh .edges) i → c Loop i ≡ d Loop i) → (l : ℕ) → In (sh .loops) l → c First l ≡ d First l
+first-same {sh} s t e l i = s .first l i ∙ least-ext (2 * sh .edges) _ _ (λ k a b. ap (λ m. eqb m l) (e k (a, b)))
+    ∙ sym (t .first l i)
 
 -- ---- d is settled by c
 
 module _ {sh : Shape} {c d e : Columns} {k n v : ℕ} (r : Split sh c d k n v) (s : Split sh c e k n v) where
   -- column by column
   start-d : (i : ℕ) → d Start i ≡ e Start i
-  start-d i = split i (mate k) (λ z. rw z (r .start-m ∙ sym (s .start-m))) λ f. split i n (λ z. rw z (r .start-n ∙ sym (s .start-n))) λ g. split i (mate n)
+  start-d i = split i (mate k) (λ z. rw z (r .start-m ∙ sym (s .start-m))) λ f. split i n
+      (λ z. rw z (r .start-n ∙ sym (s .start-n))) λ g. split i (mate n)
       (λ z. rw z (r .start-b ∙ sym (s .start-b))) (λ h. r .start i f g h ∙ sym (s .start i f g h))
 
   loop-d : (i : ℕ) → d Loop i ≡ e Loop i
@@ -28,11 +31,13 @@ module _ {sh : Shape} {c d e : Columns} {k n v : ℕ} (r : Split sh c d k n v) (
       (λ z. rw z (r .loop-b ∙ sym (s .loop-b))) (λ h. r .loop i g h ∙ sym (s .loop i g h))
 
   next-d : (i : ℕ) → In (2 * sh .edges) i → d Next i ≡ e Next i
-  next-d = by-next r (λ i. d Next i ≡ e Next i) (r .next-k ∙ sym (s .next-k)) (r .next-b ∙ sym (s .next-b)) (λ i u. r .next i u ∙ sym (s .next i u))
+  next-d = by-next r (λ i. d Next i ≡ e Next i) (r .next-k ∙ sym (s .next-k)) (r .next-b ∙ sym (s .next-b))
+      (λ i u. r .next i u ∙ sym (s .next i u))
       (λ i j z. r .tidy-d .half i j z .next ∙ sym (s .tidy-d .half i j (sym (start-d i) ∙ z) .next))
 
   prev-d : (i : ℕ) → In (2 * sh .edges) i → d Prev i ≡ e Prev i
-  prev-d = by-prev r (λ i. d Prev i ≡ e Prev i) (r .prev-m ∙ sym (s .prev-m)) (r .prev-n ∙ sym (s .prev-n)) (λ i u. r .prev i u ∙ sym (s .prev i u))
+  prev-d = by-prev r (λ i. d Prev i ≡ e Prev i) (r .prev-m ∙ sym (s .prev-m)) (r .prev-n ∙ sym (s .prev-n))
+      (λ i u. r .prev i u ∙ sym (s .prev i u))
       (λ i j z. r .tidy-d .half i j z .prev ∙ sym (s .tidy-d .half i j (sym (start-d i) ∙ z) .prev))
 
   -- firsts and isolated vertices of loops
@@ -59,12 +64,15 @@ module _ {sh : Shape} {c e d : Columns} {k n v : ℕ} (r : Split sh c d k n v) (
 
   -- column by column
   start-c : (i : ℕ) → c Start i ≡ e Start i
-  start-c i = split i (mate k) (λ z. rw z (sym (r .start-b) ∙ s .start-b)) λ f. split i n (λ z. rw z (o .n-free ∙ sym (s .place .n-free))) λ g. split i (mate n)
+  start-c i = split i (mate k) (λ z. rw z (sym (r .start-b) ∙ s .start-b)) λ f. split i n
+      (λ z. rw z (o .n-free ∙ sym (s .place .n-free))) λ g. split i (mate n)
       (λ z. rw z (o .b-free ∙ sym (s .place .b-free))) (λ h. sym (r .start i f g h) ∙ s .start i f g h)
 
   -- a half-edge is free in both, or in use in both
-  either-c : (Q : ℕ → Type 0) → ((i : ℕ) → In (2 * sh .edges) i → c Start i ≡ 0 → e Start i ≡ 0 → Q i) → ((i : ℕ) → HalfUsed sh c i → HalfUsed sh e i → Q i) → (i : ℕ) → In (2 * sh .edges) i → Q i
-  either-c Q qf qu i j = split (c Start i) 0 (λ z. qf i j z (sym (start-c i) ∙ z)) (λ u. qu i (j .0, j .1, u) (j .0, j .1, λ z. u (start-c i ∙ z)))
+  either-c : (Q : ℕ → Type 0) → ((i : ℕ) → In (2 * sh .edges) i → c Start i ≡ 0 → e Start i ≡ 0 → Q i)
+      → ((i : ℕ) → HalfUsed sh c i → HalfUsed sh e i → Q i) → (i : ℕ) → In (2 * sh .edges) i → Q i
+  either-c Q qf qu i j = split (c Start i) 0 (λ z. qf i j z (sym (start-c i) ∙ z))
+      (λ u. qu i (j .0, j .1, u) (j .0, j .1, λ z. u (start-c i ∙ z)))
 
   loop-c : (i : ℕ) → In (2 * sh .edges) i → c Loop i ≡ e Loop i
   loop-c = either-c (λ i. c Loop i ≡ e Loop i)
@@ -74,12 +82,14 @@ module _ {sh : Shape} {c e d : Columns} {k n v : ℕ} (r : Split sh c d k n v) (
   next-c : (i : ℕ) → In (2 * sh .edges) i → c Next i ≡ e Next i
   next-c = either-c (λ i. c Next i ≡ e Next i)
       (λ i j z y. r .tidy-c .half i j z .next ∙ sym (s .tidy-c .half i j y .next))
-      (λ i u w. sym (swap-back (mate k) (mate n) (c Next i) (r .next-old i u)) ∙ ap (swapFor (mate n) (mate k)) (sym (r .next i u) ∙ s .next i w) ∙ swap-back (mate k) (mate n) (e Next i) (s .next-old i w))
+      (λ i u w. sym (swap-back (mate k) (mate n) (c Next i) (r .next-old i u)) ∙ ap (swapFor (mate n) (mate k))
+      (sym (r .next i u) ∙ s .next i w) ∙ swap-back (mate k) (mate n) (e Next i) (s .next-old i w))
 
   prev-c : (i : ℕ) → In (2 * sh .edges) i → c Prev i ≡ e Prev i
   prev-c = either-c (λ i. c Prev i ≡ e Prev i)
       (λ i j z y. r .tidy-c .half i j z .prev ∙ sym (s .tidy-c .half i j y .prev))
-      (λ i u w. sym (swap-back k n (c Prev i) (r .prev-old i u)) ∙ ap (swapFor n k) (sym (r .prev i u) ∙ s .prev i w) ∙ swap-back k n (e Prev i) (s .prev-old i w))
+      (λ i u w. sym (swap-back k n (c Prev i) (r .prev-old i u)) ∙ ap (swapFor n k) (sym (r .prev i u) ∙ s .prev i w)
+      ∙ swap-back k n (e Prev i) (s .prev-old i w))
 
   -- firsts and isolated vertices of loops
   first-c : (l : ℕ) → In (sh .loops) l → c First l ≡ e First l

@@ -30,11 +30,18 @@ use Rattle.sound_tables.specs.CornerTest.{CornerAt}
 use Rattle.sound_tables.specs.WriteLaws.{Apart, frame}
 use Rattle.sound_tables.specs.Undone.{Kept, Undone}
 use Rattle.sound_spurs.specs.WriteBack.{Restores, restored, other-item}
-use Rattle.sound_spurs.specs.Relation.{Spur, spurOf, in-k, in-b, in-N, next-P, prev-b, prev-N, Nb, whole-P, spur-loop-b, spur-loop-N, spur-loop-in, spur-loop-used, spur-start-N, near-in, far-in, far-used}
-use Rattle.sound_spurs.specs.MevSound.{NewEdge, edgeStores, edged, endStores, mevColumns, MevPlace, kb, off-k, off-b, start-k, start-b, loop-k}
-use Rattle.sound_spurs.specs.KevSound.{outStores, kevOut, lastStores, kevColumns, Left, columns-out, out-start-k, out-start-b}
-use Rattle.sound_spurs.specs.MevAccepted.{Mev, mevOf, newHalf, MevFits, mev-facts, newEdge, mevList, mevPoints, mev-links, mev-points, mev-inverse, mev-accepted, mev-place, mev-corner, mev-shows, mev-good}
-use Rattle.sound_spurs.specs.KevAccepted.{kevOf, kev-facts, kevList, kevPoints, kevBack, kev-links, kev-points, kev-inverse, kev-accepted, kev-shows, killed-good}
+use Rattle.sound_spurs.specs.Relation.{Spur, spurOf, in-k, in-b, in-N, next-P, prev-b, prev-N, Nb, whole-P}
+use Rattle.sound_spurs.specs.Relation.{spur-loop-b, spur-loop-N, spur-loop-in, spur-loop-used, spur-start-N}
+use Rattle.sound_spurs.specs.Relation.{near-in, far-in, far-used}
+use Rattle.sound_spurs.specs.MevSound.{NewEdge, edgeStores, edged, endStores, mevColumns, MevPlace, kb, off-k}
+use Rattle.sound_spurs.specs.MevSound.{off-b, start-k, start-b, loop-k}
+use Rattle.sound_spurs.specs.KevSound.{outStores, kevOut, lastStores, kevColumns, Left, columns-out, out-start-k}
+use Rattle.sound_spurs.specs.KevSound.{out-start-b}
+use Rattle.sound_spurs.specs.MevAccepted.{Mev, mevOf, newHalf, MevFits, mev-facts, newEdge, mevList, mevPoints}
+use Rattle.sound_spurs.specs.MevAccepted.{mev-links, mev-points, mev-inverse, mev-accepted, mev-place, mev-corner}
+use Rattle.sound_spurs.specs.MevAccepted.{mev-shows, mev-good}
+use Rattle.sound_spurs.specs.KevAccepted.{kevOf, kev-facts, kevList, kevPoints, kevBack, kev-links, kev-points}
+use Rattle.sound_spurs.specs.KevAccepted.{kev-inverse, kev-accepted, kev-shows, killed-good}
 
 -- ---- mev, then kev
 
@@ -56,7 +63,8 @@ module _ {sh : Shape} {c : Columns} {E : NewEdge} (o : MevPlace sh c E) where
   prev-k : mevColumns sh c E Prev k ≡ P
   prev-k = ⊎-elim
       (λ w. rw (w .1) (upd-same _ k (mate k)) ∙ sym (w .0))
-      (λ w. upd-off _ _ (λ z. off-k o N (w .1) (sym z)) ∙ upd-off _ k (kb o) ∙ upd-off _ k (kb o) ∙ upd-same (c Prev) k P) (o .corner)
+      (λ w. upd-off _ _ (λ z. off-k o N (w .1) (sym z)) ∙ upd-off _ k (kb o) ∙ upd-off _ k (kb o)
+      ∙ upd-same (c Prev) k P) (o .corner)
 
   -- what came after P, where that is not the mate
   after-P : P ≢ mate k → N ≡ c Next P
@@ -142,10 +150,13 @@ module _ {sh : Shape} {x : List ℕ} {p : List ℤ} (g : Good sh x p) {m : Mev} 
       (λ w. inr (λ z. off-k o (E .after) (w .1) (sym at-N ∙ z), w .4)) (o .corner)
 
   -- what is as before once the edge is out: all but what kev stores last
-  out-back : (F : Field) (n : ℕ) → n ≤ capOf sh F → Apart (endStores E 0) F n → changes (noEdgeWrites k (E .before) (E .after) k (mate k)) Y F n ≡ c F n
-  out-back F n j a = restored (noEdgeWrites k (E .before) (E .after) k (mate k)) c Y (out-restores o (g .sound)) F n (λ h.
+  out-back : (F : Field) (n : ℕ) → n ≤ capOf sh F → Apart (endStores E 0) F n
+      → changes (noEdgeWrites k (E .before) (E .after) k (mate k)) Y F n ≡ c F n
+  out-back F n j a = restored (noEdgeWrites k (E .before) (E .after) k (mate k)) c Y (out-restores o (g .sound)) F n
+      (λ h.
       s .at F n j ∙ frame (endStores E (firstOf sh (edged c E) (m .loop))) (edged c E) F n a
-      ∙ frame (edgeStores E) c F n (h 4, (h 5, (h 6, (h 7, (h 8, (h 9, (h 10, (h 11, (h 0, (h 3, (h 2, (h 1, tt)))))))))))))
+      ∙ frame (edgeStores E) c F n
+      (h 4, (h 5, (h 6, (h 7, (h 8, (h 9, (h 10, (h 11, (h 0, (h 3, (h 2, (h 1, tt)))))))))))))
 
   -- kev's columns are these
   out-is : kevOut Y k ≡ changes (noEdgeWrites k (E .before) (E .after) k (mate k)) Y
@@ -154,15 +165,19 @@ module _ {sh : Shape} {x : List ℕ} {p : List ℤ} (g : Good sh x p) {m : Mev} 
   -- the loop's first is found again
   first-back : firstOf sh (kevOut Y k) (Y Loop k) ≡ c First (m .loop)
   first-back = (λ t. firstOf sh (out-is t) (at-l t))
-      ∙ least-ext (2 * sh .edges) _ _ (λ i a b. ap (λ z. eqb z (m .loop)) (out-back Loop i b (inl refl, (inl refl, (inl refl, tt)))))
+      ∙ least-ext (2 * sh .edges) _ _
+      (λ i a b. ap (λ z. eqb z (m .loop)) (out-back Loop i b (inl refl, (inl refl, (inl refl, tt)))))
       ∙ sym (g .sound .loop (m .loop) (o .loop-in) (o .loop-used) .first)
 
   -- kev leads back
   kev-leads-back : kevList sh y k ≡ x
   kev-leads-back = shows-ext (kev-shows (mev-good g r) uk nk left) (good-shows g) (λ F n i j.
-      (λ t. changes (write First (at-l t) (first-back t) ∷ write Isolated (at-l t) (c Isolated (m .loop)) ∷ write VertexUsed (at-v t) 0 ∷ []) (out-is t) F n)
-      ∙ restored (write First (m .loop) (c First (m .loop)) ∷ write Isolated (m .loop) (c Isolated (m .loop)) ∷ write VertexUsed (m .vertex) 0 ∷ []) c
-      (changes (noEdgeWrites k (E .before) (E .after) k (mate k)) Y) ((λ h. refl), ((λ h. refl), ((λ h. sym (r .vertex-free)), tt))) F n
+      (λ t. changes (write First (at-l t) (first-back t) ∷ write Isolated (at-l t) (c Isolated (m .loop))
+      ∷ write VertexUsed (at-v t) 0 ∷ []) (out-is t) F n)
+      ∙ restored (write First (m .loop) (c First (m .loop)) ∷ write Isolated (m .loop) (c Isolated (m .loop))
+      ∷ write VertexUsed (m .vertex) 0 ∷ []) c
+      (changes (noEdgeWrites k (E .before) (E .after) k (mate k)) Y)
+      ((λ h. refl), ((λ h. refl), ((λ h. sym (r .vertex-free)), tt))) F n
       (λ h. out-back F n j (h 0, (h 1, (h 2, tt)))))
 
   -- a good table stays good
@@ -182,7 +197,8 @@ module _ {sh : Shape} {x : List ℕ} {p : List ℤ} (g : Good sh x p) {m : Mev} 
         accepted = rw (el, ei) (kev-accepted gy uk nk);
         links = rw (el, ei) (kev-links gy uk nk ∙ kev-leads-back);
         points = rw (el, ep, ei) (kev-points gy uk nk ∙ ap (λ t. putPoint q t (pos 0) (pos 0) (pos 0)) at-v
-            ∙ put-cleared (sh .vertices) p (m .vertex) (m .x) (m .y) (m .z) (g .points) (r .vertex-in) (g .sound .point (m .vertex) (r .vertex-in) .zero (r .vertex-free)));
+            ∙ put-cleared (sh .vertices) p (m .vertex) (m .x) (m .y) (m .z) (g .points) (r .vertex-in)
+            (g .sound .point (m .vertex) (r .vertex-in) .zero (r .vertex-free)));
         again = rw (el, ep, ei) (kev-inverse gy uk nk ∙ (λ t. mevOf (record {
           loop = at-l t;
           half = (ap (λ n. pick (eqb n k) 0 n) at-N ∙ mev-corner g r) t;
@@ -201,7 +217,8 @@ module _ {sh : Shape} {x : List ℕ} {p : List ℤ} (g : Good sh x p) {m : Mev} 
 left-of : (c : Columns) (k : ℕ) → (I : ℕ) × Left c k I
 left-of c k = split (c Next (mate k)) k (λ e. (c Start k, inl (e, refl))) (λ e. (0, inr (e, refl)))
 
-module _ {sh : Shape} {x : List ℕ} {p : List ℤ} (g : Good sh x p) {k : ℕ} (uk : HalfUsed sh (own sh x) k) (nk : own sh x Next k ≡ mate k) {I : ℕ} (left : Left (own sh x) k I) where
+module _ {sh : Shape} {x : List ℕ} {p : List ℤ} (g : Good sh x p) {k : ℕ} (uk : HalfUsed sh (own sh x) k)
+    (nk : own sh x Next k ≡ mate k) {I : ℕ} (left : Left (own sh x) k I) where
   -- the columns before
   abbrev kc : Columns
   kc = own sh x
@@ -212,7 +229,14 @@ module _ {sh : Shape} {x : List ℕ} {p : List ℤ} (g : Good sh x p) {k : ℕ} 
 
   -- its edge
   abbrev kE : NewEdge
-  kE = record { loop = own sh x Loop k; half = k; from = own sh x Start k; to = own sh x Start (mate k); before = own sh x Prev k; after = own sh x Next (mate k) }
+  kE = record {
+    loop = own sh x Loop k;
+    half = k;
+    from = own sh x Start k;
+    to = own sh x Start (mate k);
+    before = own sh x Prev k;
+    after = own sh x Next (mate k);
+  }
 
   -- the operands of the mev that undoes it
   abbrev m : Mev
@@ -280,9 +304,11 @@ module _ {sh : Shape} {x : List ℕ} {p : List ℤ} (g : Good sh x p) {k : ℕ} 
     corner = ⊎-elim
         (λ w. inl (h-whole (w .0), λ z. omega (arith, near-in sp .0, sym (w .1) ∙ sym at-isolated ∙ z)))
         (λ w. subst (CornerAt sh kY (kE .loop)) (sym (h-part (w .0)))
-        (inr ((in-N sp .0, in-N sp .1, λ z. omega (arith, near-in sp .0, sym (at-start-N (w .0)) ∙ z)), at-loop-N (w .0)))) left;
+        (inr (let u : kY Start (kE .after) ≢ 0 = λ z. omega (arith, near-in sp .0, sym (at-start-N (w .0)) ∙ z) in
+        ((in-N sp .0, in-N sp .1, u), at-loop-N (w .0))))) left;
     way = way-small k;
-    range = let r = g .sound .point (kE .to) (far-in sp) .range in all-three (λ z. T (rangeTest z)) _ _ _ (r 0 (omega arith)) (r 1 (omega arith)) (r 2 (omega arith));
+    range = let r = g .sound .point (kE .to) (far-in sp) .range in
+        all-three (λ z. T (rangeTest z)) _ _ _ (r 0 (omega arith)) (r 1 (omega arith)) (r 2 (omega arith));
   }
 
   -- and puts in the edge that went
@@ -290,11 +316,17 @@ module _ {sh : Shape} {x : List ℕ} {p : List ℤ} (g : Good sh x p) {k : ℕ} 
   edge-is =
       let K = half-is k (uk .0) in
       ⊎-elim
-      (λ w. rw (eqb-same (h-whole (w .0))) (λ t. record { loop = kE .loop; half = K t; from = (at-isolated ∙ w .1) t; to = kE .to; before = (ap mate K ∙ sym (whole-P sp (w .0))) t; after = (K ∙ sym (w .0)) t }))
+      (λ w. rw (eqb-same (h-whole (w .0)))
+      (is K (at-isolated ∙ w .1) (ap mate K ∙ sym (whole-P sp (w .0))) (K ∙ sym (w .0))))
       (λ w.
       let e = h-part (w .0) in
       let n : m .half ≢ 0 = λ z. omega (arith, in-N sp .0, sym e ∙ z) in
-      rw (eqb-other n) (λ t. record { loop = kE .loop; half = K t; from = (ap (kY Start) e ∙ at-start-N (w .0)) t; to = kE .to; before = (ap (kY Prev) e ∙ at-prev-N (w .0)) t; after = e t })) left
+      rw (eqb-other n) (is K (ap (kY Start) e ∙ at-start-N (w .0)) (ap (kY Prev) e ∙ at-prev-N (w .0)) e)) left
+    where
+      -- word by word
+      is : {i u b a : ℕ} → i ≡ k → u ≡ kE .from → b ≡ kE .before → a ≡ kE .after
+          → record { loop = kE .loop; half = i; from = u; to = kE .to; before = b; after = a } ≡ kE
+      is i u b a t = record { loop = kE .loop; half = i t; from = u t; to = kE .to; before = b t; after = a t }
 
   -- what mev stores to the half-edges are the old words
   in-restores : Restores kc (edgeStores kE)
@@ -309,11 +341,13 @@ module _ {sh : Shape} {x : List ℕ} {p : List ℤ} (g : Good sh x p) {k : ℕ} 
   in-back : (F : Field) (n : ℕ) → n ≤ capOf sh F → Apart (lastStores kc k 0 0) F n → edged kY kE F n ≡ kc F n
   in-back F n j a = restored (edgeStores kE) kc kY in-restores F n (λ h.
       ks .at F n j ∙ frame (lastStores kc k (firstOf sh (kevOut kc k) (kE .loop)) I) (kevOut kc k) F n a
-      ∙ frame (outStores kc k) kc F n (h 8, (h 11, (h 2, (h 7, (h 0, (h 1, (h 2, (h 3, (h 4, (h 5, (h 6, (h 7, tt)))))))))))))
+      ∙ frame (outStores kc k) kc F n
+      (h 8, (h 11, (h 2, (h 7, (h 0, (h 1, (h 2, (h 3, (h 4, (h 5, (h 6, (h 7, tt)))))))))))))
 
   -- the loop's first is found again
   first-again : firstOf sh (edged kY kE) (kE .loop) ≡ kc First (kE .loop)
-  first-again = least-ext (2 * sh .edges) _ _ (λ i a b. ap (λ z. eqb z (kE .loop)) (in-back Loop i b (inl refl, (inl refl, (inl refl, tt)))))
+  first-again = least-ext (2 * sh .edges) _ _
+      (λ i a b. ap (λ z. eqb z (kE .loop)) (in-back Loop i b (inl refl, (inl refl, (inl refl, tt)))))
       ∙ sym (g .sound .loop (kE .loop) (spur-loop-in sp) (spur-loop-used sp) .first)
 
   -- the mark of the vertex that went was 1
@@ -341,7 +375,8 @@ module _ {sh : Shape} {x : List ℕ} {p : List ℤ} (g : Good sh x p) {k : ℕ} 
       record {
         accepted = rw (el, ei) (mev-accepted sh ky (g .capacities) fits);
         links = rw (el, ei) (mev-links sh ky (g .capacities) fits ∙ mev-leads-back);
-        points = rw (el, ep, ei) (mev-points sh ky (g .capacities) fits kq ∙ put-back (sh .vertices) p (kE .to) (pos 0) (pos 0) (pos 0) (g .points) (far-in sp));
+        points = rw (el, ep, ei) (mev-points sh ky (g .capacities) fits kq ∙ put-back (sh .vertices) p (kE .to) (pos 0)
+            (pos 0) (pos 0) (g .points) (far-in sp));
         again = rw (el, ep, ei) (mev-inverse sh ky (g .capacities) fits kq ∙ ap kevOf (half-is k (uk .0)));
       }
 

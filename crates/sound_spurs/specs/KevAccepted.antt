@@ -32,8 +32,10 @@ use Rattle.sound_tables.specs.CornerTest.{cornerLeft}
 use Rattle.sound_tables.specs.FirstLow.{first-low}
 use Rattle.sound_tables.specs.Shown.{withFirst, shows-no-edge, shows-first, shows-isolated}
 use Rattle.sound_spurs.specs.MevAccepted.{Mev, mevOf}
-use Rattle.sound_spurs.specs.Relation.{Spur, spurOf, used-N, in-k, in-b, in-P, in-N, prev-b, Nb, spur-loop-b, spur-loop-N, spur-loop-in, far-in}
-use Rattle.sound_spurs.specs.KevSound.{kevOut, kevColumns, Left, columns-out, half-stays, kev-rules, free-half, none-named, kev-sound}
+use Rattle.sound_spurs.specs.Relation.{Spur, spurOf, used-N, in-k, in-b, in-P, in-N, prev-b, Nb, spur-loop-b}
+use Rattle.sound_spurs.specs.Relation.{spur-loop-N, spur-loop-in, far-in}
+use Rattle.sound_spurs.specs.KevSound.{kevOut, kevColumns, Left, columns-out, half-stays, kev-rules, free-half}
+use Rattle.sound_spurs.specs.KevSound.{none-named, kev-sound}
 
 -- kev k
 abbrev pub kevOf : ℕ → Operator
@@ -47,17 +49,20 @@ pub record KevFacts (sh : Shape) (c : Columns) (o : Operator) : Type 0 where
   pub next : c Next k ≡ mate k
 
 -- all from the refusal 0
-pub kev-facts : (sh : Shape) (x : List ℕ) (o : Operator) → Capacities sh → length (o .args) ≡ 8 → o .code ≡ 4 → refusalOf sh x o ≡ 0 → KevFacts sh (own sh x) o
+pub kev-facts : (sh : Shape) (x : List ℕ) (o : Operator) → Capacities sh → length (o .args) ≡ 8 → o .code ≡ 4
+    → refusalOf sh x o ≡ 0 → KevFacts sh (own sh x) o
 unfolding pattern rows useWord condition kevTest
 kev-facts sh x o caps len e h =
     let a = one-operand sh x 4 9 refl refl refl refl (omega (arith, caps .edges)) refl o len e h in
-    record { k = a .n; is = a .is; used = (a .range .0, a .range .1, a .used); next = eqb→eq _ _ (true-T (rw (a .small) at (a .holds))) }
+    let n = eqb→eq _ _ (true-T (rw (a .small) at (a .holds))) in
+    record { k = a .n; is = a .is; used = (a .range .0, a .range .1, a .used); next = n }
 
 -- the links afterwards
 abbrev pub kevList : Shape → List ℕ → ℕ → List ℕ
 kevList sh x k =
     setVertexUsed sh
-    (renew sh (edgeOut sh x k (own sh x Prev k) (own sh x Next (mate k)) k (mate k)) (own sh x Loop k) (own sh x First (own sh x Loop k)) (cornerLeft (own sh x) k (mate k)) (own sh x Start k))
+    (renew sh (edgeOut sh x k (own sh x Prev k) (own sh x Next (mate k)) k (mate k)) (own sh x Loop k)
+    (own sh x First (own sh x Loop k)) (cornerLeft (own sh x) k (mate k)) (own sh x Start k))
     (own sh x Start (mate k)) 0
 
 -- the points afterwards
@@ -77,7 +82,8 @@ kevBack sh x p k = record {
   z = coordinate p (own sh x Start (mate k)) 2;
 }
 
-module _ {sh : Shape} {x : List ℕ} {p : List ℤ} (g : Good sh x p) {k : ℕ} (uk : HalfUsed sh (own sh x) k) (nk : own sh x Next k ≡ mate k) where
+module _ {sh : Shape} {x : List ℕ} {p : List ℤ} (g : Good sh x p) {k : ℕ} (uk : HalfUsed sh (own sh x) k)
+    (nk : own sh x Next k ≡ mate k) where
   -- the columns
   abbrev c : Columns
   c = own sh x
@@ -112,7 +118,8 @@ module _ {sh : Shape} {x : List ℕ} {p : List ℤ} (g : Good sh x p) {k : ℕ} 
   -- it is accepted
   pub kev-accepted : refusalOf sh x (kevOf k) ≡ 0
   unfolding pattern rows useWord condition kevTest
-  kev-accepted = one-accepted sh x 4 9 refl refl refl refl (omega (arith, g .capacities .edges)) refl k (uk .0, uk .1) (uk .2)
+  kev-accepted = one-accepted sh x 4 9 refl refl refl refl (omega (arith, g .capacities .edges)) refl k (uk .0, uk .1)
+      (uk .2)
       (rw kn (eqb-same nk))
 
   module _ {I : ℕ} (left : Left (own sh x) k I) where
@@ -128,7 +135,8 @@ module _ {sh : Shape} {x : List ℕ} {p : List ℤ} (g : Good sh x p) {k : ℕ} 
     -- the list once the edge is out
     out-shows : Shows sh (edgeOut sh x k (c Prev k) (c Next (mate k)) k (mate k)) (kevOut c k)
     out-shows =
-        shows-no-edge (good-shows g) k (c Prev k) (c Next (mate k)) k (mate k) (in-k sp) (in-b sp) (in-P sp) (in-N sp) (in-k sp) (in-b sp)
+        shows-no-edge (good-shows g) k (c Prev k) (c Next (mate k)) k (mate k) (in-k sp) (in-b sp) (in-P sp) (in-N sp)
+        (in-k sp) (in-b sp)
 
     -- what names the loop now named it before
     named : (i : ℕ) → kevOut c k Loop i ≡ c Loop k → c Loop i ≡ c Loop k
@@ -137,14 +145,20 @@ module _ {sh : Shape} {x : List ℕ} {p : List ℤ} (g : Good sh x p) {k : ℕ} 
         (λ z. split i (mate k) (λ y. ap (c Loop) y ∙ spur-loop-b sp) (λ y. sym (columns-out sp left .loop i z y) ∙ e))
 
     -- the loop's first and isolated vertex
-    first-shows : Shows sh (renew sh (edgeOut sh x k (c Prev k) (c Next (mate k)) k (mate k)) (c Loop k) (c First (c Loop k)) (cornerLeft c k (mate k)) (c Start k)) (withFirst (kevOut c k) (c Loop k) (firstOf sh (kevOut c k) (c Loop k)) I)
+    first-shows : Shows sh
+        (renew sh (edgeOut sh x k (c Prev k) (c Next (mate k)) k (mate k)) (c Loop k) (c First (c Loop k))
+        (cornerLeft c k (mate k)) (c Start k))
+        (withFirst (kevOut c k) (c Loop k) (firstOf sh (kevOut c k) (c Loop k)) I)
     first-shows = ⊎-elim
         (λ w.
-        let z : firstOf sh (kevOut c k) (c Loop k) ≡ 0 = label-none (2 * sh .edges) (d Loop) (c Loop k) (none-named sp left (w .0)) in
-        rw (eqb-same (w .0), w .1, z) (shows-isolated out-shows (c Loop k) (c First (c Loop k)) (c Start k) (spur-loop-in sp)))
+        let z : firstOf sh (kevOut c k) (c Loop k) ≡ 0 = label-none (2 * sh .edges) (d Loop) (c Loop k)
+        (none-named sp left (w .0)) in
+        rw (eqb-same (w .0), w .1, z)
+        (shows-isolated out-shows (c Loop k) (c First (c Loop k)) (c Start k) (spur-loop-in sp)))
         (λ w.
         rw (eqb-other (w .0), w .1)
-        (shows-first {U = HalfUsed sh d} out-shows (c Loop k) (c First (c Loop k)) (c Next (mate k)) (c Start k) (spur-loop-in sp) (kev-rules sp left .loops)
+        (shows-first {U = HalfUsed sh d} out-shows (c Loop k) (c First (c Loop k)) (c Next (mate k)) (c Start k)
+        (spur-loop-in sp) (kev-rules sp left .loops)
         (half-stays sp left _ ((used-N sp, Nb sp), w .0)) (columns-out sp left .loop _ (w .0) (Nb sp) ∙ spur-loop-N sp)
         (λ i j e. (j .0, j .1, λ s. omega (arith, spur-loop-in sp .0, sym e ∙ free-half sp left i j s .loop)))
         (λ i j e. first-low (g .sound) (c Loop k) i (spur-loop-in sp .0) j (named i e) .1))) left

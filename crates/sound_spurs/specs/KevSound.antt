@@ -22,10 +22,14 @@ use Rattle.sound_tables.specs.EdgeIn.{Rules}
 use Rattle.sound_tables.specs.Dummies.{agree-rules}
 use Rattle.sound_tables.specs.Labels.{label-some, label-none}
 use Rattle.sound_tables.specs.Solids.{Solids}
-use Rattle.sound_tables.specs.Sound.{In, halves, HalfUsed, FaceUsed, side, firstOf, FirstOrIsolated, LoopSound, HalfSound, HalfFree, VertexSound, alone, joined, PointSound, Sound, half-by}
+use Rattle.sound_tables.specs.Sound.{In, halves, HalfUsed, FaceUsed, side, firstOf, FirstOrIsolated, LoopSound}
+use Rattle.sound_tables.specs.Sound.{HalfSound, HalfFree, VertexSound, alone, joined, PointSound, Sound, half-by}
 use Rattle.sound_tables.specs.Names.{not-isolated}
 use Rattle.sound_spurs.specs.KevRules.{SpurOut, spur-out}
-use Rattle.sound_spurs.specs.Relation.{Spur, used-P, used-N, in-k, in-b, in-N, kb, next-P, Nb, spur-loop-b, spur-loop-N, spur-loop-in, spur-loop-used, spur-start-N, near-in, near-used, far-in, far-used, only-b, ends, named-used, whole-start, whole-loop}
+use Rattle.sound_spurs.specs.Relation.{Spur, used-P, used-N, in-k, in-b, in-N, kb, next-P, Nb, spur-loop-b}
+use Rattle.sound_spurs.specs.Relation.{spur-loop-N, spur-loop-in, spur-loop-used, spur-start-N, near-in}
+use Rattle.sound_spurs.specs.Relation.{near-used, far-in, far-used, only-b, ends, named-used, whole-start}
+use Rattle.sound_spurs.specs.Relation.{whole-loop}
 
 -- the stores that take the edge of k out
 abbrev pub outStores : Columns → ℕ → List Write
@@ -88,10 +92,10 @@ module _ {sh : Shape} {p : List ℤ} {c : Columns} {k : ℕ} (sp : Spur sh p c k
   -- k and its mate are all zero, the others as before but for the two that meet
   pub columns-out : SpurOut (halves c) (halves d) k (mate k) (c Prev k)
   columns-out = record {
-    start = λ i e f. upd-off _ 0 f ∙ upd-off _ 0 e;
-    loop = λ i e f. upd-off _ 0 f ∙ upd-off _ 0 e;
-    next = λ i e f. upd-off _ 0 f ∙ upd-off _ 0 e ∙ upd-off _ (mate k) e;
-    prev = λ i e f. upd-off _ 0 f ∙ upd-off _ 0 e ∙ upd-off _ k f;
+    start = λ i e f. simp upd-off;
+    loop = λ i e f. simp upd-off;
+    next = λ i e f. simp upd-off;
+    prev = λ i e f. simp upd-off;
   }
 
   -- a half-edge is in use afterwards if it was and is neither
@@ -107,15 +111,17 @@ module _ {sh : Shape} {p : List ℤ} {c : Columns} {k : ℕ} (sp : Spur sh p c k
 
   -- the rules for those
   pub kev-rules : Rules (2 * sh .edges) mate (HalfUsed sh d) (halves d)
-  kev-rules = agree-rules (spur-out (a .rules) mate-mate k (mate k) (c Prev k) refl (kb sp) uk (used-P sp) (next-P sp) nk columns-out)
+  kev-rules = agree-rules (spur-out (a .rules) mate-mate k (mate k) (c Prev k) refl (kb sp) uk (used-P sp)
+      (next-P sp) nk columns-out)
       half-stays half-was (λ i w. refl) (λ i w. refl) (λ i w. refl) (λ i w. refl)
 
   -- one that is not in use is all zero
   pub free-half : (i : ℕ) → In n i → d Start i ≡ 0 → HalfFree sh d i
   free-half i j z = split i k
-      (λ e. rw e (record { loop = out-loop-k; next = upd-off _ 0 (kb sp) ∙ upd-same _ k 0; prev = upd-off _ 0 (kb sp) ∙ upd-same _ k 0 }))
+      (λ e. rw e (let h = kb sp in
+      record { loop = out-loop-k; next = simp (upd-same, upd-off); prev = simp (upd-same, upd-off) }))
       (λ e. split i (mate k)
-      (λ f. rw f (record { loop = out-loop-b; next = upd-same _ (mate k) 0; prev = upd-same _ (mate k) 0 }))
+      (λ f. rw f (record { loop = out-loop-b; next = simp upd-same; prev = simp upd-same }))
       (λ f.
       let y : c Start i ≡ 0 = sym (columns-out .start i e f) ∙ z in
       let r = a .half-free i j y in
@@ -136,7 +142,8 @@ module _ {sh : Shape} {p : List ℤ} {c : Columns} {k : ℕ} (sp : Spur sh p c k
       let r = a .half i (w .0, w .1) (o .0 .0 .2) in
       let s : d Start i ≡ c Start i = columns-out .start i (o .1) (o .0 .1) in
       let m : d Loop i ≡ c Loop i = columns-out .loop i (o .1) (o .0 .1) in
-      half-by (c Start i) (c Loop i) s m (r .start-in) (stays-used (c Start i) (λ e. o .0 .1 (only-b sp i (o .0 .0) e)) (r .start-used)) (r .loop-in) (r .loop-used)
+      half-by (c Start i) (c Loop i) s m (r .start-in)
+      (stays-used (c Start i) (λ e. o .0 .1 (only-b sp i (o .0 .0) e)) (r .start-used)) (r .loop-in) (r .loop-used)
 
   -- ---- loops
 
@@ -144,7 +151,8 @@ module _ {sh : Shape} {p : List ℤ} {c : Columns} {k : ℕ} (sp : Spur sh p c k
   same-name : (m : ℕ) → In (sh .loops) m → m ≢ l → (i : ℕ) → eqb (c Loop i) m ≡ eqb (d Loop i) m
   same-name m y e i = split i k
       (λ z. gone (ap (c Loop) z) (ap (d Loop) z ∙ out-loop-k))
-      (λ z. split i (mate k) (λ z′. gone (ap (c Loop) z′ ∙ spur-loop-b sp) (ap (d Loop) z′ ∙ out-loop-b)) (λ z′. ap (λ w. eqb w m) (sym (columns-out .loop i z z′))))
+      (λ z. split i (mate k) (λ z′. gone (ap (c Loop) z′ ∙ spur-loop-b sp) (ap (d Loop) z′ ∙ out-loop-b))
+      (λ z′. ap (λ w. eqb w m) (sym (columns-out .loop i z z′))))
     where
       gone : c Loop i ≡ l → d Loop i ≡ 0 → eqb (c Loop i) m ≡ eqb (d Loop i) m
       gone f g =
@@ -171,7 +179,8 @@ module _ {sh : Shape} {p : List ℤ} {c : Columns} {k : ℕ} (sp : Spur sh p c k
         λ z. stays-used (c Start k) (ends sp) (near-used sp) (ap (d VertexUsed) (sym (isolated-at (w .1))) ∙ z),
       ))
       (λ w. inl (
-        (λ z. label-some n (d Loop) l (c Next (mate k)) (in-N sp) (columns-out .loop _ (w .0) (Nb sp) ∙ spur-loop-N sp) (sym (upd-same (c First) l _) ∙ z)),
+        (λ z. label-some n (d Loop) l (c Next (mate k)) (in-N sp) (columns-out .loop _ (w .0) (Nb sp) ∙ spur-loop-N sp)
+            (sym (upd-same (c First) l _) ∙ z)),
         upd-same (c Isolated) l I ∙ w .1,
       )) left
     where
@@ -189,7 +198,9 @@ module _ {sh : Shape} {p : List ℤ} {c : Columns} {k : ℕ} (sp : Spur sh p c k
   -- another loop has a first or an isolated vertex as before
   other-either : (m : ℕ) → In (sh .loops) m → m ≢ l → FirstOrIsolated sh c m → FirstOrIsolated sh d m
   other-either m y e (inl w) = inl (rw (upd-off (c First) (firstOf sh (kevOut c k) l) e, upd-off (c Isolated) I e) w)
-  other-either m y e (inr w) = inr (rw (upd-off (c First) (firstOf sh (kevOut c k) l) e, upd-off (c Isolated) I e) (w .0, w .1, stays-used (c Isolated m) (isolated-off m y) (w .2)))
+  other-either m y e (inr w) =
+      inr (rw (upd-off (c First) (firstOf sh (kevOut c k) l) e, upd-off (c Isolated) I e)
+      (w .0, w .1, stays-used (c Isolated m) (isolated-off m y) (w .2)))
 
   -- each loop in use is sound
   loop-sound : (m : ℕ) → In (sh .loops) m → c Face m ≢ 0 → LoopSound sh d m
@@ -207,7 +218,8 @@ module _ {sh : Shape} {p : List ℤ} {c : Columns} {k : ℕ} (sp : Spur sh p c k
   -- ---- vertices
 
   -- a loop isolated at w afterwards was so, or is l at k's vertex
-  isolated-was : (w : ℕ) → In (sh .vertices) w → (m : ℕ) → d Isolated m ≡ w → (c Isolated m ≡ w) ⊎ ((m ≡ l) × (w ≡ c Start k) × (c Next (mate k) ≡ k))
+  isolated-was : (w : ℕ) → In (sh .vertices) w → (m : ℕ) → d Isolated m ≡ w → (c Isolated m ≡ w)
+      ⊎ ((m ≡ l) × (w ≡ c Start k) × (c Next (mate k) ≡ k))
   isolated-was w i m e = split m l
       (λ z.
       let f : I ≡ w = sym (upd-same (c Isolated) l I) ∙ ap (d Isolated) (sym z) ∙ e in
@@ -226,7 +238,8 @@ module _ {sh : Shape} {p : List ℤ} {c : Columns} {k : ℕ} (sp : Spur sh p c k
   near-vertex s = ⊎-elim
       (λ w. alone l (spur-loop-in sp) (upd-same (c Isolated) l I ∙ w .1)
       (λ m j e. ⊎-elim (λ q. absurd (s m j q)) (λ q. q .0) (isolated-was (c Start k) (near-in sp) m e))
-      (λ i j e. let o = start-was (c Start k) (near-in sp) i e in o .0 (whole-start sp (w .0) i (j .0, j .1, λ z. omega (arith, near-in sp .0, sym (o .2) ∙ z)) (o .2))))
+      (λ i j e. let o = start-was (c Start k) (near-in sp) i e in
+      o .0 (whole-start sp (w .0) i (j .0, j .1, λ z. omega (arith, near-in sp .0, sym (o .2) ∙ z)) (o .2))))
       (λ w. joined
       (λ m j e. ⊎-elim (λ q. s m j q) (λ q. w .0 (q .2)) (isolated-was (c Start k) (near-in sp) m e))
       (c Next (mate k)) (in-N sp) (columns-out .start _ (w .0) (Nb sp) ∙ spur-start-N sp)) left
@@ -244,7 +257,9 @@ module _ {sh : Shape} {p : List ℤ} {c : Columns} {k : ℕ} (sp : Spur sh p c k
       (λ z.
       let x : i′ ≢ mate k = λ y. f (sym e ∙ ap (c Start) y) in
       joined
-      (λ m y q. ⊎-elim (λ t. s m y t) (λ t. z (whole-start sp (t .2) i′ (j .0, j .1, λ o. omega (arith, i .0, sym e ∙ o)) (e ∙ t .1))) (isolated-was w i m q))
+      (λ m y q. ⊎-elim (λ t. s m y t)
+      (λ t. z (whole-start sp (t .2) i′ (j .0, j .1, λ o. omega (arith, i .0, sym e ∙ o)) (e ∙ t .1)))
+      (isolated-was w i m q))
       i′ j (columns-out .start i′ z x ∙ e))
 
   -- ---- faces
@@ -254,41 +269,59 @@ module _ {sh : Shape} {p : List ℤ} {c : Columns} {k : ℕ} (sp : Spur sh p c k
   side-old i w = ap (c Face) (columns-out .loop i (w .1) (w .0 .1))
 
   -- a step across the edge that goes was none
-  across : (i : ℕ) → side c i ≡ c Face l → side c (mate i) ≡ c Face l → {g h : ℕ} → side c i ≡ g → side c (mate i) ≡ h → g ≡ h
+  across : (i : ℕ) → side c i ≡ c Face l → side c (mate i) ≡ c Face l → {g h : ℕ} → side c i ≡ g → side c (mate i) ≡ h
+      → g ≡ h
   across i e f x y = sym x ∙ e ∙ sym f ∙ y
 
   -- the mate of one that stays does so too
   mate-stays : (i : ℕ) → But k (But (mate k) (HalfUsed sh c)) i → But k (But (mate k) (HalfUsed sh c)) (mate i)
-  mate-stays i w = ((a .rules .mate-in i (w .0 .0), λ e. w .1 (sym (mate-mate i) ∙ ap mate e ∙ mate-mate k)), λ e. w .0 .1 (sym (mate-mate i) ∙ ap mate e))
+  mate-stays i w =
+      let f : mate i ≢ mate k = λ e. w .1 (sym (mate-mate i) ∙ ap mate e ∙ mate-mate k) in
+      let g : mate i ≢ k = λ e. w .0 .1 (sym (mate-mate i) ∙ ap mate e) in
+      ((a .rules .mate-in i (w .0 .0), f), g)
 
   -- rule 6: the edge that goes had one face on both sides
   kev-solids : Solids (HalfUsed sh d) (FaceUsed sh d) (side d) mate (d Solid)
   kev-solids = record {
-    side-in = λ i w. let o = half-was i w in subst (FaceUsed sh c) (sym (side-old i o)) (a .solids .side-in i (o .0 .0));
-    edge = λ i w. let o = half-was i w in ap (c Solid) (side-old (mate i) (mate-stays i o)) ∙ a .solids .edge i (o .0 .0) ∙ ap (c Solid) (sym (side-old i o));
+    side-in = λ i w. let o = half-was i w in subst (FaceUsed sh c) (sym (side-old i o))
+        (a .solids .side-in i (o .0 .0));
+    edge = λ i w. let o = half-was i w in ap (c Solid) (side-old (mate i) (mate-stays i o)) ∙ a .solids .edge i
+        (o .0 .0) ∙ ap (c Solid) (sym (side-old i o));
     one = λ f g x y e. map-linked (λ i. i)
         (λ i j t. split (t .0) k
-        (λ z. same (across (t .0) (ap (side c) z) (ap (λ q. side c (mate q)) z ∙ ap (c Face) (spur-loop-b sp)) (t .2) (t .3)))
+        (λ z. same (across (t .0) (ap (side c) z) (ap (λ q. side c (mate q)) z ∙ ap (c Face) (spur-loop-b sp)) (t .2)
+        (t .3)))
         (λ z. split (t .0) (mate k)
-        (λ z′. same (across (t .0) (ap (side c) z′ ∙ ap (c Face) (spur-loop-b sp)) (ap (λ q. side c (mate q)) z′ ∙ ap (side c) (mate-mate k)) (t .2) (t .3)))
+        (λ z′. same (across (t .0) (ap (side c) z′ ∙ ap (c Face) (spur-loop-b sp))
+        (ap (λ q. side c (mate q)) z′ ∙ ap (side c) (mate-mate k)) (t .2) (t .3)))
         (λ z′.
         let w : But k (But (mate k) (HalfUsed sh c)) (t .0) = ((t .1, z′), z) in
-        link (t .0, half-stays (t .0) w, side-old (t .0) w ∙ t .2, side-old (mate (t .0)) (mate-stays (t .0) w) ∙ t .3)))) (a .solids .one f g x y e);
+        let m = side-old (mate (t .0)) (mate-stays (t .0) w) in
+        link (t .0, half-stays (t .0) w, side-old (t .0) w ∙ t .2, m ∙ t .3)))) (a .solids .one f g x y e);
   }
 
   -- the table is sound afterwards
-  pub kev-sound : {q : List ℤ} → ((w : ℕ) → In (sh .vertices) w → PointSound q (kevColumns sh c k I) w) → Sound sh q (kevColumns sh c k I)
+  pub kev-sound : {q : List ℤ} → ((w : ℕ) → In (sh .vertices) w → PointSound q (kevColumns sh c k I) w)
+      → Sound sh q (kevColumns sh c k I)
   kev-sound points = record {
     solid-mark = a .solid-mark;
     solid = a .solid;
     face-free = a .face-free;
-    face = λ f i h. let r = a .face f i h in record { solid-in = r .solid-in; solid-used = r .solid-used; outer-in = r .outer-in; outer-face = r .outer-face };
-    loop-free = λ m i h. let e : m ≢ l = λ z. spur-loop-used sp (ap (c Face) (sym z) ∙ h) in let r = a .loop-free m i h in (upd-off (c First) _ e ∙ r .0, upd-off (c Isolated) I e ∙ r .1);
+    face = λ f i h. let r = a .face f i h in record {
+      solid-in = r .solid-in;
+      solid-used = r .solid-used;
+      outer-in = r .outer-in;
+      outer-face = r .outer-face;
+    };
+    loop-free = λ m i h. let e : m ≢ l = λ z. spur-loop-used sp (ap (c Face) (sym z) ∙ h) in let r =
+        a .loop-free m i h in (upd-off (c First) _ e ∙ r .0, upd-off (c Isolated) I e ∙ r .1);
     loop = loop-sound;
     half-free = free-half;
     half = λ i j h. half-sound i (j .0, j .1, h);
-    vertex-mark = λ w i. split w v (λ e. rw (upd-at (c VertexUsed) 0 e) (omega arith)) (λ e. rw (upd-off (c VertexUsed) 0 e) (a .vertex-mark w i));
-    vertex = λ w i h. let e : w ≢ v = λ z. h (upd-at (c VertexUsed) 0 z) in vertex-stays w i e (a .vertex w i (λ z. h (upd-off (c VertexUsed) 0 e ∙ z)));
+    vertex-mark = λ w i. split w v (λ e. rw (upd-at (c VertexUsed) 0 e) (omega arith))
+        (λ e. rw (upd-off (c VertexUsed) 0 e) (a .vertex-mark w i));
+    vertex = λ w i h. let e : w ≢ v = λ z. h (upd-at (c VertexUsed) 0 z) in
+        vertex-stays w i e (a .vertex w i (λ z. h (upd-off (c VertexUsed) 0 e ∙ z)));
     point = points;
     rules = kev-rules;
     solids = kev-solids;

@@ -29,13 +29,17 @@ use Rattle.sound_tables.specs.Cells.{Shows, shows-put}
 use Rattle.sound_tables.specs.Sound.{In, HalfUsed, Sound}
 use Rattle.sound_tables.specs.Names.{not-isolated, lone-used, free-halves}
 use Rattle.sound_tables.specs.PointLists.{three, put-length, all-three, points-new}
-use Rattle.sound_tables.specs.Accepted.{by-place, eight, accepted-back, ranges-cons, uses-cons, item-cons, use-old, old-use, use-new, new-use, use-none, in-range, Number, number, number-or-none, coordinate-range, unused-range, unused-use, in-range-or-none, three-range, three-use}
+use Rattle.sound_tables.specs.Accepted.{by-place, eight, accepted-back, ranges-cons, uses-cons, item-cons, use-old}
+use Rattle.sound_tables.specs.Accepted.{old-use, use-new, new-use, use-none, in-range, Number, number, number-or-none}
+use Rattle.sound_tables.specs.Accepted.{coordinate-range, unused-range, unused-use, in-range-or-none, three-range}
+use Rattle.sound_tables.specs.Accepted.{three-use}
 use Rattle.sound_tables.specs.OneOperand.{oneOf}
 use Rattle.sound_tables.specs.Good.{own, Capacities, Good, good-shows, good-after}
 use Rattle.sound_tables.specs.CornerTest.{CornerAt, corner-most, test-corner, corner-test, corner-use}
 use Rattle.sound_tables.specs.FirstLow.{lower-new, first-low}
 use Rattle.sound_tables.specs.Shown.{shows-edge, shows-first}
-use Rattle.sound_spurs.specs.MevSound.{NewEdge, mevColumns, AtCorner, MevPlace, MevRules⁺, loop-k, loop-old, new-k, mev-sound}
+use Rattle.sound_spurs.specs.MevSound.{NewEdge, mevColumns, AtCorner, MevPlace, MevRules⁺, loop-k, loop-old}
+use Rattle.sound_spurs.specs.MevSound.{new-k, mev-sound}
 use Rattle.sound_spurs.specs.MevRules.{besideEdge, loneEdge, mev-at-half, mev-at-isolated}
 
 -- ---- operands
@@ -103,10 +107,12 @@ mev-facts sh x o caps len e h =
     let r = a .range in
     let u = a .used in
     let arg : ℕ → ℤ = λ i. getD (o .args) i (pos 0) in
-    let n0 : Number (sh .loops) (arg 0) = number (limits sh) 6 _ refl refl (omega (arith, caps .loops)) (r 0 (lit≤ tt)) in
+    let n0 : Number (sh .loops) (arg 0) = number (limits sh) 6 _ refl refl (omega (arith, caps .loops))
+    (r 0 (lit≤ tt)) in
     let n1 : (arg 1 ≡ pos (operandOf o 1)) × (operandOf o 1 ≤ 2 * sh .edges) =
     number-or-none (limits sh) 10 _ refl (omega (arith, caps .edges)) (r 1 (lit≤ tt)) in
-    let n2 : Number (sh .edges) (arg 2) = number (limits sh) 8 _ refl refl (omega (arith, caps .edges)) (r 2 (lit≤ tt)) in
+    let n2 : Number (sh .edges) (arg 2) = number (limits sh) 8 _ refl refl (omega (arith, caps .edges))
+    (r 2 (lit≤ tt)) in
     let n3 : Number (sh .vertices) (arg 3) =
     number (limits sh) 11 _ refl refl (omega (arith, caps .vertices)) (r 3 (lit≤ tt)) in
     let n4 : (arg 4 ≡ pos (operandOf o 4)) × (operandOf o 4 ≤ 1) =
@@ -133,7 +139,8 @@ mev-facts sh x o caps len e h =
             at (subst (λ q. condition sh x q ≡ true) is (a .holds))));
         way = n4 .1;
         range = all-three (λ q. T (rangeTest q)) _ _ _ (coordinate-range (limits sh) (arg 5) (r 5 (lit≤ tt)))
-            (coordinate-range (limits sh) (arg 6) (r 6 (lit≤ tt))) (coordinate-range (limits sh) (arg 7) (r 7 (lit≤ tt)));
+            (coordinate-range (limits sh) (arg 6) (r 6 (lit≤ tt)))
+            (coordinate-range (limits sh) (arg 7) (r 7 (lit≤ tt)));
       };
     }
 
@@ -170,7 +177,8 @@ module _ (sh : Shape) (x : List ℕ) (caps : Capacities sh) {m : Mev} (r : MevFi
 
   -- the half-edge's
   hn : m .half ≤ 8192
-  hn = let h : m .half ≤ 2 * sh .edges = corner-most sh (own sh x) (m .loop) (m .half) (r .corner) in omega (arith, h, caps .edges)
+  hn = let h : m .half ≤ 2 * sh .edges = corner-most sh (own sh x) (m .loop) (m .half) (r .corner) in
+      omega (arith, h, caps .edges)
 
   -- the edge's
   en : m .edge ≤ 8192
@@ -187,7 +195,11 @@ module _ (sh : Shape) (x : List ℕ) (caps : Capacities sh) {m : Mev} (r : MevFi
   -- the links afterwards
   pub mev-links : linksAfter sh x (mevOf m) ≡ mevList sh x (newEdge (own sh x) m)
   unfolding linksAfter mevLinks
-  mev-links = rw (le-leb (m .loop) 8192 ln, le-leb (m .half) 8192 hn, le-leb (m .edge) 8192 en, le-leb (m .vertex) 8192 vn, le-leb (m .way) 8192 wn)
+  mev-links =
+      let l = le-leb (m .loop) 8192 ln in
+      let h = le-leb (m .half) 8192 hn in
+      let v = le-leb (m .vertex) 8192 vn in
+      rw (l, h, le-leb (m .edge) 8192 en, v, le-leb (m .way) 8192 wn)
 
   -- the new vertex gets its point
   pub mev-points : (p : List ℤ) → pointsAfter sh x p (mevOf m) ≡ mevPoints p m
@@ -207,12 +219,17 @@ module _ (sh : Shape) (x : List ℕ) (caps : Capacities sh) {m : Mev} (r : MevFi
     count = refl;
     range =
         let lim = limits sh in
-        ranges-cons lim 6 _ _ (pos (m .half) ∷ pos (m .edge) ∷ pos (m .vertex) ∷ pos (m .way) ∷ m .x ∷ m .y ∷ m .z ∷ []) (in-range lim 6 (m .loop) refl refl (r .loop-in))
-        (ranges-cons lim 10 _ _ (pos (m .edge) ∷ pos (m .vertex) ∷ pos (m .way) ∷ m .x ∷ m .y ∷ m .z ∷ []) (in-range-or-none lim 10 (m .half) refl refl (corner-most sh (own sh x) (m .loop) (m .half) (r .corner)))
-        (ranges-cons lim 8 _ _ (pos (m .vertex) ∷ pos (m .way) ∷ m .x ∷ m .y ∷ m .z ∷ []) (in-range lim 8 (m .edge) refl refl (r .edge-in))
-        (ranges-cons lim 11 _ _ (pos (m .way) ∷ m .x ∷ m .y ∷ m .z ∷ []) (in-range lim 11 (m .vertex) refl refl (r .vertex-in))
+        ranges-cons lim 6 _ _ (pos (m .half) ∷ pos (m .edge) ∷ pos (m .vertex) ∷ pos (m .way) ∷ m .x ∷ m .y ∷ m .z ∷ [])
+        (in-range lim 6 (m .loop) refl refl (r .loop-in))
+        (ranges-cons lim 10 _ _ (pos (m .edge) ∷ pos (m .vertex) ∷ pos (m .way) ∷ m .x ∷ m .y ∷ m .z ∷ [])
+        (in-range-or-none lim 10 (m .half) refl refl (corner-most sh (own sh x) (m .loop) (m .half) (r .corner)))
+        (ranges-cons lim 8 _ _ (pos (m .vertex) ∷ pos (m .way) ∷ m .x ∷ m .y ∷ m .z ∷ [])
+        (in-range lim 8 (m .edge) refl refl (r .edge-in))
+        (ranges-cons lim 11 _ _ (pos (m .way) ∷ m .x ∷ m .y ∷ m .z ∷ [])
+        (in-range lim 11 (m .vertex) refl refl (r .vertex-in))
         (ranges-cons lim 12 _ _ (m .x ∷ m .y ∷ m .z ∷ []) (in-range-or-none lim 12 (m .way) refl refl (r .way))
-        (three-range lim _ [] (m .x) (m .y) (m .z) (r .range 0 (lit≤ tt)) (r .range 1 (lit≤ tt)) (r .range 2 (lit≤ tt)) (unused-range lim 0))))));
+        (three-range lim _ [] (m .x) (m .y) (m .z) (r .range 0 (lit≤ tt)) (r .range 1 (lit≤ tt)) (r .range 2 (lit≤ tt))
+        (unused-range lim 0))))));
     used =
         let o = mevOf m in
         item-cons sh x o 6 _ 0 ln (old-use sh x 6 (m .loop) (omega (arith, r .loop-in .0)) refl (r .loop-used))
@@ -238,7 +255,8 @@ module _ {sh : Shape} {x : List ℕ} {p : List ℤ} (g : Good sh x p) {m : Mev} 
   -- a statement about the edge, for each kind of corner
   by-corner : (Q : NewEdge → Type 0)
       → (m .half ≡ 0 → c Isolated (m .loop) ≢ 0 → Q (loneEdge c (m .loop) (newHalf m) (m .vertex)))
-      → (HalfUsed sh c (m .half) → c Loop (m .half) ≡ m .loop → Q (besideEdge c (m .loop) (newHalf m) (m .vertex) (m .half)))
+      → (HalfUsed sh c (m .half) → c Loop (m .half) ≡ m .loop
+      → Q (besideEdge c (m .loop) (newHalf m) (m .vertex) (m .half)))
       → Q (newEdge c m)
   by-corner Q lone beside = ⊎-elim
       (λ q. rw (eqb-same (q .0)) (lone (q .0) (q .1)))
@@ -246,8 +264,10 @@ module _ {sh : Shape} {x : List ℕ} {p : List ℤ} (g : Good sh x p) {m : Mev} 
 
   -- the place, by the corner's vertex u and the neighbours
   place-at : (u before after : ℕ) → In (sh .vertices) u → c VertexUsed u ≢ 0
-      → AtCorner sh c (record { loop = m .loop; half = newHalf m; from = u; to = m .vertex; before = before; after = after })
-      → MevPlace sh c (record { loop = m .loop; half = newHalf m; from = u; to = m .vertex; before = before; after = after })
+      → AtCorner sh c (record
+      { loop = m .loop; half = newHalf m; from = u; to = m .vertex; before = before; after = after })
+      → MevPlace sh c (record
+      { loop = m .loop; half = newHalf m; from = u; to = m .vertex; before = before; after = after })
   place-at u before after iu uu corner = record {
     loop-in = r .loop-in;
     loop-used = r .loop-used;
@@ -270,9 +290,10 @@ module _ {sh : Shape} {x : List ℕ} {p : List ℤ} (g : Good sh x p) {m : Mev} 
       let o = place-at (c Isolated (m .loop)) (mate (newHalf m)) (newHalf m) (w .1) (w .2) (inl (refl, refl, refl)) in
       (o, mev-at-isolated (g .sound) i o))
       (λ hu hl.
+      let a = g .sound .rules in
       let s = g .sound .half (m .half) (hu .0, hu .1) (hu .2) in
       let o = place-at (c Start (m .half)) (c Prev (m .half)) (m .half) (s .start-in) (s .start-used)
-      (inr (prev-in (g .sound .rules) (m .half) hu, hu, next-prev (g .sound .rules) (m .half) hu, refl, not-isolated (g .sound) (m .half) hu hl)) in
+      (inr (prev-in a (m .half) hu, hu, next-prev a (m .half) hu, refl, not-isolated (g .sound) (m .half) hu hl)) in
       (o, mev-at-half (g .sound) hu hl o))
 
   -- the place
@@ -293,7 +314,8 @@ module _ {sh : Shape} {x : List ℕ} {p : List ℤ} (g : Good sh x p) {m : Mev} 
   d-sound : Sound sh (mevPoints p m) d
   d-sound = mev-sound mev-place (g .sound) (placed .1)
       (points-new sh p c d (m .vertex) (g .points) (r .vertex-in) (g .sound .point) (λ w n. upd-off (c VertexUsed) 1 n)
-      (m .x) (m .y) (m .z) (r .range 0 (lit≤ tt)) (r .range 1 (lit≤ tt)) (r .range 2 (lit≤ tt)) (upd-same (c VertexUsed) (m .vertex) 1))
+      (m .x) (m .y) (m .z) (r .range 0 (lit≤ tt)) (r .range 1 (lit≤ tt)) (r .range 2 (lit≤ tt))
+      (upd-same (c VertexUsed) (m .vertex) 1))
 
   -- the list shows them
   pub mev-shows : Shows sh (mevList sh x (newEdge (own sh x) m)) (mevColumns sh (own sh x) (newEdge (own sh x) m))
@@ -301,12 +323,17 @@ module _ {sh : Shape} {x : List ℕ} {p : List ℤ} (g : Good sh x p) {m : Mev} 
       let o = mev-place in
       let E = newEdge (own sh x) m in
       let k = newHalf m in
-      let b-in : In (2 * sh .edges) (E .before) = ⊎-elim (λ q. subst (In (2 * sh .edges)) (sym (q .0)) (o .mate-in)) (λ q. (q .0 .0, q .0 .1)) (o .corner) in
-      let a-in : In (2 * sh .edges) (E .after) = ⊎-elim (λ q. subst (In (2 * sh .edges)) (sym (q .1)) (o .half-in)) (λ q. (q .1 .0, q .1 .1)) (o .corner) in
-      let s1 = shows-edge (good-shows g) k (E .from) (m .loop) (mate k) (E .before) (m .vertex) (m .loop) (E .after) k (o .half-in) (o .mate-in) (o .mate-in) b-in a-in (o .half-in) in
-      let s2 = shows-first {U = HalfUsed sh d} s1 (m .loop) (lower (c First (m .loop)) (lower k (mate k))) k 0 (o .loop-in) (d-sound .rules .loops) (new-k o) (loop-k o)
+      let b-in : In (2 * sh .edges) (E .before) = ⊎-elim (λ q. subst (In (2 * sh .edges)) (sym (q .0)) (o .mate-in))
+      (λ q. (q .0 .0, q .0 .1)) (o .corner) in
+      let a-in : In (2 * sh .edges) (E .after) = ⊎-elim (λ q. subst (In (2 * sh .edges)) (sym (q .1)) (o .half-in))
+      (λ q. (q .1 .0, q .1 .1)) (o .corner) in
+      let s1 = shows-edge (good-shows g) k (E .from) (m .loop) (mate k) (E .before) (m .vertex) (m .loop) (E .after) k
+      (o .half-in) (o .mate-in) (o .mate-in) b-in a-in (o .half-in) in
+      let s2 = shows-first {U = HalfUsed sh d} s1 (m .loop) (lower (c First (m .loop)) (lower k (mate k))) k 0
+      (o .loop-in) (d-sound .rules .loops) (new-k o) (loop-k o)
       (λ i j e. (j .0, j .1, λ s. omega (arith, o .loop-in .0, sym e ∙ d-sound .half-free i j s .loop)))
-      (λ i j e. lower-new (c First (m .loop)) k (mate k) i (o .half-in .0) (λ y z. first-low (g .sound) (m .loop) i (o .loop-in .0) j (sym (loop-old o i y z) ∙ e))) in
+      (λ i j e. lower-new (c First (m .loop)) k (mate k) i (o .half-in .0)
+      (λ y z. first-low (g .sound) (m .loop) i (o .loop-in .0) j (sym (loop-old o i y z) ∙ e))) in
       shows-put s2 VertexUsed (m .vertex) 1 (o .vertex-in .0) (o .vertex-in .1)
 
   -- the table is good afterwards

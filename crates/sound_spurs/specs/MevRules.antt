@@ -1,5 +1,5 @@
--- The rules with dummies after mev: at a half-edge h of the loop, and at an isolated loop, where its dummy goes. Both are `spur-rules`, the new vertex's
--- own dummy standing at a number above all others while the edge goes in.
+-- The rules with dummies after mev: at a half-edge h of the loop, and at an isolated loop, where its dummy goes. Both
+-- are `spur-rules`, the new vertex's own dummy standing at a number above all others while the edge goes in.
 use mathlib.Core.Path.{_≡_, refl, sym, ap, _∙_, subst}
 use mathlib.Core.Logic.{_≢_, inl, inr, ⊎-elim}
 use mathlib.Core.List.{List}
@@ -19,14 +19,28 @@ use Rattle.sound_tables.specs.Dummies.{spurred, spur-rules, dropped, drop-rules
 use Rattle.sound_tables.specs.Sound.{HalfUsed, Sound}
 use Rattle.sound_tables.specs.Names.{start-unnamed, isolated-unnamed, not-isolated}
 use Rattle.sound_tables.specs.WithDummies.{upTo-low, upTo-high, extended, Dummy, Member, sound-corners, dummy-of}
-use Rattle.sound_spurs.specs.MevSound.{NewEdge, mevColumns, MevPlace, MevRules⁺, kb, off-k, off-b, new-k, new-b, half-stays, half-was, dummy-stays}
+use Rattle.sound_spurs.specs.MevSound.{NewEdge, mevColumns, MevPlace, MevRules⁺, kb, off-k, off-b, new-k, new-b}
+use Rattle.sound_spurs.specs.MevSound.{half-stays, half-was, dummy-stays}
 
 -- the same cycles among fewer or more numbers
-resize-cycles : {n m : ℕ} {U : ℕ → Type 0} {f lab : ℕ → ℕ} → Cycles n U f lab → ((i : ℕ) → U i → i ≤ m) → Cycles m U f lab
-resize-cycles c h = record { perm = record { low = c .perm .low; high = h; f-in = c .perm .f-in; inv = c .perm .inv; undo = c .perm .undo }; keeps = c .keeps; one = c .one }
+resize-cycles : {n m : ℕ} {U : ℕ → Type 0} {f lab : ℕ → ℕ} → Cycles n U f lab → ((i : ℕ) → U i → i ≤ m)
+    → Cycles m U f lab
+resize-cycles c h =
+    let p = c .perm in
+    record {
+      perm = record { low = p .low; high = h; f-in = p .f-in; inv = p .inv; undo = p .undo };
+      keeps = c .keeps;
+      one = c .one;
+    }
 
-resize : {n m : ℕ} {mate : ℕ → ℕ} {U : ℕ → Type 0} {h : Halves} → Rules n mate U h → ((i : ℕ) → U i → i ≤ m) → Rules m mate U h
-resize r h = record { mate-in = r .mate-in; loops = resize-cycles (r .loops) h; verts = resize-cycles (r .verts) h; undone = r .undone }
+resize : {n m : ℕ} {mate : ℕ → ℕ} {U : ℕ → Type 0} {h : Halves} → Rules n mate U h → ((i : ℕ) → U i → i ≤ m)
+    → Rules m mate U h
+resize r h = record {
+  mate-in = r .mate-in;
+  loops = resize-cycles (r .loops) h;
+  verts = resize-cycles (r .verts) h;
+  undone = r .undone;
+}
 
 module _ {sh : Shape} {p : List ℤ} {c : Columns} (a : Sound sh p c) {E : NewEdge} (o : MevPlace sh c E) where
   open NewEdge E using (loop as l, half as k, to as v)
@@ -52,20 +66,26 @@ module _ {sh : Shape} {p : List ℤ} {c : Columns} (a : Sound sh p c) {E : NewEd
   D-free = ⊎-elim (λ w. omega (arith, w .1)) (λ w. omega (arith, w .1))
 
   member-loop : (i : ℕ) → Member sh c i → H .loop i ≢ 0
-  member-loop i (inl w) z = omega (arith, a .half i (w .0, w .1) (w .2) .loop-in .0, sym (upTo-low n (c Loop) (λ j. j - n) i (w .1)) ∙ z)
-  member-loop i (inr w) z = omega (arith, w .0, sym (upTo-high n (c Loop) (λ j. j - n) i (w .0)) ∙ z)
+  member-loop i (inl w) z = let h = w .1 in omega (arith, a .half i (w .0, w .1) (w .2) .loop-in .0, simp upTo-low at z)
+  member-loop i (inr w) z = let h = w .0 in omega (arith, w .0, simp upTo-high at z)
 
   member-start : (i : ℕ) → Member sh c i → H .start i ≢ v
-  member-start i (inl w) z = start-unnamed a v (o .vertex-in) (o .vertex-free) i (w .0, w .1) (sym (upTo-low n (c Start) (λ j. c Isolated (j - n)) i (w .1)) ∙ z)
-  member-start i (inr w) z = isolated-unnamed a v (o .vertex-in) (o .vertex-free) (i - n) (omega (arith, w .0), omega (arith, w .1)) (sym (upTo-high n (c Start) (λ j. c Isolated (j - n)) i (w .0)) ∙ z)
+  member-start i (inl w) z = start-unnamed a v (o .vertex-in) (o .vertex-free) i (w .0, w .1)
+      (let h = w .1 in simp upTo-low at z)
+  member-start i (inr w) z = isolated-unnamed a v (o .vertex-in) (o .vertex-free) (i - n)
+      (omega (arith, w .0), omega (arith, w .1)) (let h = w .0 in simp upTo-high at z)
 
   -- the edge goes in after the member y
-  spur : (y : ℕ) → Member sh c y → Rules D (mate⁺ (sh .edges)) (Or (mate k) (Or k (Member sh c))) (spurred H k (mate k) y v)
-  spur y w = spur-rules (resize (sound-corners a .rules) (λ i x. omega (arith, sound-corners a .rules .loops .perm .high i x))) (mate⁺-mate⁺ (sh .edges)) k (mate k) y D 0 v
+  spur : (y : ℕ) → Member sh c y → Rules D (mate⁺ (sh .edges)) (Or (mate k) (Or k (Member sh c)))
+      (spurred H k (mate k) y v)
+  spur y w = spur-rules
+      (resize (sound-corners a .rules) (λ i x. omega (arith, sound-corners a .rules .loops .perm .high i x)))
+      (mate⁺-mate⁺ (sh .edges)) k (mate k) y D 0 v
       (mate⁺-low (sh .edges) k (o .half-in .1)) (mate⁺-high (sh .edges) D (omega arith)) (kb o)
       (free-member k (o .half-in .1) (o .half-free)) (free-member (mate k) (o .mate-in .1) (o .mate-free)) D-free
       (λ e. omega (arith, o .half-in .1, e)) (λ e. omega (arith, o .mate-in .1, e))
-      (o .half-in .0) (omega (arith, o .half-in .1)) (o .mate-in .0) (omega (arith, o .mate-in .1)) (omega arith) (omega arith) w member-loop member-start
+      (o .half-in .0) (omega (arith, o .half-in .1)) (o .mate-in .0) (omega (arith, o .mate-in .1)) (omega arith)
+      (omega arith) w member-loop member-start
 
   -- a statement about each member of c but the dummy of l, about k and about its mate; with what tells the places apart
   each : (Q : ℕ → Type 0) → Q k → Q (mate k)
@@ -74,7 +94,8 @@ module _ {sh : Shape} {p : List ℤ} {c : Columns} (a : Sound sh p c) {E : NewEd
       → (i : ℕ) → (Dummy sh c i → i - n ≢ l) → Or (mate k) (Or k (Member sh c)) i → Q i
   each Q qk qb qh qd i h = ⊎-elim (λ e. subst Q (sym e) qb) (⊎-elim (λ e. subst Q (sym e) qk) (⊎-elim
       (λ w. qh i w (w .1) (off-k o i w) (off-b o i w))
-      (λ w. qd i w (w .0) (λ e. omega (arith, w .0, o .half-in .1, e)) (λ e. omega (arith, w .0, o .mate-in .1, e)) (h w))))
+      (λ w. qd i w (w .0) (λ e. omega (arith, w .0, o .half-in .1, e)) (λ e. omega (arith, w .0, o .mate-in .1, e))
+      (h w))))
 
   -- which are the members afterwards
   to-member : (i : ℕ) → (Dummy sh c i → i - n ≢ l) → Or (mate k) (Or k (Member sh c)) i → Member sh d i
@@ -82,7 +103,10 @@ module _ {sh : Shape} {p : List ℤ} {c : Columns} (a : Sound sh p c) {E : NewEd
       (λ i w m e f g. inr (dummy-stays o i g w))
 
   from-member : (i : ℕ) → Member sh d i → Or (mate k) (Or k (Member sh c)) i × (Dummy sh c i → i - n ≢ l)
-  from-member i (inl w) = (half-was o {Q = Or (mate k) (Or k (Member sh c))} (inr (inl refl)) (inl refl) (λ j x. inr (inr (inl x))) i w, λ x. absurd (omega (arith, w .1, x .0)))
+  from-member i (inl w) =
+      let r = half-was o {Q = Or (mate k) (Or k (Member sh c))} (inr (inl refl)) (inl refl)
+      (λ j x. inr (inr (inl x))) i w in
+      (r, λ x. absurd (omega (arith, w .1, x .0)))
   from-member i (inr w) =
       let e : i - n ≢ l = λ z. w .2 (ap (d Isolated) z ∙ upd-same (c Isolated) l 0) in
       (inr (inr (inr (w .0, w .1, λ z. w .2 (upd-off (c Isolated) 0 e ∙ z)))), λ x. e)
@@ -97,7 +121,8 @@ loneEdge c l k v = record { loop = l; half = k; from = c Isolated l; to = v; bef
 
 -- ---- at a half-edge h of the loop
 
-module _ {sh : Shape} {p : List ℤ} {c : Columns} (a : Sound sh p c) {l k v h : ℕ} (hu : HalfUsed sh c h) (hl : c Loop h ≡ l)
+module _ {sh : Shape} {p : List ℤ} {c : Columns} (a : Sound sh p c) {l k v h : ℕ} (hu : HalfUsed sh c h)
+    (hl : c Loop h ≡ l)
     (o : MevPlace sh c (besideEdge c l k v h)) where
   -- the number of half-edges
   abbrev n₁ : ℕ
@@ -123,7 +148,8 @@ module _ {sh : Shape} {p : List ℤ} {c : Columns} (a : Sound sh p c) {l k v h :
   p-loop = sym (a .rules .loops .keeps (c Prev h) pu) ∙ ap (c Loop) (next-prev (a .rules) h hu) ∙ hl
 
   -- what tells the places apart
-  known : {A : Type 0} → (k ≤ n₁ → mate k ≤ n₁ → P₁ ≤ n₁ → h ≤ n₁ → k ≢ mate k → mate k ≢ k → P₁ ≢ k → P₁ ≢ mate k → k ≢ P₁
+  known : {A : Type 0} → (k ≤ n₁ → mate k ≤ n₁ → P₁ ≤ n₁ → h ≤ n₁ → k ≢ mate k → mate k ≢ k → P₁ ≢ k → P₁ ≢ mate k
+      → k ≢ P₁
       → mate k ≢ P₁ → h ≢ k → h ≢ mate k → k ≢ h → mate k ≢ h → c Next P₁ ≡ h → A) → A
   known f = f (o .half-in .1) (o .mate-in .1) (pu .1) (hu .1) (kb o) (λ z. kb o (sym z)) (off-k o P₁ pu) (off-b o P₁ pu)
       (λ z. off-k o P₁ pu (sym z)) (λ z. off-b o P₁ pu (sym z)) (off-k o h hu) (off-b o h hu)
@@ -131,7 +157,8 @@ module _ {sh : Shape} {p : List ℤ} {c : Columns} (a : Sound sh p c) {l k v h :
 
   -- column by column
   at-start : (i : ℕ) → Or (mate k) (Or k (Member sh c)) i → extended sh d₁ .start i ≡ H₁ .start i
-  at-start i = known λ k1 b1 p1 h1 c1 c2 c3 c4 c5 c6 c7 c8 c9 c10 np. each a o (λ i. extended sh d₁ .start i ≡ H₁ .start i)
+  at-start i = known λ k1 b1 p1 h1 c1 c2 c3 c4 c5 c6 c7 c8 c9 c10 np. each a o
+      (λ i. extended sh d₁ .start i ≡ H₁ .start i)
       (simp (upTo-low, upd-same, upd-off, np)) (simp (upTo-low, upd-same, upd-off))
       (λ i w m e f. simp (upTo-low, upd-off)) (λ i w m e f g. simp (upTo-high, upd-off)) i (no-dummy i)
 
@@ -154,7 +181,8 @@ module _ {sh : Shape} {p : List ℤ} {c : Columns} (a : Sound sh p c) {l k v h :
 
   -- the rules with dummies afterwards
   pub mev-at-half : MevRules⁺ sh c (besideEdge c l k v h)
-  mev-at-half = resize (agree-rules (spur a o (c Prev h) (inl pu)) (λ i w. to-member a o i (no-dummy i) w) (λ i w. from-member a o i w .0) at-start at-loop at-next at-prev)
+  mev-at-half = resize (agree-rules (spur a o (c Prev h) (inl pu)) (λ i w. to-member a o i (no-dummy i) w)
+      (λ i w. from-member a o i w .0) at-start at-loop at-next at-prev)
       (λ i. ⊎-elim (λ w. omega (arith, w .1)) (λ w. w .1))
 
 -- ---- at an isolated loop: its dummy y goes in the end
@@ -194,7 +222,8 @@ module _ {sh : Shape} {p : List ℤ} {c : Columns} (a : Sound sh p c) {l k v : �
   next-b = upd-same _ (mate k) _ ∙ y-next
 
   without : Rules (2 * sh .edges + sh .loops + 1) (mate⁺ (sh .edges)) (But y (Or (mate k) (Or k (Member sh c)))) H₂
-  without = drop-rules (spur a o y (inr y-dummy)) (mate⁺-mate⁺ (sh .edges)) y (mate k) (mate⁺-high (sh .edges) y (y-dummy .0)) (inl refl) next-b yb
+  without = drop-rules (spur a o y (inr y-dummy)) (mate⁺-mate⁺ (sh .edges)) y (mate k)
+      (mate⁺-high (sh .edges) y (y-dummy .0)) (inl refl) next-b yb
 
   -- another dummy is of another loop
   other-dummy : (i : ℕ) → i ≢ y → Dummy sh c i → i - n₂ ≢ l
@@ -208,9 +237,11 @@ module _ {sh : Shape} {p : List ℤ} {c : Columns} (a : Sound sh p c) {l k v : �
   other-y i h e = h (omega (arith, e))
 
   -- what tells the places apart
-  known₂ : {A : Type 0} → (k ≤ n₂ → mate k ≤ n₂ → n₂ < y → k ≢ mate k → mate k ≢ k → y ≢ k → k ≢ y → y ≢ mate k → mate k ≢ y
+  known₂ : {A : Type 0} → (k ≤ n₂ → mate k ≤ n₂ → n₂ < y → k ≢ mate k → mate k ≢ k → y ≢ k → k ≢ y → y ≢ mate k
+      → mate k ≢ y
       → y - n₂ ≡ l → A) → A
-  known₂ f = f (o .half-in .1) (o .mate-in .1) (y-dummy .0) (kb o) (λ z. kb o (sym z)) yk (λ z. yk (sym z)) yb (λ z. yb (sym z)) (omega arith)
+  known₂ f = f (o .half-in .1) (o .mate-in .1) (y-dummy .0) (kb o) (λ z. kb o (sym z)) yk (λ z. yk (sym z)) yb
+      (λ z. yb (sym z)) (omega arith)
 
   -- column by column
   to-start : (i : ℕ) → But y (Or (mate k) (Or k (Member sh c))) i → extended sh d₂ .start i ≡ H₂ .start i

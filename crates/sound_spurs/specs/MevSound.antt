@@ -20,11 +20,14 @@ use Rattle.euler.specs.Surgery.{edgeWrites}
 use Rattle.sound_tables.specs.Mates.{mate⁺, mate-other}
 use Rattle.sound_tables.specs.EdgeIn.{Rules}
 use Rattle.sound_tables.specs.Solids.{Solids}
-use Rattle.sound_tables.specs.Sound.{In, HalfUsed, FaceUsed, side, firstOf, LoopSound, HalfSound, HalfFree, PointSound, Sound, half-by}
+use Rattle.sound_tables.specs.Sound.{In, HalfUsed, FaceUsed, side, firstOf, LoopSound, HalfSound, HalfFree, PointSound}
+use Rattle.sound_tables.specs.Sound.{Sound, half-by}
 use Rattle.sound_tables.specs.Names.{lone-kept}
-use Rattle.sound_tables.specs.WithDummies.{upTo-low, upTo-high, extended, Dummy, Member, Corners, sound-corners, corners-rules, corners-loop, corners-vertex}
+use Rattle.sound_tables.specs.WithDummies.{upTo-low, upTo-high, extended, Dummy, Member, Corners, sound-corners}
+use Rattle.sound_tables.specs.WithDummies.{corners-rules, corners-loop, corners-vertex}
 
--- an edge that goes in: `half` in loop `loop`, from vertex `from` to the new vertex `to`; `before` comes before it, `after` behind its mate
+-- an edge that goes in: `half` in loop `loop`, from vertex `from` to the new vertex `to`; `before` comes before it,
+-- `after` behind its mate
 pub record NewEdge : Type 0 where
   pub loop : ℕ
   pub half : ℕ
@@ -35,7 +38,8 @@ pub record NewEdge : Type 0 where
 
 -- the stores to half-edges
 abbrev pub edgeStores : NewEdge → List Write
-edgeStores E = edgeWrites (E .half) (E .from) (E .loop) (mate (E .half)) (E .before) (E .to) (E .loop) (E .after) (E .half)
+edgeStores E = edgeWrites (E .half) (E .from) (E .loop) (mate (E .half)) (E .before) (E .to) (E .loop) (E .after)
+    (E .half)
 
 -- the columns with the edge in
 abbrev pub edged : Columns → NewEdge → Columns
@@ -53,7 +57,8 @@ mevColumns sh c E = changes (endStores E (firstOf sh (edged c E) (E .loop))) (ed
 abbrev pub AtCorner : Shape → Columns → NewEdge → Type 0
 AtCorner sh c E =
     ((E .before ≡ mate (E .half)) × (E .after ≡ E .half) × (c Isolated (E .loop) ≡ E .from))
-    ⊎ (HalfUsed sh c (E .before) × HalfUsed sh c (E .after) × (c Next (E .before) ≡ E .after) × (c Prev (E .after) ≡ E .before)
+    ⊎ (HalfUsed sh c (E .before) × HalfUsed sh c (E .after) × (c Next (E .before) ≡ E .after)
+    × (c Prev (E .after) ≡ E .before)
     × (c Isolated (E .loop) ≡ 0))
 
 -- the edge and the vertex are free, the loop and the corner's vertex in use
@@ -73,7 +78,8 @@ pub record MevPlace (sh : Shape) (c : Columns) (E : NewEdge) : Type 0 where
 -- the rules with dummies, for the columns afterwards
 abbrev pub MevRules⁺ : Shape → Columns → NewEdge → Type 0
 MevRules⁺ sh c E =
-    Rules (2 * sh .edges + sh .loops) (mate⁺ (sh .edges)) (Member sh (mevColumns sh c E)) (extended sh (mevColumns sh c E))
+    Rules (2 * sh .edges + sh .loops) (mate⁺ (sh .edges)) (Member sh (mevColumns sh c E))
+    (extended sh (mevColumns sh c E))
 
 module _ {sh : Shape} {c : Columns} {E : NewEdge} (o : MevPlace sh c E) where
   open NewEdge E using (loop as l, half as k, from as u, to as v, before as P, after as N)
@@ -126,8 +132,10 @@ module _ {sh : Shape} {c : Columns} {E : NewEdge} (o : MevPlace sh c E) where
   half-stays i w = (w .0, w .1, λ z. w .2 (sym (start-old i (off-k i w) (off-b i w)) ∙ z))
 
   -- one in use afterwards is one of the two, or was in use
-  pub half-was : {Q : ℕ → Type 0} → Q k → Q (mate k) → ((i : ℕ) → HalfUsed sh c i → Q i) → (i : ℕ) → HalfUsed sh d i → Q i
-  half-was {Q} qk qb qo i w = split i k (λ e. subst Q (sym e) qk) (λ e. split i (mate k) (λ f. subst Q (sym f) qb) (λ f. qo i (w .0, w .1, λ z. w .2 (start-old i e f ∙ z))))
+  pub half-was : {Q : ℕ → Type 0} → Q k → Q (mate k) → ((i : ℕ) → HalfUsed sh c i → Q i) → (i : ℕ) → HalfUsed sh d i
+      → Q i
+  half-was {Q} qk qb qo i w = split i k (λ e. subst Q (sym e) qk)
+      (λ e. split i (mate k) (λ f. subst Q (sym f) qb) (λ f. qo i (w .0, w .1, λ z. w .2 (start-old i e f ∙ z))))
 
   -- a dummy of another loop stays
   pub dummy-stays : (i : ℕ) → i - n ≢ l → Dummy sh c i → Dummy sh d i
@@ -137,31 +145,44 @@ module _ {sh : Shape} {c : Columns} {E : NewEdge} (o : MevPlace sh c E) where
       (points : (w : ℕ) → In (sh .vertices) w → PointSound q (mevColumns sh c E) w) where
     -- ---- members of loops and vertices
 
-    loop-member : (m : ℕ) → (i : ℕ) → Member sh c i → extended sh c .loop i ≡ m → (j : ℕ) × Member sh d j × (extended sh d .loop j ≡ m)
-    loop-member m i (inl w) e = (i, inl (half-stays i w), upTo-low n (d Loop) (λ j. j - n) i (w .1) ∙ loop-old i (off-k i w) (off-b i w) ∙ sym (upTo-low n (c Loop) (λ j. j - n) i (w .1)) ∙ e)
+    loop-member : (m : ℕ) → (i : ℕ) → Member sh c i → extended sh c .loop i ≡ m → (j : ℕ) × Member sh d j
+        × (extended sh d .loop j ≡ m)
+    loop-member m i (inl w) e =
+        let h = w .1 in
+        let f = off-k i w in
+        let g = off-b i w in
+        (i, inl (half-stays i w), simp (upTo-low, upd-off) (simp upTo-low at e))
     loop-member m i (inr w) e =
-        let f : i - n ≡ m = sym (upTo-high n (c Loop) (λ j. j - n) i (w .0)) ∙ e in
+        let h = w .0 in
+        let f : i - n ≡ m = simp upTo-high at e in
         split (i - n) l
-        (λ z. (k, inl new-k, upTo-low n (d Loop) (λ j. j - n) k (o .half-in .1) ∙ loop-k ∙ sym z ∙ f))
-        (λ z. (i, inr (dummy-stays i z w), upTo-high n (d Loop) (λ j. j - n) i (w .0) ∙ f))
+        (λ z. let h = o .half-in .1 in (k, inl new-k, simp upTo-low (loop-k ∙ sym z ∙ f)))
+        (λ z. (i, inr (dummy-stays i z w), simp upTo-high f))
 
-    vertex-member : (w : ℕ) → In (sh .vertices) w → (i : ℕ) → Member sh c i → extended sh c .start i ≡ w → (j : ℕ) × Member sh d j × (extended sh d .start j ≡ w)
-    vertex-member w y i (inl x) e = (i, inl (half-stays i x), upTo-low n (d Start) (λ j. d Isolated (j - n)) i (x .1) ∙ start-old i (off-k i x) (off-b i x) ∙ sym (upTo-low n (c Start) (λ j. c Isolated (j - n)) i (x .1)) ∙ e)
+    vertex-member : (w : ℕ) → In (sh .vertices) w → (i : ℕ) → Member sh c i → extended sh c .start i ≡ w
+        → (j : ℕ) × Member sh d j × (extended sh d .start j ≡ w)
+    vertex-member w y i (inl x) e =
+        let h = x .1 in
+        let f = off-k i x in
+        let g = off-b i x in
+        (i, inl (half-stays i x), simp (upTo-low, upd-off) (simp upTo-low at e))
     vertex-member w y i (inr x) e =
-        let f : c Isolated (i - n) ≡ w = sym (upTo-high n (c Start) (λ j. c Isolated (j - n)) i (x .0)) ∙ e in
+        let h = x .0 in
+        let f : c Isolated (i - n) ≡ w = simp upTo-high at e in
         split (i - n) l
-        (λ z. ⊎-elim
-        (λ g. (k, inl new-k, upTo-low n (d Start) (λ j. d Isolated (j - n)) k (o .half-in .1) ∙ start-k ∙ sym (g .2) ∙ ap (c Isolated) (sym z) ∙ f))
+        (λ z. let h = o .half-in .1 in ⊎-elim
+        (λ g. (k, inl new-k, simp upTo-low (start-k ∙ sym (g .2) ∙ ap (c Isolated) (sym z) ∙ f)))
         (λ g. absurd (omega (arith, y .0, sym f ∙ ap (c Isolated) z ∙ g .4))) (o .corner))
-        (λ z. (i, inr (dummy-stays i z x), upTo-high n (d Start) (λ j. d Isolated (j - n)) i (x .0) ∙ upd-off (c Isolated) 0 z ∙ f))
+        (λ z. (i, inr (dummy-stays i z x), simp (upTo-high, upd-off) f))
 
     mev-corners : Corners sh d
     mev-corners = record {
       rules = rules⁺;
       loop = λ m i h. let r = sound-corners a .loop m i h in loop-member m (r .0) (r .1) (r .2);
       vertex = λ w i h. split w v
-          (λ e. (mate k, inl new-b, upTo-low n (d Start) (λ j. d Isolated (j - n)) (mate k) (o .mate-in .1) ∙ start-b ∙ sym e))
-          (λ e. let r = sound-corners a .vertex w i (λ z. h (upd-off (c VertexUsed) 1 e ∙ z)) in vertex-member w i (r .0) (r .1) (r .2));
+          (λ e. let h = o .mate-in .1 in (mate k, inl new-b, simp upTo-low (start-b ∙ sym e)))
+          (λ e. let r = sound-corners a .vertex w i (λ z. h (upd-off (c VertexUsed) 1 e ∙ z)) in
+          vertex-member w i (r .0) (r .1) (r .2));
     }
 
     -- ---- loops
@@ -170,7 +191,8 @@ module _ {sh : Shape} {c : Columns} {E : NewEdge} (o : MevPlace sh c E) where
     same-name : (m : ℕ) → In (sh .loops) m → m ≢ l → (i : ℕ) → In n i → eqb (c Loop i) m ≡ eqb (d Loop i) m
     same-name m y e i j = split i k
         (λ z. new z (o .half-free) (ap (d Loop) z ∙ loop-k))
-        (λ z. split i (mate k) (λ z′. new z′ (o .mate-free) (ap (d Loop) z′ ∙ loop-b)) (λ z′. ap (λ w. eqb w m) (sym (loop-old i z z′))))
+        (λ z. split i (mate k) (λ z′. new z′ (o .mate-free) (ap (d Loop) z′ ∙ loop-b))
+        (λ z′. ap (λ w. eqb w m) (sym (loop-old i z z′))))
       where
         new : {i′ : ℕ} → i ≡ i′ → c Start i′ ≡ 0 → d Loop i ≡ l → eqb (c Loop i) m ≡ eqb (d Loop i) m
         new z s f =
@@ -180,10 +202,13 @@ module _ {sh : Shape} {c : Columns} {E : NewEdge} (o : MevPlace sh c E) where
 
     -- a vertex in use stays so
     used : (w : ℕ) → c VertexUsed w ≢ 0 → d VertexUsed w ≢ 0
-    used w x z = split w v (λ e. omega (arith, sym (upd-at (c VertexUsed) 1 e) ∙ z)) (λ e. x (sym (upd-off (c VertexUsed) 1 e) ∙ z))
+    used w x z = split w v (λ e. omega (arith, sym (upd-at (c VertexUsed) 1 e) ∙ z))
+        (λ e. x (sym (upd-off (c VertexUsed) 1 e) ∙ z))
 
-    isolated-used : (m : ℕ) → In (sh .loops) m → d Isolated m ≢ 0 → In (sh .vertices) (d Isolated m) × (d VertexUsed (d Isolated m) ≢ 0)
-    isolated-used m y h = split m l (λ e. absurd (h (ap (d Isolated) e ∙ upd-same (c Isolated) l 0))) (λ e. lone-kept a d m y (upd-off (c Isolated) 0 e) used h)
+    isolated-used : (m : ℕ) → In (sh .loops) m → d Isolated m ≢ 0 → In (sh .vertices) (d Isolated m)
+        × (d VertexUsed (d Isolated m) ≢ 0)
+    isolated-used m y h = split m l (λ e. absurd (h (ap (d Isolated) e ∙ upd-same (c Isolated) l 0)))
+        (λ e. lone-kept a d m y (upd-off (c Isolated) 0 e) used h)
 
     free-half : (i : ℕ) → In n i → d Start i ≡ 0 → (i ≢ k) × (i ≢ mate k) × (c Start i ≡ 0)
     free-half i j z =
@@ -194,12 +219,16 @@ module _ {sh : Shape} {c : Columns} {E : NewEdge} (o : MevPlace sh c E) where
     mev-loop : (m : ℕ) → In (sh .loops) m → c Face m ≢ 0 → LoopSound sh d m
     mev-loop m y h =
         let r = a .loop m y h in
-        let f : d First m ≡ firstOf sh d m = split m l (λ e. ap (d First) e ∙ upd-same (c First) l _ ∙ ap (firstOf sh d) (sym e)) (λ e. upd-off (c First) _ e ∙ r .first ∙ least-ext n _ _ (λ i x z. same-name m y e i (x, z))) in
+        let f : d First m ≡ firstOf sh d m =
+        split m l (λ e. ap (d First) e ∙ upd-same (c First) l _ ∙ ap (firstOf sh d) (sym e))
+        (λ e. upd-off (c First) _ e ∙ r .first ∙ least-ext n _ _ (λ i x z. same-name m y e i (x, z))) in
         record {
           face-in = r .face-in;
           face-used = r .face-used;
           first = f;
-          either = corners-loop mev-corners (λ i j z. let w = free-half i j z in loop-old i (w .0) (w .1) ∙ a .half-free i j (w .2) .loop) m y h f (isolated-used m y);
+          either = corners-loop mev-corners
+              (λ i j z. let w = free-half i j z in loop-old i (w .0) (w .1) ∙ a .half-free i j (w .2) .loop) m y h f
+              (isolated-used m y);
         }
 
     -- ---- half-edges
@@ -208,25 +237,33 @@ module _ {sh : Shape} {c : Columns} {E : NewEdge} (o : MevPlace sh c E) where
     mev-half-free i j z =
         let w = free-half i j z in
         let r = a .half-free i j (w .2) in
+        let e1 = w .0 in
+        let e2 = w .1 in
         let x : i ≢ P = λ e. ⊎-elim (λ g. w .1 (e ∙ g .0)) (λ g. g .0 .2 (ap (c Start) (sym e) ∙ w .2)) (o .corner) in
         let y : i ≢ N = λ e. ⊎-elim (λ g. w .0 (e ∙ g .1)) (λ g. g .1 .2 (ap (c Start) (sym e) ∙ w .2)) (o .corner) in
         record {
           loop = loop-old i (w .0) (w .1) ∙ r .loop;
-          next = upd-off _ (mate k) (w .0) ∙ upd-off _ k x ∙ upd-off _ N (w .1) ∙ upd-off (c Next) (mate k) (w .0) ∙ r .next;
-          prev = upd-off _ (mate k) y ∙ upd-off _ k (w .1) ∙ upd-off _ k (w .1) ∙ upd-off (c Prev) P (w .0) ∙ r .prev;
+          next = simp upd-off (r .next);
+          prev = simp upd-off (r .prev);
         }
 
     mev-half : (i : ℕ) → HalfUsed sh d i → HalfSound sh d i
     mev-half = half-was
         (half-by u l start-k loop-k (o .corner-in) (used u (o .corner-used)) (o .loop-in) (o .loop-used))
-        (half-by v l start-b loop-b (o .vertex-in) (λ z. omega (arith, sym (upd-same (c VertexUsed) v 1) ∙ z)) (o .loop-in) (o .loop-used))
+        (half-by v l start-b loop-b (o .vertex-in) (λ z. omega (arith, sym (upd-same (c VertexUsed) v 1) ∙ z))
+        (o .loop-in) (o .loop-used))
         (λ i w. let r = a .half i (w .0, w .1) (w .2) in
-        half-by (c Start i) (c Loop i) (start-old i (off-k i w) (off-b i w)) (loop-old i (off-k i w) (off-b i w)) (r .start-in) (used (c Start i) (r .start-used)) (r .loop-in) (r .loop-used))
+        half-by (c Start i) (c Loop i) (start-old i (off-k i w) (off-b i w)) (loop-old i (off-k i w) (off-b i w))
+        (r .start-in) (used (c Start i) (r .start-used)) (r .loop-in) (r .loop-used))
 
     -- ---- faces
 
     side-old : (i : ℕ) → HalfUsed sh c i → side d i ≡ side c i
     side-old i w = ap (c Face) (loop-old i (off-k i w) (off-b i w))
+
+    -- and of its mate
+    side-mate : (i : ℕ) → HalfUsed sh c i → side d (mate i) ≡ side c (mate i)
+    side-mate i w = side-old (mate i) (a .rules .mate-in i w)
 
     side-k : side d k ≡ c Face l
     side-k = ap (c Face) loop-k
@@ -240,13 +277,15 @@ module _ {sh : Shape} {c : Columns} {E : NewEdge} (o : MevPlace sh c E) where
 
     mev-solids : Solids (HalfUsed sh d) (FaceUsed sh d) (side d) mate (d Solid)
     mev-solids = record {
-      side-in = half-was (subst (FaceUsed sh c) (sym side-k) l-face) (subst (FaceUsed sh c) (sym side-b) l-face) (λ i w. subst (FaceUsed sh c) (sym (side-old i w)) (a .solids .side-in i w));
+      side-in = half-was (subst (FaceUsed sh c) (sym side-k) l-face) (subst (FaceUsed sh c) (sym side-b) l-face)
+          (λ i w. subst (FaceUsed sh c) (sym (side-old i w)) (a .solids .side-in i w));
       edge = half-was
           (ap (c Solid) (side-b ∙ sym side-k))
           (ap (c Solid) (ap (side d) (mate-mate k) ∙ side-k ∙ sym side-b))
-          (λ i w. ap (c Solid) (side-old (mate i) (a .rules .mate-in i w)) ∙ a .solids .edge i w ∙ ap (c Solid) (sym (side-old i w)));
+          (λ i w. ap (c Solid) (side-mate i w) ∙ a .solids .edge i w ∙ ap (c Solid) (sym (side-old i w)));
       one = λ f g x y e. map-linked (λ i. i)
-          (λ i j t. link (t .0, half-stays (t .0) (t .1), side-old (t .0) (t .1) ∙ t .2, side-old (mate (t .0)) (a .rules .mate-in (t .0) (t .1)) ∙ t .3)) (a .solids .one f g x y e);
+          (λ i j t. link (t .0, half-stays (t .0) (t .1), side-old (t .0) (t .1) ∙ t .2, side-mate (t .0) (t .1) ∙ t .3))
+          (a .solids .one f g x y e);
     }
 
     pub mev-sound : Sound sh q d
@@ -254,12 +293,19 @@ module _ {sh : Shape} {c : Columns} {E : NewEdge} (o : MevPlace sh c E) where
       solid-mark = a .solid-mark;
       solid = a .solid;
       face-free = a .face-free;
-      face = λ f i h. let r = a .face f i h in record { solid-in = r .solid-in; solid-used = r .solid-used; outer-in = r .outer-in; outer-face = r .outer-face };
-      loop-free = λ m i h. let e : m ≢ l = λ z. o .loop-used (ap (c Face) (sym z) ∙ h) in let r = a .loop-free m i h in (upd-off (c First) _ e ∙ r .0, upd-off (c Isolated) 0 e ∙ r .1);
+      face = λ f i h. let r = a .face f i h in record {
+        solid-in = r .solid-in;
+        solid-used = r .solid-used;
+        outer-in = r .outer-in;
+        outer-face = r .outer-face;
+      };
+      loop-free = λ m i h. let e : m ≢ l = λ z. o .loop-used (ap (c Face) (sym z) ∙ h) in let r = a .loop-free m i h in
+          (upd-off (c First) _ e ∙ r .0, upd-off (c Isolated) 0 e ∙ r .1);
       loop = mev-loop;
       half-free = mev-half-free;
       half = λ i j h. mev-half i (j .0, j .1, h);
-      vertex-mark = λ w i. split w v (λ e. rw (upd-at (c VertexUsed) 1 e) (omega arith)) (λ e. rw (upd-off (c VertexUsed) 1 e) (a .vertex-mark w i));
+      vertex-mark = λ w i. split w v (λ e. rw (upd-at (c VertexUsed) 1 e) (omega arith))
+          (λ e. rw (upd-off (c VertexUsed) 1 e) (a .vertex-mark w i));
       vertex = corners-vertex mev-corners;
       point = points;
       rules = corners-rules mev-corners;

@@ -1,6 +1,6 @@
 -- A spur in a sound table: a half-edge k in use whose next is its mate b. mev makes one, kev takes it away.
--- b alone starts at its vertex; k and what follows b start at one vertex, in one loop. Where k follows b, the two are the
--- whole loop, and k alone starts at its vertex.
+-- b alone starts at its vertex; k and what follows b start at one vertex, in one loop. Where k follows b, the two are
+-- the whole loop, and k alone starts at its vertex.
 use mathlib.Core.Path.{_≡_, sym, ap, _∙_}
 use mathlib.Core.Logic.{_≢_, _⊎_, inl, inr}
 use mathlib.Core.List.{List}
