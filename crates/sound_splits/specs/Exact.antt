@@ -162,13 +162,15 @@ module _ {sh : Shape} {x : List ℕ} {p : List ℤ} (g : Good sh x p) {k n : ℕ
   abbrev kv : ℕ
   kv = own sh x Start n
 
-  -- the columns, the list and the points afterwards
+  -- the columns afterwards
   abbrev kc : Columns
   kc = jekvColumns sh (own sh x) k n (swapFor n k (own sh x Prev (mate n)))
 
+  -- the links
   abbrev ky : List ℕ
   ky = jekvLinks sh x k n
 
+  -- and the points
   abbrev kq : List ℤ
   kq = putPoint p (own sh x Start n) (pos 0) (pos 0) (pos 0)
 

@@ -50,13 +50,15 @@ module _ {sh : Shape} {p : List ℤ} {d : Columns} (a : Sound sh p d) {k n : ℕ
   abbrev c : Columns
   c = jekvColumns sh d k n (swapFor n k (d Prev (mate n)))
 
-  -- n, its mate and k's mate are in use
+  -- n is in use
   pub n-used : HalfUsed sh d n
   n-used = subst (HalfUsed sh d) (o .next-k) (a .rules .loops .perm .f-in k (o .k-used))
 
+  -- so is its mate
   pub b-used : HalfUsed sh d (mate n)
   b-used = a .rules .mate-in n n-used
 
+  -- and k's mate
   pub m-used : HalfUsed sh d (mate k)
   m-used = a .rules .mate-in k (o .k-used)
 
@@ -64,6 +66,7 @@ module _ {sh : Shape} {p : List ℤ} {d : Columns} (a : Sound sh p d) {k n : ℕ
   abbrev P : ℕ
   P = d Prev (mate n)
 
+  -- it is in use
   pub P-used : HalfUsed sh d (d Prev (mate n))
   P-used = prev-in (a .rules) (mate n) b-used
 
@@ -71,22 +74,27 @@ module _ {sh : Shape} {p : List ℤ} {d : Columns} (a : Sound sh p d) {k n : ℕ
   next-P : d Next P ≡ mate n
   next-P = next-prev (a .rules) (mate n) b-used
 
-  -- the four half-edges differ
+  -- n and its mate differ
   n≢b : n ≢ mate n
   n≢b = mate-other n (n-used .0)
 
+  -- k and its mate
   k≢m : k ≢ mate k
   k≢m = mate-other k (o .k-used .0)
 
+  -- k and n's mate
   k≢b : k ≢ mate n
   k≢b e = o .n≢m (sym (mate-mate n) ∙ ap mate (sym e))
 
+  -- the mates
   m≢b : mate k ≢ mate n
   m≢b e = o .n≢k (sym (mate-mate n) ∙ ap mate (sym e) ∙ mate-mate k)
 
+  -- k's mate and n
   m≢n : mate k ≢ n
   m≢n e = o .n≢m (sym e)
 
+  -- k and n
   k≢n : k ≢ n
   k≢n e = o .n≢k (sym e)
 
@@ -100,6 +108,7 @@ module _ {sh : Shape} {p : List ℤ} {d : Columns} (a : Sound sh p d) {k n : ℕ
   P≢k : P ≢ k
   P≢k e = n≢b (sym (o .next-k) ∙ ap (d Next) (sym e) ∙ next-P)
 
+  -- q is in use
   pub q-used : HalfUsed sh d q
   q-used = split P n (λ e. subst (HalfUsed sh d) (sym (swap-at k e)) (o .k-used))
       (λ e. subst (HalfUsed sh d) (sym (swap-off k e)) P-used)
@@ -108,17 +117,19 @@ module _ {sh : Shape} {p : List ℤ} {d : Columns} (a : Sound sh p d) {k n : ℕ
   aft-q : aft k n q ≡ P
   aft-q = swap-back n k P P≢k
 
-  -- what is in use afterwards was so, and is not of n's edge
+  -- other half-edges start where they did
   start-o : (i : ℕ) → i ≢ mate k → i ≢ n → i ≢ mate n → d Start i ≡ c Start i
   start-o i e f g = simp upd-off
 
-  -- n and its mate are cleared, in every column of half-edges
+  -- n starts nowhere
   start-n : c Start n ≡ 0
   start-n = let e = n≢b in simp (upd-same, upd-off)
 
+  -- so is its mate
   start-b0 : c Start (mate n) ≡ 0
   start-b0 = simp upd-same
 
+  -- what is in use afterwards was so
   was : (i : ℕ) → HalfUsed sh c i → HalfUsed sh d i × (i ≢ n) × (i ≢ mate n)
   was i u =
       let f : i ≢ n = λ e. u .2 (ap (c Start) e ∙ start-n) in
@@ -153,7 +164,7 @@ module _ {sh : Shape} {p : List ℤ} {d : Columns} (a : Sound sh p d) {k n : ℕ
   tied-next : (i : ℕ) → upd (d Next) k (d Next n) i ≡ d Next (aft k n i)
   tied-next i = split i k (λ e. rw e (simp upd-same)) (λ e. simp upd-off)
 
-  -- what follows one in use: k's mate after q, else what followed what is read for it
+  -- after q comes k's mate
   next-q : c Next q ≡ mate k
   next-q = let e = q≢b in let f = q≢n in simp (upd-same, upd-off)
     where
@@ -166,6 +177,7 @@ module _ {sh : Shape} {p : List ℤ} {d : Columns} (a : Sound sh p d) {k n : ℕ
       q≢b z = split P n (λ e. k≢b (sym (swap-at k e) ∙ z))
           (λ e. m≢b (sym (o .next-b) ∙ ap (d Next) (sym z ∙ swap-off k e) ∙ next-P))
 
+  -- after another comes what followed what is read for it
   next-o : (i : ℕ) → HalfUsed sh c i → i ≢ q → c Next i ≡ d Next (aft k n i)
   next-o i u e = let f = was i u .1 in let g = was i u .2 in simp upd-off (tied-next i)
 
@@ -221,18 +233,20 @@ module _ {sh : Shape} {p : List ℤ} {d : Columns} (a : Sound sh p d) {k n : ℕ
   loop-o : (i : ℕ) → i ≢ n → i ≢ mate n → d Loop i ≡ c Loop i
   loop-o i e f = simp upd-off
 
-  -- n lies in k's loop, and n's mate in that of k's mate
+  -- n lies in k's loop
   n-loop : d Loop n ≡ d Loop k
   n-loop = ap (d Loop) (sym (o .next-k)) ∙ a .rules .loops .keeps k (o .k-used)
 
+  -- n's mate in that of k's mate
   b-loop : d Loop (mate n) ≡ d Loop (mate k)
   b-loop = sym (ap (d Loop) (sym (o .next-b)) ∙ a .rules .loops .keeps (mate n) b-used)
 
-  -- n and its mate are all zero
+  -- n is all zero
   n-zero : HalfFree sh c n
   n-zero = let h = n≢b in
       record { loop = simp (upd-same, upd-off); next = simp (upd-same, upd-off); prev = simp (upd-same, upd-off) }
 
+  -- so is its mate
   b-zero : HalfFree sh c (mate n)
   b-zero = record { loop = simp upd-same; next = simp upd-same; prev = simp upd-same }
 

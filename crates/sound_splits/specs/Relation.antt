@@ -84,10 +84,11 @@ pub record Split (sh : Shape) (c d : Columns) (k n v : ℕ) : Type 0 where
 -- ---- the four half-edges differ
 
 module _ {sh : Shape} {c : Columns} {k n v : ℕ} (o : Place sh c k n v) where
-  -- half-edges in use are none of the new ones
+  -- a half-edge in use is not n
   pub off-n : (i : ℕ) → HalfUsed sh c i → i ≢ n
   off-n i u e = u .2 (ap (c Start) e ∙ o .n-free)
 
+  -- nor is one the mate
   pub off-b : (i : ℕ) → HalfUsed sh c i → i ≢ mate n
   off-b i u e = u .2 (ap (c Start) e ∙ o .b-free)
 
@@ -95,16 +96,19 @@ module _ {sh : Shape} {c : Columns} {k n v : ℕ} (o : Place sh c k n v) where
   pub n≢b : n ≢ mate n
   n≢b = mate-other n (o .n-in .0)
 
-  -- new and old ones
+  -- n and k
   pub n≢k : n ≢ k
   n≢k e = off-n k (o .k-used) (sym e)
 
+  -- n and k's mate
   pub n≢m : n ≢ mate k
   n≢m e = off-n (mate k) (o .m-used) (sym e)
 
+  -- n's mate and k
   pub b≢k : mate n ≢ k
   b≢k e = off-b k (o .k-used) (sym e)
 
+  -- the mates
   pub b≢m : mate n ≢ mate k
   b≢m e = off-b (mate k) (o .m-used) (sym e)
 
@@ -130,13 +134,15 @@ module _ {sh : Shape} {c d : Columns} {k n v : ℕ} (r : Split sh c d k n v) whe
   pub loop-old : (i : ℕ) → HalfUsed sh c i → d Loop i ≡ c Loop i
   loop-old i u = r .loop i (off-n o i u) (off-b o i u)
 
-  -- n, its mate and all that were in use are in use
+  -- n is in use
   pub used-n : HalfUsed sh d n
   used-n = (o .n-in .0, o .n-in .1, λ z. omega (arith, o .v-in .0, sym (r .start-n) ∙ z))
 
+  -- so is its mate
   pub used-b : HalfUsed sh d (mate n)
   used-b = (o .b-in .0, o .b-in .1, λ z. o .m-used .2 (sym (r .start-b) ∙ z))
 
+  -- and what was in use
   pub used-old : (i : ℕ) → HalfUsed sh c i → HalfUsed sh d i
   used-old i u = (
     u .0,

@@ -23,6 +23,7 @@ use Rattle.sound_splits.specs.Relation.{Tidy, sound-tidy, Place, fore, a
 abbrev pub afterWrites : ℕ → ℕ → ℕ → ℕ → ℕ → List Write
 afterWrites k n v l A = halfRecord n v l A k ++ seated k n A
 
+-- on columns
 abbrev pub withAfter : Columns → ℕ → ℕ → ℕ → ℕ → ℕ → Columns
 withAfter c k n v l A = changes (afterWrites k n v l A) c
 
@@ -49,6 +50,7 @@ module _ {sh : Shape} {p : List ℤ} {c : Columns} (a : Sound sh p c) {k n v : �
   abbrev P : ℕ
   P = c Prev (mate k)
 
+  -- it is in use
   P-used : HalfUsed sh c (c Prev (mate k))
   P-used = prev-in (a .rules) (mate k) (o .m-used)
 
@@ -56,18 +58,20 @@ module _ {sh : Shape} {p : List ℤ} {c : Columns} (a : Sound sh p c) {k n v : �
   pub next-in : (i : ℕ) → HalfUsed sh c i → HalfUsed sh c (c Next i)
   next-in = a .rules .loops .perm .f-in
 
-  -- what is read for one in use is neither k nor n's mate
+  -- what is read for one in use is not k
   aft-k : (i : ℕ) → aft k n i ≢ k
   aft-k i = split i k (λ e z. n≢k o (sym (swap-at n e) ∙ z)) (λ e z. e (sym (swap-off n e) ∙ z))
 
+  -- nor n's mate
   aft-b : (i : ℕ) → HalfUsed sh c i → aft k n i ≢ mate n
   aft-b i u = split i k (λ e z. n≢b o (sym (swap-at n e) ∙ z)) (λ e z. off-b o i u (sym (swap-off n e) ∙ z))
 
-  -- before n's mate goes in
+  -- what follows one in use before n's mate goes in
   pub first-next : (i : ℕ) → HalfUsed sh c i → upd (upd (c Next) n (c Next k)) k n (aft k n i) ≡ c Next i
   first-next i u = apart o λ c1 c2 c3 c4 c5 c6 c7 c8 c9 c10.
       split i k (λ e. rw e (simp (upd-same, upd-off))) (λ e. let f = off-n o i u in simp upd-off)
 
+  -- what precedes one in use then
   pub first-prev : (i : ℕ) → HalfUsed sh c i → upd (upd (c Prev) n k) (c Next k) n i ≡ aft k n (c Prev i)
   first-prev i u = split i (c Next k)
       (λ e. upd-at _ n e ∙ sym (swap-at n (ap (c Prev) e ∙ a .rules .undone k (o .k-used))))
@@ -93,10 +97,11 @@ module _ {sh : Shape} {p : List ℤ} {c : Columns} (a : Sound sh p c) {k n v : �
       split i (mate k) (λ e. rw e (simp (upd-same, upd-off)))
       (λ e. let f = off-b o i u in simp upd-off (first-prev i u))
 
-  -- the loops of the new half-edges
+  -- n lies with k
   loop-n : d Loop n ≡ c Loop k
   loop-n = apart o λ c1 c2 c3 c4 c5 c6 c7 c8 c9 c10. simp (upd-same, upd-off)
 
+  -- n's mate lies with m
   loop-b : d Loop (mate n) ≡ c Loop (mate k)
   loop-b = simp upd-same
 
@@ -104,16 +109,19 @@ module _ {sh : Shape} {p : List ℤ} {c : Columns} (a : Sound sh p c) {k n v : �
   loop-o : (i : ℕ) → i ≢ n → i ≢ mate n → d Loop i ≡ c Loop i
   loop-o i e f = simp upd-off
 
-  -- where m, the new half-edges and the others start
+  -- m starts at v
   start-m : d Start (mate k) ≡ v
   start-m = simp upd-same
 
+  -- so does n
   start-n : d Start n ≡ v
   start-n = apart o λ c1 c2 c3 c4 c5 c6 c7 c8 c9 c10. simp (upd-same, upd-off)
 
+  -- n's mate starts where m did
   start-b : d Start (mate n) ≡ c Start (mate k)
   start-b = apart o λ c1 c2 c3 c4 c5 c6 c7 c8 c9 c10. simp (upd-same, upd-off)
 
+  -- the others where they did
   start-o : (i : ℕ) → i ≢ mate k → i ≢ n → i ≢ mate n → d Start i ≡ c Start i
   start-o i e f g = simp upd-off
 

@@ -25,10 +25,11 @@ module _ {sh : Shape} {c d : Columns} {k n v : ℕ} (r : Split sh c d k n v) whe
   abbrev N : ℕ
   N = 2 * sh .edges
 
-  -- those in use before, and after
+  -- those in use before
   abbrev U : ℕ → Type 0
   U = HalfUsed sh c
 
+  -- and after
   abbrev U′ : ℕ → Type 0
   U′ = HalfUsed sh d
 

@@ -20,30 +20,34 @@ first-same {sh} s t e l i = s .first l i ∙ least-ext (2 * sh .edges) _ _ (λ k
 -- ---- d is settled by c
 
 module _ {sh : Shape} {c d e : Columns} {k n v : ℕ} (r : Split sh c d k n v) (s : Split sh c e k n v) where
-  -- column by column
+  -- starts
   start-d : (i : ℕ) → d Start i ≡ e Start i
   start-d i = split i (mate k) (λ z. rw z (r .start-m ∙ sym (s .start-m))) λ f. split i n
       (λ z. rw z (r .start-n ∙ sym (s .start-n))) λ g. split i (mate n)
       (λ z. rw z (r .start-b ∙ sym (s .start-b))) (λ h. r .start i f g h ∙ sym (s .start i f g h))
 
+  -- loops
   loop-d : (i : ℕ) → d Loop i ≡ e Loop i
   loop-d i = split i n (λ z. rw z (r .loop-n ∙ sym (s .loop-n))) λ g. split i (mate n)
       (λ z. rw z (r .loop-b ∙ sym (s .loop-b))) (λ h. r .loop i g h ∙ sym (s .loop i g h))
 
+  -- next
   next-d : (i : ℕ) → In (2 * sh .edges) i → d Next i ≡ e Next i
   next-d = by-next r (λ i. d Next i ≡ e Next i) (r .next-k ∙ sym (s .next-k)) (r .next-b ∙ sym (s .next-b))
       (λ i u. r .next i u ∙ sym (s .next i u))
       (λ i j z. r .tidy-d .half i j z .next ∙ sym (s .tidy-d .half i j (sym (start-d i) ∙ z) .next))
 
+  -- previous
   prev-d : (i : ℕ) → In (2 * sh .edges) i → d Prev i ≡ e Prev i
   prev-d = by-prev r (λ i. d Prev i ≡ e Prev i) (r .prev-m ∙ sym (s .prev-m)) (r .prev-n ∙ sym (s .prev-n))
       (λ i u. r .prev i u ∙ sym (s .prev i u))
       (λ i j z. r .tidy-d .half i j z .prev ∙ sym (s .tidy-d .half i j (sym (start-d i) ∙ z) .prev))
 
-  -- firsts and isolated vertices of loops
+  -- firsts
   first-d : (l : ℕ) → In (sh .loops) l → d First l ≡ e First l
   first-d = first-same (r .tidy-d) (s .tidy-d) (λ i h. loop-d i)
 
+  -- isolated vertices
   isolated-d : (l : ℕ) → d Isolated l ≡ e Isolated l
   isolated-d l = r .isolated l ∙ sym (s .isolated l)
 
@@ -62,7 +66,7 @@ module _ {sh : Shape} {c d e : Columns} {k n v : ℕ} (r : Split sh c d k n v) (
 module _ {sh : Shape} {c e d : Columns} {k n v : ℕ} (r : Split sh c d k n v) (s : Split sh e d k n v) where
   open Split r using (place as o)
 
-  -- column by column
+  -- starts
   start-c : (i : ℕ) → c Start i ≡ e Start i
   start-c i = split i (mate k) (λ z. rw z (sym (r .start-b) ∙ s .start-b)) λ f. split i n
       (λ z. rw z (o .n-free ∙ sym (s .place .n-free))) λ g. split i (mate n)
@@ -74,27 +78,31 @@ module _ {sh : Shape} {c e d : Columns} {k n v : ℕ} (r : Split sh c d k n v) (
   either-c Q qf qu i j = split (c Start i) 0 (λ z. qf i j z (sym (start-c i) ∙ z))
       (λ u. qu i (j .0, j .1, u) (j .0, j .1, λ z. u (start-c i ∙ z)))
 
+  -- loops
   loop-c : (i : ℕ) → In (2 * sh .edges) i → c Loop i ≡ e Loop i
   loop-c = either-c (λ i. c Loop i ≡ e Loop i)
       (λ i j z y. r .tidy-c .half i j z .loop ∙ sym (s .tidy-c .half i j y .loop))
       (λ i u w. let f = off-n o i u in let g = off-b o i u in sym (r .loop i f g) ∙ s .loop i f g)
 
+  -- next
   next-c : (i : ℕ) → In (2 * sh .edges) i → c Next i ≡ e Next i
   next-c = either-c (λ i. c Next i ≡ e Next i)
       (λ i j z y. r .tidy-c .half i j z .next ∙ sym (s .tidy-c .half i j y .next))
       (λ i u w. sym (swap-back (mate k) (mate n) (c Next i) (r .next-old i u)) ∙ ap (swapFor (mate n) (mate k))
       (sym (r .next i u) ∙ s .next i w) ∙ swap-back (mate k) (mate n) (e Next i) (s .next-old i w))
 
+  -- previous
   prev-c : (i : ℕ) → In (2 * sh .edges) i → c Prev i ≡ e Prev i
   prev-c = either-c (λ i. c Prev i ≡ e Prev i)
       (λ i j z y. r .tidy-c .half i j z .prev ∙ sym (s .tidy-c .half i j y .prev))
       (λ i u w. sym (swap-back k n (c Prev i) (r .prev-old i u)) ∙ ap (swapFor n k) (sym (r .prev i u) ∙ s .prev i w)
       ∙ swap-back k n (e Prev i) (s .prev-old i w))
 
-  -- firsts and isolated vertices of loops
+  -- firsts
   first-c : (l : ℕ) → In (sh .loops) l → c First l ≡ e First l
   first-c = first-same (r .tidy-c) (s .tidy-c) loop-c
 
+  -- isolated vertices
   isolated-c : (l : ℕ) → c Isolated l ≡ e Isolated l
   isolated-c l = sym (r .isolated l) ∙ s .isolated l
 

@@ -120,26 +120,31 @@ module _ {sh : Shape} {x : List ℕ} {p : List ℤ} (g : Good sh x p) {m : Mev} 
   s : Shows sh y (mevColumns sh c E)
   s = mev-shows g r
 
-  -- what kev reads: before k, behind its mate, k's loop and the two ends
+  -- what kev reads: before k
   at-P : Y Prev k ≡ E .before
   at-P = s .at Prev k (o .half-in .1) ∙ prev-k o
 
+  -- behind its mate
   at-N : Y Next (mate k) ≡ E .after
   at-N = s .at Next (mate k) (o .mate-in .1) ∙ next-b o
 
+  -- k's loop
   at-l : Y Loop k ≡ m .loop
   at-l = s .at Loop k (o .half-in .1) ∙ loop-k o
 
+  -- where k starts
   at-u : Y Start k ≡ E .from
   at-u = s .at Start k (o .half-in .1) ∙ start-k o
 
+  -- where its mate starts
   at-v : Y Start (mate k) ≡ m .vertex
   at-v = s .at Start (mate k) (o .mate-in .1) ∙ start-b o
 
-  -- k is in use, and its mate follows it
+  -- k is in use
   uk : HalfUsed sh Y k
   uk = (o .half-in .0, o .half-in .1, λ z. omega (arith, o .corner-in .0, sym at-u ∙ z))
 
+  -- its mate follows it
   nk : Y Next k ≡ mate k
   nk = s .at Next k (o .half-in .1) ∙ upd-same _ k (mate k)
 

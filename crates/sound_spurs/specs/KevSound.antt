@@ -154,6 +154,7 @@ module _ {sh : Shape} {p : List ℤ} {c : Columns} {k : ℕ} (sp : Spur sh p c k
       (λ z. split i (mate k) (λ z′. gone (ap (c Loop) z′ ∙ spur-loop-b sp) (ap (d Loop) z′ ∙ out-loop-b))
       (λ z′. ap (λ w. eqb w m) (sym (columns-out .loop i z z′))))
     where
+      -- a half-edge of the edge that goes named l, and names none
       gone : c Loop i ≡ l → d Loop i ≡ 0 → eqb (c Loop i) m ≡ eqb (d Loop i) m
       gone f g =
           let x : c Loop i ≢ m = λ w. e (sym w ∙ f) in
@@ -184,6 +185,7 @@ module _ {sh : Shape} {p : List ℤ} {c : Columns} {k : ℕ} (sp : Spur sh p c k
         upd-same (c Isolated) l I ∙ w .1,
       )) left
     where
+      -- where it is isolated then
       isolated-at : I ≡ c Start k → d Isolated l ≡ c Start k
       isolated-at e = upd-same (c Isolated) l I ∙ e
 
@@ -191,6 +193,7 @@ module _ {sh : Shape} {p : List ℤ} {c : Columns} {k : ℕ} (sp : Spur sh p c k
   isolated-off : (m : ℕ) → In (sh .loops) m → c Isolated m ≢ v
   isolated-off m y e = by (a .vertex v (far-in sp) (far-used sp))
     where
+      -- the mate starts at v, so v is isolated nowhere
       by : VertexSound sh c v → ⊥
       by (alone m′ j q u s) = s (mate k) (in-b sp) refl
       by (joined s i j q) = s m y e

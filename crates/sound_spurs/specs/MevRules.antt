@@ -33,6 +33,7 @@ resize-cycles c h =
       one = c .one;
     }
 
+-- so for the rules
 resize : {n m : ℕ} {mate : ℕ → ℕ} {U : ℕ → Type 0} {h : Halves} → Rules n mate U h → ((i : ℕ) → U i → i ≤ m)
     → Rules m mate U h
 resize r h = record {
@@ -53,22 +54,28 @@ module _ {sh : Shape} {p : List ℤ} {c : Columns} (a : Sound sh p c) {E : NewEd
   abbrev D : ℕ
   D = 2 * sh .edges + sh .loops + 1
 
+  -- the half-edges and dummies before
   abbrev H : Halves
   H = extended sh c
 
+  -- the columns afterwards
   abbrev d : Columns
   d = mevColumns sh c E
 
+  -- a free half-edge is no member
   free-member : (i : ℕ) → i ≤ n → c Start i ≡ 0 → ¬ Member sh c i
   free-member i h z = ⊎-elim (λ w. w .2 z) (λ w. omega (arith, h, w .0))
 
+  -- nor is the dummy on the way
   D-free : ¬ Member sh c D
   D-free = ⊎-elim (λ w. omega (arith, w .1)) (λ w. omega (arith, w .1))
 
+  -- members have a loop
   member-loop : (i : ℕ) → Member sh c i → H .loop i ≢ 0
   member-loop i (inl w) z = let h = w .1 in omega (arith, a .half i (w .0, w .1) (w .2) .loop-in .0, simp upTo-low at z)
   member-loop i (inr w) z = let h = w .0 in omega (arith, w .0, simp upTo-high at z)
 
+  -- none starts at the new vertex
   member-start : (i : ℕ) → Member sh c i → H .start i ≢ v
   member-start i (inl w) z = start-unnamed a v (o .vertex-in) (o .vertex-free) i (w .0, w .1)
       (let h = w .1 in simp upTo-low at z)
@@ -102,6 +109,7 @@ module _ {sh : Shape} {p : List ℤ} {c : Columns} (a : Sound sh p c) {E : NewEd
   to-member = each (Member sh d) (inl (new-k o)) (inl (new-b o)) (λ i w m e f. inl (half-stays o i w))
       (λ i w m e f g. inr (dummy-stays o i g w))
 
+  -- and which were members before
   from-member : (i : ℕ) → Member sh d i → Or (mate k) (Or k (Member sh c)) i × (Dummy sh c i → i - n ≢ l)
   from-member i (inl w) =
       let r = half-was o {Q = Or (mate k) (Or k (Member sh c))} (inr (inl refl)) (inl refl)
@@ -128,18 +136,23 @@ module _ {sh : Shape} {p : List ℤ} {c : Columns} (a : Sound sh p c) {l k v h :
   abbrev n₁ : ℕ
   n₁ = 2 * sh .edges
 
+  -- what comes before h
   abbrev P₁ : ℕ
   P₁ = c Prev h
 
+  -- the columns afterwards
   abbrev d₁ : Columns
   d₁ = mevColumns sh c (besideEdge c l k v h)
 
+  -- the half-edges and dummies once the edge is in
   abbrev H₁ : Halves
   H₁ = spurred (extended sh c) k (mate k) (c Prev h) v
 
+  -- it is in use
   pu : HalfUsed sh c (c Prev h)
   pu = prev-in (a .rules) h hu
 
+  -- the loop has no dummy
   no-dummy : (i : ℕ) → Dummy sh c i → i - n₁ ≢ l
   no-dummy i w e = w .2 (ap (c Isolated) e ∙ not-isolated a h hu hl)
 
@@ -155,24 +168,27 @@ module _ {sh : Shape} {p : List ℤ} {c : Columns} (a : Sound sh p c) {l k v h :
       (λ z. off-k o P₁ pu (sym z)) (λ z. off-b o P₁ pu (sym z)) (off-k o h hu) (off-b o h hu)
       (λ z. off-k o h hu (sym z)) (λ z. off-b o h hu (sym z)) (next-prev (a .rules) h hu)
 
-  -- column by column
+  -- column by column: starts
   at-start : (i : ℕ) → Or (mate k) (Or k (Member sh c)) i → extended sh d₁ .start i ≡ H₁ .start i
   at-start i = known λ k1 b1 p1 h1 c1 c2 c3 c4 c5 c6 c7 c8 c9 c10 np. each a o
       (λ i. extended sh d₁ .start i ≡ H₁ .start i)
       (simp (upTo-low, upd-same, upd-off, np)) (simp (upTo-low, upd-same, upd-off))
       (λ i w m e f. simp (upTo-low, upd-off)) (λ i w m e f g. simp (upTo-high, upd-off)) i (no-dummy i)
 
+  -- loops
   at-loop : (i : ℕ) → Or (mate k) (Or k (Member sh c)) i → extended sh d₁ .loop i ≡ H₁ .loop i
   at-loop i = known λ k1 b1 p1 h1 c1 c2 c3 c4 c5 c6 c7 c8 c9 c10 np. each a o (λ i. extended sh d₁ .loop i ≡ H₁ .loop i)
       (simp (upTo-low, upd-same, upd-off) (sym p-loop)) (simp (upTo-low, upd-same, upd-off) (sym p-loop))
       (λ i w m e f. simp (upTo-low, upd-off)) (λ i w m e f g. simp (upTo-high, upd-off)) i (no-dummy i)
 
+  -- next
   at-next : (i : ℕ) → Or (mate k) (Or k (Member sh c)) i → extended sh d₁ .next i ≡ H₁ .next i
   at-next i = known λ k1 b1 p1 h1 c1 c2 c3 c4 c5 c6 c7 c8 c9 c10 np. each a o (λ i. extended sh d₁ .next i ≡ H₁ .next i)
       (simp (upTo-low, upd-same, upd-off)) (simp (upTo-low, upd-same, upd-off, np))
       (λ i w m e f. split i P₁ (λ z. rw z (simp (upTo-low, upd-same, upd-off))) (λ z. simp (upTo-low, upd-off)))
       (λ i w m e f g. let z : i ≢ P₁ = λ y. omega arith in simp (upTo-high, upd-off)) i (no-dummy i)
 
+  -- previous
   at-prev : (i : ℕ) → Or (mate k) (Or k (Member sh c)) i → extended sh d₁ .prev i ≡ H₁ .prev i
   at-prev i = known λ k1 b1 p1 h1 c1 c2 c3 c4 c5 c6 c7 c8 c9 c10 np. each a o (λ i. extended sh d₁ .prev i ≡ H₁ .prev i)
       (simp (upTo-low, upd-same, upd-off)) (simp (upTo-low, upd-same, upd-off))
@@ -193,27 +209,35 @@ module _ {sh : Shape} {p : List ℤ} {c : Columns} (a : Sound sh p c) {l k v : �
   abbrev n₂ : ℕ
   n₂ = 2 * sh .edges
 
+  -- the loop's dummy
   abbrev y : ℕ
   y = 2 * sh .edges + l
 
+  -- the columns afterwards
   abbrev d₂ : Columns
   d₂ = mevColumns sh c (loneEdge c l k v)
 
+  -- the half-edges and dummies once the edge is in
   abbrev S₂ : Halves
   S₂ = spurred (extended sh c) k (mate k) (2 * sh .edges + l) v
 
+  -- and the dummy out
   abbrev H₂ : Halves
   H₂ = dropped S₂ (2 * sh .edges + l) (mate k)
 
+  -- it is a dummy
   y-dummy : Dummy sh c y
   y-dummy = dummy-of sh c l (o .loop-in) isolated
 
+  -- alone in its cycle
   y-next : extended sh c .next y ≡ y
   y-next = upTo-high n₂ (c Next) (λ j. j) y (y-dummy .0)
 
+  -- it is neither k
   yk : y ≢ k
   yk e = omega (arith, y-dummy .0, o .half-in .1, e)
 
+  -- nor k's mate
   yb : y ≢ mate k
   yb e = omega (arith, y-dummy .0, o .mate-in .1, e)
 
@@ -221,6 +245,7 @@ module _ {sh : Shape} {p : List ℤ} {c : Columns} (a : Sound sh p c) {l k v : �
   next-b : S₂ .next (mate k) ≡ y
   next-b = upd-same _ (mate k) _ ∙ y-next
 
+  -- the rules once it is out
   without : Rules (2 * sh .edges + sh .loops + 1) (mate⁺ (sh .edges)) (But y (Or (mate k) (Or k (Member sh c)))) H₂
   without = drop-rules (spur a o y (inr y-dummy)) (mate⁺-mate⁺ (sh .edges)) y (mate k)
       (mate⁺-high (sh .edges) y (y-dummy .0)) (inl refl) next-b yb
@@ -229,10 +254,11 @@ module _ {sh : Shape} {p : List ℤ} {c : Columns} (a : Sound sh p c) {l k v : �
   other-dummy : (i : ℕ) → i ≢ y → Dummy sh c i → i - n₂ ≢ l
   other-dummy i e w z = e (omega (arith, w .0, z))
 
-  -- half-edges and dummies of other loops are not y
+  -- half-edges are not y
   low-y : (i : ℕ) → i ≤ n₂ → i ≢ y
   low-y i h e = omega (arith, h, y-dummy .0, e)
 
+  -- nor are dummies of other loops
   other-y : (i : ℕ) → i - n₂ ≢ l → i ≢ y
   other-y i h e = h (omega (arith, e))
 
@@ -243,23 +269,26 @@ module _ {sh : Shape} {p : List ℤ} {c : Columns} (a : Sound sh p c) {l k v : �
   known₂ f = f (o .half-in .1) (o .mate-in .1) (y-dummy .0) (kb o) (λ z. kb o (sym z)) yk (λ z. yk (sym z)) yb
       (λ z. yb (sym z)) (omega arith)
 
-  -- column by column
+  -- column by column: starts
   to-start : (i : ℕ) → But y (Or (mate k) (Or k (Member sh c))) i → extended sh d₂ .start i ≡ H₂ .start i
   to-start i w = known₂ λ k1 b1 y1 c1 c2 c3 c4 c5 c6 yl. each a o (λ i. extended sh d₂ .start i ≡ H₂ .start i)
       (simp (upTo-low, upTo-high, upd-same, upd-off, yl)) (simp (upTo-low, upd-same, upd-off))
       (λ i w m e f. simp (upTo-low, upd-off)) (λ i w m e f g. simp (upTo-high, upd-off)) i (other-dummy i (w .1)) (w .0)
 
+  -- loops
   to-loop : (i : ℕ) → But y (Or (mate k) (Or k (Member sh c))) i → extended sh d₂ .loop i ≡ H₂ .loop i
   to-loop i w = known₂ λ k1 b1 y1 c1 c2 c3 c4 c5 c6 yl. each a o (λ i. extended sh d₂ .loop i ≡ H₂ .loop i)
       (simp (upTo-low, upTo-high, upd-same, upd-off, yl)) (simp (upTo-low, upTo-high, upd-same, upd-off, yl))
       (λ i w m e f. simp (upTo-low, upd-off)) (λ i w m e f g. simp (upTo-high, upd-off)) i (other-dummy i (w .1)) (w .0)
 
+  -- next
   to-next : (i : ℕ) → But y (Or (mate k) (Or k (Member sh c))) i → extended sh d₂ .next i ≡ H₂ .next i
   to-next i w = known₂ λ k1 b1 y1 c1 c2 c3 c4 c5 c6 yl. each a o (λ i. extended sh d₂ .next i ≡ H₂ .next i)
       (simp (upTo-low, upTo-high, upd-same, upd-off)) (simp (upTo-low, upTo-high, upd-same, upd-off))
       (λ i w m e f. let z = low-y i m in simp (upTo-low, upTo-high, upd-same, upd-off))
       (λ i w m e f g. let z = other-y i g in simp (upTo-high, upd-same, upd-off)) i (other-dummy i (w .1)) (w .0)
 
+  -- previous
   to-prev : (i : ℕ) → But y (Or (mate k) (Or k (Member sh c))) i → extended sh d₂ .prev i ≡ H₂ .prev i
   to-prev i w = known₂ λ k1 b1 y1 c1 c2 c3 c4 c5 c6 yl. each a o (λ i. extended sh d₂ .prev i ≡ H₂ .prev i)
       (simp (upTo-low, upTo-high, upd-same, upd-off)) (simp (upTo-low, upTo-high, upd-same, upd-off))
@@ -272,5 +301,6 @@ module _ {sh : Shape} {p : List ℤ} {c : Columns} (a : Sound sh p c) {l k v : �
       (λ i w. let r = from-member a o i w in (r .0, λ e. not-y i w r e)) to-start to-loop to-next to-prev)
       (λ i. ⊎-elim (λ w. omega (arith, w .1)) (λ w. w .1))
     where
+      -- the dummy is no member afterwards
       not-y : (i : ℕ) → Member sh d₂ i → Or (mate k) (Or k (Member sh c)) i × (Dummy sh c i → i - n₂ ≢ l) → i ≡ y → ⊥
       not-y i w r e = r .1 (subst (Dummy sh c) (sym e) y-dummy) (omega (arith, e))

@@ -96,38 +96,47 @@ module _ {sh : Shape} {c : Columns} {E : NewEdge} (o : MevPlace sh c E) where
   pub kb : k ≢ mate k
   kb = mate-other k (o .half-in .0)
 
-  -- half-edges in use are neither
+  -- a half-edge in use is not k
   pub off-k : (i : ℕ) → HalfUsed sh c i → i ≢ k
   off-k i w e = w .2 (ap (c Start) e ∙ o .half-free)
 
+  -- nor the mate
   pub off-b : (i : ℕ) → HalfUsed sh c i → i ≢ mate k
   off-b i w e = w .2 (ap (c Start) e ∙ o .mate-free)
 
-  -- start and loop of the two halves, and of the others
+  -- k starts at the corner
   pub start-k : d Start k ≡ u
   start-k = upd-off _ v kb ∙ upd-same (c Start) k u
 
+  -- its mate at the new vertex
   pub start-b : d Start (mate k) ≡ v
   start-b = upd-same _ (mate k) v
 
+  -- the others where they did
   pub start-old : (i : ℕ) → i ≢ k → i ≢ mate k → d Start i ≡ c Start i
   start-old i e f = upd-off _ v f ∙ upd-off (c Start) u e
 
+  -- k lies in the loop
   pub loop-k : d Loop k ≡ l
   loop-k = upd-off _ l kb ∙ upd-same (c Loop) k l
 
+  -- so does its mate
   pub loop-b : d Loop (mate k) ≡ l
   loop-b = upd-same _ (mate k) l
 
+  -- the others where they did
   pub loop-old : (i : ℕ) → i ≢ k → i ≢ mate k → d Loop i ≡ c Loop i
   loop-old i e f = upd-off _ l f ∙ upd-off (c Loop) l e
 
+  -- k is in use
   pub new-k : HalfUsed sh d k
   new-k = (o .half-in .0, o .half-in .1, λ z. omega (arith, o .corner-in .0, sym start-k ∙ z))
 
+  -- so is its mate
   pub new-b : HalfUsed sh d (mate k)
   new-b = (o .mate-in .0, o .mate-in .1, λ z. omega (arith, o .vertex-in .0, sym start-b ∙ z))
 
+  -- and what was in use
   pub half-stays : (i : ℕ) → HalfUsed sh c i → HalfUsed sh d i
   half-stays i w = (w .0, w .1, λ z. w .2 (sym (start-old i (off-k i w) (off-b i w)) ∙ z))
 
@@ -145,6 +154,7 @@ module _ {sh : Shape} {c : Columns} {E : NewEdge} (o : MevPlace sh c E) where
       (points : (w : ℕ) → In (sh .vertices) w → PointSound q (mevColumns sh c E) w) where
     -- ---- members of loops and vertices
 
+    -- where a loop had a member, it has one
     loop-member : (m : ℕ) → (i : ℕ) → Member sh c i → extended sh c .loop i ≡ m → (j : ℕ) × Member sh d j
         × (extended sh d .loop j ≡ m)
     loop-member m i (inl w) e =
@@ -159,6 +169,7 @@ module _ {sh : Shape} {c : Columns} {E : NewEdge} (o : MevPlace sh c E) where
         (λ z. let h = o .half-in .1 in (k, inl new-k, simp upTo-low (loop-k ∙ sym z ∙ f)))
         (λ z. (i, inr (dummy-stays i z w), simp upTo-high f))
 
+    -- and so a vertex
     vertex-member : (w : ℕ) → In (sh .vertices) w → (i : ℕ) → Member sh c i → extended sh c .start i ≡ w
         → (j : ℕ) × Member sh d j × (extended sh d .start j ≡ w)
     vertex-member w y i (inl x) e =
@@ -175,6 +186,7 @@ module _ {sh : Shape} {c : Columns} {E : NewEdge} (o : MevPlace sh c E) where
         (λ g. absurd (omega (arith, y .0, sym f ∙ ap (c Isolated) z ∙ g .4))) (o .corner))
         (λ z. (i, inr (dummy-stays i z x), simp (upTo-high, upd-off) f))
 
+    -- corners as they should be
     mev-corners : Corners sh d
     mev-corners = record {
       rules = rules⁺;
@@ -194,6 +206,7 @@ module _ {sh : Shape} {c : Columns} {E : NewEdge} (o : MevPlace sh c E) where
         (λ z. split i (mate k) (λ z′. new z′ (o .mate-free) (ap (d Loop) z′ ∙ loop-b))
         (λ z′. ap (λ w. eqb w m) (sym (loop-old i z z′))))
       where
+        -- a half of the new edge named none, and names l
         new : {i′ : ℕ} → i ≡ i′ → c Start i′ ≡ 0 → d Loop i ≡ l → eqb (c Loop i) m ≡ eqb (d Loop i) m
         new z s f =
             let x : c Loop i ≢ m = λ w. omega (arith, y .0, w, a .half-free i j (ap (c Start) z ∙ s) .loop) in
@@ -205,17 +218,20 @@ module _ {sh : Shape} {c : Columns} {E : NewEdge} (o : MevPlace sh c E) where
     used w x z = split w v (λ e. omega (arith, sym (upd-at (c VertexUsed) 1 e) ∙ z))
         (λ e. x (sym (upd-off (c VertexUsed) 1 e) ∙ z))
 
+    -- an isolated vertex is in use
     isolated-used : (m : ℕ) → In (sh .loops) m → d Isolated m ≢ 0 → In (sh .vertices) (d Isolated m)
         × (d VertexUsed (d Isolated m) ≢ 0)
     isolated-used m y h = split m l (λ e. absurd (h (ap (d Isolated) e ∙ upd-same (c Isolated) l 0)))
         (λ e. lone-kept a d m y (upd-off (c Isolated) 0 e) used h)
 
+    -- a free half-edge was free
     free-half : (i : ℕ) → In n i → d Start i ≡ 0 → (i ≢ k) × (i ≢ mate k) × (c Start i ≡ 0)
     free-half i j z =
         let e : i ≢ k = λ w. omega (arith, o .corner-in .0, sym start-k ∙ ap (d Start) (sym w) ∙ z) in
         let f : i ≢ mate k = λ w. omega (arith, o .vertex-in .0, sym start-b ∙ ap (d Start) (sym w) ∙ z) in
         (e, f, sym (start-old i e f) ∙ z)
 
+    -- loops are sound
     mev-loop : (m : ℕ) → In (sh .loops) m → c Face m ≢ 0 → LoopSound sh d m
     mev-loop m y h =
         let r = a .loop m y h in
@@ -233,6 +249,7 @@ module _ {sh : Shape} {c : Columns} {E : NewEdge} (o : MevPlace sh c E) where
 
     -- ---- half-edges
 
+    -- free half-edges are all zero
     mev-half-free : (i : ℕ) → In n i → d Start i ≡ 0 → HalfFree sh d i
     mev-half-free i j z =
         let w = free-half i j z in
@@ -247,6 +264,7 @@ module _ {sh : Shape} {c : Columns} {E : NewEdge} (o : MevPlace sh c E) where
           prev = simp upd-off (r .prev);
         }
 
+    -- half-edges are sound
     mev-half : (i : ℕ) → HalfUsed sh d i → HalfSound sh d i
     mev-half = half-was
         (half-by u l start-k loop-k (o .corner-in) (used u (o .corner-used)) (o .loop-in) (o .loop-used))
@@ -258,6 +276,7 @@ module _ {sh : Shape} {c : Columns} {E : NewEdge} (o : MevPlace sh c E) where
 
     -- ---- faces
 
+    -- the face of a half-edge that was in use
     side-old : (i : ℕ) → HalfUsed sh c i → side d i ≡ side c i
     side-old i w = ap (c Face) (loop-old i (off-k i w) (off-b i w))
 
@@ -265,9 +284,11 @@ module _ {sh : Shape} {c : Columns} {E : NewEdge} (o : MevPlace sh c E) where
     side-mate : (i : ℕ) → HalfUsed sh c i → side d (mate i) ≡ side c (mate i)
     side-mate i w = side-old (mate i) (a .rules .mate-in i w)
 
+    -- of k
     side-k : side d k ≡ c Face l
     side-k = ap (c Face) loop-k
 
+    -- of its mate
     side-b : side d (mate k) ≡ c Face l
     side-b = ap (c Face) loop-b
 
@@ -275,6 +296,7 @@ module _ {sh : Shape} {c : Columns} {E : NewEdge} (o : MevPlace sh c E) where
     l-face : FaceUsed sh c (c Face l)
     l-face = let r = a .loop l (o .loop-in) (o .loop-used) in (r .face-in .0, r .face-in .1, r .face-used)
 
+    -- rule 6: the new edge has one face on both sides
     mev-solids : Solids (HalfUsed sh d) (FaceUsed sh d) (side d) mate (d Solid)
     mev-solids = record {
       side-in = half-was (subst (FaceUsed sh c) (sym side-k) l-face) (subst (FaceUsed sh c) (sym side-b) l-face)
@@ -288,6 +310,7 @@ module _ {sh : Shape} {c : Columns} {E : NewEdge} (o : MevPlace sh c E) where
           (a .solids .one f g x y e);
     }
 
+    -- the table is sound afterwards
     pub mev-sound : Sound sh q d
     mev-sound = record {
       solid-mark = a .solid-mark;
