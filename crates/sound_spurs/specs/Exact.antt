@@ -8,9 +8,9 @@ use native.Mathlib.Omega.{arith}
 use lib.Dec.{T, eqb}
 use lib.IntN.{ℤ, pos}
 use lib.ListN.{length, drop}
-use Rattle.laws.specs.Bools.{pick, split, eqb-same, eqb-other}
+use Rattle.laws.specs.Bools.{pick, eqb-same, eqb-other}
 use Rattle.laws.specs.Search.{least-ext}
-use Rattle.laws.specs.Update.{upd-same, upd-off}
+use Rattle.laws.specs.Update.{upd-same}
 use Rattle.script.specs.declared.Operator.{Operator}
 use Rattle.layout.specs.declared.shape.Shape.{Shape}
 use Rattle.layout.specs.Mate.{mate, edgeOf}
@@ -20,7 +20,6 @@ use Rattle.layout.specs.Writes.{write, changes}
 use Rattle.euler.specs.Surgery.{putPoint, halfRecord, noEdgeWrites}
 use Rattle.euler.specs.Exec.{refusalOf}
 use Rattle.sound_tables.specs.Cells.{Shows, shows-ext}
-use Rattle.sound_tables.specs.Mates.{mate-other}
 use Rattle.sound_tables.specs.Sound.{HalfUsed, firstOf, Sound}
 use Rattle.sound_tables.specs.Names.{not-isolated}
 use Rattle.sound_tables.specs.HalfNumbers.{edge-by, way-by, way-small, half-is, edge-in, second-half}
@@ -33,38 +32,23 @@ use Rattle.sound_spurs.specs.WriteBack.{Restores, restored, other-item}
 use Rattle.sound_spurs.specs.Relation.{Spur, spurOf, in-k, in-b, in-N, next-P, prev-b, prev-N, Nb, whole-P}
 use Rattle.sound_spurs.specs.Relation.{spur-loop-b, spur-loop-N, spur-loop-in, spur-loop-used, spur-start-N}
 use Rattle.sound_spurs.specs.Relation.{near-in, far-in, far-used}
-use Rattle.sound_spurs.specs.MevSound.{NewEdge, edgeStores, edged, endStores, mevColumns, MevPlace, kb, off-k}
-use Rattle.sound_spurs.specs.MevSound.{off-b, start-k, start-b, loop-k}
-use Rattle.sound_spurs.specs.KevSound.{outStores, kevOut, lastStores, kevColumns, Left, columns-out, out-start-k}
+use Rattle.sound_spurs.specs.MevSound.{NewEdge, edgeStores, edged, endStores, mevColumns, MevPlace, off-k}
+use Rattle.sound_spurs.specs.MevSound.{start-k, start-b, loop-k, next-b, prev-k}
+use Rattle.sound_spurs.specs.KevSound.{outStores, kevOut, lastStores, kevColumns, Left, left-of, columns-out}
+use Rattle.sound_spurs.specs.KevSound.{out-start-k}
 use Rattle.sound_spurs.specs.KevSound.{out-start-b}
 use Rattle.sound_spurs.specs.MevAccepted.{Mev, mevOf, newHalf, MevFits, mev-facts, newEdge, mevList, mevPoints}
 use Rattle.sound_spurs.specs.MevAccepted.{mev-links, mev-points, mev-inverse, mev-accepted, mev-place, mev-corner}
 use Rattle.sound_spurs.specs.MevAccepted.{mev-shows, mev-good}
-use Rattle.sound_spurs.specs.KevAccepted.{kevOf, kev-facts, kevList, kevPoints, kevBack, kev-links, kev-points}
+use Rattle.sound_spurs.specs.KevAccepted.{spurEdge, kevOf, kev-facts, kevList, kevPoints, kevBack, kev-links}
+use Rattle.sound_spurs.specs.KevAccepted.{kev-points}
 use Rattle.sound_spurs.specs.KevAccepted.{kev-inverse, kev-accepted, kev-shows, killed-good}
 
 -- ---- mev, then kev
 
--- what kev reads of the edge that mev put in
+-- the stores of kev on the edge that mev put in
 module _ {sh : Shape} {c : Columns} {E : NewEdge} (o : MevPlace sh c E) where
   open NewEdge E using (half as k, before as P, after as N)
-
-  -- the halves differ
-  bk : mate k ≢ k
-  bk z = mate-other k (o .half-in .0) (sym z)
-
-  -- behind the mate comes N
-  next-b : mevColumns sh c E Next (mate k) ≡ N
-  next-b = ⊎-elim
-      (λ w. upd-off _ _ bk ∙ rw (w .0) (upd-same _ (mate k) k) ∙ sym (w .1))
-      (λ w. upd-off _ _ bk ∙ upd-off _ k (λ z. off-b o P (w .0) (sym z)) ∙ upd-same _ (mate k) N) (o .corner)
-
-  -- before k comes P
-  prev-k : mevColumns sh c E Prev k ≡ P
-  prev-k = ⊎-elim
-      (λ w. rw (w .1) (upd-same _ k (mate k)) ∙ sym (w .0))
-      (λ w. upd-off _ _ (λ z. off-k o N (w .1) (sym z)) ∙ upd-off _ k (kb o) ∙ upd-off _ k (kb o)
-      ∙ upd-same (c Prev) k P) (o .corner)
 
   -- what came after P, where that is not the mate
   after-P : P ≢ mate k → N ≡ c Next P
@@ -218,10 +202,6 @@ module _ {sh : Shape} {x : List ℕ} {p : List ℤ} (g : Good sh x p) {m : Mev} 
 
 -- ---- kev, then mev
 
--- the loop is isolated at k's vertex afterwards, or not
-left-of : (c : Columns) (k : ℕ) → (I : ℕ) × Left c k I
-left-of c k = split (c Next (mate k)) k (λ e. (c Start k, inl (e, refl))) (λ e. (0, inr (e, refl)))
-
 module _ {sh : Shape} {x : List ℕ} {p : List ℤ} (g : Good sh x p) {k : ℕ} (uk : HalfUsed sh (own sh x) k)
     (nk : own sh x Next k ≡ mate k) {I : ℕ} (left : Left (own sh x) k I) where
   -- the columns before
@@ -234,14 +214,7 @@ module _ {sh : Shape} {x : List ℕ} {p : List ℤ} (g : Good sh x p) {k : ℕ} 
 
   -- its edge
   abbrev kE : NewEdge
-  kE = record {
-    loop = own sh x Loop k;
-    half = k;
-    from = own sh x Start k;
-    to = own sh x Start (mate k);
-    before = own sh x Prev k;
-    after = own sh x Next (mate k);
-  }
+  kE = spurEdge (own sh x) k
 
   -- the operands of the mev that undoes it
   abbrev m : Mev

@@ -31,6 +31,7 @@ use Rattle.sound_tables.specs.Good.{own, Capacities, Good, good-shows, good-aft
 use Rattle.sound_tables.specs.CornerTest.{cornerLeft}
 use Rattle.sound_tables.specs.FirstLow.{first-low}
 use Rattle.sound_tables.specs.Shown.{withFirst, shows-no-edge, shows-first, shows-isolated}
+use Rattle.sound_spurs.specs.MevSound.{NewEdge}
 use Rattle.sound_spurs.specs.MevAccepted.{Mev, mevOf}
 use Rattle.sound_spurs.specs.Relation.{Spur, spurOf, used-N, in-k, in-b, in-P, in-N, prev-b, Nb, spur-loop-b}
 use Rattle.sound_spurs.specs.Relation.{spur-loop-N, spur-loop-in, far-in}
@@ -68,6 +69,17 @@ kevList sh x k =
 -- the points afterwards
 abbrev pub kevPoints : Shape → List ℕ → List ℤ → ℕ → List ℤ
 kevPoints sh x p k = putPoint p (own sh x Start (mate k)) (pos 0) (pos 0) (pos 0)
+
+-- the edge that goes, as mev puts it in
+abbrev pub spurEdge : Columns → ℕ → NewEdge
+spurEdge c k = record {
+  loop = c Loop k;
+  half = k;
+  from = c Start k;
+  to = c Start (mate k);
+  before = c Prev k;
+  after = c Next (mate k);
+}
 
 -- the operands of the mev that undoes it
 abbrev pub kevBack : Shape → List ℕ → List ℤ → ℕ → Mev

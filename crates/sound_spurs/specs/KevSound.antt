@@ -51,6 +51,10 @@ kevColumns sh c k I = changes (lastStores c k (firstOf sh (kevOut c k) (c Loop k
 abbrev pub Left : Columns → ℕ → ℕ → Type 0
 Left c k I = ((c Next (mate k) ≡ k) × (I ≡ c Start k)) ⊎ ((c Next (mate k) ≢ k) × (I ≡ 0))
 
+-- the loop is isolated at k's vertex afterwards, or not
+pub left-of : (c : Columns) (k : ℕ) → (I : ℕ) × Left c k I
+left-of c k = split (c Next (mate k)) k (λ e. (c Start k, inl (e, refl))) (λ e. (0, inr (e, refl)))
+
 module _ {sh : Shape} {p : List ℤ} {c : Columns} {k : ℕ} (sp : Spur sh p c k) {I : ℕ}
     (left : Left c k I) where
   open Spur sp using (sound as a, used as uk, next as nk)

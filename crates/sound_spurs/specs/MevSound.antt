@@ -128,6 +128,23 @@ module _ {sh : Shape} {c : Columns} {E : NewEdge} (o : MevPlace sh c E) where
   pub loop-old : (i : ℕ) → i ≢ k → i ≢ mate k → d Loop i ≡ c Loop i
   loop-old i e f = upd-off _ l f ∙ upd-off (c Loop) l e
 
+  -- the halves differ
+  bk : mate k ≢ k
+  bk z = kb (sym z)
+
+  -- behind the mate comes N
+  pub next-b : d Next (mate k) ≡ N
+  next-b = ⊎-elim
+      (λ w. upd-off _ _ bk ∙ rw (w .0) (upd-same _ (mate k) k) ∙ sym (w .1))
+      (λ w. upd-off _ _ bk ∙ upd-off _ k (λ z. off-b P (w .0) (sym z)) ∙ upd-same _ (mate k) N) (o .corner)
+
+  -- before k comes P
+  pub prev-k : d Prev k ≡ P
+  prev-k = ⊎-elim
+      (λ w. rw (w .1) (upd-same _ k (mate k)) ∙ sym (w .0))
+      (λ w. upd-off _ _ (λ z. off-k N (w .1) (sym z)) ∙ upd-off _ k kb ∙ upd-off _ k kb
+      ∙ upd-same (c Prev) k P) (o .corner)
+
   -- k is in use
   pub new-k : HalfUsed sh d k
   new-k = (o .half-in .0, o .half-in .1, λ z. omega (arith, o .corner-in .0, sym start-k ∙ z))
@@ -306,7 +323,7 @@ module _ {sh : Shape} {c : Columns} {E : NewEdge} (o : MevPlace sh c E) where
           (ap (c Solid) (ap (side d) (mate-mate k) ∙ side-k ∙ sym side-b))
           (λ i w. ap (c Solid) (side-mate i w) ∙ a .solids .edge i w ∙ ap (c Solid) (sym (side-old i w)));
       one = λ f g x y e. map-linked (λ i. i)
-          (λ i j t. link (t .0, half-stays (t .0) (t .1), side-old (t .0) (t .1) ∙ t .2, side-mate (t .0) (t .1) ∙ t .3))
+          (λ i j t. let u = t .1 in link (t .0, half-stays (t .0) u, side-old (t .0) u ∙ t .2, side-mate (t .0) u ∙ t .3))
           (a .solids .one f g x y e);
     }
 
