@@ -18,7 +18,7 @@ use Rattle.sound_tables.specs.Sound.{In, HalfUsed}
 use Rattle.sound_tables.specs.OneOperand.{one-accepted}
 use Rattle.sound_tables.specs.Cells.{Shows}
 use Rattle.sound_tables.specs.Good.{Good, own}
-use Rattle.sound_spurs.specs.Relation.{in-k, in-b, used-b, far-in, far-used}
+use Rattle.sound_spurs.specs.Relation.{spurOf, in-k, in-b, used-b, far-in, far-used}
 use Rattle.sound_spurs.specs.KevSound.{Left, kevColumns, out-start-k, out-start-b}
 use Rattle.sound_spurs.specs.KevAccepted.{kevList, kev-shows}
 use Rattle.takedown.specs.Inversion.{kev}
@@ -59,7 +59,7 @@ module _ {sh : Shape} {x : List ℕ} {p : List ℤ} (g : Good sh x p) {k : ℕ} 
 
     law-at : KevLaw sh x (kevList sh x k) k
     law-at =
-        let a = g .sound in
+        let sp = spurOf g uk nk in
         let mark : (n : ℕ) → In (sh .solids) n → own sh (kevList sh x k) SolidUsed n ≡ own sh x SolidUsed n = λ n i. v .at SolidUsed n (i .1) in
         let solid : (n : ℕ) → In (sh .faces) n → own sh (kevList sh x k) Solid n ≡ own sh x Solid n = λ n i. v .at Solid n (i .1) in
         let face : (n : ℕ) → In (sh .loops) n → own sh (kevList sh x k) Face n ≡ own sh x Face n = λ n i. v .at Face n (i .1) in
@@ -68,16 +68,16 @@ module _ {sh : Shape} {x : List ℕ} {p : List ℤ} (g : Good sh x p) {k : ℕ} 
           mark = mark;
           solid = solid;
           face = face;
-          gone-k = v .at Start k (uk .1) ∙ out-start-k a uk nk left;
-          gone-b = v .at Start (mate k) (in-b a uk nk .1) ∙ out-start-b a uk nk left;
-          start-kept = λ i j z. other i j (λ e. uk .2 (ap (own sh x Start) (sym e) ∙ z)) (λ e. used-b a uk nk .2 (ap (own sh x Start) (sym e) ∙ z)) ∙ z;
+          gone-k = v .at Start k (uk .1) ∙ out-start-k sp left;
+          gone-b = v .at Start (mate k) (in-b sp .1) ∙ out-start-b sp left;
+          start-kept = λ i j z. other i j (λ e. uk .2 (ap (own sh x Start) (sym e) ∙ z)) (λ e. used-b sp .2 (ap (own sh x Start) (sym e) ∙ z)) ∙ z;
           same-solids = solids-is sh _ ∙ words-same (sh .solids) _ _ mark ∙ sym (solids-is sh x);
           same-faces = faces-is sh _ ∙ words-same (sh .faces) _ _ solid ∙ sym (faces-is sh x);
           same-loops = loops-same sh x _ face;
           same-strays = strays-same sh x _ face g solid;
-          fewer-edges = edge-fewer sh x _ k (in-k a uk nk) (uk .2) (used-b a uk nk .2) (v .at Start k (uk .1) ∙ out-start-k a uk nk left) (v .at Start (mate k) (in-b a uk nk .1) ∙ out-start-b a uk nk left) other;
+          fewer-edges = edge-fewer sh x _ k (in-k sp) (uk .2) (used-b sp .2) (v .at Start k (uk .1) ∙ out-start-k sp left) (v .at Start (mate k) (in-b sp .1) ∙ out-start-b sp left) other;
           fewer-vertices = ap suc (vertices-is sh _)
-              ∙ words-fewer (sh .vertices) _ _ (own sh x Start (mate k)) (far-in a uk nk) (v .at VertexUsed (own sh x Start (mate k)) (far-in a uk nk .1) ∙ upd-same _ (own sh x Start (mate k)) 0) (far-used a uk nk)
+              ∙ words-fewer (sh .vertices) _ _ (own sh x Start (mate k)) (far-in sp) (v .at VertexUsed (own sh x Start (mate k)) (far-in sp .1) ∙ upd-same _ (own sh x Start (mate k)) 0) (far-used sp)
               (λ n i d. v .at VertexUsed n (i .1) ∙ upd-off _ 0 d)
               ∙ sym (vertices-is sh x);
         }

@@ -20,9 +20,7 @@ use Rattle.sound_tables.specs.Undone.{Kept, Undone, undone-exec}
 use Rattle.sound_tables.specs.ValidGood.{valid-good, good-valid}
 use Rattle.sound_lone.specs.Exact.{mvsf-holds, kvsf-holds}
 use Rattle.sound_rings.specs.Exact.{rmov-holds}
-use Rattle.sound_spurs.specs.MevAccepted.{mev-kept}
-use Rattle.sound_spurs.specs.MevExact.{mev-undone}
-use Rattle.sound_spurs.specs.KevExact.{kev-holds}
+use Rattle.sound_spurs.specs.Exact.{mev-holds, kev-holds}
 use Rattle.sound_cuts.specs.MefHolds.{mef-holds}
 use Rattle.sound_cuts.specs.Exact.{kef-holds}
 use Rattle.sound_bridges.specs.Exact.{mekr-holds, kemr-holds}
@@ -38,7 +36,7 @@ pub all-hold : (sh : Shape) (x : List ℕ) (p : List ℤ) (o : Operator) → Goo
 all-hold sh x p o g len h =
     split (o .code) 1 (λ e. mvsf-holds sh x p o g len e h) (λ d1.
     split (o .code) 2 (λ e. kvsf-holds sh x p o g len e h) (λ d2.
-    split (o .code) 3 (λ e. (mev-kept sh x p o g len e h, mev-undone sh x p o g len e h)) (λ d3.
+    split (o .code) 3 (λ e. mev-holds sh x p o g len e h) (λ d3.
     split (o .code) 4 (λ e. kev-holds sh x p o g len e h) (λ d4.
     split (o .code) 5 (λ e. mef-holds sh x p o g len e h) (λ d5.
     split (o .code) 6 (λ e. kef-holds sh x p o g len e h) (λ d6.

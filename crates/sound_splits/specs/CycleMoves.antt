@@ -1,5 +1,5 @@
--- Three more moves of a labelled permutation: an element goes in before another, one that comes before another goes out, and elements are
--- given other names.
+-- Three more moves of a labelled permutation: an element goes in before another, one that comes before another goes
+-- out, and elements are given other names.
 use mathlib.Core.Path.{_≡_, refl, sym, ap, _∙_, subst}
 use mathlib.Core.Logic.{_≢_, ⊎-elim}
 use Prim.Native.Nat.{ℕ, _≤_}
@@ -14,15 +14,24 @@ use Rattle.laws.specs.Moves.{Or, But, ins-cycles, out-cycles}
 abbrev pub swapFor : ℕ → ℕ → ℕ → ℕ
 swapFor a b = upd (λ i. i) a b
 
+-- a itself
+pub swap-at : {a i : ℕ} (b : ℕ) → i ≡ a → swapFor a b i ≡ b
+swap-at b e = upd-at (λ j. j) b e
+
+-- another
+pub swap-off : {a i : ℕ} (b : ℕ) → i ≢ a → swapFor a b i ≡ i
+swap-off b h = upd-off (λ j. j) b h
+
 -- and back, for what is not b
 pub swap-back : (a b i : ℕ) → i ≢ b → swapFor b a (swapFor a b i) ≡ i
 swap-back a b i h = split i a
-    (λ e. ap (swapFor b a) (upd-at (λ i. i) b e) ∙ upd-same (λ i. i) b a ∙ sym e)
-    (λ e. ap (swapFor b a) (upd-off (λ i. i) b e) ∙ upd-off (λ i. i) a h)
+    (λ e. ap (swapFor b a) (swap-at b e) ∙ swap-at {a = b} a refl ∙ sym e)
+    (λ e. ap (swapFor b a) (swap-off b e) ∙ swap-off a h)
 
 module _ {n : ℕ} {U : ℕ → Type 0} {f lab : ℕ → ℕ} (c : Cycles n U f lab) (x z : ℕ) where
   -- x goes in before z, with z's label: what went to z goes to x
-  pub before-cycles : ¬ U x → 1 ≤ x → x ≤ n → U z → Cycles n (Or x U) (upd (λ i. swapFor z x (f i)) x z) (upd lab x (lab z))
+  pub before-cycles : ¬ U x → 1 ≤ x → x ≤ n → U z → Cycles n (Or x U) (upd (λ i. swapFor z x (f i)) x z)
+      (upd lab x (lab z))
   before-cycles fresh l h u =
       let y = onto (c .perm) z u in
       let off : (i : ℕ) → U i → i ≢ x = λ i w e. fresh (subst U e w) in
@@ -30,8 +39,9 @@ module _ {n : ℕ} {U : ℕ → Type 0} {f lab : ℕ → ℕ} (c : Cycles n U f 
       (λ i. ⊎-elim
       (λ e. rw e (upd-same _ x z ∙ sym (upd-off _ x (λ q. off (y .0) (y .1) (sym q)) ∙ upd-same f x (f (y .0)) ∙ y .2)))
       (λ w. upd-off _ z (off i w) ∙ split i (y .0)
-      (λ e. upd-at (λ i. i) x (ap f e ∙ y .2) ∙ sym (upd-at _ x e))
-      (λ e. upd-off (λ i. i) x (λ q. e (inj (c .perm) w (y .1) (q ∙ sym (y .2)))) ∙ sym (upd-off _ x e ∙ upd-off f (f (y .0)) (off i w)))))
+      (λ e. swap-at x (ap f e ∙ y .2) ∙ sym (upd-at _ x e))
+      (λ e. swap-off x (λ q. e (inj (c .perm) w (y .1) (q ∙ sym (y .2))))
+      ∙ sym (upd-off _ x e ∙ upd-off f (f (y .0)) (off i w)))))
       (λ i w. ap (λ t. upd lab x t i) (ap lab (sym (y .2)) ∙ c .keeps (y .0) (y .1)))
 
   -- x, which comes before z, goes out: what went to x goes to z
@@ -41,8 +51,8 @@ module _ {n : ℕ} {U : ℕ → Type 0} {f lab : ℕ → ℕ} (c : Cycles n U f 
       let x≢y : x ≢ y .0 = λ q. h (sym (y .2) ∙ ap f (sym q) ∙ e) in
       agree (out-cycles c x (y .0) (y .1) (y .2) x≢y) (λ i w. w) (λ i w. w)
       (λ i w. split i (y .0)
-      (λ q. upd-at (λ i. i) z (ap f q ∙ y .2) ∙ sym (upd-at f (f x) q ∙ e))
-      (λ q. upd-off (λ i. i) z (λ r. q (inj (c .perm) (w .0) (y .1) (r ∙ sym (y .2)))) ∙ sym (upd-off f (f x) q)))
+      (λ q. swap-at z (ap f q ∙ y .2) ∙ sym (upd-at f (f x) q ∙ e))
+      (λ q. swap-off z (λ r. q (inj (c .perm) (w .0) (y .1) (r ∙ sym (y .2)))) ∙ sym (upd-off f (f x) q)))
       (λ i w. refl)
 
 -- each element of U is given the name φ of it, and ψ gives the old name back
@@ -57,7 +67,8 @@ pub record Renamed (n : ℕ) (U U′ : ℕ → Type 0) (f lab f′ lab′ φ ψ 
   pub label : (i : ℕ) → U i → lab′ (φ i) ≡ lab i
 
 -- the same cycles under other names
-pub rename : {n : ℕ} {U U′ : ℕ → Type 0} {f lab f′ lab′ φ ψ : ℕ → ℕ} → Cycles n U f lab → Renamed n U U′ f lab f′ lab′ φ ψ → Cycles n U′ f′ lab′
+pub rename : {n : ℕ} {U U′ : ℕ → Type 0} {f lab f′ lab′ φ ψ : ℕ → ℕ} → Cycles n U f lab
+    → Renamed n U U′ f lab f′ lab′ φ ψ → Cycles n U′ f′ lab′
 rename {U′ = U′} {f = f} {lab = lab} {f′ = f′} {lab′ = lab′} {φ = φ} {ψ = ψ} c r = record {
   perm = record {
     low = r .low;
@@ -66,14 +77,16 @@ rename {U′ = U′} {f = f} {lab = lab} {f′ = f′} {lab′ = lab′} {φ = �
     inv = λ j. φ (c .perm .inv (ψ j));
     undo = λ j u.
         let w = r .from j u in
-        ap (λ t. φ (c .perm .inv (ψ t))) (move j u) ∙ ap (λ t. φ (c .perm .inv t)) (r .back (f (ψ j)) (c .perm .f-in (ψ j) w)) ∙ ap φ (c .perm .undo (ψ j) w) ∙ r .there j u;
+        ap (λ t. φ (c .perm .inv (ψ t))) (move j u) ∙ ap (λ t. φ (c .perm .inv t))
+        (r .back (f (ψ j)) (c .perm .f-in (ψ j) w)) ∙ ap φ (c .perm .undo (ψ j) w) ∙ r .there j u;
   };
   keeps = λ j u.
       let w = r .from j u in
       ap lab′ (move j u) ∙ r .label (f (ψ j)) (c .perm .f-in (ψ j) w) ∙ c .keeps (ψ j) w ∙ name j u;
   one = λ i j u v e.
       subst (λ k. Linked (Step U′ f′) k j) (r .there i u) (subst (Linked (Step U′ f′) (φ (ψ i))) (r .there j v)
-      (map-linked φ (λ a b s. link (r .to a (s .0), r .step a (s .0) ∙ ap φ (s .1))) (c .one (ψ i) (ψ j) (r .from i u) (r .from j v) (name i u ∙ e ∙ sym (name j v)))));
+      (map-linked φ (λ a b s. link (r .to a (s .0), r .step a (s .0) ∙ ap φ (s .1)))
+      (c .one (ψ i) (ψ j) (r .from i u) (r .from j v) (name i u ∙ e ∙ sym (name j v)))));
 }
   where
     -- a step, said of the new names

@@ -1,11 +1,11 @@
--- The pair semv and jekv: a good table stays good, and each undoes the other to the word. Both are one relation between the columns (`Split`),
--- which each side settles.
+-- The pair semv and jekv: a good table stays good, and each undoes the other to the word. Both are one relation between
+-- the columns (`Split`), which each side settles.
 use mathlib.Core.Path.{_≡_, refl, sym, ap, _∙_, subst}
 use mathlib.Core.Logic.{⊎-elim}
 use mathlib.Core.List.{List}
-use Prim.Native.Nat.{ℕ, _*_, _≤_, _<_}
+use Prim.Native.Nat.{ℕ, _*_, _≤_}
 use native.Mathlib.Omega.{arith}
-use lib.Dec.{T}
+use lib.Dec.{T, lit≤}
 use lib.IntN.{ℤ, pos}
 use lib.ListN.{length}
 use Rattle.script.specs.declared.Operator.{Operator}
@@ -13,13 +13,14 @@ use Rattle.layout.specs.declared.shape.Shape.{Shape}
 use Rattle.layout.specs.Mate.{mate, edgeOf}
 use Rattle.layout.specs.MateLaws.{mate-range}
 use Rattle.layout.specs.Points.{coordinate, rangeTest}
-use Rattle.euler.specs.Surgery.{halfBy, wayOf, putPoint}
+use Rattle.euler.specs.Surgery.{putPoint}
 use Rattle.euler.specs.Operators.{semvLinks, jekvLinks}
 use Rattle.euler.specs.Exec.{refusalOf}
 use Rattle.layout.specs.Fields.{Start, Next, Prev, VertexUsed, Columns}
 use Rattle.sound_tables.specs.Cells.{Shows, shows-ext}
 use Rattle.sound_tables.specs.Sound.{Sound}
-use Rattle.sound_tables.specs.PointLists.{three, put-length, put-at, put-back, put-cleared, points-new, points-cleared}
+use Rattle.sound_tables.specs.PointLists.{all-three, put-length, put-at, put-back, put-cleared, points-new}
+use Rattle.sound_tables.specs.PointLists.{points-cleared}
 use Rattle.sound_tables.specs.Good.{own, Good, good-shows, good-after}
 use Rattle.sound_tables.specs.Undone.{Kept, Undone}
 use Rattle.sound_splits.specs.CycleMoves.{swapFor}
@@ -31,29 +32,42 @@ use Rattle.sound_splits.specs.JekvColumns.{Joint, jekvColumns, jekv-spli
 use Rattle.sound_splits.specs.Shown.{semv-shows, jekv-shows}
 use Rattle.sound_tables.specs.HalfNumbers.{edge-by, way-by, way-small, half-is, second-half}
 use Rattle.sound_tables.specs.Names.{free-halves}
-use Rattle.sound_splits.specs.Accepted.{semvOf, jekvOf, Numbers, semv-facts, semv-links, semv-points, semv-inverse, semv-accepted, jekv-facts, tested-joint, jekv-links, jekv-points, jekv-inverse, jekv-accepted}
+use Rattle.sound_splits.specs.Accepted.{Semv, semvOf, jekvOf, newHalf, SemvFits, jekvBack, semv-facts, semv-links}
+use Rattle.sound_splits.specs.Accepted.{semv-points, semv-inverse, semv-accepted, jekv-facts, tested-joint}
+use Rattle.sound_splits.specs.Accepted.{jekv-links, jekv-points, jekv-inverse, jekv-accepted}
 
 -- ---- semv
 
-module _ {sh : Shape} {x : List ℕ} {p : List ℤ} (g : Good sh x p) {k e v w : ℕ} (r : Numbers sh (own sh x) k e v w) (a b z : ℤ) (range : (i : ℕ) → i < 3 → T (rangeTest (three a b z i))) where
+module _ {sh : Shape} {x : List ℕ} {p : List ℤ} (g : Good sh x p) {m : Semv} (r : SemvFits sh (own sh x) m) where
+  -- the half-edge that is divided
+  abbrev k : ℕ
+  k = m .half
+
+  -- the vertex that divides it
+  abbrev v : ℕ
+  v = m .vertex
+
   -- the new half-edge after k
   abbrev n : ℕ
-  n = halfBy e w
+  n = newHalf m
 
-  -- the columns, the list and the points afterwards
+  -- the columns afterwards
   abbrev d : Columns
-  d = semvColumns sh (own sh x) k (halfBy e w) v (aft k (halfBy e w) (own sh x Prev (mate k)))
+  d = semvColumns sh (own sh x) (m .half) (newHalf m) (m .vertex)
+      (aft (m .half) (newHalf m) (own sh x Prev (mate (m .half))))
 
+  -- the links
   abbrev y : List ℕ
-  y = semvLinks sh x k (halfBy e w) v
+  y = semvLinks sh x (m .half) (newHalf m) (m .vertex)
 
+  -- and the points
   abbrev q : List ℤ
-  q = putPoint p v a b z
+  q = putPoint p (m .vertex) (m .x) (m .y) (m .z)
 
   -- where it goes
   place : Place sh (own sh x) k n v
   place =
-      let f = free-halves (g .sound) e w (r .edge-in) (r .edge-free) in
+      let f = free-halves (g .sound) (m .edge) (m .way) (r .edge-in) (r .edge-free) in
       record {
         k-used = r .half;
         m-used = g .sound .rules .mate-in k (r .half);
@@ -76,12 +90,13 @@ module _ {sh : Shape} {x : List ℕ} {p : List ℤ} (g : Good sh x p) {k e v w :
   -- and it is sound
   d-sound : Sound sh q d
   d-sound = split-sound divided (g .sound)
-      (points-new sh p (own sh x) d v (g .points) (r .vertex-in) (g .sound .point) (divided .used) a b z (range 0 (omega arith)) (range 1 (omega arith)) (range 2 (omega arith)) (divided .v-used))
+      (points-new sh p (own sh x) d v (g .points) (r .vertex-in) (g .sound .point) (divided .used)
+      (m .x) (m .y) (m .z) (r .range 0 (lit≤ tt)) (r .range 1 (lit≤ tt)) (r .range 2 (lit≤ tt)) (divided .v-used))
 
   -- a good table stays good
-  semv-kept : Kept sh x p (semvOf k e v w a b z)
-  semv-kept = rw (semv-links sh x k e v w a b z (g .capacities) r, semv-points sh x k e v w a b z (g .capacities) r p)
-      (good-after g y-shows (λ i. refl) (put-length p v a b z) d-sound)
+  semv-kept : Kept sh x p (semvOf m)
+  semv-kept = rw (semv-links sh x (g .capacities) r, semv-points sh x (g .capacities) r p)
+      (good-after g y-shows (λ i. refl) (put-length p v (m .x) (m .y) (m .z)) d-sound)
 
   -- n is a joint
   d-joint : Joint sh d k n
@@ -110,24 +125,34 @@ module _ {sh : Shape} {x : List ℕ} {p : List ℤ} (g : Good sh x p) {k e v w :
   -- jekv leads back
   semv-back : jekvLinks sh y k n ≡ x
   semv-back = shows-ext (jekv-shows y-shows d-sound d-joint) (good-shows g)
-      (unique-before (jekv-split d-sound d-joint) (subst (λ t. Split sh (own sh x) d k n t) (sym (divided .start-n)) divided))
+      (unique-before (jekv-split d-sound d-joint)
+      (subst (λ t. Split sh (own sh x) d k n t) (sym (divided .start-n)) divided))
 
   -- jekv gives everything back
-  semv-undone : Undone sh x p (semvOf k e v w a b z)
+  semv-undone : Undone sh x p (semvOf m)
   semv-undone =
-      let el = semv-links sh x k e v w a b z (g .capacities) r in
-      let ep = semv-points sh x k e v w a b z (g .capacities) r p in
-      let ei = semv-inverse sh x k e v w a b z (g .capacities) r p in
+      let el = semv-links sh x (g .capacities) r in
+      let ep = semv-points sh x (g .capacities) r p in
+      let ei = semv-inverse sh x (g .capacities) r p in
       let lo : 3 * v ≤ length p = omega (arith, g .points, r .vertex-in .1) in
+      let at = put-at p v (m .x) (m .y) (m .z) (r .vertex-in .0) lo in
       let n1 = place .n-in .0 in
       record {
         accepted = rw (el, ei) (jekv-accepted sh y k n (g .capacities) y-joint n1);
         links = rw (el, ei) (jekv-links sh y k n (g .capacities) y-joint n1 ∙ semv-back);
-        points = rw (el, ep, ei) (jekv-points sh y k n (g .capacities) y-joint n1 q ∙ ap (λ t. putPoint q t (pos 0) (pos 0) (pos 0)) y-start
-            ∙ put-cleared (sh .vertices) p v a b z (g .points) (r .vertex-in) (g .sound .point v (r .vertex-in) .zero (r .vertex-free)));
-        again = rw (el, ep, ei) (jekv-inverse sh y k n (g .capacities) y-joint n1 q
-            ∙ (λ t. semvOf k (edge-by e w (r .edge-in .0) t) (y-start t) (way-by e w (r .edge-in .0) (r .way) t) (coordinate q (y-start t) 0) (coordinate q (y-start t) 1) (coordinate q (y-start t) 2))
-            ∙ (λ t. semvOf k e v w (put-at p v a b z (r .vertex-in .0) lo 0 (omega arith) t) (put-at p v a b z (r .vertex-in .0) lo 1 (omega arith) t) (put-at p v a b z (r .vertex-in .0) lo 2 (omega arith) t)));
+        points = rw (el, ep, ei)
+            (jekv-points sh y k n (g .capacities) y-joint n1 q ∙ ap (λ t. putPoint q t (pos 0) (pos 0) (pos 0)) y-start
+            ∙ put-cleared (sh .vertices) p v (m .x) (m .y) (m .z) (g .points) (r .vertex-in)
+            (g .sound .point v (r .vertex-in) .zero (r .vertex-free)));
+        again = rw (el, ep, ei) (jekv-inverse sh y k n (g .capacities) y-joint n1 q ∙ (λ t. semvOf (record {
+          half = k;
+          edge = edge-by (m .edge) (m .way) (r .edge-in .0) t;
+          vertex = y-start t;
+          way = way-by (m .edge) (m .way) (r .edge-in .0) (r .way) t;
+          x = (ap (λ w. coordinate q w 0) y-start ∙ at 0 (omega arith)) t;
+          y = (ap (λ w. coordinate q w 1) y-start ∙ at 1 (omega arith)) t;
+          z = (ap (λ w. coordinate q w 2) y-start ∙ at 2 (omega arith)) t;
+        })));
       }
 
 -- ---- jekv
@@ -137,13 +162,15 @@ module _ {sh : Shape} {x : List ℕ} {p : List ℤ} (g : Good sh x p) {k n : ℕ
   abbrev kv : ℕ
   kv = own sh x Start n
 
-  -- the columns, the list and the points afterwards
+  -- the columns afterwards
   abbrev kc : Columns
   kc = jekvColumns sh (own sh x) k n (swapFor n k (own sh x Prev (mate n)))
 
+  -- the links
   abbrev ky : List ℕ
   ky = jekvLinks sh x k n
 
+  -- and the points
   abbrev kq : List ℤ
   kq = putPoint p (own sh x Start n) (pos 0) (pos 0) (pos 0)
 
@@ -162,30 +189,35 @@ module _ {sh : Shape} {x : List ℕ} {p : List ℤ} (g : Good sh x p) {k n : ℕ
   -- and it is sound
   c-sound : Sound sh kq kc
   c-sound = join-sound rejoined (g .sound)
-      (points-cleared sh p (own sh x) kc kv (g .points) (rejoined .place .v-in) (g .sound .point) (λ w h. sym (rejoined .used w h)))
+      (points-cleared sh p (own sh x) kc kv (g .points) (rejoined .place .v-in) (g .sound .point)
+      (λ w h. sym (rejoined .used w h)))
 
   -- a good table stays good
   jekv-kept : Kept sh x p (jekvOf k)
   jekv-kept = rw (jekv-links sh x k n (g .capacities) o n1, jekv-points sh x k n (g .capacities) o n1 p)
       (good-after g ky-shows (λ i. refl) (put-length p kv (pos 0) (pos 0) (pos 0)) c-sound)
 
-  -- k is in use, and n's edge and vertex are free
-  ky-numbers : Numbers sh (own sh ky) k (edgeOf n) kv (wayOf n)
-  ky-numbers =
+  -- semv fits there
+  ky-fits : SemvFits sh (own sh ky) (jekvBack sh x p k n)
+  ky-fits =
       let w = rejoined .place in
       let u : edgeOf n ≤ sh .edges = omega (arith, w .n-in .1) in
+      let s = g .sound .point kv (w .v-in) .range in
       record {
         half = (w .k-used .0, w .k-used .1, λ h. w .k-used .2 (sym (ky-shows .at Start k (w .k-used .1)) ∙ h));
         edge-in = (omega (arith, n1), u);
-        edge-free = ky-shows .at Start (2 * edgeOf n) (omega (arith, u)) ∙ ⊎-elim (λ h. ap (kc Start) h ∙ w .n-free) (λ h. ap (kc Start) h ∙ w .b-free) (second-half n);
+        edge-free = ky-shows .at Start (2 * edgeOf n) (omega (arith, u)) ∙ ⊎-elim (λ h. ap (kc Start) h ∙ w .n-free)
+            (λ h. ap (kc Start) h ∙ w .b-free) (second-half n);
         vertex-in = w .v-in;
         vertex-free = ky-shows .at VertexUsed kv (w .v-in .1) ∙ w .v-free;
         way = way-small n;
+        range = all-three (λ z. T (rangeTest z)) _ _ _ (s 0 (omega arith)) (s 1 (omega arith)) (s 2 (omega arith));
       }
 
   -- semv leads back
   jekv-back : semvLinks sh ky k n kv ≡ x
-  jekv-back = shows-ext (semv-shows ky-shows c-sound (rejoined .place)) (good-shows g) (unique-after (semv-split c-sound (rejoined .place)) rejoined)
+  jekv-back = shows-ext (semv-shows ky-shows c-sound (rejoined .place)) (good-shows g)
+      (unique-after (semv-split c-sound (rejoined .place)) rejoined)
 
   -- semv gives everything back
   jekv-undone : Undone sh x p (jekvOf k)
@@ -193,27 +225,27 @@ module _ {sh : Shape} {x : List ℕ} {p : List ℤ} (g : Good sh x p) {k n : ℕ
       let el = jekv-links sh x k n (g .capacities) o n1 in
       let ep = jekv-points sh x k n (g .capacities) o n1 p in
       let ei = jekv-inverse sh x k n (g .capacities) o n1 p in
-      let a = coordinate p kv 0 in
-      let b = coordinate p kv 1 in
-      let z = coordinate p kv 2 in
-      let s = g .sound .point kv (rejoined .place .v-in) .range in
       record {
-        accepted = rw (el, ei) (semv-accepted sh ky k (edgeOf n) kv (wayOf n) a b z (g .capacities) ky-numbers (s 0 (omega arith)) (s 1 (omega arith)) (s 2 (omega arith)));
-        links = rw (el, ei) (semv-links sh ky k (edgeOf n) kv (wayOf n) a b z (g .capacities) ky-numbers ∙ ap (λ t. semvLinks sh ky k t kv) (half-is n n1) ∙ jekv-back);
-        points = rw (el, ep, ei) (semv-points sh ky k (edgeOf n) kv (wayOf n) a b z (g .capacities) ky-numbers kq ∙ put-back (sh .vertices) p kv (pos 0) (pos 0) (pos 0) (g .points) (rejoined .place .v-in));
-        again = rw (el, ep, ei) (semv-inverse sh ky k (edgeOf n) kv (wayOf n) a b z (g .capacities) ky-numbers kq);
+        accepted = rw (el, ei) (semv-accepted sh ky (g .capacities) ky-fits);
+        links = rw (el, ei) (semv-links sh ky (g .capacities) ky-fits ∙ ap (λ t. semvLinks sh ky k t kv) (half-is n n1)
+            ∙ jekv-back);
+        points = rw (el, ep, ei) (semv-points sh ky (g .capacities) ky-fits kq ∙ put-back (sh .vertices) p kv (pos 0)
+            (pos 0) (pos 0) (g .points) (rejoined .place .v-in));
+        again = rw (el, ep, ei) (semv-inverse sh ky (g .capacities) ky-fits kq);
       }
 
 -- ---- as operators
 
 -- both for semv
-pub semv-holds : (sh : Shape) (x : List ℕ) (p : List ℤ) (o : Operator) → Good sh x p → length (o .args) ≡ 8 → o .code ≡ 11 → refusalOf sh x o ≡ 0 → Kept sh x p o × Undone sh x p o
+pub semv-holds : (sh : Shape) (x : List ℕ) (p : List ℤ) (o : Operator) → Good sh x p → length (o .args) ≡ 8
+    → o .code ≡ 11 → refusalOf sh x o ≡ 0 → Kept sh x p o × Undone sh x p o
 semv-holds sh x p o g len e h =
     let f = semv-facts sh x o (g .capacities) len e h in
-    subst (λ q. Kept sh x p q × Undone sh x p q) (sym (f .is)) (semv-kept g (f .numbers) (f .x) (f .y) (f .z) (f .range), semv-undone g (f .numbers) (f .x) (f .y) (f .z) (f .range))
+    subst (λ q. Kept sh x p q × Undone sh x p q) (sym (f .is)) (semv-kept g (f .fits), semv-undone g (f .fits))
 
 -- both for jekv
-pub jekv-holds : (sh : Shape) (x : List ℕ) (p : List ℤ) (o : Operator) → Good sh x p → length (o .args) ≡ 8 → o .code ≡ 12 → refusalOf sh x o ≡ 0 → Kept sh x p o × Undone sh x p o
+pub jekv-holds : (sh : Shape) (x : List ℕ) (p : List ℤ) (o : Operator) → Good sh x p → length (o .args) ≡ 8
+    → o .code ≡ 12 → refusalOf sh x o ≡ 0 → Kept sh x p o × Undone sh x p o
 jekv-holds sh x p o g len e h =
     let f = jekv-facts sh x o (g .capacities) len e h in
     let j = tested-joint sh x (f .k) (f .half) (f .test) in

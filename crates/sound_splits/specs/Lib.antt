@@ -1,4 +1,5 @@
 pub mod CycleMoves
+pub mod Unwritten
 pub mod Relation
 pub mod Unique
 pub mod SplitRules

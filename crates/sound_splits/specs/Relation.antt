@@ -1,23 +1,22 @@
--- semv as a relation between the columns before, c, and after, d: vertex v divides half-edge k. Its mate is m, the new half-edge after k is n, and
--- n's mate b stands before m. After it b is to the vertex what m was (`fore`), and n to what follows k what k was (`aft`). jekv is the same
--- relation read from d to c: each side settles the other.
-use mathlib.Core.Path.{_≡_, sym, ap, _∙_, subst}
+-- semv as a relation between the columns before, c, and after, d: vertex v divides half-edge k. Its mate is m, the new
+-- half-edge after k is n, and n's mate b stands before m. After it b is to the vertex what m was (`fore`), and n to
+-- what follows k what k was (`aft`). jekv is the same relation read from d to c: each side settles the other.
+use mathlib.Core.Path.{_≡_, refl, sym, ap, _∙_, subst}
 use mathlib.Core.Logic.{_≢_}
-use mathlib.Core.Bool.{Bool, true, false, false≢true}
-use mathlib.Core.List.{List}
+use mathlib.Core.Bool.{false}
+use mathlib.Core.List.{List, [], _∷_}
 use Prim.Native.Nat.{ℕ, _*_}
 use native.Mathlib.Omega.{arith}
 use lib.IntN.{ℤ}
 use Rattle.laws.specs.Bools.{split}
-use Rattle.laws.specs.Update.{upd-at, upd-same, upd-off}
 use Rattle.layout.specs.declared.shape.Shape.{Shape}
 use Rattle.layout.specs.Mate.{mate}
 use Rattle.layout.specs.MateLaws.{mate-mate}
-use Rattle.layout.specs.Fields.{Field, Capacity, SolidUsed, Solid, Outer, Face, First, Isolated, Start, Loop, Next, Prev, VertexUsed, Columns}
+use Rattle.layout.specs.Fields.{Field, Face, First, Isolated, Start, Loop, Next, Prev, VertexUsed, Columns, among}
 use Rattle.sound_tables.specs.Mates.{mate-other}
 use Rattle.sound_tables.specs.Sound.{In, HalfUsed, firstOf, HalfFree, Sound}
 use Rattle.sound_tables.specs.Labels.{label-none}
-use Rattle.sound_splits.specs.CycleMoves.{swapFor}
+use Rattle.sound_splits.specs.CycleMoves.{swapFor, swap-at, swap-off}
 
 -- first is the least half-edge that names a loop, and a free half-edge is all zero
 pub record Tidy (sh : Shape) (c : Columns) : Type 0 where
@@ -34,35 +33,9 @@ sound-tidy {sh} {c = c} a = record {
   half = a .half-free;
 }
 
--- the columns that semv leaves as they are
-abbrev pub plain : Field → Bool
-plain Capacity = true
-plain SolidUsed = true
-plain Solid = true
-plain Outer = true
-plain Face = true
-plain First = false
-plain Isolated = true
-plain Start = false
-plain Loop = false
-plain Next = false
-plain Prev = false
-plain VertexUsed = false
-
--- a statement about each of them
-pub by-plain : (Q : Field → Type 0) → Q Capacity → Q SolidUsed → Q Solid → Q Outer → Q Face → Q Isolated → (F : Field) → plain F ≡ true → Q F
-by-plain Q q1 q2 q3 q4 q5 q6 Capacity e = q1
-by-plain Q q1 q2 q3 q4 q5 q6 SolidUsed e = q2
-by-plain Q q1 q2 q3 q4 q5 q6 Solid e = q3
-by-plain Q q1 q2 q3 q4 q5 q6 Outer e = q4
-by-plain Q q1 q2 q3 q4 q5 q6 Face e = q5
-by-plain Q q1 q2 q3 q4 q5 q6 First e = absurd (false≢true e)
-by-plain Q q1 q2 q3 q4 q5 q6 Isolated e = q6
-by-plain Q q1 q2 q3 q4 q5 q6 Start e = absurd (false≢true e)
-by-plain Q q1 q2 q3 q4 q5 q6 Loop e = absurd (false≢true e)
-by-plain Q q1 q2 q3 q4 q5 q6 Next e = absurd (false≢true e)
-by-plain Q q1 q2 q3 q4 q5 q6 Prev e = absurd (false≢true e)
-by-plain Q q1 q2 q3 q4 q5 q6 VertexUsed e = absurd (false≢true e)
+-- the fields that the stores of a division name
+abbrev pub moved : List Field
+moved = First ∷ Isolated ∷ VertexUsed ∷ Start ∷ Loop ∷ Next ∷ Prev ∷ []
 
 -- k is in use; n, its mate and v are free
 pub record Place (sh : Shape) (c : Columns) (k n v : ℕ) : Type 0 where
@@ -86,7 +59,8 @@ aft k n = swapFor k n
 -- v divides k in c, which gives d
 pub record Split (sh : Shape) (c d : Columns) (k n v : ℕ) : Type 0 where
   pub place : Place sh c k n v
-  pub same : (F : Field) → plain F ≡ true → (i : ℕ) → d F i ≡ c F i
+  pub others : (F : Field) → among moved F ≡ false → (i : ℕ) → d F i ≡ c F i
+  pub isolated : (l : ℕ) → d Isolated l ≡ c Isolated l
   pub v-used : d VertexUsed v ≡ 1
   pub used : (w : ℕ) → w ≢ v → d VertexUsed w ≡ c VertexUsed w
   pub start-m : d Start (mate k) ≡ v
@@ -110,10 +84,11 @@ pub record Split (sh : Shape) (c d : Columns) (k n v : ℕ) : Type 0 where
 -- ---- the four half-edges differ
 
 module _ {sh : Shape} {c : Columns} {k n v : ℕ} (o : Place sh c k n v) where
-  -- half-edges in use are none of the new ones
+  -- a half-edge in use is not n
   pub off-n : (i : ℕ) → HalfUsed sh c i → i ≢ n
   off-n i u e = u .2 (ap (c Start) e ∙ o .n-free)
 
+  -- nor is one the mate
   pub off-b : (i : ℕ) → HalfUsed sh c i → i ≢ mate n
   off-b i u e = u .2 (ap (c Start) e ∙ o .b-free)
 
@@ -121,58 +96,81 @@ module _ {sh : Shape} {c : Columns} {k n v : ℕ} (o : Place sh c k n v) where
   pub n≢b : n ≢ mate n
   n≢b = mate-other n (o .n-in .0)
 
-  -- new and old ones
+  -- n and k
   pub n≢k : n ≢ k
   n≢k e = off-n k (o .k-used) (sym e)
 
+  -- n and k's mate
   pub n≢m : n ≢ mate k
   n≢m e = off-n (mate k) (o .m-used) (sym e)
 
+  -- n's mate and k
   pub b≢k : mate n ≢ k
   b≢k e = off-b k (o .k-used) (sym e)
 
+  -- the mates
   pub b≢m : mate n ≢ mate k
   b≢m e = off-b (mate k) (o .m-used) (sym e)
+
+  -- all of it, for `simp` to find
+  pub apart : {A : Type 0} → (n ≢ mate n → mate n ≢ n → n ≢ k → k ≢ n → n ≢ mate k → mate k ≢ n → mate n ≢ k
+      → k ≢ mate n
+      → mate n ≢ mate k → mate k ≢ mate n → A) → A
+  apart f = f n≢b (λ z. n≢b (sym z)) n≢k (λ z. n≢k (sym z)) n≢m (λ z. n≢m (sym z)) b≢k (λ z. b≢k (sym z)) b≢m
+      (λ z. b≢m (sym z))
 
   -- the mate of what is read for m is read for k
   pub mate-fore : (i : ℕ) → mate (fore k n i) ≡ aft k n (mate i)
   mate-fore i = split i (mate k)
-      (λ e. ap mate (upd-at (λ j. j) (mate n) e) ∙ mate-mate n ∙ sym (upd-at (λ j. j) n (ap mate e ∙ mate-mate k)))
-      (λ e. ap mate (upd-off (λ j. j) (mate n) e) ∙ sym (upd-off (λ j. j) n (λ z. e (sym (mate-mate i) ∙ ap mate z))))
+      (λ e. ap mate (swap-at (mate n) e) ∙ mate-mate n ∙ sym (swap-at n (ap mate e ∙ mate-mate k)))
+      (λ e. ap mate (swap-off (mate n) e) ∙ sym (swap-off n (λ z. e (sym (mate-mate i) ∙ ap mate z))))
 
 -- ---- half-edges in use before and after
 
 module _ {sh : Shape} {c d : Columns} {k n v : ℕ} (r : Split sh c d k n v) where
-  -- n, its mate and all that were in use are in use
+  open Split r using (place as o)
+
+  -- the loop of one that was in use
+  pub loop-old : (i : ℕ) → HalfUsed sh c i → d Loop i ≡ c Loop i
+  loop-old i u = r .loop i (off-n o i u) (off-b o i u)
+
+  -- n is in use
   pub used-n : HalfUsed sh d n
-  used-n = (r .place .n-in .0, r .place .n-in .1, λ z. omega (arith, r .place .v-in .0, sym (r .start-n) ∙ z))
+  used-n = (o .n-in .0, o .n-in .1, λ z. omega (arith, o .v-in .0, sym (r .start-n) ∙ z))
 
+  -- so is its mate
   pub used-b : HalfUsed sh d (mate n)
-  used-b = (r .place .b-in .0, r .place .b-in .1, λ z. r .place .m-used .2 (sym (r .start-b) ∙ z))
+  used-b = (o .b-in .0, o .b-in .1, λ z. o .m-used .2 (sym (r .start-b) ∙ z))
 
+  -- and what was in use
   pub used-old : (i : ℕ) → HalfUsed sh c i → HalfUsed sh d i
   used-old i u = (
     u .0,
     u .1,
     λ z. split i (mate k)
-        (λ e. omega (arith, r .place .v-in .0, sym (r .start-m) ∙ ap (d Start) (sym e) ∙ z))
-        (λ e. u .2 (sym (r .start i e (off-n (r .place) i u) (off-b (r .place) i u)) ∙ z)),
+        (λ e. omega (arith, o .v-in .0, sym (r .start-m) ∙ ap (d Start) (sym e) ∙ z))
+        (λ e. u .2 (sym (r .start i e (off-n o i u) (off-b o i u)) ∙ z)),
   )
 
   -- and no other
-  pub used-was : (Q : ℕ → Type 0) → Q n → Q (mate n) → ((i : ℕ) → HalfUsed sh c i → Q i) → (i : ℕ) → HalfUsed sh d i → Q i
-  used-was Q qn qb qo i u = split i n (λ e. subst Q (sym e) qn) λ e. split i (mate n) (λ f. subst Q (sym f) qb) λ f. split i (mate k)
-      (λ g. qo i (subst (HalfUsed sh c) (sym g) (r .place .m-used)))
+  pub used-was : (Q : ℕ → Type 0) → Q n → Q (mate n) → ((i : ℕ) → HalfUsed sh c i → Q i) → (i : ℕ) → HalfUsed sh d i
+      → Q i
+  used-was Q qn qb qo i u = split i n (λ e. subst Q (sym e) qn) λ e. split i (mate n)
+      (λ f. subst Q (sym f) qb) λ f. split i (mate k)
+      (λ g. qo i (subst (HalfUsed sh c) (sym g) (o .m-used)))
       (λ g. qo i (u .0, u .1, λ z. u .2 (r .start i g e f ∙ z)))
 
   -- a statement about each half-edge: k, b, those read for one in use before, the free ones
-  pub by-next : (Q : ℕ → Type 0) → Q k → Q (mate n) → ((i : ℕ) → HalfUsed sh c i → Q (aft k n i)) → ((i : ℕ) → In (2 * sh .edges) i → d Start i ≡ 0 → Q i) → (i : ℕ) → In (2 * sh .edges) i → Q i
+  pub by-next : (Q : ℕ → Type 0) → Q k → Q (mate n) → ((i : ℕ) → HalfUsed sh c i → Q (aft k n i))
+      → ((i : ℕ) → In (2 * sh .edges) i → d Start i ≡ 0 → Q i) → (i : ℕ) → In (2 * sh .edges) i → Q i
   by-next Q qk qb qo qf i j = split (d Start i) 0 (λ z. qf i j z) (λ u. used-was Q
-      (subst Q (upd-same (λ j. j) k n) (qo k (r .place .k-used))) qb
-      (λ i w. split i k (λ e. subst Q (sym e) qk) (λ e. subst Q (upd-off (λ j. j) n e) (qo i w))) i (j .0, j .1, u))
+      (subst Q (swap-at {a = k} n refl) (qo k (o .k-used))) qb
+      (λ i w. split i k (λ e. subst Q (sym e) qk) (λ e. subst Q (swap-off n e) (qo i w))) i (j .0, j .1, u))
 
   -- the same for the other direction: m, n, those read for one in use before, the free ones
-  pub by-prev : (Q : ℕ → Type 0) → Q (mate k) → Q n → ((i : ℕ) → HalfUsed sh c i → Q (fore k n i)) → ((i : ℕ) → In (2 * sh .edges) i → d Start i ≡ 0 → Q i) → (i : ℕ) → In (2 * sh .edges) i → Q i
+  pub by-prev : (Q : ℕ → Type 0) → Q (mate k) → Q n → ((i : ℕ) → HalfUsed sh c i → Q (fore k n i))
+      → ((i : ℕ) → In (2 * sh .edges) i → d Start i ≡ 0 → Q i) → (i : ℕ) → In (2 * sh .edges) i → Q i
   by-prev Q qm qn qo qf i j = split (d Start i) 0 (λ z. qf i j z) (λ u. used-was Q
-      qn (subst Q (upd-same (λ j. j) (mate k) (mate n)) (qo (mate k) (r .place .m-used)))
-      (λ i w. split i (mate k) (λ e. subst Q (sym e) qm) (λ e. subst Q (upd-off (λ j. j) (mate n) e) (qo i w))) i (j .0, j .1, u))
+      qn (subst Q (swap-at {a = mate k} (mate n) refl) (qo (mate k) (o .m-used)))
+      (λ i w. split i (mate k) (λ e. subst Q (sym e) qm) (λ e. subst Q (swap-off (mate n) e) (qo i w))) i
+      (j .0, j .1, u))

@@ -1,5 +1,5 @@
--- Rules 4 and 5 on both sides of a division. Among the loops n goes in after k, and b before m. Among the vertices b takes m's place, and m and n make a
--- vertex of their own.
+-- Rules 4 and 5 (the cycles of loops and of vertices) on both sides of a division. Among the loops n goes in after k,
+-- and b before m. Among the vertices b takes m's place, and m and n make a vertex of their own.
 use mathlib.Core.Path.{_≡_, refl, sym, ap, _∙_, subst}
 use mathlib.Core.Logic.{_≢_, inl, inr, ⊎-elim}
 use Prim.Native.Nat.{ℕ, _*_}
@@ -13,18 +13,23 @@ use Rattle.layout.specs.MateLaws.{mate-mate}
 use Rattle.layout.specs.Fields.{Start, Loop, Next, Prev, Columns}
 use Rattle.sound_tables.specs.EdgeIn.{Rules}
 use Rattle.sound_tables.specs.Sound.{halves, HalfUsed}
-use Rattle.sound_splits.specs.CycleMoves.{swapFor, swap-back, before-cycles, before-out, rename}
-use Rattle.sound_splits.specs.Relation.{fore, aft, Split, off-n, off-b, n≢b, n≢k, n≢m, b≢k, b≢m, mate-fore, used-n, used-b, used-old, used-was, by-next}
+use Rattle.sound_splits.specs.CycleMoves.{swapFor, swap-at, swap-off, swap-back, before-cycles, before-out}
+use Rattle.sound_splits.specs.CycleMoves.{rename}
+use Rattle.sound_splits.specs.Relation.{fore, aft, Split, off-n, off-b, n≢b, n≢k, n≢m, b≢k, b≢m, apart, mate-fore}
+use Rattle.sound_splits.specs.Relation.{used-n, used-b, used-old, used-was, by-next}
 
 module _ {sh : Shape} {c d : Columns} {k n v : ℕ} (r : Split sh c d k n v) where
+  open Split r using (place as o)
+
   -- how many half-edges there are
   abbrev N : ℕ
   N = 2 * sh .edges
 
-  -- those in use before, and after
+  -- those in use before
   abbrev U : ℕ → Type 0
   U = HalfUsed sh c
 
+  -- and after
   abbrev U′ : ℕ → Type 0
   U′ = HalfUsed sh d
 
@@ -34,35 +39,35 @@ module _ {sh : Shape} {c d : Columns} {k n v : ℕ} (r : Split sh c d k n v) whe
 
   -- what follows n
   next-n : d Next n ≡ fore k n (c Next k)
-  next-n = ap (d Next) (sym (upd-same (λ j. j) k n)) ∙ r .next k (r .place .k-used)
+  next-n = ap (d Next) (sym (swap-at {a = k} n refl)) ∙ r .next k (o .k-used)
 
   -- what follows one in use, not k
   next-o : (i : ℕ) → U i → i ≢ k → d Next i ≡ fore k n (c Next i)
-  next-o i u e = ap (d Next) (sym (upd-off (λ j. j) n e)) ∙ r .next i u
+  next-o i u e = ap (d Next) (sym (swap-off n e)) ∙ r .next i u
 
   -- what stands for one in use is in use, and not of the new vertex
   pub fore-in : (i : ℕ) → U i → U₁ (fore k n i)
   fore-in i u = split i (mate k)
-      (λ e. subst U₁ (sym (upd-at (λ j. j) (mate n) e)) ((used-b r, λ z. n≢b (r .place) (sym z)), b≢m (r .place)))
-      (λ e. subst U₁ (sym (upd-off (λ j. j) (mate n) e)) ((used-old r i u, off-n (r .place) i u), e))
+      (λ e. subst U₁ (sym (swap-at (mate n) e)) ((used-b r, λ z. n≢b o (sym z)), b≢m o))
+      (λ e. subst U₁ (sym (swap-off (mate n) e)) ((used-old r i u, off-n o i u), e))
 
   -- and back
   fore-out : (j : ℕ) → U₁ j → U (swapFor (mate n) (mate k) j)
   fore-out j u = used-was r (λ j. j ≢ n → U (swapFor (mate n) (mate k) j))
       (λ e. absurd (e refl))
-      (λ e. subst U (sym (upd-same (λ i. i) (mate n) (mate k))) (r .place .m-used))
-      (λ i w e. subst U (sym (upd-off (λ i. i) (mate k) (off-b (r .place) i w))) w)
+      (λ e. subst U (sym (swap-at {a = mate n} (mate k) refl)) (o .m-used))
+      (λ i w e. subst U (sym (swap-off (mate k) (off-b o i w))) w)
       j (u .0 .0) (u .0 .1)
 
   -- it starts where that did
   pub start-fore : (i : ℕ) → U i → d Start (fore k n i) ≡ c Start i
   start-fore i u = split i (mate k)
-      (λ e. ap (d Start) (upd-at (λ j. j) (mate n) e) ∙ r .start-b ∙ ap (c Start) (sym e))
-      (λ e. ap (d Start) (upd-off (λ j. j) (mate n) e) ∙ r .start i e (off-n (r .place) i u) (off-b (r .place) i u))
+      (λ e. ap (d Start) (swap-at (mate n) e) ∙ r .start-b ∙ ap (c Start) (sym e))
+      (λ e. ap (d Start) (swap-off (mate n) e) ∙ r .start i e (off-n o i u) (off-b o i u))
 
   -- next of the mate, as it is read
   sigma-fore : (i : ℕ) → U (mate i) → d Next (mate (fore k n i)) ≡ fore k n (c Next (mate i))
-  sigma-fore i u = ap (d Next) (mate-fore (r .place) i) ∙ r .next (mate i) u
+  sigma-fore i u = ap (d Next) (mate-fore o i) ∙ r .next (mate i) u
 
   -- around the new vertex: from m to n, and from n to m
   sigma-m : d Next (mate (mate k)) ≡ n
@@ -70,29 +75,30 @@ module _ {sh : Shape} {c d : Columns} {k n v : ℕ} (r : Split sh c d k n v) whe
 
   -- ---- from c to d
 
-  module _ (a : Rules (2 * sh .edges) mate (HalfUsed sh c) (halves c)) (fresh : (i : ℕ) → HalfUsed sh c i → c Start i ≢ v) where
+  module _ (a : Rules (2 * sh .edges) mate (HalfUsed sh c) (halves c))
+      (fresh : (i : ℕ) → HalfUsed sh c i → c Start i ≢ v) where
     -- n goes in after k, b before m
-    inserted : Cycles N (Or (mate n) (Or n U)) (upd (λ i. fore k n (ins (c Next) n k i)) (mate n) (mate k)) (upd (upd (c Loop) n (c Loop k)) (mate n) (upd (c Loop) n (c Loop k) (mate k)))
-    inserted = before-cycles (ins-cycles (a .loops) n k (λ u. u .2 (r .place .n-free)) (r .place .n-in .0) (r .place .n-in .1) (r .place .k-used)) (mate n) (mate k)
-        (⊎-elim (λ e. n≢b (r .place) (sym e)) (λ u. u .2 (r .place .b-free))) (r .place .b-in .0) (r .place .b-in .1) (inr (r .place .m-used))
+    inserted : Cycles N (Or (mate n) (Or n U)) (upd (λ i. fore k n (ins (c Next) n k i)) (mate n) (mate k))
+        (upd (upd (c Loop) n (c Loop k)) (mate n) (upd (c Loop) n (c Loop k) (mate k)))
+    inserted = before-cycles (ins-cycles (a .loops) n k (λ u. u .2 (o .n-free)) (o .n-in .0) (o .n-in .1) (o .k-used))
+        (mate n) (mate k)
+        (⊎-elim (λ e. n≢b o (sym e)) (λ u. u .2 (o .b-free))) (o .b-in .0) (o .b-in .1) (inr (o .m-used))
 
     -- that is the loops of d
     split-loops : Cycles N U′ (d Next) (d Loop)
     split-loops = agree inserted
-        (λ i. ⊎-elim (λ e. subst U′ (sym e) (used-b r)) (⊎-elim (λ e. subst U′ (sym e) (used-n r)) (λ u. used-old r i u)))
+        (λ i. ⊎-elim (λ e. subst U′ (sym e) (used-b r))
+        (⊎-elim (λ e. subst U′ (sym e) (used-n r)) (λ u. used-old r i u)))
         (used-was r (Or (mate n) (Or n U)) (inr (inl refl)) (inl refl) (λ i u. inr (inr u)))
-        (λ i. ⊎-elim
-        (λ e. rw e (r .next-b ∙ sym (upd-same _ (mate n) (mate k))))
-        (⊎-elim
-        (λ e. rw e (next-n ∙ sym (upd-off _ (mate k) (n≢b (r .place)) ∙ ap (fore k n) (upd-off _ n (n≢k (r .place)) ∙ upd-same (c Next) n (c Next k)))))
-        (λ u. split i k
-        (λ e. rw e (r .next-k ∙ sym (upd-off _ (mate k) (λ z. b≢k (r .place) (sym z)) ∙ ap (fore k n) (upd-same _ k n) ∙ upd-off (λ j. j) (mate n) (n≢m (r .place)))))
-        (λ e. next-o i u e ∙ sym (upd-off _ (mate k) (off-b (r .place) i u) ∙ ap (fore k n) (upd-off _ n e ∙ upd-off (c Next) (c Next k) (off-n (r .place) i u)))))))
-        (λ i. ⊎-elim
-        (λ e. rw e (r .loop-b ∙ sym (upd-same _ (mate n) _ ∙ upd-off (c Loop) (c Loop k) (λ z. n≢m (r .place) (sym z)))))
-        (⊎-elim
-        (λ e. rw e (r .loop-n ∙ sym (upd-off _ _ (n≢b (r .place)) ∙ upd-same (c Loop) n (c Loop k))))
-        (λ u. r .loop i (off-n (r .place) i u) (off-b (r .place) i u) ∙ sym (upd-off _ _ (off-b (r .place) i u) ∙ upd-off (c Loop) (c Loop k) (off-n (r .place) i u)))))
+        (λ i. apart o λ c1 c2 c3 c4 c5 c6 c7 c8 c9 c10. ⊎-elim
+        (λ e. rw e (r .next-b ∙ sym (simp upd-same)))
+        (⊎-elim (λ e. rw e (next-n ∙ sym (simp (upd-same, upd-off))))
+        (λ u. let f = off-n o i u in let g = off-b o i u in split i k
+        (λ e. rw e (r .next-k ∙ sym (simp (upd-same, upd-off)))) (λ e. next-o i u e ∙ sym (simp upd-off)))))
+        (λ i. apart o λ c1 c2 c3 c4 c5 c6 c7 c8 c9 c10. ⊎-elim
+        (λ e. rw e (r .loop-b ∙ sym (simp (upd-same, upd-off))))
+        (⊎-elim (λ e. rw e (r .loop-n ∙ sym (simp (upd-same, upd-off))))
+        (λ u. let f = off-n o i u in let g = off-b o i u in r .loop i f g ∙ sym (simp upd-off))))
 
     -- b takes the place of m
     renamed : Cycles N U₁ (λ i. d Next (mate i)) (d Start)
@@ -100,7 +106,7 @@ module _ {sh : Shape} {c d : Columns} {k n v : ℕ} (r : Split sh c d k n v) whe
       to = fore-in;
       from = fore-out;
       there = λ j u. swap-back (mate n) (mate k) j (u .1);
-      back = λ i u. swap-back (mate k) (mate n) i (off-b (r .place) i u);
+      back = λ i u. swap-back (mate k) (mate n) i (off-b o i u);
       low = λ j u. u .0 .0 .0;
       high = λ j u. u .0 .0 .1;
       step = λ i u. sigma-fore i (a .mate-in i u);
@@ -111,15 +117,16 @@ module _ {sh : Shape} {c d : Columns} {k n v : ℕ} (r : Split sh c d k n v) whe
     with-m : Cycles N (But n U′) (upd (λ i. d Next (mate i)) (mate k) (mate k)) (d Start)
     with-m = birth renamed (record {
       fresh = λ u. u .1 refl;
-      x-low = r .place .m-used .0;
-      x-high = r .place .m-used .1;
+      x-low = o .m-used .0;
+      x-high = o .m-used .1;
       old = λ i u. u .0;
-      new = (used-old r (mate k) (r .place .m-used), λ z. n≢m (r .place) (sym z));
+      new = (used-old r (mate k) (o .m-used), λ z. n≢m o (sym z));
       cases = λ i u. split i (mate k) (λ e. inl e) (λ e. inr (u, e));
       f-x = upd-same _ (mate k) (mate k);
       f-o = λ i e. upd-off _ (mate k) e;
       lab-x = λ i u z. fresh (swapFor (mate n) (mate k) i) (fore-out i u)
-          (sym (start-fore (swapFor (mate n) (mate k) i) (fore-out i u)) ∙ ap (d Start) (swap-back (mate n) (mate k) i (u .1)) ∙ z ∙ r .start-m);
+          (sym (start-fore (swapFor (mate n) (mate k) i) (fore-out i u))
+          ∙ ap (d Start) (swap-back (mate n) (mate k) i (u .1)) ∙ z ∙ r .start-m);
       lab-o = λ i e. refl;
     })
 
@@ -127,9 +134,9 @@ module _ {sh : Shape} {c d : Columns} {k n v : ℕ} (r : Split sh c d k n v) whe
     split-verts : Cycles N U′ (λ i. d Next (mate i)) (d Start)
     split-verts = insert with-m (record {
       fresh = λ u. u .1 refl;
-      x-low = r .place .n-in .0;
-      x-high = r .place .n-in .1;
-      y-in = (used-old r (mate k) (r .place .m-used), λ z. n≢m (r .place) (sym z));
+      x-low = o .n-in .0;
+      x-high = o .n-in .1;
+      y-in = (used-old r (mate k) (o .m-used), λ z. n≢m o (sym z));
       old = λ i u. u .0;
       new = used-n r;
       cases = λ i u. split i n (λ e. inl e) (λ e. inr (u, e));
@@ -145,13 +152,15 @@ module _ {sh : Shape} {c d : Columns} {k n v : ℕ} (r : Split sh c d k n v) whe
     split-undone i u = by-next r (λ i. U′ i → d Prev (d Next i) ≡ i)
         (λ w. ap (d Prev) (r .next-k) ∙ r .prev-n)
         (λ w. ap (d Prev) (r .next-b) ∙ r .prev-m)
-        (λ i w _. ap (d Prev) (r .next i w) ∙ r .prev (c Next i) (a .loops .perm .f-in i w) ∙ ap (aft k n) (a .undone i w))
+        (λ i w _. ap (d Prev) (r .next i w) ∙ r .prev (c Next i) (a .loops .perm .f-in i w)
+        ∙ ap (aft k n) (a .undone i w))
         (λ i j z w. absurd (w .2 z)) i (u .0, u .1) u
 
     -- the rules after the division
     pub split-rules : Rules (2 * sh .edges) mate (HalfUsed sh d) (halves d)
     split-rules = record {
-      mate-in = used-was r (λ i. U′ (mate i)) (used-b r) (subst U′ (sym (mate-mate n)) (used-n r)) (λ i u. used-old r (mate i) (a .mate-in i u));
+      mate-in = used-was r (λ i. U′ (mate i)) (used-b r) (subst U′ (sym (mate-mate n)) (used-n r))
+          (λ i u. used-old r (mate i) (a .mate-in i u));
       loops = split-loops;
       verts = split-verts;
       undone = split-undone;
@@ -162,16 +171,17 @@ module _ {sh : Shape} {c d : Columns} {k n v : ℕ} (r : Split sh c d k n v) whe
   module _ (a : Rules (2 * sh .edges) mate (HalfUsed sh d) (halves d)) where
     -- n goes out after k, b before m
     taken : Cycles N (But (mate n) (But n U′)) (λ i. swapFor (mate n) (mate k) (out (d Next) n k i)) (d Loop)
-    taken = before-out (out-cycles (a .loops) n k (used-old r k (r .place .k-used)) (r .next-k) (n≢k (r .place))) (mate n) (mate k)
-        (used-b r, λ z. n≢b (r .place) (sym z)) (upd-off (d Next) (d Next n) (b≢k (r .place)) ∙ r .next-b) (b≢m (r .place))
+    taken = before-out (out-cycles (a .loops) n k (used-old r k (o .k-used)) (r .next-k) (n≢k o)) (mate n) (mate k)
+        (used-b r, λ z. n≢b o (sym z)) (upd-off (d Next) (d Next n) (b≢k o) ∙ r .next-b) (b≢m o)
 
     -- those in use before are those afterwards but the new ones
     old-in : (i : ℕ) → U i → But (mate n) (But n U′) i
-    old-in i u = ((used-old r i u, off-n (r .place) i u), off-b (r .place) i u)
+    old-in i u = ((used-old r i u, off-n o i u), off-b o i u)
 
     -- and back
     old-out : (i : ℕ) → But (mate n) (But n U′) i → U i
-    old-out i u = used-was r (λ i. i ≢ n → i ≢ mate n → U i) (λ e f. absurd (e refl)) (λ e f. absurd (f refl)) (λ i w e f. w) i (u .0 .0) (u .0 .1) (u .1)
+    old-out i u = used-was r (λ i. i ≢ n → i ≢ mate n → U i) (λ e f. absurd (e refl)) (λ e f. absurd (f refl))
+        (λ i w e f. w) i (u .0 .0) (u .0 .1) (u .1)
 
     -- that is the loops of c
     join-loops : Cycles N U (c Next) (c Loop)
@@ -179,15 +189,16 @@ module _ {sh : Shape} {c d : Columns} {k n v : ℕ} (r : Split sh c d k n v) whe
         (λ i u. let w = old-out i u in
         sym (ap (swapFor (mate n) (mate k)) (split i k
         (λ e. upd-at (d Next) (d Next n) e ∙ next-n ∙ ap (λ j. fore k n (c Next j)) (sym e))
-        (λ e. upd-off (d Next) (d Next n) e ∙ next-o i w e)) ∙ swap-back (mate k) (mate n) (c Next i) (r .next-old i w)))
+        (λ e. upd-off (d Next) (d Next n) e ∙ next-o i w e)) ∙ swap-back (mate k) (mate n) (c Next i)
+        (r .next-old i w)))
         (λ i u. sym (r .loop i (u .0 .1) (u .1)))
 
     -- n goes
     pub without-n : Cycles N (But n U′) (upd (λ i. d Next (mate i)) (mate k) (mate k)) (d Start)
     without-n = remove (a .verts) (record {
-      y-in = used-old r (mate k) (r .place .m-used);
+      y-in = used-old r (mate k) (o .m-used);
       f-yx = sigma-m;
-      apart = n≢m (r .place);
+      apart = n≢m o;
       old = λ i u e. (u, e);
       in-old = λ i u. u .0;
       not-x = λ u. u .1 refl;
@@ -199,7 +210,7 @@ module _ {sh : Shape} {c d : Columns} {k n v : ℕ} (r : Split sh c d k n v) whe
     -- then m
     without-m : Cycles N U₁ (λ i. d Next (mate i)) (d Start)
     without-m = death without-n (record {
-      x-in = (used-old r (mate k) (r .place .m-used), λ z. n≢m (r .place) (sym z));
+      x-in = (used-old r (mate k) (o .m-used), λ z. n≢m o (sym z));
       f-x = upd-same _ (mate k) (mate k);
       old = λ i u e. (u, e);
       in-old = λ i u. u .0;
@@ -210,22 +221,27 @@ module _ {sh : Shape} {c d : Columns} {k n v : ℕ} (r : Split sh c d k n v) whe
 
     -- mates stay in use
     mate-in-c : (i : ℕ) → U i → U (mate i)
-    mate-in-c i u = old-out (mate i) ((a .mate-in i (used-old r i u), λ z. off-b (r .place) i u (sym (mate-mate i) ∙ ap mate z)), λ z. off-n (r .place) i u (sym (mate-mate i) ∙ ap mate z ∙ mate-mate n))
+    mate-in-c i u =
+        let f : mate i ≢ n = λ z. off-b o i u (sym (mate-mate i) ∙ ap mate z) in
+        let g : mate i ≢ mate n = λ z. off-n o i u (sym (mate-mate i) ∙ ap mate z ∙ mate-mate n) in
+        old-out (mate i) ((a .mate-in i (used-old r i u), f), g)
 
     -- m takes the place of b
     join-verts : Cycles N U (λ i. c Next (mate i)) (c Start)
     join-verts = rename {φ = swapFor (mate n) (mate k)} {ψ = fore k n} without-m (record {
       to = fore-out;
       from = fore-in;
-      there = λ i u. swap-back (mate k) (mate n) i (off-b (r .place) i u);
+      there = λ i u. swap-back (mate k) (mate n) i (off-b o i u);
       back = λ j u. swap-back (mate n) (mate k) j (u .1);
       low = λ i u. u .0;
       high = λ i u. u .1;
       step = λ j u.
           let i = swapFor (mate n) (mate k) j in
           let w = mate-in-c i (fore-out j u) in
-          sym (swap-back (mate k) (mate n) (c Next (mate i)) (r .next-old (mate i) w)) ∙ ap (swapFor (mate n) (mate k)) (sym (sigma-fore i w) ∙ ap (λ t. d Next (mate t)) (swap-back (mate n) (mate k) j (u .1)));
-      label = λ j u. sym (start-fore (swapFor (mate n) (mate k) j) (fore-out j u)) ∙ ap (d Start) (swap-back (mate n) (mate k) j (u .1));
+          sym (swap-back (mate k) (mate n) (c Next (mate i)) (r .next-old (mate i) w)) ∙ ap (swapFor (mate n) (mate k))
+          (sym (sigma-fore i w) ∙ ap (λ t. d Next (mate t)) (swap-back (mate n) (mate k) j (u .1)));
+      label = λ j u. sym (start-fore (swapFor (mate n) (mate k) j) (fore-out j u))
+          ∙ ap (d Start) (swap-back (mate n) (mate k) j (u .1));
     })
 
     -- previous undoes next
@@ -234,11 +250,13 @@ module _ {sh : Shape} {c d : Columns} {k n v : ℕ} (r : Split sh c d k n v) whe
         let w = join-loops .perm .f-in i u in
         let x : d Next (aft k n i) ≡ fore k n (c Next i) = r .next i u in
         sym (swap-back k n (c Prev (c Next i)) (r .prev-old (c Next i) w))
-        ∙ ap (swapFor n k) (sym (r .prev (c Next i) w) ∙ ap (d Prev) (sym x) ∙ a .undone (aft k n i) (aft-in i u)) ∙ swap-back k n i (off-n (r .place) i u)
+        ∙ ap (swapFor n k) (sym (r .prev (c Next i) w) ∙ ap (d Prev) (sym x) ∙ a .undone (aft k n i) (aft-in i u))
+        ∙ swap-back k n i (off-n o i u)
       where
         -- what is read for one in use is in use
         aft-in : (i : ℕ) → U i → U′ (aft k n i)
-        aft-in i u = split i k (λ e. subst U′ (sym (upd-at (λ j. j) n e)) (used-n r)) (λ e. subst U′ (sym (upd-off (λ j. j) n e)) (used-old r i u))
+        aft-in i u = split i k (λ e. subst U′ (sym (swap-at n e)) (used-n r))
+            (λ e. subst U′ (sym (swap-off n e)) (used-old r i u))
 
     -- the rules before the division
     pub join-rules : Rules (2 * sh .edges) mate (HalfUsed sh c) (halves c)

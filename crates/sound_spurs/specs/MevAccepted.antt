@@ -1,15 +1,16 @@
--- mev as an operator: what it says that it is accepted, and that a good table stays good.
-use mathlib.Core.Path.{_≡_, refl, sym, _∙_, subst}
-use mathlib.Core.Logic.{_≢_, _⊎_, inl, inr, ⊎-elim}
+-- mev as an operator: its operands, what it says that they are accepted, what it does to links and points, and that a
+-- good table stays good.
+use mathlib.Core.Path.{_≡_, refl, sym, ap, _∙_, subst}
+use mathlib.Core.Logic.{_≢_, inl, inr, ⊎-elim}
 use mathlib.Core.Bool.{true}
 use mathlib.Core.List.{List, [], _∷_}
-use Prim.Native.Nat.{ℕ, _+_, _*_, _≤_, _<_}
+use Prim.Native.Nat.{ℕ, _*_, _≤_, _<_}
 use native.Mathlib.Omega.{arith}
-use lib.Dec.{T, leb, lit≤}
+use lib.Dec.{T, eqb, lit≤}
 use lib.IntN.{ℤ, pos}
 use lib.ListN.{length, getD}
 use borrow.Author.Tests.{le-leb}
-use Rattle.laws.specs.Bools.{true-T, eqb-same, eqb-other}
+use Rattle.laws.specs.Bools.{pick, true-T, eqb-same, eqb-other}
 use Rattle.laws.specs.Update.{upd-same, upd-off}
 use Rattle.script.specs.declared.Operator.{Operator}
 use Rattle.codec.specs.Operands.{pattern, rows}
@@ -21,213 +22,320 @@ use Rattle.layout.specs.MateLaws.{mate-range}
 use Rattle.layout.specs.Points.{rangeTest}
 use Rattle.euler.specs.Surgery.{corner, halfBy, putPoint, edgeIn, lower, renew}
 use Rattle.euler.specs.Operators.{mevLinks}
-use Rattle.euler.specs.Exec.{limits, useWord, condition, refusalOf, linksAfter, pointsAfter}
+use Rattle.euler.specs.Exec.{limits, useWord, condition, refusalOf, linksAfter, pointsAfter, inverse}
 use Rattle.layout.specs.Fields.{Face, First, Isolated, Start, Loop, Prev, VertexUsed, Columns}
-use Rattle.sound_tables.specs.Mates.{mate⁺}
-use Rattle.sound_tables.specs.EdgeIn.{Rules, prev-in}
+use Rattle.sound_tables.specs.EdgeIn.{prev-in, next-prev}
 use Rattle.sound_tables.specs.Cells.{Shows, shows-put}
 use Rattle.sound_tables.specs.Sound.{In, HalfUsed, Sound}
 use Rattle.sound_tables.specs.Names.{not-isolated, lone-used, free-halves}
 use Rattle.sound_tables.specs.PointLists.{three, put-length, all-three, points-new}
-use Rattle.sound_tables.specs.Accepted.{by-place, eight, use-old, use-new, Number, number, number-or-none, coordinate-range}
+use Rattle.sound_tables.specs.Accepted.{by-place, eight, accepted-back, ranges-cons, uses-cons, item-cons, use-old}
+use Rattle.sound_tables.specs.Accepted.{old-use, use-new, new-use, use-none, in-range, Number, number, number-or-none}
+use Rattle.sound_tables.specs.Accepted.{coordinate-range, unused-range, unused-use, in-range-or-none, three-range}
+use Rattle.sound_tables.specs.Accepted.{three-use}
+use Rattle.sound_tables.specs.OneOperand.{oneOf}
 use Rattle.sound_tables.specs.Good.{own, Capacities, Good, good-shows, good-after}
-use Rattle.sound_tables.specs.CornerTest.{CornerAt, test-corner}
-use Rattle.sound_tables.specs.Undone.{Kept}
-use Rattle.sound_tables.specs.WithDummies.{extended, Member}
+use Rattle.sound_tables.specs.CornerTest.{CornerAt, corner-most, test-corner, corner-test, corner-use}
 use Rattle.sound_tables.specs.FirstLow.{lower-new, first-low}
 use Rattle.sound_tables.specs.Shown.{shows-edge, shows-first}
-use Rattle.sound_spurs.specs.MevSound.{mevColumns, MevPlace, loop-k, loop-old, new-k, mev-sound}
-use Rattle.sound_spurs.specs.MevRules.{mev-at-half, mev-at-isolated}
-
--- the list afterwards
-abbrev pub mevList : Shape → List ℕ → (l k u v P N : ℕ) → List ℕ
-mevList sh x l k u v P N = setVertexUsed sh (renew sh (edgeIn sh x k u l (mate k) P v l N k) l (lower (own sh x First l) (lower k (mate k))) k 0) v 1
-
--- ---- the table afterwards
-
-module _ {sh : Shape} {x : List ℕ} {p : List ℤ} (g : Good sh x p) {l k u v P N : ℕ} (o : MevPlace sh (own sh x) l k u v P N)
-    (rules⁺ : Rules (2 * sh .edges + sh .loops) (mate⁺ (sh .edges)) (Member sh (mevColumns sh (own sh x) l k u v P N)) (extended sh (mevColumns sh (own sh x) l k u v P N)))
-    (a b z : ℤ) (ha : T (rangeTest a)) (hb : T (rangeTest b)) (hz : T (rangeTest z)) where
-  abbrev d : Columns
-  d = mevColumns sh (own sh x) l k u v P N
-
-  abbrev y : List ℕ
-  y = mevList sh x l k u v P N
-
-  -- the columns are sound
-  pub d-sound : Sound sh (putPoint p v a b z) d
-  d-sound = mev-sound o (g .sound) rules⁺
-      (points-new sh p (own sh x) d v (g .points) (o .vertex-in) (g .sound .point) (λ w n. upd-off (own sh x VertexUsed) 1 n) a b z ha hb hz (upd-same (own sh x VertexUsed) v 1))
-
-  -- the list shows these columns
-  pub y-shows : Shows sh y d
-  y-shows =
-      let P-in : In (2 * sh .edges) P = ⊎-elim (λ e. subst (In (2 * sh .edges)) (sym e) (o .mate-in)) (λ w. (w .0, w .1)) (o .before) in
-      let N-in : In (2 * sh .edges) N = ⊎-elim (λ e. subst (In (2 * sh .edges)) (sym e) (o .half-in)) (λ w. (w .0, w .1)) (o .after) in
-      let s1 = shows-edge (good-shows g) k u l (mate k) P v l N k (o .half-in) (o .mate-in) (o .mate-in) P-in N-in (o .half-in) in
-      let s2 = shows-first {U = HalfUsed sh d} s1 l (lower (own sh x First l) (lower k (mate k))) k 0 (o .loop-in) (d-sound .rules .loops) (new-k o) (loop-k o)
-      (λ i j e. (j .0, j .1, λ s. omega (arith, o .loop-in .0, sym e ∙ d-sound .half-free i j s .loop)))
-      (λ i j e. lower-new (own sh x First l) k (mate k) i (o .half-in .0) (λ y z. first-low (g .sound) l i (o .loop-in .0) j (sym (loop-old o i y z) ∙ e))) in
-      shows-put s2 VertexUsed v 1 (o .vertex-in .0) (o .vertex-in .1)
-
-  -- the table is good afterwards
-  pub made-good : Good sh y (putPoint p v a b z)
-  made-good = good-after g y-shows (λ n. refl) (put-length p v a b z) d-sound
+use Rattle.sound_spurs.specs.MevSound.{NewEdge, mevColumns, AtCorner, MevPlace, MevRules⁺, loop-k, loop-old}
+use Rattle.sound_spurs.specs.MevSound.{new-k, mev-sound}
+use Rattle.sound_spurs.specs.MevRules.{besideEdge, loneEdge, mev-at-half, mev-at-isolated}
 
 -- ---- operands
 
--- mev l h e v w x y z
-abbrev pub mevOf : ℕ → ℕ → ℕ → ℕ → ℕ → ℤ → ℤ → ℤ → Operator
-mevOf l h e v w x y z = record { code = 3; count = 8; args = pos l ∷ pos h ∷ pos e ∷ pos v ∷ pos w ∷ x ∷ y ∷ z ∷ [] }
-
--- its numbers are read as they stand
-pub record MevSmall (l h e v w : ℕ) : Type 0 where
-  pub loop : leb l 8192 ≡ true
-  pub half : leb h 8192 ≡ true
-  pub edge : leb e 8192 ≡ true
-  pub vertex : leb v 8192 ≡ true
-  pub way : leb w 8192 ≡ true
-
--- what an accepted mev says
-pub record MevFacts (sh : Shape) (c : Columns) (o : Operator) : Type 0 where
-  pub l : ℕ
-  pub h : ℕ
-  pub e : ℕ
-  pub v : ℕ
-  pub w : ℕ
+-- mev loop half edge vertex way x y z: at corner (loop, half) an edge to the new vertex at (x, y, z)
+pub record Mev : Type 0 where
+  pub loop : ℕ
+  pub half : ℕ
+  pub edge : ℕ
+  pub vertex : ℕ
+  pub way : ℕ
   pub x : ℤ
   pub y : ℤ
   pub z : ℤ
-  pub is : o ≡ mevOf l h e v w x y z
-  pub small : MevSmall l h e v w
-  pub loop-in : In (sh .loops) l
-  pub loop-used : c Face l ≢ 0
-  pub edge-in : In (sh .edges) e
-  pub edge-free : c Start (2 * e) ≡ 0
-  pub vertex-in : In (sh .vertices) v
-  pub vertex-free : c VertexUsed v ≡ 0
-  pub corner : CornerAt sh c l h
-  pub way : w ≤ 1
-  pub range : (i : ℕ) → i < 3 → T (rangeTest (three x y z i))
+
+-- the operator with these
+abbrev pub mevOf : Mev → Operator
+mevOf m = record {
+  code = 3;
+  count = 8;
+  args = pos (m .loop) ∷ pos (m .half) ∷ pos (m .edge) ∷ pos (m .vertex) ∷ pos (m .way) ∷ m .x ∷ m .y ∷ m .z ∷ [];
+}
+
+-- the half of the edge that leaves the corner
+abbrev pub newHalf : Mev → ℕ
+newHalf m = halfBy (m .edge) (m .way)
+
+-- they fit the columns: the loop is in use, the edge and the vertex are free, and the corner is one
+pub record MevFits (sh : Shape) (c : Columns) (m : Mev) : Type 0 where
+  pub loop-in : In (sh .loops) (m .loop)
+  pub loop-used : c Face (m .loop) ≢ 0
+  pub edge-in : In (sh .edges) (m .edge)
+  pub edge-free : c Start (2 * m .edge) ≡ 0
+  pub vertex-in : In (sh .vertices) (m .vertex)
+  pub vertex-free : c VertexUsed (m .vertex) ≡ 0
+  pub corner : CornerAt sh c (m .loop) (m .half)
+  pub way : m .way ≤ 1
+  pub range : (i : ℕ) → i < 3 → T (rangeTest (three (m .x) (m .y) (m .z) i))
+
+-- what an accepted mev says
+pub record MevFacts (sh : Shape) (c : Columns) (o : Operator) : Type 0 where
+  pub operands : Mev
+  pub is : o ≡ mevOf operands
+  pub fits : MevFits sh c operands
+
+-- the operands by place
+abbrev operandsOf : Operator → Mev
+operandsOf o = record {
+  loop = operandOf o 0;
+  half = operandOf o 1;
+  edge = operandOf o 2;
+  vertex = operandOf o 3;
+  way = operandOf o 4;
+  x = getD (o .args) 5 (pos 0);
+  y = getD (o .args) 6 (pos 0);
+  z = getD (o .args) 7 (pos 0);
+}
 
 -- all from the refusal 0
-pub mev-facts : (sh : Shape) (x : List ℕ) (o : Operator) → Capacities sh → length (o .args) ≡ 8 → o .code ≡ 3 → refusalOf sh x o ≡ 0 → MevFacts sh (own sh x) o
+pub mev-facts : (sh : Shape) (x : List ℕ) (o : Operator) → Capacities sh → length (o .args) ≡ 8 → o .code ≡ 3
+    → refusalOf sh x o ≡ 0 → MevFacts sh (own sh x) o
 unfolding pattern rows useWord condition
 mev-facts sh x o caps len e h =
     let a = by-place sh x o 3 len refl e h in
     let r = a .range in
     let u = a .used in
-    let n0 : Number (sh .loops) (getD (o .args) 0 (pos 0)) = number (limits sh) 6 _ refl refl (omega (arith, caps .loops)) (r 0 (lit≤ tt)) in
-    let n1 : (getD (o .args) 1 (pos 0) ≡ pos (operandOf o 1)) × (operandOf o 1 ≤ 2 * sh .edges) = number-or-none (limits sh) 10 _ refl (omega (arith, caps .edges)) (r 1 (lit≤ tt)) in
-    let n2 : Number (sh .edges) (getD (o .args) 2 (pos 0)) = number (limits sh) 8 _ refl refl (omega (arith, caps .edges)) (r 2 (lit≤ tt)) in
-    let n3 : Number (sh .vertices) (getD (o .args) 3 (pos 0)) = number (limits sh) 11 _ refl refl (omega (arith, caps .vertices)) (r 3 (lit≤ tt)) in
-    let n4 : (getD (o .args) 4 (pos 0) ≡ pos (operandOf o 4)) × (operandOf o 4 ≤ 1) = number-or-none (limits sh) 12 _ refl (lit≤ tt) (r 4 (lit≤ tt)) in
+    let arg : ℕ → ℤ = λ i. getD (o .args) i (pos 0) in
+    let n0 : Number (sh .loops) (arg 0) = number (limits sh) 6 _ refl refl (omega (arith, caps .loops))
+    (r 0 (lit≤ tt)) in
+    let n1 : (arg 1 ≡ pos (operandOf o 1)) × (operandOf o 1 ≤ 2 * sh .edges) =
+    number-or-none (limits sh) 10 _ refl (omega (arith, caps .edges)) (r 1 (lit≤ tt)) in
+    let n2 : Number (sh .edges) (arg 2) = number (limits sh) 8 _ refl refl (omega (arith, caps .edges))
+    (r 2 (lit≤ tt)) in
+    let n3 : Number (sh .vertices) (arg 3) =
+    number (limits sh) 11 _ refl refl (omega (arith, caps .vertices)) (r 3 (lit≤ tt)) in
+    let n4 : (arg 4 ≡ pos (operandOf o 4)) × (operandOf o 4 ≤ 1) =
+    number-or-none (limits sh) 12 _ refl (lit≤ tt) (r 4 (lit≤ tt)) in
     let s1 : operandOf o 1 ≤ 8192 = omega (arith, n1 .1, caps .edges) in
-    let s : MevSmall (operandOf o 0) (operandOf o 1) (operandOf o 2) (operandOf o 3) (operandOf o 4) = record {
-      loop = le-leb (operandOf o 0) 8192 (n0 .small);
-      half = le-leb (operandOf o 1) 8192 s1;
-      edge = le-leb (operandOf o 2) 8192 (n2 .small);
-      vertex = le-leb (operandOf o 3) 8192 (n3 .small);
-      way = le-leb (operandOf o 4) 8192 (omega (arith, n4 .1));
-    } in
-    let c5 = coordinate-range (limits sh) (getD (o .args) 5 (pos 0)) (r 5 (lit≤ tt)) in
-    let c6 = coordinate-range (limits sh) (getD (o .args) 6 (pos 0)) (r 6 (lit≤ tt)) in
-    let c7 = coordinate-range (limits sh) (getD (o .args) 7 (pos 0)) (r 7 (lit≤ tt)) in
-    let is : o ≡ mevOf (operandOf o 0) (operandOf o 1) (operandOf o 2) (operandOf o 3) (operandOf o 4) (getD (o .args) 5 (pos 0)) (getD (o .args) 6 (pos 0)) (getD (o .args) 7 (pos 0)) = λ t. record {
+    let is : o ≡ mevOf (operandsOf o) = λ t. record {
       code = e t;
       count = a .count t;
-      args = (eight (o .args) len ∙ (λ i. n0 .is i ∷ n1 .0 i ∷ n2 .is i ∷ n3 .is i ∷ n4 .0 i ∷ getD (o .args) 5 (pos 0) ∷ getD (o .args) 6 (pos 0) ∷ getD (o .args) 7 (pos 0) ∷ [])) t;
+      args = (eight (o .args) len
+          ∙ (λ i. n0 .is i ∷ n1 .0 i ∷ n2 .is i ∷ n3 .is i ∷ n4 .0 i ∷ arg 5 ∷ arg 6 ∷ arg 7 ∷ [])) t;
     } in
     record {
-      l = operandOf o 0;
-      h = operandOf o 1;
-      e = operandOf o 2;
-      v = operandOf o 3;
-      w = operandOf o 4;
-      x = getD (o .args) 5 (pos 0);
-      y = getD (o .args) 6 (pos 0);
-      z = getD (o .args) 7 (pos 0);
+      operands = operandsOf o;
       is = is;
-      small = s;
-      loop-in = n0 .range;
-      loop-used = use-old sh x 6 (operandOf o 0) (omega (arith, n0 .range)) refl (u 0 (lit≤ tt) (n0 .small));
-      edge-in = n2 .range;
-      edge-free = use-new sh x 8 (operandOf o 2) (omega (arith, n2 .range)) refl (u 2 (lit≤ tt) (n2 .small));
-      vertex-in = n3 .range;
-      vertex-free = use-new sh x 11 (operandOf o 3) (omega (arith, n3 .range)) refl (u 3 (lit≤ tt) (n3 .small));
-      corner = test-corner sh x (operandOf o 0) (operandOf o 1) (n1 .1) (u 1 (lit≤ tt) s1) (true-T (rw (s .loop, s .half) at (subst (λ q. condition sh x q ≡ true) is (a .holds))));
-      way = n4 .1;
-      range = all-three (λ q. T (rangeTest q)) _ _ _ c5 c6 c7;
+      fits = record {
+        loop-in = n0 .range;
+        loop-used = use-old sh x 6 (operandOf o 0) (omega (arith, n0 .range)) refl (u 0 (lit≤ tt) (n0 .small));
+        edge-in = n2 .range;
+        edge-free = use-new sh x 8 (operandOf o 2) (omega (arith, n2 .range)) refl (u 2 (lit≤ tt) (n2 .small));
+        vertex-in = n3 .range;
+        vertex-free = use-new sh x 11 (operandOf o 3) (omega (arith, n3 .range)) refl (u 3 (lit≤ tt) (n3 .small));
+        corner = test-corner sh x (operandOf o 0) (operandOf o 1) (n1 .1) (u 1 (lit≤ tt) s1)
+            (true-T (rw (le-leb (operandOf o 0) 8192 (n0 .small), le-leb (operandOf o 1) 8192 s1)
+            at (subst (λ q. condition sh x q ≡ true) is (a .holds))));
+        way = n4 .1;
+        range = all-three (λ q. T (rangeTest q)) _ _ _ (coordinate-range (limits sh) (arg 5) (r 5 (lit≤ tt)))
+            (coordinate-range (limits sh) (arg 6) (r 6 (lit≤ tt)))
+            (coordinate-range (limits sh) (arg 7) (r 7 (lit≤ tt)));
+      };
     }
 
 -- ---- what mev does
 
-module _ (sh : Shape) (x : List ℕ) (l h e v w : ℕ) (a b z : ℤ) (s : MevSmall l h e v w) where
-  -- at an isolated loop
-  pub isolated-links : h ≡ 0 → linksAfter sh x (mevOf l h e v w a b z)
-      ≡ mevList sh x l (halfBy e w) (own sh x Isolated l) v (mate (halfBy e w)) (halfBy e w)
-  unfolding linksAfter mevLinks
-  isolated-links q = rw (s .loop, s .half, s .edge, s .vertex, s .way, eqb-same q)
+-- the edge that goes in: at an isolated corner its halves follow each other
+abbrev pub newEdge : Columns → Mev → NewEdge
+newEdge c m = record {
+  loop = m .loop;
+  half = newHalf m;
+  from = pick (eqb (m .half) 0) (c Isolated (m .loop)) (c Start (m .half));
+  to = m .vertex;
+  before = pick (eqb (m .half) 0) (mate (newHalf m)) (c Prev (m .half));
+  after = pick (eqb (m .half) 0) (newHalf m) (m .half);
+}
 
-  -- at a half-edge
-  pub half-links : h ≢ 0 → linksAfter sh x (mevOf l h e v w a b z)
-      ≡ mevList sh x l (halfBy e w) (own sh x Start h) v (own sh x Prev h) h
+-- the links with an edge in
+abbrev pub mevList : Shape → List ℕ → NewEdge → List ℕ
+mevList sh x E =
+    setVertexUsed sh
+    (renew sh
+    (edgeIn sh x (E .half) (E .from) (E .loop) (mate (E .half)) (E .before) (E .to) (E .loop) (E .after) (E .half))
+    (E .loop) (lower (own sh x First (E .loop)) (lower (E .half) (mate (E .half)))) (E .half) 0)
+    (E .to) 1
+
+-- the points afterwards
+abbrev pub mevPoints : List ℤ → Mev → List ℤ
+mevPoints p m = putPoint p (m .vertex) (m .x) (m .y) (m .z)
+
+module _ (sh : Shape) (x : List ℕ) (caps : Capacities sh) {m : Mev} (r : MevFits sh (own sh x) m) where
+  -- its numbers are read as they stand: the loop's
+  ln : m .loop ≤ 8192
+  ln = omega (arith, r .loop-in .1, caps .loops)
+
+  -- the half-edge's
+  hn : m .half ≤ 8192
+  hn = let h : m .half ≤ 2 * sh .edges = corner-most sh (own sh x) (m .loop) (m .half) (r .corner) in
+      omega (arith, h, caps .edges)
+
+  -- the edge's
+  en : m .edge ≤ 8192
+  en = omega (arith, r .edge-in .1, caps .edges)
+
+  -- the vertex's
+  vn : m .vertex ≤ 8192
+  vn = omega (arith, r .vertex-in .1, caps .vertices)
+
+  -- and the way
+  wn : m .way ≤ 8192
+  wn = omega (arith, r .way)
+
+  -- the links afterwards
+  pub mev-links : linksAfter sh x (mevOf m) ≡ mevList sh x (newEdge (own sh x) m)
   unfolding linksAfter mevLinks
-  half-links q = rw (s .loop, s .half, s .edge, s .vertex, s .way, eqb-other q)
+  mev-links =
+      let l = le-leb (m .loop) 8192 ln in
+      let h = le-leb (m .half) 8192 hn in
+      let v = le-leb (m .vertex) 8192 vn in
+      rw (l, h, le-leb (m .edge) 8192 en, v, le-leb (m .way) 8192 wn)
 
   -- the new vertex gets its point
-  pub mev-points : (p : List ℤ) → pointsAfter sh x p (mevOf l h e v w a b z) ≡ putPoint p v a b z
+  pub mev-points : (p : List ℤ) → pointsAfter sh x p (mevOf m) ≡ mevPoints p m
   unfolding pointsAfter
-  mev-points p = rw (s .vertex)
+  mev-points p = rw (le-leb (m .vertex) 8192 vn)
 
--- ---- as an operator
+  -- it is undone by kev of the new half-edge
+  pub mev-inverse : (p : List ℤ) → inverse sh x p (mevOf m) ≡ oneOf 4 (newHalf m)
+  unfolding inverse
+  mev-inverse p = rw (le-leb (m .edge) 8192 en, le-leb (m .way) 8192 wn)
 
-module _ {sh : Shape} {x : List ℕ} {p : List ℤ} (g : Good sh x p) {o : Operator} (r : MevFacts sh (own sh x) o) where
-  abbrev k : ℕ
-  k = halfBy (r .e) (r .w)
+  -- it is accepted
+  pub mev-accepted : refusalOf sh x (mevOf m) ≡ 0
+  unfolding pattern rows useWord condition
+  mev-accepted = accepted-back sh x (mevOf m) (record {
+    code = refl;
+    count = refl;
+    range =
+        let lim = limits sh in
+        ranges-cons lim 6 _ _ (pos (m .half) ∷ pos (m .edge) ∷ pos (m .vertex) ∷ pos (m .way) ∷ m .x ∷ m .y ∷ m .z ∷ [])
+        (in-range lim 6 (m .loop) refl refl (r .loop-in))
+        (ranges-cons lim 10 _ _ (pos (m .edge) ∷ pos (m .vertex) ∷ pos (m .way) ∷ m .x ∷ m .y ∷ m .z ∷ [])
+        (in-range-or-none lim 10 (m .half) refl refl (corner-most sh (own sh x) (m .loop) (m .half) (r .corner)))
+        (ranges-cons lim 8 _ _ (pos (m .vertex) ∷ pos (m .way) ∷ m .x ∷ m .y ∷ m .z ∷ [])
+        (in-range lim 8 (m .edge) refl refl (r .edge-in))
+        (ranges-cons lim 11 _ _ (pos (m .way) ∷ m .x ∷ m .y ∷ m .z ∷ [])
+        (in-range lim 11 (m .vertex) refl refl (r .vertex-in))
+        (ranges-cons lim 12 _ _ (m .x ∷ m .y ∷ m .z ∷ []) (in-range-or-none lim 12 (m .way) refl refl (r .way))
+        (three-range lim _ [] (m .x) (m .y) (m .z) (r .range 0 (lit≤ tt)) (r .range 1 (lit≤ tt)) (r .range 2 (lit≤ tt))
+        (unused-range lim 0))))));
+    used =
+        let o = mevOf m in
+        item-cons sh x o 6 _ 0 ln (old-use sh x 6 (m .loop) (omega (arith, r .loop-in .0)) refl (r .loop-used))
+        (item-cons sh x o 10 _ 1 hn (corner-use sh x (m .loop) (m .half) (r .corner))
+        (item-cons sh x o 8 _ 2 en (new-use sh x 8 (m .edge) (omega (arith, r .edge-in .0)) refl (r .edge-free))
+        (item-cons sh x o 11 _ 3 vn (new-use sh x 11 (m .vertex) (omega (arith, r .vertex-in .0)) refl (r .vertex-free))
+        (uses-cons sh x o 12 _ 4 (use-none sh x 12 _ refl refl)
+        (three-use sh x o _ 5 (unused-use sh x o 0 8))))));
+    holds = rw (le-leb (m .loop) 8192 ln, le-leb (m .half) 8192 hn) (corner-test sh x (m .loop) (m .half) (r .corner));
+  })
 
+-- ---- a good table stays good
+
+module _ {sh : Shape} {x : List ℕ} {p : List ℤ} (g : Good sh x p) {m : Mev} (r : MevFits sh (own sh x) m) where
+  -- the columns
   abbrev c : Columns
   c = own sh x
 
-  pub halves-free : In (2 * sh .edges) (halfBy (r .e) (r .w)) × (c Start (halfBy (r .e) (r .w)) ≡ 0) × (c Start (mate (halfBy (r .e) (r .w))) ≡ 0)
-  halves-free = free-halves (g .sound) (r .e) (r .w) (r .edge-in) (r .edge-free)
+  -- the new half-edge and its mate are free
+  free : In (2 * sh .edges) (newHalf m) × (own sh x Start (newHalf m) ≡ 0) × (own sh x Start (mate (newHalf m)) ≡ 0)
+  free = free-halves (g .sound) (m .edge) (m .way) (r .edge-in) (r .edge-free)
 
-  -- the place, for a corner's vertex u and neighbours P and N
-  pub place : (u P N : ℕ) → In (sh .vertices) u → c VertexUsed u ≢ 0 → (P ≡ mate k) ⊎ HalfUsed sh c P → (N ≡ k) ⊎ HalfUsed sh c N → (c Isolated (r .l) ≡ 0) ⊎ (c Isolated (r .l) ≡ u)
-      → MevPlace sh c (r .l) k u (r .v) P N
-  place u P N iu uu hP hN hi = record {
+  -- a statement about the edge, for each kind of corner
+  by-corner : (Q : NewEdge → Type 0)
+      → (m .half ≡ 0 → c Isolated (m .loop) ≢ 0 → Q (loneEdge c (m .loop) (newHalf m) (m .vertex)))
+      → (HalfUsed sh c (m .half) → c Loop (m .half) ≡ m .loop
+      → Q (besideEdge c (m .loop) (newHalf m) (m .vertex) (m .half)))
+      → Q (newEdge c m)
+  by-corner Q lone beside = ⊎-elim
+      (λ q. rw (eqb-same (q .0)) (lone (q .0) (q .1)))
+      (λ q. let n : m .half ≢ 0 = λ z. omega (arith, q .0 .0, z) in rw (eqb-other n) (beside (q .0) (q .1))) (r .corner)
+
+  -- the place, by the corner's vertex u and the neighbours
+  place-at : (u before after : ℕ) → In (sh .vertices) u → c VertexUsed u ≢ 0
+      → AtCorner sh c (record
+      { loop = m .loop; half = newHalf m; from = u; to = m .vertex; before = before; after = after })
+      → MevPlace sh c (record
+      { loop = m .loop; half = newHalf m; from = u; to = m .vertex; before = before; after = after })
+  place-at u before after iu uu corner = record {
     loop-in = r .loop-in;
     loop-used = r .loop-used;
-    half-in = halves-free .0;
-    mate-in = mate-range k (sh .edges) (halves-free .0 .0) (halves-free .0 .1);
-    half-free = halves-free .1;
-    mate-free = halves-free .2;
+    half-in = free .0;
+    mate-in = mate-range (newHalf m) (sh .edges) (free .0 .0) (free .0 .1);
+    half-free = free .1;
+    mate-free = free .2;
     vertex-in = r .vertex-in;
     vertex-free = r .vertex-free;
     corner-in = iu;
     corner-used = uu;
-    before = hP;
-    after = hN;
-    isolated = hi;
+    corner = corner;
   }
 
-  kept-isolated : r .h ≡ 0 → c Isolated (r .l) ≢ 0 → Kept sh x p (mevOf (r .l) (r .h) (r .e) (r .v) (r .w) (r .x) (r .y) (r .z))
-  kept-isolated q i =
-      let w = lone-used (g .sound) (r .l) (r .loop-in) i in
-      let m = place (c Isolated (r .l)) (mate k) k (w .1) (w .2) (inl refl) (inl refl) (inr refl) in
-      rw (isolated-links sh x (r .l) (r .h) (r .e) (r .v) (r .w) (r .x) (r .y) (r .z) (r .small) q, mev-points sh x (r .l) (r .h) (r .e) (r .v) (r .w) (r .x) (r .y) (r .z) (r .small) p)
-      (made-good g m (mev-at-isolated (g .sound) i m) (r .x) (r .y) (r .z) (r .range 0 (omega arith)) (r .range 1 (omega arith)) (r .range 2 (omega arith)))
+  -- the place and the rules afterwards
+  placed : MevPlace sh c (newEdge c m) × MevRules⁺ sh c (newEdge c m)
+  placed = by-corner (λ E. MevPlace sh c E × MevRules⁺ sh c E)
+      (λ q i.
+      let w = lone-used (g .sound) (m .loop) (r .loop-in) i in
+      let o = place-at (c Isolated (m .loop)) (mate (newHalf m)) (newHalf m) (w .1) (w .2) (inl (refl, refl, refl)) in
+      (o, mev-at-isolated (g .sound) i o))
+      (λ hu hl.
+      let a = g .sound .rules in
+      let s = g .sound .half (m .half) (hu .0, hu .1) (hu .2) in
+      let o = place-at (c Start (m .half)) (c Prev (m .half)) (m .half) (s .start-in) (s .start-used)
+      (inr (prev-in a (m .half) hu, hu, next-prev a (m .half) hu, refl, not-isolated (g .sound) (m .half) hu hl)) in
+      (o, mev-at-half (g .sound) hu hl o))
 
-  kept-half : HalfUsed sh c (r .h) → c Loop (r .h) ≡ r .l → Kept sh x p (mevOf (r .l) (r .h) (r .e) (r .v) (r .w) (r .x) (r .y) (r .z))
-  kept-half hu hl =
-      let s = g .sound .half (r .h) (hu .0, hu .1) (hu .2) in
-      let pu = prev-in (g .sound .rules) (r .h) hu in
-      let m = place (c Start (r .h)) (c Prev (r .h)) (r .h) (s .start-in) (s .start-used) (inr pu) (inr hu) (inl (not-isolated (g .sound) (r .h) hu hl)) in
-      rw (half-links sh x (r .l) (r .h) (r .e) (r .v) (r .w) (r .x) (r .y) (r .z) (r .small) (λ z. omega (arith, hu .0, z)), mev-points sh x (r .l) (r .h) (r .e) (r .v) (r .w) (r .x) (r .y) (r .z) (r .small) p)
-      (made-good g m (mev-at-half (g .sound) hu hl m) (r .x) (r .y) (r .z) (r .range 0 (omega arith)) (r .range 1 (omega arith)) (r .range 2 (omega arith)))
+  -- the place
+  pub mev-place : MevPlace sh (own sh x) (newEdge (own sh x) m)
+  mev-place = placed .0
 
--- a good table stays good
-pub mev-kept : (sh : Shape) (x : List ℕ) (p : List ℤ) (o : Operator) → Good sh x p → length (o .args) ≡ 8 → o .code ≡ 3 → refusalOf sh x o ≡ 0 → Kept sh x p o
-mev-kept sh x p o g len e h =
-    let r = mev-facts sh x o (g .capacities) len e h in
-    subst (Kept sh x p) (sym (r .is)) (⊎-elim (λ q. kept-isolated g r (q .0) (q .1)) (λ q. kept-half g r (q .0) (q .1)) (r .corner))
+  -- the corner as kev will find it
+  pub mev-corner : pick (eqb (newEdge (own sh x) m .after) (newHalf m)) 0 (newEdge (own sh x) m .after) ≡ m .half
+  mev-corner = by-corner (λ E. pick (eqb (E .after) (newHalf m)) 0 (E .after) ≡ m .half)
+      (λ q i. rw (eqb-same {m = newHalf m} refl) (sym q))
+      (λ hu hl. let n : m .half ≢ newHalf m = λ z. hu .2 (ap (c Start) z ∙ free .1) in rw (eqb-other n))
+
+  -- the columns afterwards
+  abbrev d : Columns
+  d = mevColumns sh (own sh x) (newEdge (own sh x) m)
+
+  -- they are sound
+  d-sound : Sound sh (mevPoints p m) d
+  d-sound = mev-sound mev-place (g .sound) (placed .1)
+      (points-new sh p c d (m .vertex) (g .points) (r .vertex-in) (g .sound .point) (λ w n. upd-off (c VertexUsed) 1 n)
+      (m .x) (m .y) (m .z) (r .range 0 (lit≤ tt)) (r .range 1 (lit≤ tt)) (r .range 2 (lit≤ tt))
+      (upd-same (c VertexUsed) (m .vertex) 1))
+
+  -- the list shows them
+  pub mev-shows : Shows sh (mevList sh x (newEdge (own sh x) m)) (mevColumns sh (own sh x) (newEdge (own sh x) m))
+  mev-shows =
+      let o = mev-place in
+      let E = newEdge (own sh x) m in
+      let k = newHalf m in
+      let b-in : In (2 * sh .edges) (E .before) = ⊎-elim (λ q. subst (In (2 * sh .edges)) (sym (q .0)) (o .mate-in))
+      (λ q. (q .0 .0, q .0 .1)) (o .corner) in
+      let a-in : In (2 * sh .edges) (E .after) = ⊎-elim (λ q. subst (In (2 * sh .edges)) (sym (q .1)) (o .half-in))
+      (λ q. (q .1 .0, q .1 .1)) (o .corner) in
+      let s1 = shows-edge (good-shows g) k (E .from) (m .loop) (mate k) (E .before) (m .vertex) (m .loop) (E .after) k
+      (o .half-in) (o .mate-in) (o .mate-in) b-in a-in (o .half-in) in
+      let s2 = shows-first {U = HalfUsed sh d} s1 (m .loop) (lower (c First (m .loop)) (lower k (mate k))) k 0
+      (o .loop-in) (d-sound .rules .loops) (new-k o) (loop-k o)
+      (λ i j e. (j .0, j .1, λ s. omega (arith, o .loop-in .0, sym e ∙ d-sound .half-free i j s .loop)))
+      (λ i j e. lower-new (c First (m .loop)) k (mate k) i (o .half-in .0)
+      (λ y z. first-low (g .sound) (m .loop) i (o .loop-in .0) j (sym (loop-old o i y z) ∙ e))) in
+      shows-put s2 VertexUsed (m .vertex) 1 (o .vertex-in .0) (o .vertex-in .1)
+
+  -- the table is good afterwards
+  pub mev-good : Good sh (mevList sh x (newEdge (own sh x) m)) (mevPoints p m)
+  mev-good = good-after g mev-shows (λ n. refl) (put-length p (m .vertex) (m .x) (m .y) (m .z)) d-sound

@@ -1,5 +1,6 @@
--- A spur in a sound table: a half-edge k in use whose next is its mate b. b alone starts at its vertex; k and what follows b start at one vertex, in one
--- loop. Where k follows b, the two are the whole loop, and k alone starts at its vertex.
+-- A spur in a sound table: a half-edge k in use whose next is its mate b. mev makes one, kev takes it away.
+-- b alone starts at its vertex; k and what follows b start at one vertex, in one loop. Where k follows b, the two are
+-- the whole loop, and k alone starts at its vertex.
 use mathlib.Core.Path.{_≡_, sym, ap, _∙_}
 use mathlib.Core.Logic.{_≢_, _⊎_, inl, inr}
 use mathlib.Core.List.{List}
@@ -18,8 +19,22 @@ use Rattle.layout.specs.Fields.{Face, Start, Loop, Next, Prev, VertexUsed, Colu
 use Rattle.sound_tables.specs.Mates.{mate-other}
 use Rattle.sound_tables.specs.EdgeIn.{prev-in, next-prev}
 use Rattle.sound_tables.specs.Sound.{In, HalfUsed, Sound}
+use Rattle.sound_tables.specs.Good.{own, Good}
 
-module _ {sh : Shape} {p : List ℤ} {c : Columns} (a : Sound sh p c) {k : ℕ} (uk : HalfUsed sh c k) (nk : c Next k ≡ mate k) where
+-- a half-edge of a sound table that its mate follows
+pub record Spur (sh : Shape) (p : List ℤ) (c : Columns) (k : ℕ) : Type 0 where
+  pub sound : Sound sh p c
+  pub used : HalfUsed sh c k
+  pub next : c Next k ≡ mate k
+
+-- the spur at k of a good table
+abbrev pub spurOf : {sh : Shape} {x : List ℕ} {p : List ℤ} → Good sh x p → {k : ℕ} → HalfUsed sh (own sh x) k
+    → own sh x Next k ≡ mate k → Spur sh p (own sh x) k
+spurOf g u n = record { sound = g .sound; used = u; next = n }
+
+module _ {sh : Shape} {p : List ℤ} {c : Columns} {k : ℕ} (s : Spur sh p c k) where
+  open Spur s using (sound as a, used as uk, next as nk)
+
   -- the mate is in use
   pub used-b : HalfUsed sh c (mate k)
   used-b = a .rules .mate-in k uk
@@ -129,6 +144,7 @@ module _ {sh : Shape} {p : List ℤ} {c : Columns} (a : Sound sh p c) {k : ℕ} 
   whole-start e = alone (a .rules .verts) uk e
 
   -- and the loop has no other half-edges
-  pub whole-loop : c Next (mate k) ≡ k → (i : ℕ) → HalfUsed sh c i → c Loop i ≡ c Loop k → (i ≡ k) ⊎ (i ≡ mate k)
+  pub whole-loop : c Next (mate k) ≡ k → (i : ℕ) → HalfUsed sh c i → c Loop i ≡ c Loop k
+      → (i ≡ k) ⊎ (i ≡ mate k)
   whole-loop e i w q = split i (mate k) (λ z. inr z) (λ z.
       inl (alone (out-cycles (a .rules .loops) (mate k) k uk nk bk) (uk, kb) (upd-same _ k _ ∙ e) i (w, z) q))
