@@ -17,7 +17,7 @@ use Rattle.script.specs.Operator.{operandOf}
 use Rattle.layout.specs.declared.shape.Shape.{Shape}
 use Rattle.layout.specs.Mate.{mate}
 use Rattle.euler.specs.Surgery.{halfBy, corner}
-use Rattle.euler.specs.Operators.{mekrTest, mekrEdge, mekrLinks}
+use Rattle.euler.specs.EdgeOperators.{mekrTest, mekrLinks}
 use Rattle.euler.specs.Exec.{limits, useWord, condition, refusalOf, linksAfter, pointsAfter}
 use Rattle.layout.specs.Fields.{Outer, Face, Isolated, Start, Prev, Columns}
 use Rattle.sound_tables.specs.Sound.{In}
@@ -186,7 +186,7 @@ module _ (sh : Shape) (x : List ℕ) {l h1 l2 h2 e w : ℕ} (caps : Capacities s
       ≡ mekrList sh x k l l2
       (pick (eqb h1 0) (own sh x Isolated l) (own sh x Start h1)) (pick (eqb h1 0) (mate k) (own sh x Prev h1)) (pick (eqb h1 0) k h1)
       (pick (eqb h2 0) (own sh x Isolated l2) (own sh x Start h2)) (pick (eqb h2 0) k (own sh x Prev h2)) (pick (eqb h2 0) (mate k) h2)
-  unfolding linksAfter mekrLinks mekrEdge
+  unfolding linksAfter mekrLinks
   mekr-links k q = rw (le-leb l 8192 l-small, le-leb h1 8192 h1-small, le-leb l2 8192 l2-small, le-leb h2 8192 h2-small, le-leb e 8192 e-small, le-leb w 8192 w-small, q)
 
   -- to the points

@@ -9,7 +9,7 @@ use lib.ListN.{length}
 use Rattle.script.specs.declared.Operator.{Operator}
 use Rattle.codec.specs.Operands.{pattern, rows}
 use Rattle.layout.specs.declared.shape.Shape.{Shape}
-use Rattle.euler.specs.Operators.{kefTest}
+use Rattle.euler.specs.EdgeOperators.{kefTest}
 use Rattle.euler.specs.Exec.{useWord, condition, refusalOf}
 use Rattle.sound_tables.specs.Sound.{HalfUsed}
 use Rattle.sound_tables.specs.OneOperand.{one-operand}

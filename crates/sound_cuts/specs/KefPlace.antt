@@ -13,7 +13,7 @@ use Rattle.laws.specs.Sums.{countTo}
 use Rattle.laws.specs.Update.{upd, relabel}
 use Rattle.layout.specs.declared.shape.Shape.{Shape}
 use Rattle.layout.specs.Mate.{mate}
-use Rattle.euler.specs.Operators.{kefTest}
+use Rattle.euler.specs.EdgeOperators.{kefTest}
 use Rattle.layout.specs.Fields.{Capacity, SolidUsed, Solid, Outer, Face, First, Isolated, Start, Loop, Next, Prev, VertexUsed, Columns}
 use Rattle.sound_tables.specs.Sound.{In, HalfUsed, Sound}
 use Rattle.sound_tables.specs.Labels.{one-many}
