@@ -15,7 +15,14 @@ use Rattle.layout.specs.declared.shape.Shape.{Shape}
 use Rattle.layout.specs.Layout.{solidUsed, faceSolid, faceOuter, loopFace, loopIsolated, startOf, nextOf, vertexUsed}
 use Rattle.layout.specs.Mate.{mate}
 use Rattle.euler.specs.Surgery.{itemOf, halfBy, putPoint, pointTo}
-use Rattle.euler.specs.Operators.{faceIn, mvsfLinks, mvsfInverse, kvsfTest, kvsfLinks, kvsfInverse, mevTest, mevLinks, mevInverse, kevTest, kevLinks, kevInverse, mefTest, mefLinks, mefInverse, kefTest, kefLinks, kefInverse, kemrTest, kemrLinks, kemrInverse, mekrTest, mekrLinks, mekrInverse, kfmrhTest, kfmrhLinks, kfmrhInverse, mfkrhTest, mfkrhLinks, mfkrhInverse, semvLinks, semvInverse, jekvTest, jekvLinks, jekvInverse, rmovTest, rmovLinks, rmovInverse}
+use Rattle.euler.specs.Queries.{faceIn}
+use Rattle.euler.specs.EdgeOperators.{mevTest, mevLinks, mevInverse, kevTest, kevLinks, kevInverse, mefTest}
+use Rattle.euler.specs.EdgeOperators.{mefLinks, mefInverse, kefTest, kefLinks, kefInverse, kemrTest, kemrLinks}
+use Rattle.euler.specs.EdgeOperators.{kemrInverse, mekrTest, mekrLinks, mekrInverse, semvLinks, semvInverse}
+use Rattle.euler.specs.EdgeOperators.{jekvTest, jekvLinks, jekvInverse}
+use Rattle.euler.specs.FaceOperators.{mvsfLinks, mvsfInverse, kvsfTest, kvsfLinks, kvsfInverse, kfmrhTest}
+use Rattle.euler.specs.FaceOperators.{kfmrhLinks, kfmrhInverse, mfkrhTest, mfkrhLinks, mfkrhInverse, rmovTest}
+use Rattle.euler.specs.FaceOperators.{rmovLinks, rmovInverse}
 
 -- links and points
 pub record Table : Type 0 where

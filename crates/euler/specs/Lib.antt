@@ -1,5 +1,8 @@
 pub mod Surgery
-pub mod Operators
+pub mod Queries
+pub mod Steps
+pub mod EdgeOperators
+pub mod FaceOperators
 pub mod Exec
 pub mod ByCode
 pub mod AdmitLaws

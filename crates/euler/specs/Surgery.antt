@@ -1,18 +1,21 @@
--- What the operators share: corners, an edge going in, an edge coming out, a run given another loop, a loop's first anew.
+-- What the operators share: operands, corners, an edge going in, an edge coming out, a run given another loop, a loop's
+-- first anew.
 -- `sh` is the table's shape, `x` its links. Walks carry fuel; on a sound table that cuts nothing off.
 use Prim.Native.Nat.{ℕ, zero, suc, _+_, _-_, _*_, _%_}
 use mathlib.Core.Bool.{Bool, not, _&&_, _||_}
 use mathlib.Core.List.{List, [], _∷_, _++_}
 use lib.Dec.{eqb, leb, ltb}
 use lib.IntN.{ℤ, pos}
-use lib.ListN.{getD, set}
+use lib.ListN.{length, getD, set}
 use Rattle.laws.specs.Bools.{pick}
+use Rattle.laws.specs.Columns.{sweep}
 use Rattle.script.specs.declared.Operator.{Operator}
-use Rattle.script.specs.Operator.{natOf}
+use Rattle.script.specs.Operator.{natOf, blankOf, withNumber}
 use Rattle.layout.specs.declared.shape.Shape.{Shape}
 use Rattle.layout.specs.Layout.{loopFirst, loopIsolated, startOf, loopOf, nextOf, setLoopFirst, setLoopIsolated, setLoop}
 use Rattle.layout.specs.Mate.{mate}
-use Rattle.layout.specs.Fields.{Solid, Outer, Face, First, Isolated, Start, Loop, Next, Prev}
+use Rattle.layout.specs.Fields.{Field, Solid, Outer, Face, First, Isolated, Start, Loop, Next, Prev}
+use Rattle.layout.specs.Fields.{groupOf, wordOf, groupAt, bare}
 use Rattle.layout.specs.Writes.{Write, write, writes}
 use Rattle.layout.specs.Points.{coordinate, setCoordinate}
 
@@ -91,6 +94,21 @@ withOperand o i c = record { code = o .code; count = o .count; args = set (o .ar
 abbrev pub withPoint : Operator → ℕ → List ℤ → ℕ → Operator
 withPoint o i p v = withOperand (withOperand (withOperand o i (coordinate p v 0)) (i + 1) (coordinate p v 1)) (i + 2) (coordinate p v 2)
 
+-- ---- operators as records
+
+-- the operands ns from place i on
+abbrev pub fill : Operator → ℕ → List ℕ → Operator
+fill op i [] = op
+fill op i (n ∷ ns) = fill (withNumber op i n) (i + 1) ns
+
+-- the operator of this code with the operands ns
+abbrev pub operator : ℕ → List ℕ → Operator
+operator code ns = fill (blankOf code (length ns)) 0 ns
+
+-- the same with the point of vertex v behind them
+abbrev pub operatorAt : ℕ → List ℕ → List ℤ → ℕ → Operator
+operatorAt code ns p v = withPoint (fill (blankOf code (length ns + 3)) 0 ns) (length ns) p v
+
 -- ---- an edge goes in, an edge comes out
 
 -- a is followed by b
@@ -100,6 +118,10 @@ tied a b = write Next a b ∷ write Prev b a ∷ []
 -- k stands between p and n, as these see it
 abbrev pub seated : ℕ → ℕ → ℕ → List Write
 seated p k n = write Next p k ∷ write Prev n k ∷ []
+
+-- half-edge n from vertex v in loop l between k and o
+abbrev pub inserted : ℕ → ℕ → ℕ → ℕ → ℕ → List Write
+inserted k n v l o = halfRecord n v l o k ++ seated k n o
 
 -- half-edge k from vertex u in loop l between p and n, and its mate from u′ in l′ between p′ and n′
 abbrev pub edgeWrites : ℕ → ℕ → ℕ → ℕ → ℕ → ℕ → ℕ → ℕ → ℕ → List Write
@@ -116,11 +138,19 @@ tie sh x a b = writes sh (tied a b) x
 abbrev pub between : Shape → List ℕ → ℕ → ℕ → ℕ → List ℕ
 between sh x p k n = writes sh (seated p k n) x
 
+-- half-edge n from vertex v in loop l after k
+abbrev pub insertAfter : Shape → List ℕ → ℕ → ℕ → ℕ → ℕ → List ℕ
+insertAfter sh x k n v l = writes sh (inserted k n v l (nextOf sh x k)) x
+
 unfoldable pub edgeIn : Shape → List ℕ → ℕ → ℕ → ℕ → ℕ → ℕ → ℕ → ℕ → ℕ → ℕ → List ℕ
 edgeIn sh x k u l n p u′ l′ n′ p′ = writes sh (edgeWrites k u l n p u′ l′ n′ p′) x
 
 unfoldable pub edgeOut : Shape → List ℕ → ℕ → ℕ → ℕ → ℕ → ℕ → List ℕ
 edgeOut sh x k p n p′ n′ = writes sh (noEdgeWrites k p n p′ n′) x
+
+-- field F of the items 1 to n becomes g of the item and its old word
+abbrev pub sweepField : Shape → Field → ℕ → (ℕ → ℕ → ℕ) → List ℕ → List ℕ
+sweepField sh F n g x = sweep (bare (groupAt sh (groupOf F))) (wordOf F) n g x
 
 -- ---- walks
 

@@ -1,7 +1,7 @@
 // What lies in which face: whether a loop is a ring, how many loops a face has.
 ghost use mathlib.Core.Path.{_≡_};
 ghost use Prim.Native.Nat.{ℕ, _<_, _≤_};
-ghost use Rattle.euler.specs.Operators.{isRing, loopsIn};
+ghost use Rattle.euler.specs.Queries.{isRing, loopsIn};
 use crate::scans::count_naming;
 use layout::columns::face_outer;
 use layout::columns::loop_face;

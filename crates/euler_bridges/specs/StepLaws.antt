@@ -12,8 +12,10 @@ use Rattle.layout.specs.Layout.{loopFace, loopFirst, prevOf}
 use Rattle.layout.specs.Mate.{mate, edgeOf}
 use Rattle.euler.specs.declared.records.Half.{Half}
 use Rattle.euler.specs.Surgery.{wayOf, corner, cornerVertex, putLoop, edgeIn, edgeOut, relabelRun, lower, renew}
-use Rattle.euler.specs.Operators.{isRing, kemrLinks, kemrInverse, mekrTest, mekrEdge, mekrLinks}
+use Rattle.euler.specs.Queries.{isRing}
+use Rattle.euler.specs.EdgeOperators.{kemrLinks, kemrInverse, mekrTest, mekrLinks}
 use Rattle.euler_edges.specs.Parts.{IsHalf, withThree}
+use Rattle.euler_bridges.specs.Parts.{mekrIn}
 
 pub kemr-steps : (sh : Shape) (x : List ℕ) (k l2 : ℕ) {m f ring rest low : ℕ} {a b : Half} {x1 x2 x3 x4 x5 : List ℕ}
     → m ≡ mate k → IsHalf sh x k a → IsHalf sh x m b → f ≡ loopFace sh x (a .owner)
@@ -43,14 +45,15 @@ pub mekr-edge-steps : (sh : Shape) (x : List ℕ) (l h1 l2 h2 k : ℕ) {m u v p 
     → m ≡ mate k → u ≡ cornerVertex sh x l h1 → v ≡ cornerVertex sh x l2 h2 → p ≡ prevOf sh x h1 → q ≡ prevOf sh x h2
     → n1 ≡ pick (eqb h2 0) m h2 → p1 ≡ pick (eqb h1 0) m p → n2 ≡ pick (eqb h1 0) k h1 → p2 ≡ pick (eqb h2 0) k q
     → x1 ≡ edgeIn sh x k u l n1 p1 v l n2 p2
-    → x1 ≡ mekrEdge sh x l h1 l2 h2 k
-unfolding mekrEdge
+    → x1 ≡ mekrIn sh x l h1 l2 h2 k
+unfolding mekrIn
 mekr-edge-steps sh x l h1 l2 h2 k em eu ev ep eq en1 ep1 en2 ep2 e1 = rw (e1, en1, ep1, en2, ep2, ep, eq, eu, ev, em)
 
 pub mekr-steps : (sh : Shape) (x : List ℕ) (l h1 l2 h2 k : ℕ) {m from f g o p low : ℕ} {x1 x2 x3 x4 : List ℕ}
     → m ≡ mate k → from ≡ pick (eqb h2 0) m h2
     → f ≡ loopFirst sh x l → g ≡ loopFirst sh x l2 → o ≡ lower k m → p ≡ lower g o → low ≡ lower f p
-    → x1 ≡ mekrEdge sh x l h1 l2 h2 k → x2 ≡ relabelRun sh x1 from m l → x3 ≡ putLoop sh x2 l2 0 0 0 → x4 ≡ renew sh x3 l low k 0
+    → x1 ≡ mekrIn sh x l h1 l2 h2 k → x2 ≡ relabelRun sh x1 from m l → x3 ≡ putLoop sh x2 l2 0 0 0
+    → x4 ≡ renew sh x3 l low k 0
     → x4 ≡ mekrLinks sh x l h1 l2 h2 k
-unfolding mekrLinks
+unfolding mekrLinks mekrIn
 mekr-steps sh x l h1 l2 h2 k em er ef eg eo ep el e1 e2 e3 e4 = rw (e4, e3, e2, e1, el, ep, eo, eg, ef, er, em)

@@ -1,7 +1,8 @@
 // An edge inside one loop, with a ring split off: killed (kemr, operator 7) and made (mekr, operator 8).
 ghost use mathlib.Core.Path.{_≡_};
 ghost use Prim.Native.Nat.{ℕ, _<_, _≤_};
-ghost use Rattle.euler.specs.Operators.{kemrTest, kemrLinks, kemrInverse, mekrTest, mekrEdge, mekrLinks, mekrInverse};
+ghost use Rattle.euler.specs.EdgeOperators.{kemrTest, kemrLinks, kemrInverse, mekrTest, mekrLinks, mekrInverse};
+ghost use Rattle.euler_bridges.specs.Parts.{mekrIn};
 use euler::faces::is_ring;
 use euler::records::Half;
 use euler::records::choose;
@@ -89,7 +90,7 @@ pub fn mekr_fits(links: &[u16], sh: Shape, l: usize, h1: usize, l2: usize, h2: u
 // Half-edge k from corner (l, h1) to (l2, h2) and its mate back. The cycle of l2 still names l2.
 fn mekr_edge(links: &mut [u16], sh: Shape, l: usize, h1: usize, l2: usize, h2: usize, k: usize)
     requires { ⌜ (l < 65536) × (h1 < 65536) × (l2 < 65536) × (h2 < 65536) × (k < 65535) ⌝ }
-    ensures { λ _. ⌜ now (links .exit) ≡ mekrEdge sh (now (links .entry)) l h1 l2 h2 k ⌝ }
+    ensures { λ _. ⌜ now (links .exit) ≡ mekrIn sh (now (links .entry)) l h1 l2 h2 k ⌝ }
 {
     let m = mate_of(k);
     let u = corner_vertex(links, sh, l, h1);

@@ -14,7 +14,7 @@ use Rattle.laws.specs.Bools.{pick-ind, split, eqb-same, eqb-other}
 use Rattle.laws.specs.Sums.{sumTo, countTo, count-le}
 use Rattle.layout.specs.declared.shape.Shape.{Shape}
 use Rattle.layout.specs.Layout.{loopFace}
-use Rattle.euler.specs.Operators.{loopsIn}
+use Rattle.euler.specs.Queries.{loopsIn}
 use Rattle.euler_counts.specs.Counts.{Counted, isPlace, lowered, raised}
 
 -- ---- no place of a face

@@ -10,7 +10,7 @@ use Rattle.script.specs.declared.Operator.{Operator}
 use Rattle.layout.specs.declared.shape.Shape.{Shape}
 use Rattle.layout.specs.Layout.{loopFace, loopOf, faceOuter}
 use Rattle.euler.specs.Surgery.{itemOf}
-use Rattle.euler.specs.Operators.{loopsIn}
+use Rattle.euler.specs.Queries.{loopsIn}
 use Rattle.euler.specs.Exec.{onlyLoop, linksAfter}
 
 -- the list c holds the number of loops of each face; place 0 says nothing

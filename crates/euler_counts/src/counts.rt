@@ -3,7 +3,7 @@ ghost use mathlib.Core.Path.{_≡_};
 ghost use Prim.Native.Nat.{ℕ, _<_, _≤_};
 ghost use lib.ListN.{length};
 ghost use Rattle.layout.specs.Small.{Small};
-ghost use Rattle.euler.specs.Operators.{loopsIn};
+ghost use Rattle.euler.specs.Queries.{loopsIn};
 ghost use Rattle.euler_counts.specs.Counts.{Counted, lowered, raised};
 use euler::faces::loops_in;
 use layout::columns::loop_face;

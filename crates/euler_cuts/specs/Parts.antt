@@ -7,6 +7,12 @@ use Rattle.layout.specs.declared.shape.Shape.{Shape}
 use Rattle.layout.specs.Mate.{mate}
 use Rattle.euler.specs.declared.records.Half.{Half}
 use Rattle.euler.specs.Surgery.{edgeOut}
+use Rattle.euler.specs.Steps.{does}
+use Rattle.euler.specs.EdgeOperators.{mefEdge}
+
+-- mef's edge goes in between the two corners
+unfoldable pub mefIn : Shape → List ℕ → ℕ → ℕ → ℕ → ℕ → ℕ → ℕ → List ℕ
+mefIn sh x l h1 h2 a l2 w = does sh (mefEdge sh x l h1 h2 a l2 w) x
 
 -- n follows k, and o follows m: n, or where k is alone o, or 0 where both are alone
 abbrev pub restOf : ℕ → ℕ → ℕ → ℕ → ℕ

@@ -13,26 +13,27 @@ use Rattle.layout.specs.Layout.{loopFace, loopFirst, faceSolid, prevOf, side}
 use Rattle.layout.specs.Mate.{mate, edgeOf}
 use Rattle.euler.specs.declared.records.Half.{Half}
 use Rattle.euler.specs.Surgery.{wayOf, cornerVertex, putFace, putLoop, edgeIn, edgeOut, relabelRun, lower, renew}
-use Rattle.euler.specs.Operators.{loopsIn, aAlone, bAlone, mefEdge, mefLinks, kefTest, kefEdge, kefLinks, kefInverse}
+use Rattle.euler.specs.Queries.{loopsIn}
+use Rattle.euler.specs.EdgeOperators.{aAlone, bAlone, mefLinks, kefTest, kefLinks, kefInverse}
 use Rattle.euler_edges.specs.Parts.{IsHalf, withThree, renewSides}
-use Rattle.euler_cuts.specs.Parts.{restOf, kefOut}
+use Rattle.euler_cuts.specs.Parts.{mefIn, restOf, kefOut}
 
 pub mef-edge-steps : (sh : Shape) (x : List ℕ) (l h1 h2 a l2 w : ℕ) {b u v p q n1 p1 n2 p2 : ℕ} {x1 : List ℕ}
     → b ≡ mate a → u ≡ cornerVertex sh x l h1 → v ≡ cornerVertex sh x l h2 → p ≡ prevOf sh x h1 → q ≡ prevOf sh x h2
     → n1 ≡ pick (aAlone h1 h2 w) a h2 → p1 ≡ pick (aAlone h1 h2 w) a p
     → n2 ≡ pick (bAlone h1 h2 w) b h1 → p2 ≡ pick (bAlone h1 h2 w) b q
     → x1 ≡ edgeIn sh x a u l n1 p1 v l2 n2 p2
-    → x1 ≡ mefEdge sh x l h1 h2 a l2 w
-unfolding mefEdge
+    → x1 ≡ mefIn sh x l h1 h2 a l2 w
+unfolding mefIn
 mef-edge-steps sh x l h1 h2 a l2 w eb eu ev ep eq en1 ep1 en2 ep2 e1 = rw (e1, en1, ep1, en2, ep2, ep, eq, eu, ev, eb)
 
 pub mef-steps : (sh : Shape) (x : List ℕ) (l h1 h2 a f l2 w : ℕ) {b g s from r o low : ℕ} {x1 x2 x3 x4 x5 : List ℕ}
     → b ≡ mate a → g ≡ loopFace sh x l → s ≡ faceSolid sh x g → from ≡ pick (bAlone h1 h2 w) b h1
     → r ≡ loopFirst sh x l → o ≡ lower a b → low ≡ lower r o
-    → x1 ≡ mefEdge sh x l h1 h2 a l2 w → x2 ≡ relabelRun sh x1 from b l2 → x3 ≡ putLoop sh x2 l2 f 0 0
+    → x1 ≡ mefIn sh x l h1 h2 a l2 w → x2 ≡ relabelRun sh x1 from b l2 → x3 ≡ putLoop sh x2 l2 f 0 0
     → x4 ≡ putFace sh x3 f s l2 → x5 ≡ renewSides sh x4 l low l2 low a
     → x5 ≡ mefLinks sh x l h1 h2 a f l2 w
-unfolding mefLinks renewSides
+unfolding mefLinks mefIn renewSides
 mef-steps sh x l h1 h2 a f l2 w eb eg es ef er eo el e1 e2 e3 e4 e5 = rw (e5, e4, e3, e2, e1, el, eo, er, ef, es, eg, eb)
 
 pub kef-tests : (sh : Shape) (x : List ℕ) (k : ℕ) {m f g n : ℕ}
@@ -56,7 +57,7 @@ pub kef-steps : (sh : Shape) (x : List ℕ) (k : ℕ) {m f rest g h low : ℕ} {
     → x1 ≡ relabelRun sh x (a .next) k (b .owner) → x2 ≡ kefOut sh x1 k a b → x3 ≡ putFace sh x2 f 0 0
     → x4 ≡ putLoop sh x3 (a .owner) 0 0 0 → x5 ≡ renew sh x4 (b .owner) low rest (a .start)
     → x5 ≡ kefLinks sh x k
-unfolding kefLinks kefEdge kefOut
+unfolding kefLinks kefOut
 kef-steps sh x k em ha hb ef er eg eh el e1 e2 e3 e4 e5 =
     rw (e5, e4, e3, e2, e1, ef, er, el, eg, eh, ha .start, ha .owner, ha .next, ha .prev, hb .owner, hb .next, hb .prev, em)
 

@@ -3,8 +3,8 @@ ghost use mathlib.Core.Path.{_≡_};
 ghost use Prim.Native.Nat.{ℕ, _<_, _≤_};
 ghost use Rattle.layout.specs.Small.{Small};
 ghost use Rattle.euler_counts.specs.Counts.{Counted};
-ghost use Rattle.euler.specs.Operators.{mefTest, mefEdge, mefLinks, mefInverse, kefTest, kefLinks, kefInverse};
-ghost use Rattle.euler_cuts.specs.Parts.{restOf, kefOut};
+ghost use Rattle.euler.specs.EdgeOperators.{mefTest, mefLinks, mefInverse, kefTest, kefLinks, kefInverse};
+ghost use Rattle.euler_cuts.specs.Parts.{mefIn, restOf, kefOut};
 use euler::records::Half;
 use euler::records::choose;
 use euler::records::corner_vertex;
@@ -56,7 +56,7 @@ fn mef_edge(
     w: usize,
 )
     requires { ⌜ (l < 65536) × (h1 < 65536) × (h2 < 65536) × (a < 65535) × (l2 < 65536) ⌝ }
-    ensures { λ _. ⌜ now (links .exit) ≡ mefEdge sh (now (links .entry)) l h1 h2 a l2 w ⌝ }
+    ensures { λ _. ⌜ now (links .exit) ≡ mefIn sh (now (links .entry)) l h1 h2 a l2 w ⌝ }
 {
     let b = mate_of(a);
     let u = corner_vertex(links, sh, l, h1);

@@ -9,7 +9,8 @@ use Rattle.codec.specs.OperandLaws.{NoneOf}
 use Rattle.layout.specs.declared.shape.Shape.{Shape}
 use Rattle.euler.specs.ByCode.{by-code, by-none}
 use Rattle.euler.specs.Surgery.{itemIn}
-use Rattle.euler.specs.Operators.{faceIn, kvsfLinks}
+use Rattle.euler.specs.Queries.{faceIn}
+use Rattle.euler.specs.FaceOperators.{kvsfLinks}
 use Rattle.euler.specs.Exec.{operatorBy, linksBy, linksAfter, onlyLoop, onlyVertex}
 
 -- the links after code k with these operands

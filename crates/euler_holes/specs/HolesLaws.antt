@@ -16,8 +16,8 @@ use Rattle.layout.specs.declared.shape.Shape.{Shape}
 use Rattle.layout.specs.Layout.{kind, faceSolid, faceOuter, loopFace, setSolidUsed, setFaceSolid}
 use Rattle.check_shells.specs.Shells.{sideAs, oneRoot, facesLinkedAs, Shells}
 use Rattle.check_shells.specs.ShellsLaws.{one-root-short}
-use Rattle.euler.specs.Operators.{loopsIn, isRing, moveFaces, kfmrhTest, kfmrhLinks}
-use Rattle.euler.specs.Operators.{linkedAfter, ringFace, mfkrhTest, mfkrhLinks}
+use Rattle.euler.specs.Queries.{loopsIn, isRing}
+use Rattle.euler.specs.FaceOperators.{moveFaces, kfmrhTest, kfmrhLinks, linkedAfter, ringFace, mfkrhTest, mfkrhLinks}
 use Rattle.euler_holes.specs.Moves.{sweepFaces, byRoot, moveShell, joinSolids, giveLoop}
 
 -- ---- face after face

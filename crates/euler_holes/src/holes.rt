@@ -3,7 +3,8 @@
 ghost use mathlib.Core.Path.{_≡_};
 ghost use Prim.Native.Nat.{ℕ, _<_, _≤_};
 ghost use Rattle.layout.specs.Small.{Small};
-ghost use Rattle.euler.specs.Operators.{kfmrhTest, kfmrhLinks, kfmrhInverse, ringFace, mfkrhTest, mfkrhLinks, mfkrhInverse};
+ghost use Rattle.euler.specs.FaceOperators.{kfmrhTest, kfmrhLinks, kfmrhInverse, ringFace, mfkrhTest, mfkrhLinks};
+ghost use Rattle.euler.specs.FaceOperators.{mfkrhInverse};
 ghost use Rattle.euler_counts.specs.Counts.{Counted};
 ghost use Rattle.euler_holes.specs.Moves.{giveLoop};
 use crate::moves::join_solids;

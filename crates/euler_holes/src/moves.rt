@@ -1,7 +1,7 @@
 // Faces pass to another solid: all faces of one solid, or those of one shell.
 ghost use mathlib.Core.Path.{_≡_};
 ghost use Prim.Native.Nat.{ℕ, _<_, _≤_};
-ghost use Rattle.euler.specs.Operators.{moveFaces};
+ghost use Rattle.euler.specs.FaceOperators.{moveFaces};
 ghost use Rattle.check_shells.specs.Forest.{Forest};
 ghost use Rattle.euler_holes.specs.Moves.{joinSolids, moveShell};
 use check_shells::faces::same_shell;

@@ -12,7 +12,9 @@ use Rattle.layout.specs.declared.shape.Shape.{Shape}
 use Rattle.layout.specs.Mate.{mate}
 use Rattle.euler.specs.ByCode.{by-code, by-none}
 use Rattle.euler.specs.Surgery.{itemOf, halfBy}
-use Rattle.euler.specs.Operators.{faceIn, kvsfInverse, mefInverse}
+use Rattle.euler.specs.Queries.{faceIn}
+use Rattle.euler.specs.EdgeOperators.{mefInverse}
+use Rattle.euler.specs.FaceOperators.{kvsfInverse}
 use Rattle.euler.specs.Exec.{onlyLoop, onlyVertex, inverses, inverse}
 
 -- mef is undone from the mate of its half-edge

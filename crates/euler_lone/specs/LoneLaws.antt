@@ -13,7 +13,8 @@ use Rattle.laws.specs.Sums.{bit, countTo, sum-ext, sum-zero, sum-lt, count-one}
 use Rattle.layout.specs.declared.shape.Shape.{Shape}
 use Rattle.layout.specs.Layout.{faceSolid, faceOuter, loopIsolated}
 use Rattle.euler.specs.Surgery.{some}
-use Rattle.euler.specs.Operators.{faceIn, facesIn, loopsIn, kvsfTest}
+use Rattle.euler.specs.Queries.{faceIn, facesIn, loopsIn}
+use Rattle.euler.specs.FaceOperators.{kvsfTest}
 
 -- ---- one of 1 to n passes
 

@@ -2,7 +2,7 @@
 ghost use mathlib.Core.Path.{_≡_};
 ghost use Prim.Native.Nat.{ℕ, _*_, _<_, _≤_};
 ghost use Rattle.laws.specs.Search.{least};
-ghost use Rattle.euler.specs.Operators.{sharesOutside, rmovTest, rmovLinks, rmovInverse};
+ghost use Rattle.euler.specs.FaceOperators.{sharesOutside, rmovTest, rmovLinks, rmovInverse};
 use euler::faces::is_ring;
 use euler::records::choose;
 use layout::columns::face_outer;

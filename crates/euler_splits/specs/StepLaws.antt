@@ -10,8 +10,8 @@ use Rattle.script.specs.Operator.{blankOf, withNumber}
 use Rattle.layout.specs.declared.shape.Shape.{Shape}
 use Rattle.layout.specs.Layout.{loopFirst, startOf, loopOf, nextOf, prevOf, setStart, setVertexUsed}
 use Rattle.layout.specs.Mate.{mate, edgeOf}
-use Rattle.euler.specs.Surgery.{wayOf, withPoint, lower}
-use Rattle.euler.specs.Operators.{insertAfter, semvLinks, jekvTest, jekvLinks, jekvInverse}
+use Rattle.euler.specs.Surgery.{wayOf, withPoint, lower, insertAfter}
+use Rattle.euler.specs.EdgeOperators.{semvLinks, jekvTest, jekvLinks, jekvInverse}
 use Rattle.euler_edges.specs.Parts.{withThree, renewSides, clearEdge}
 use Rattle.euler_splits.specs.Parts.{joinHalves}
 

@@ -1,7 +1,8 @@
 // An edge divided by a new vertex (semv, operator 11), and two edges at a vertex joined (jekv, operator 12).
 ghost use mathlib.Core.Path.{_≡_};
 ghost use Prim.Native.Nat.{ℕ, _<_, _≤_};
-ghost use Rattle.euler.specs.Operators.{insertAfter, semvLinks, semvInverse, jekvTest, jekvLinks, jekvInverse};
+ghost use Rattle.euler.specs.Surgery.{insertAfter};
+ghost use Rattle.euler.specs.EdgeOperators.{semvLinks, semvInverse, jekvTest, jekvLinks, jekvInverse};
 ghost use Rattle.euler_splits.specs.Parts.{joinHalves};
 use euler::points::with_point;
 use euler::records::Half;

@@ -12,7 +12,7 @@ use Rattle.layout.specs.Layout.{loopFirst, prevOf, setVertexUsed}
 use Rattle.layout.specs.Mate.{mate, edgeOf}
 use Rattle.euler.specs.declared.records.Half.{Half}
 use Rattle.euler.specs.Surgery.{wayOf, cornerVertex, withPoint, edgeIn, edgeOut, lower, renew}
-use Rattle.euler.specs.Operators.{mevLinks, kevLinks, kevInverse}
+use Rattle.euler.specs.EdgeOperators.{mevLinks, kevLinks, kevInverse}
 use Rattle.euler_edges.specs.Parts.{IsHalf, withThree}
 
 pub mev-steps : (sh : Shape) (x : List ℕ) (l h k v : ℕ) {m u b p n f o low : ℕ} {x1 x2 x3 : List ℕ}

@@ -1,7 +1,7 @@
 // An edge with a new vertex at its end: made (mev, operator 3) and killed (kev, operator 4).
 ghost use mathlib.Core.Path.{_≡_};
 ghost use Prim.Native.Nat.{ℕ, _<_, _≤_};
-ghost use Rattle.euler.specs.Operators.{mevTest, mevLinks, mevInverse, kevTest, kevLinks, kevInverse};
+ghost use Rattle.euler.specs.EdgeOperators.{mevTest, mevLinks, mevInverse, kevTest, kevLinks, kevInverse};
 use euler::points::with_point;
 use euler::records::Half;
 use euler::records::choose;

@@ -19,7 +19,9 @@ use Rattle.table.specs.Clear.{clearOf}
 use Rattle.table.specs.Check.{checkOf}
 use Rattle.table.specs.Count.{itemUsed, tallyOf, countOf}
 use Rattle.euler.specs.Surgery.{corner, edgeIn, edgeOut, relabel, seek, renew}
-use Rattle.euler.specs.Operators.{mvsfLinks, kvsfTest, kvsfLinks, mevLinks, kevTest, kevLinks, mefTest, mefEdge, mefLinks, kefTest, kefEdge, kefLinks, kfmrhTest, kfmrhLinks, linkedAfter, mfkrhTest, mfkrhLinks}
+use Rattle.euler.specs.EdgeOperators.{mevLinks, kevTest, kevLinks, mefTest, mefLinks, kefTest, kefLinks}
+use Rattle.euler.specs.FaceOperators.{mvsfLinks, kvsfTest, kvsfLinks, kfmrhTest, kfmrhLinks, linkedAfter, mfkrhTest}
+use Rattle.euler.specs.FaceOperators.{mfkrhLinks}
 use Rattle.euler.specs.Exec.{admitOf, useRefusals, useRefusal, useWord, condition, linksAfter, pointsAfter, killedVertex, inverse}
 use Rattle.runs.specs.Run.{admitRead, inverseBytes, carryRefusal, runRefusal, stepped, runFrom, entry, runOf, undoFrom, undoOf}
 use Rattle.takedown.specs.Inversion.{act, turnB, turned, invertBy, invertOf}
@@ -43,5 +45,5 @@ unfolding found clearOf runOf undoOf countOf invertOf invertBy turned turnB act 
     readOperands readBehind operandBytes operandsBytes operatorBytes operatorRefusal putBytes admitRead inverseBytes
     carryRefusal runRefusal stepped runFrom undoFrom admitOf useRefusals useRefusal useWord condition linksAfter pointsAfter
     killedVertex inverse corner edgeIn edgeOut relabel seek renew sweep mvsfLinks kvsfTest kvsfLinks mevLinks kevTest
-    kevLinks mefTest mefEdge mefLinks kefTest kefEdge kefLinks kfmrhTest kfmrhLinks linkedAfter mfkrhTest mfkrhLinks
+    kevLinks mefTest mefLinks kefTest kefLinks kfmrhTest kfmrhLinks linkedAfter mfkrhTest mfkrhLinks
 cases-hold = refl

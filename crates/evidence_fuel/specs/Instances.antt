@@ -17,8 +17,8 @@ use Rattle.layout.specs.Mate.{mate}
 use Rattle.check_items.specs.Rules.{solidRange, faceRange, loopRange, halfRange, vertexRange, rule1, solidNames, faceNames, loopNames, halfNames, rule2, loopEither, rule3, halfLinks, firstNames, halfInLoop, rule4, vertexEither, halfAtVertex, rule5, halfSides, faceLinked, rule6, brokenRule}
 use Rattle.table.specs.Sizes.{sizesFit}
 use Rattle.table.specs.Check.{checkOf}
-use Rattle.euler.specs.Surgery.{seek, firstFrom, relabel, relabelRun}
-use Rattle.euler.specs.Operators.{operator, kefTest}
+use Rattle.euler.specs.Surgery.{seek, firstFrom, relabel, relabelRun, operator}
+use Rattle.euler.specs.EdgeOperators.{kefTest}
 use Rattle.euler.specs.Exec.{refusalOf, admitOf, rangeRefusal, useRefusals, useRefusal, useWord, condition, inverse}
 use Rattle.sound_tables.specs.Sound.{HalfUsed}
 use Rattle.sound_tables.specs.Good.{Good, own}

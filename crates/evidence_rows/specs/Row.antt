@@ -16,7 +16,10 @@ use Rattle.layout.specs.Layout.{shapeOf}
 use Rattle.layout.specs.Mate.{mate}
 use Rattle.check_shells.specs.Shells.{within, joins, linkedBy}
 use Rattle.euler.specs.Surgery.{corner, edgeIn, edgeOut, relabel, seek, renew}
-use Rattle.euler.specs.Operators.{mvsfLinks, kvsfTest, kvsfLinks, mevLinks, kevTest, kevLinks, mefTest, mefEdge, mefLinks, kefTest, kefEdge, kefLinks, kemrTest, kemrLinks, mekrTest, mekrEdge, mekrLinks, kfmrhTest, kfmrhLinks, linkedAfter, mfkrhTest, mfkrhLinks, semvLinks, jekvTest, jekvLinks, rmovTest, rmovLinks}
+use Rattle.euler.specs.EdgeOperators.{mevLinks, kevTest, kevLinks, mefTest, mefLinks, kefTest, kefLinks, kemrTest}
+use Rattle.euler.specs.EdgeOperators.{kemrLinks, mekrTest, mekrLinks, semvLinks, jekvTest, jekvLinks}
+use Rattle.euler.specs.FaceOperators.{mvsfLinks, kvsfTest, kvsfLinks, kfmrhTest, kfmrhLinks, linkedAfter, mfkrhTest}
+use Rattle.euler.specs.FaceOperators.{mfkrhLinks, rmovTest, rmovLinks}
 use Rattle.euler.specs.Exec.{Table, Executed, exec, refusalOf, admitOf, rangeRefusal, useRefusals, useRefusal, useWord, condition, linksAfter, pointsAfter, killedVertex, inverse}
 
 -- a table and an operator on it, and what is left: the refusal, the operator that undoes it, links and points
@@ -57,7 +60,11 @@ bothWays (r ∷ rs) = r ∷ back r ∷ bothWays rs
 
 -- what the definition leaves for a row, by the shape that the first five words say
 unfoldable pub leaves : Row → Executed
-unfolding exec refusalOf admitOf rangeRefusal pattern rows inRanges inRange wire zig useRefusals useRefusal useWord condition linksAfter pointsAfter killedVertex inverse corner edgeIn edgeOut relabel seek renew mate sumTo leastFrom sweep mvsfLinks kvsfTest kvsfLinks mevLinks kevTest kevLinks mefTest mefEdge mefLinks kefTest kefEdge kefLinks kemrTest kemrLinks mekrTest mekrEdge mekrLinks kfmrhTest kfmrhLinks linkedAfter mfkrhTest mfkrhLinks semvLinks jekvTest jekvLinks rmovTest rmovLinks within joins linkedBy across pass rounds linkedb
+unfolding exec refusalOf admitOf rangeRefusal pattern rows inRanges inRange wire zig useRefusals useRefusal useWord
+    condition linksAfter pointsAfter killedVertex inverse corner edgeIn edgeOut relabel seek renew mate sumTo leastFrom
+    sweep mvsfLinks kvsfTest kvsfLinks mevLinks kevTest kevLinks mefTest mefLinks kefTest kefLinks kemrTest kemrLinks
+    mekrTest mekrLinks kfmrhTest kfmrhLinks linkedAfter mfkrhTest mfkrhLinks semvLinks jekvTest jekvLinks rmovTest
+    rmovLinks within joins linkedBy across pass rounds linkedb
 leaves r = exec (shapeOf (r .before .links)) (r .operator) (r .before)
 
 -- what the definition leaves, row for row and both ways, is what the rows say

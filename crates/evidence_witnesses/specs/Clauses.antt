@@ -14,7 +14,9 @@ use Rattle.layout.specs.declared.shape.Shape.{Shape}
 use Rattle.layout.specs.Layout.{faceOuter, loopFace, loopIsolated, startOf, loopOf, nextOf, side}
 use Rattle.layout.specs.Mate.{mate, edgeOf}
 use Rattle.euler.specs.Surgery.{some, itemOf, corner}
-use Rattle.euler.specs.Operators.{faceIn, facesIn, loopsIn, isRing, linkedAfter, sharesOutside, kvsfTest, kevTest, mefTest, kefTest, kemrTest, mekrTest, kfmrhTest, mfkrhTest, jekvTest, rmovTest}
+use Rattle.euler.specs.Queries.{faceIn, facesIn, loopsIn, isRing}
+use Rattle.euler.specs.EdgeOperators.{kevTest, mefTest, kefTest, kemrTest, mekrTest, jekvTest}
+use Rattle.euler.specs.FaceOperators.{linkedAfter, sharesOutside, kvsfTest, kfmrhTest, mfkrhTest, rmovTest}
 use Rattle.euler.specs.Exec.{conditions, condition}
 
 -- ---- the clauses of each operator, in document 01's order; 1 mvsf and 11 semv have none

@@ -20,7 +20,10 @@ use Rattle.table.specs.declared.check.CheckAnswer.{CheckAnswer}
 use Rattle.table.specs.Sizes.{sizesFit}
 use Rattle.table.specs.Check.{answer, checkOf}
 use Rattle.euler.specs.Surgery.{corner, edgeIn, edgeOut, relabel, seek, renew}
-use Rattle.euler.specs.Operators.{kvsfTest, kvsfLinks, mevLinks, kevTest, kevLinks, mefTest, mefEdge, mefLinks, kefTest, kefEdge, kefLinks, kemrTest, kemrLinks, mekrTest, mekrEdge, mekrLinks, kfmrhTest, kfmrhLinks, linkedAfter, mfkrhTest, mfkrhLinks, jekvTest, jekvLinks, rmovTest, rmovLinks}
+use Rattle.euler.specs.EdgeOperators.{mevLinks, kevTest, kevLinks, mefTest, mefLinks, kefTest, kefLinks, kemrTest}
+use Rattle.euler.specs.EdgeOperators.{kemrLinks, mekrTest, mekrLinks, jekvTest, jekvLinks}
+use Rattle.euler.specs.FaceOperators.{kvsfTest, kvsfLinks, kfmrhTest, kfmrhLinks, linkedAfter, mfkrhTest, mfkrhLinks}
+use Rattle.euler.specs.FaceOperators.{rmovTest, rmovLinks}
 use Rattle.euler.specs.Exec.{Table, refusalOf, admitOf, rangeRefusal, useRefusals, useRefusal, useWord, condition, linksAfter, pointsAfter, killedVertex, inverse}
 use Rattle.evidence_witnesses.specs.Clauses.{clausesOf}
 
@@ -80,7 +83,13 @@ outcomeOf t o (Checked a) = Checked (checkOf (forced t o .links) (forced t o .po
 outcomeOf t o (Again a other) = Again (checkOf (forced t o .links) (forced t o .points)) (undoing (forced t o) (undoing t o))
 
 unfoldable pub shown : Witness → Shown
-unfolding checkOf sizesFit brokenRule rule1 rule2 rule3 rule4 rule5 rule6 solidRange faceRange loopRange halfRange vertexRange solidNames faceNames loopNames halfNames loopEither halfLinks firstNames halfInLoop vertexEither halfAtVertex halfSides faceLinked allTo leastFrom sumTo meets linkedb rounds pass across mate within joins linkedBy refusalOf admitOf rangeRefusal pattern rows inRanges inRange wire zig useRefusals useRefusal useWord condition linksAfter pointsAfter killedVertex inverse corner edgeIn edgeOut relabel seek renew sweep kvsfTest kvsfLinks mevLinks kevTest kevLinks mefTest mefEdge mefLinks kefTest kefEdge kefLinks kemrTest kemrLinks mekrTest mekrEdge mekrLinks kfmrhTest kfmrhLinks linkedAfter mfkrhTest mfkrhLinks jekvTest jekvLinks rmovTest rmovLinks clausesOf
+unfolding checkOf sizesFit brokenRule rule1 rule2 rule3 rule4 rule5 rule6 solidRange faceRange loopRange halfRange
+    vertexRange solidNames faceNames loopNames halfNames loopEither halfLinks firstNames halfInLoop vertexEither
+    halfAtVertex halfSides faceLinked allTo leastFrom sumTo meets linkedb rounds pass across mate within joins linkedBy
+    refusalOf admitOf rangeRefusal pattern rows inRanges inRange wire zig useRefusals useRefusal useWord condition
+    linksAfter pointsAfter killedVertex inverse corner edgeIn edgeOut relabel seek renew sweep kvsfTest kvsfLinks
+    mevLinks kevTest kevLinks mefTest mefLinks kefTest kefLinks kemrTest kemrLinks mekrTest mekrLinks kfmrhTest
+    kfmrhLinks linkedAfter mfkrhTest mfkrhLinks jekvTest jekvLinks rmovTest rmovLinks clausesOf
 shown w =
     record {
       before = checkOf (w .table .links) (w .table .points);

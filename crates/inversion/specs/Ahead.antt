@@ -10,7 +10,7 @@ use Rattle.laws.specs.Bools.{eqb-other}
 use Rattle.laws.specs.Search.{least-none}
 use Rattle.layout.specs.declared.shape.Shape.{Shape}
 use Rattle.layout.specs.Layout.{loopOf}
-use Rattle.euler.specs.Operators.{facesIn, faceIn, isRing}
+use Rattle.euler.specs.Queries.{facesIn, faceIn, isRing}
 use Rattle.euler.specs.Exec.{linksAfter, pointsAfter}
 use Rattle.layout.specs.Fields.{Loop}
 use Rattle.sound_tables.specs.Sound.{In}

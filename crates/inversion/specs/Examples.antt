@@ -24,7 +24,8 @@ use Rattle.table.specs.Sizes.{sizesFit}
 use Rattle.table.specs.Check.{checkOf}
 use Rattle.table.specs.Count.{itemUsed, tallyOf, counts, countOf}
 use Rattle.euler.specs.Surgery.{corner, edgeIn, edgeOut, relabel, seek, renew}
-use Rattle.euler.specs.Operators.{kvsfLinks, kevLinks, kefEdge, kefLinks, kemrLinks, mekrEdge, mekrLinks, mfkrhLinks, rmovLinks}
+use Rattle.euler.specs.EdgeOperators.{kevLinks, kefLinks, kemrLinks, mekrLinks}
+use Rattle.euler.specs.FaceOperators.{kvsfLinks, mfkrhLinks, rmovLinks}
 use Rattle.euler.specs.Exec.{linksAfter, pointsAfter, killedVertex, inverse}
 use Rattle.runs.specs.Run.{state, inverseBytes, stepped, entry}
 use Rattle.inversion.specs.Promise.{Euler}
@@ -100,12 +101,21 @@ wanted =
     ∷ leaves 1 0 115 linksFull (replicate 3 (pos 0)) (replicate 114 238) ∷ []
 
 pub rows-hold : asked ≡ wanted
-unfolding invertOf invertBy turned turnB moveRings makeOuter act crossed onRun entry checkOf sizesFit tallyOf itemUsed brokenRule rule1 rule2 rule3 rule4 rule5 rule6 solidRange faceRange loopRange halfRange vertexRange solidNames faceNames loopNames halfNames loopEither halfLinks firstNames halfInLoop vertexEither halfAtVertex halfSides faceLinked allTo anyTo leastFrom sumTo meets linkedb rounds pass across mate within joins linkedBy third second first readNumber groups pattern rows inRanges inRange zig zag wire unwire operandBytes operandsBytes operatorBytes putBytes inverseBytes stepped linksAfter pointsAfter killedVertex inverse corner edgeIn edgeOut relabel seek renew sweep kvsfLinks kevLinks kefEdge kefLinks kemrLinks mekrEdge mekrLinks mfkrhLinks rmovLinks
+unfolding invertOf invertBy turned turnB moveRings makeOuter act crossed onRun entry checkOf sizesFit tallyOf itemUsed
+    brokenRule rule1 rule2 rule3 rule4 rule5 rule6 solidRange faceRange loopRange halfRange vertexRange solidNames
+    faceNames loopNames halfNames loopEither halfLinks firstNames halfInLoop vertexEither halfAtVertex halfSides
+    faceLinked allTo anyTo leastFrom sumTo meets linkedb rounds pass across mate within joins linkedBy third second
+    first readNumber groups pattern rows inRanges inRange zig zag wire unwire operandBytes operandsBytes operatorBytes
+    putBytes inverseBytes stepped linksAfter pointsAfter killedVertex inverse corner edgeIn edgeOut relabel seek renew
+    sweep kvsfLinks kevLinks kefLinks kemrLinks mekrLinks mfkrhLinks rmovLinks
 rows-hold = refl
 
 -- the full one counted: one solid, face, loop and vertex, two edges, no ring, one hole
 pub full-counted : countOf linksFull (replicate 3 (pos 0)) ≡ counts 0 0 1 1 1 2 1 0 1
-unfolding checkOf sizesFit brokenRule rule1 rule2 rule3 rule4 rule5 rule6 solidRange faceRange loopRange halfRange vertexRange solidNames faceNames loopNames halfNames loopEither halfLinks firstNames halfInLoop vertexEither halfAtVertex halfSides faceLinked allTo leastFrom sumTo meets linkedb rounds pass across mate countOf tallyOf itemUsed
+unfolding checkOf sizesFit brokenRule rule1 rule2 rule3 rule4 rule5 rule6 solidRange faceRange loopRange halfRange
+    vertexRange solidNames faceNames loopNames halfNames loopEither halfLinks firstNames halfInLoop vertexEither
+    halfAtVertex halfSides faceLinked allTo leastFrom sumTo meets linkedb rounds pass across mate countOf tallyOf
+    itemUsed
 full-counted = refl
 
 -- ---- holes are not just the rest: a table that is not sound may have none

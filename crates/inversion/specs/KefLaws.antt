@@ -15,7 +15,7 @@ use Rattle.laws.specs.Update.{upd-same, upd-off}
 use Rattle.codec.specs.Operands.{pattern, rows}
 use Rattle.layout.specs.declared.shape.Shape.{Shape}
 use Rattle.layout.specs.Mate.{mate}
-use Rattle.euler.specs.Operators.{kefTest}
+use Rattle.euler.specs.EdgeOperators.{kefTest}
 use Rattle.euler.specs.Exec.{useWord, condition, refusalOf, linksAfter, pointsAfter, inverse}
 use Rattle.layout.specs.Fields.{SolidUsed, Solid, Face, Start, Loop, VertexUsed}
 use Rattle.sound_tables.specs.Mates.{mate-other}

@@ -11,7 +11,7 @@ use Rattle.laws.specs.Update.{upd-same, upd-off}
 use Rattle.codec.specs.Operands.{pattern, rows}
 use Rattle.layout.specs.declared.shape.Shape.{Shape}
 use Rattle.layout.specs.Mate.{mate}
-use Rattle.euler.specs.Operators.{kevTest}
+use Rattle.euler.specs.EdgeOperators.{kevTest}
 use Rattle.euler.specs.Exec.{useWord, condition, refusalOf, inverse}
 use Rattle.layout.specs.Fields.{SolidUsed, Solid, Face, Start, Next, VertexUsed}
 use Rattle.sound_tables.specs.Sound.{In, HalfUsed}

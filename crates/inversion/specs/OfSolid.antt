@@ -18,7 +18,7 @@ use Rattle.layout.specs.declared.shape.Shape.{Shape}
 use Rattle.layout.specs.Mate.{mate}
 use Rattle.layout.specs.MateLaws.{mate-mate}
 use Rattle.euler.specs.Surgery.{some}
-use Rattle.euler.specs.Operators.{facesIn}
+use Rattle.euler.specs.Queries.{facesIn}
 use Rattle.layout.specs.Fields.{Columns, Solid, Outer, Face, Loop, Next}
 use Rattle.sound_tables.specs.Mates.{mate-other}
 use Rattle.sound_tables.specs.Sound.{In, HalfUsed, side}

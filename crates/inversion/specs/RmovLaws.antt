@@ -13,7 +13,7 @@ use Rattle.laws.specs.Bools.{eqb-same, eqb-other}
 use Rattle.codec.specs.Operands.{pattern, rows}
 use Rattle.layout.specs.declared.shape.Shape.{Shape}
 use Rattle.layout.specs.Mate.{mate}
-use Rattle.euler.specs.Operators.{sharesOutside, rmovTest, rmovLinks}
+use Rattle.euler.specs.FaceOperators.{sharesOutside, rmovTest, rmovLinks}
 use Rattle.euler.specs.Exec.{useWord, condition, refusalOf, linksAfter, pointsAfter, inverse}
 use Rattle.layout.specs.Fields.{change, Solid, Outer, Face, Loop}
 use Rattle.sound_tables.specs.Accepted.{old-use}

@@ -11,7 +11,7 @@ use Rattle.laws.specs.Bools.{split, T-true, eqb-same, eqb-other}
 use Rattle.laws.specs.Search.{least}
 use Rattle.layout.specs.declared.shape.Shape.{Shape}
 use Rattle.euler.specs.Surgery.{some}
-use Rattle.euler.specs.Operators.{isRing, faceIn}
+use Rattle.euler.specs.Queries.{isRing, faceIn}
 use Rattle.layout.specs.Fields.{SolidUsed, Solid, Outer, Face, First, Isolated, Loop, VertexUsed}
 use Rattle.sound_tables.specs.Sound.{In}
 use Rattle.sound_tables.specs.Labels.{LeastIs, label-found, label-some}

@@ -12,7 +12,7 @@ use Rattle.laws.specs.Search.{least-ext}
 use Rattle.laws.specs.Sums.{sumTo, bit, countTo, sum-ext}
 use Rattle.layout.specs.declared.shape.Shape.{Shape}
 use Rattle.euler.specs.Surgery.{some}
-use Rattle.euler.specs.Operators.{faceIn, facesIn}
+use Rattle.euler.specs.Queries.{faceIn, facesIn}
 use Rattle.table.specs.Count.{itemUsed}
 use Rattle.layout.specs.Fields.{SolidUsed, Solid, Face, Start, VertexUsed}
 use Rattle.sound_tables.specs.Sound.{In}

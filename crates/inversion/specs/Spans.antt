@@ -9,7 +9,7 @@ use Rattle.laws.specs.Bools.{ask}
 use Rattle.laws.specs.Permutations.{iter}
 use Rattle.layout.specs.declared.shape.Shape.{Shape}
 use Rattle.layout.specs.Mate.{mate}
-use Rattle.euler.specs.Operators.{facesIn}
+use Rattle.euler.specs.Queries.{facesIn}
 use Rattle.euler.specs.Exec.{linksAfter}
 use Rattle.layout.specs.Fields.{Loop, Next}
 use Rattle.sound_tables.specs.Sound.{In, HalfUsed}

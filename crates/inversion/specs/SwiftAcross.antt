@@ -15,7 +15,7 @@ use Rattle.layout.specs.declared.shape.Shape.{Shape}
 use Rattle.layout.specs.Layout.{nextOf}
 use Rattle.layout.specs.Mate.{mate}
 use Rattle.layout.specs.MateLaws.{mate-mate, mate-range}
-use Rattle.euler.specs.Operators.{faceIn, facesIn, isRing}
+use Rattle.euler.specs.Queries.{faceIn, facesIn, isRing}
 use Rattle.euler.specs.Exec.{linksAfter}
 use Rattle.layout.specs.Fields.{SolidUsed, Solid, Outer, Face, Start, Loop, Next}
 use Rattle.sound_tables.specs.Mates.{mate-other}

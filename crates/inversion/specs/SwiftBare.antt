@@ -9,7 +9,7 @@ use lib.Dec.{eqb, eqb→eq}
 use lib.IntN.{ℤ}
 use Rattle.laws.specs.Bools.{split, true-T}
 use Rattle.layout.specs.declared.shape.Shape.{Shape}
-use Rattle.euler.specs.Operators.{faceIn, facesIn, isRing}
+use Rattle.euler.specs.Queries.{faceIn, facesIn, isRing}
 use Rattle.euler.specs.Exec.{linksAfter}
 use Rattle.layout.specs.Fields.{Solid, Outer, Face, Loop, Start}
 use Rattle.sound_tables.specs.Sound.{In, side}

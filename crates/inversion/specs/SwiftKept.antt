@@ -13,7 +13,7 @@ use Rattle.layout.specs.declared.shape.Shape.{Shape}
 use Rattle.layout.specs.Layout.{solidUsed}
 use Rattle.layout.specs.Mate.{mate}
 use Rattle.euler.specs.Surgery.{some}
-use Rattle.euler.specs.Operators.{faceIn, facesIn}
+use Rattle.euler.specs.Queries.{faceIn, facesIn}
 use Rattle.layout.specs.Fields.{SolidUsed, Solid, Loop, Next, Prev}
 use Rattle.sound_tables.specs.Sound.{In, HalfUsed, side}
 use Rattle.sound_tables.specs.Good.{Good, own}

@@ -14,7 +14,7 @@ use Rattle.script.specs.declared.Operator.{Operator}
 use Rattle.layout.specs.declared.shape.Shape.{Shape}
 use Rattle.layout.specs.Layout.{shapeOf, faceOuter, loopOf, side}
 use Rattle.euler.specs.Surgery.{some}
-use Rattle.euler.specs.Operators.{faceIn, facesIn}
+use Rattle.euler.specs.Queries.{faceIn, facesIn}
 use Rattle.euler.specs.Exec.{linksAfter}
 use Rattle.layout.specs.Fields.{SolidUsed}
 use Rattle.sound_tables.specs.Sound.{In}

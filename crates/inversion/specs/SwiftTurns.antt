@@ -13,7 +13,7 @@ use Rattle.layout.specs.declared.shape.Shape.{Shape}
 use Rattle.layout.specs.Layout.{nextOf}
 use Rattle.layout.specs.Mate.{mate}
 use Rattle.layout.specs.MateLaws.{mate-mate}
-use Rattle.euler.specs.Operators.{facesIn}
+use Rattle.euler.specs.Queries.{facesIn}
 use Rattle.euler.specs.Exec.{linksAfter, pointsAfter}
 use Rattle.layout.specs.Fields.{Loop, Next, Prev}
 use Rattle.sound_tables.specs.EdgeIn.{prev-in}

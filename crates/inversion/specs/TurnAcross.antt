@@ -16,7 +16,7 @@ use Rattle.script.specs.declared.Operator.{Operator}
 use Rattle.layout.specs.declared.shape.Shape.{Shape}
 use Rattle.layout.specs.Mate.{mate}
 use Rattle.layout.specs.MateLaws.{mate-mate, mate-range}
-use Rattle.euler.specs.Operators.{isRing, faceIn, facesIn}
+use Rattle.euler.specs.Queries.{isRing, faceIn, facesIn}
 use Rattle.euler.specs.Exec.{linksAfter}
 use Rattle.layout.specs.Fields.{change, SolidUsed, Solid, Outer, Face, Start, Loop, VertexUsed}
 use Rattle.sound_tables.specs.Sound.{In, HalfUsed, side}

@@ -11,7 +11,7 @@ use Rattle.laws.specs.Bools.{split, true-T, eqb-same}
 use Rattle.layout.specs.declared.shape.Shape.{Shape}
 use Rattle.layout.specs.Mate.{mate}
 use Rattle.layout.specs.MateLaws.{mate-odd}
-use Rattle.euler.specs.Operators.{isRing, faceIn, facesIn}
+use Rattle.euler.specs.Queries.{isRing, faceIn, facesIn}
 use Rattle.euler.specs.Exec.{linksAfter, inverse}
 use Rattle.layout.specs.Fields.{Loop, SolidUsed, Solid, Outer, Face, First, Isolated, Start, Next, VertexUsed}
 use Rattle.sound_tables.specs.Sound.{In, HalfUsed}

@@ -9,7 +9,7 @@ use lib.Dec.{eqb, eqb→eq}
 use lib.IntN.{ℤ}
 use Rattle.laws.specs.Bools.{true-T}
 use Rattle.layout.specs.declared.shape.Shape.{Shape}
-use Rattle.euler.specs.Operators.{faceIn, facesIn}
+use Rattle.euler.specs.Queries.{faceIn, facesIn}
 use Rattle.euler.specs.Exec.{inverse}
 use Rattle.layout.specs.Fields.{Solid, Face, Loop}
 use Rattle.sound_tables.specs.Sound.{In, side}

@@ -12,7 +12,7 @@ use Rattle.laws.specs.Search.{least-ext}
 use Rattle.laws.specs.Update.{upd-same, upd-off}
 use Rattle.layout.specs.declared.shape.Shape.{Shape}
 use Rattle.euler.specs.Surgery.{putPoint}
-use Rattle.euler.specs.Operators.{faceIn, facesIn}
+use Rattle.euler.specs.Queries.{faceIn, facesIn}
 use Rattle.euler.specs.Exec.{linksAfter, inverse}
 use Rattle.layout.specs.Fields.{First, SolidUsed, Solid, Outer, Face, Isolated, Start, VertexUsed}
 use Rattle.sound_tables.specs.Sound.{In}

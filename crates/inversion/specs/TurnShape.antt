@@ -7,7 +7,7 @@ use Prim.Native.Nat.{ℕ, _-_, _*_}
 use Rattle.laws.specs.Bools.{eqb-same, eqb-other}
 use Rattle.layout.specs.declared.shape.Shape.{Shape}
 use Rattle.layout.specs.Layout.{loopOf, faceOuter, side}
-use Rattle.euler.specs.Operators.{facesIn}
+use Rattle.euler.specs.Queries.{facesIn}
 use Rattle.takedown.specs.Inversion.{Work, act, freeFace, freeLoop, freeEdge, borderHalf, edgesLeft, ringHalf, spurHalf, crossedHalf, ringOf, kvsf, kev, kef, kemr, mekr, mfkrh, turnA, turnB, turned}
 
 module _ (sh : Shape) (s r : ℕ) (w : Work) where

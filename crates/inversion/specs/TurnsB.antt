@@ -11,7 +11,7 @@ use Rattle.laws.specs.Bools.{ask, T-true, true-T, eqb-same}
 use Rattle.laws.specs.Search.{least, Least, none-is, one-is, leastFrom-is}
 use Rattle.layout.specs.declared.shape.Shape.{Shape}
 use Rattle.layout.specs.Mate.{mate}
-use Rattle.euler.specs.Operators.{facesIn, isRing}
+use Rattle.euler.specs.Queries.{facesIn, isRing}
 use Rattle.euler.specs.Exec.{linksAfter, pointsAfter}
 use Rattle.layout.specs.Fields.{Solid, Outer, Face, Loop, Next}
 use Rattle.sound_tables.specs.Sound.{In, HalfUsed, side}

@@ -19,7 +19,8 @@ use Rattle.check_items.specs.Rules.{solidRange, faceRange, loopRange, halfRange
 use Rattle.table.specs.Sizes.{sizesFit}
 use Rattle.table.specs.Check.{checkOf}
 use Rattle.euler.specs.Surgery.{corner, edgeIn, edgeOut, relabel, seek, renew}
-use Rattle.euler.specs.Operators.{mvsfLinks, kvsfTest, kvsfLinks, mevLinks, kevTest, kevLinks, mefTest, mefEdge, mefLinks, kefTest, kefEdge, kefLinks}
+use Rattle.euler.specs.EdgeOperators.{mevLinks, kevTest, kevLinks, mefTest, mefLinks, kefTest, kefLinks}
+use Rattle.euler.specs.FaceOperators.{mvsfLinks, kvsfTest, kvsfLinks}
 use Rattle.euler.specs.Exec.{admitOf, useRefusals, useRefusal, useWord, condition, linksAfter, pointsAfter, killedVertex, inverse}
 use Rattle.runs.specs.Run.{State, state, admitRead, inverseBytes, carryRefusal, stepped, runRefusal}
 use Rattle.runs.specs.Run.{runFrom, entry, runOf, undid, undoFrom, undoOf}
@@ -32,7 +33,9 @@ begin = state (1 ∷ 2 ∷ 2 ∷ 2 ∷ 2 ∷ replicate 29 0) (replicate 6 (pos 0
 
 -- it passes the check
 pub begin-sound : checkOf (begin .links) (begin .points) .refusal ≡ 0
-unfolding checkOf sizesFit brokenRule rule1 rule2 rule3 rule4 rule5 rule6 solidRange faceRange loopRange halfRange vertexRange solidNames faceNames loopNames halfNames loopEither halfLinks firstNames halfInLoop vertexEither halfAtVertex halfSides faceLinked allTo leastFrom sumTo meets linkedb rounds pass across mate
+unfolding checkOf sizesFit brokenRule rule1 rule2 rule3 rule4 rule5 rule6 solidRange faceRange loopRange halfRange
+    vertexRange solidNames faceNames loopNames halfNames loopEither halfLinks firstNames halfInLoop vertexEither
+    halfAtVertex halfSides faceLinked allTo leastFrom sumTo meets linkedb rounds pass across mate
 begin-sound = refl
 
 -- b and c; then d, and an operator that is refused
@@ -44,5 +47,12 @@ scripts =
 -- three operators are done, their inverses stand in the log, newest first; undo by three gives back what there was
 pub begin-undone : (runAll begin scripts .done ≡ 3) × (runAll begin scripts .last .log ≡ 6 ∷ 4 ∷ 4 ∷ 1 ∷ 2 ∷ 1 ∷ 17 ∷ 18 ∷ [])
     × (undoAll begin scripts ≡ undid 0 3 6 (begin .links) (begin .points))
-unfolding checkOf sizesFit brokenRule rule1 rule2 rule3 rule4 rule5 rule6 solidRange faceRange loopRange halfRange vertexRange solidNames faceNames loopNames halfNames loopEither halfLinks firstNames halfInLoop vertexEither halfAtVertex halfSides faceLinked allTo leastFrom sumTo meets linkedb rounds pass across mate third second first readNumber groups pattern rows inRanges inRange zig zag wire unwire readOperand readOperands readBehind readOperator operandBytes operandsBytes operatorBytes putBytes corner edgeIn edgeOut relabel seek renew mvsfLinks kvsfTest kvsfLinks mevLinks kevTest kevLinks mefTest mefEdge mefLinks kefTest kefEdge kefLinks admitOf useRefusals useRefusal useWord condition linksAfter pointsAfter killedVertex inverse sweep admitRead inverseBytes carryRefusal stepped runRefusal runFrom entry runOf undoFrom undoOf runAll
+unfolding checkOf sizesFit brokenRule rule1 rule2 rule3 rule4 rule5 rule6 solidRange faceRange loopRange halfRange
+    vertexRange solidNames faceNames loopNames halfNames loopEither halfLinks firstNames halfInLoop vertexEither
+    halfAtVertex halfSides faceLinked allTo leastFrom sumTo meets linkedb rounds pass across mate third second first
+    readNumber groups pattern rows inRanges inRange zig zag wire unwire readOperand readOperands readBehind readOperator
+    operandBytes operandsBytes operatorBytes putBytes corner edgeIn edgeOut relabel seek renew mvsfLinks kvsfTest
+    kvsfLinks mevLinks kevTest kevLinks mefTest mefLinks kefTest kefLinks admitOf useRefusals useRefusal useWord
+    condition linksAfter pointsAfter killedVertex inverse sweep admitRead inverseBytes carryRefusal stepped runRefusal
+    runFrom entry runOf undoFrom undoOf runAll
 begin-undone = (refl, refl, refl)

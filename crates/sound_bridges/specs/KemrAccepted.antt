@@ -14,7 +14,7 @@ use Rattle.codec.specs.Operands.{pattern, rows}
 use Rattle.layout.specs.declared.shape.Shape.{Shape}
 use Rattle.layout.specs.Mate.{mate, edgeOf}
 use Rattle.euler.specs.Surgery.{halfBy, wayOf}
-use Rattle.euler.specs.Operators.{kemrTest, kemrLinks}
+use Rattle.euler.specs.EdgeOperators.{kemrTest, kemrLinks}
 use Rattle.euler.specs.Exec.{useWord, condition, refusalOf, linksAfter, pointsAfter, inverse}
 use Rattle.layout.specs.Fields.{Loop}
 use Rattle.sound_tables.specs.Accepted.{use-new, new-use}

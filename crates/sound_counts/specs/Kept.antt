@@ -14,7 +14,7 @@ use Rattle.laws.specs.Sums.{sumTo, bit, countTo, sum-ext, count-le}
 use Rattle.script.specs.declared.Operator.{Operator}
 use Rattle.layout.specs.declared.shape.Shape.{Shape}
 use Rattle.layout.specs.Layout.{loopFace}
-use Rattle.euler.specs.Operators.{loopsIn}
+use Rattle.euler.specs.Queries.{loopsIn}
 use Rattle.euler.specs.Exec.{linksAfter, refusalOf}
 use Rattle.sound_tables.specs.Sound.{In}
 use Rattle.sound_tables.specs.Good.{Good}

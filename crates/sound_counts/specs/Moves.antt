@@ -16,10 +16,12 @@ use Rattle.codec.specs.OperandLaws.{NoneOf, pattern-none}
 use Rattle.layout.specs.declared.shape.Shape.{Shape}
 use Rattle.layout.specs.Layout.{faceSolid, faceOuter, loopFace, startOf, loopOf, nextOf, prevOf, side}
 use Rattle.layout.specs.Mate.{mate}
-use Rattle.euler.specs.Surgery.{itemOf, tie}
-use Rattle.euler.specs.Operators.{faceIn, mvsfLinks, kvsfLinks, mevLinks, kevLinks, mefEdge, mefLinks, kefEdge}
-use Rattle.euler.specs.Operators.{kefLinks, kemrLinks, mekrEdge, mekrLinks, kfmrhLinks, mfkrhLinks, insertAfter}
-use Rattle.euler.specs.Operators.{semvLinks, jekvLinks, rmovLinks}
+use Rattle.euler.specs.Surgery.{itemOf, tie, insertAfter}
+use Rattle.euler.specs.Queries.{faceIn}
+use Rattle.euler.specs.EdgeOperators.{mevLinks, kevLinks, mefLinks, kefLinks, kemrLinks, mekrLinks}
+use Rattle.euler.specs.FaceOperators.{mvsfLinks, kvsfLinks, kfmrhLinks, mfkrhLinks, rmovLinks, ringFace}
+use Rattle.euler.specs.EdgeOperators.{semvLinks, jekvLinks}
+use Rattle.euler.specs.Steps.{does, after}
 use Rattle.euler.specs.Exec.{limits, linksBy, linksAfter, refusalOf}
 use Rattle.sound_tables.specs.Sound.{In}
 use Rattle.sound_tables.specs.Accepted.{accepted, limitOf}
@@ -69,7 +71,7 @@ module _ {sh : Shape} (b : InOrder sh) {l : ℕ} (i : In (sh .loops) l) (x : Lis
 
   -- 5: the new loop m2 gets the new face f
   mef-stays : (m h1 h2 a f m2 w : ℕ) → f ≤ sh .faces → l ≢ m2 → Stays sh l x (mefLinks sh x m h1 h2 a f m2 w)
-  unfolding mefLinks mefEdge
+  unfolding mefLinks
   mef-stays m h1 h2 a f m2 w hf d =
       renew-stays b i m2 _ (mate a) 0
       (renew-stays b i m _ a 0
@@ -78,7 +80,7 @@ module _ {sh : Shape} (b : InOrder sh) {l : ℕ} (i : In (sh .loops) l) (x : Lis
 
   -- 6: the loop of k is killed
   kef-stays : (k : ℕ) → side sh x k ≤ sh .faces → l ≢ loopOf sh x k → Stays sh l x (kefLinks sh x k)
-  unfolding kefLinks kefEdge
+  unfolding kefLinks
   kef-stays k hf d =
       renew-stays b i _ _ _ _
       (put-loop-stays b i _ 0 0 0 d
@@ -94,7 +96,7 @@ module _ {sh : Shape} (b : InOrder sh) {l : ℕ} (i : In (sh .loops) l) (x : Lis
 
   -- 8: the loop m2 is killed
   mekr-stays : (m h1 m2 h2 k : ℕ) → l ≢ m2 → Stays sh l x (mekrLinks sh x m h1 m2 h2 k)
-  unfolding mekrLinks mekrEdge
+  unfolding mekrLinks
   mekr-stays m h1 m2 h2 k d =
       renew-stays b i m _ k 0
       (put-loop-stays b i m2 0 0 0 d (relabel-stays b i _ _ _ m (edge-in-stays b i k _ _ _ _ _ _ _ _ start)))
@@ -113,7 +115,8 @@ module _ {sh : Shape} (b : InOrder sh) {l : ℕ} (i : In (sh .loops) l) (x : Lis
   unfolding mfkrhLinks
   mfkrh-stays m f s hf hs d =
       let r = other-stays b i m f d (put-face-stays b i f (faceSolid sh x (loopFace sh x m)) m hf start) in
-      pick-ind (Stays sh l x) (eqb s 0) _ _ r (sweep-stays b i _ _ (omega arith) (solid-stays b i s 1 hs r))
+      pick-ind (λ ss. Stays sh l x (after sh ss (ringFace sh x m f))) (eqb s 0) _ _ r
+      (sweep-stays b i _ _ (omega arith) (solid-stays b i s 1 hs r))
 
   -- after k goes the half-edge n
   after-stays : {y : List ℕ} (k n v m : ℕ) → Stays sh l x y → Stays sh l x (insertAfter sh y k n v m)
@@ -149,7 +152,7 @@ module _ {sh : Shape} (b : InOrder sh) {l : ℕ} (i : In (sh .loops) l) (x : Lis
   rmov-stays : (m f : ℕ) → f ≤ sh .faces → l ≢ m → Stays sh l x (rmovLinks sh x m f)
   unfolding rmovLinks
   rmov-stays m f hf d =
-      pick-ind (Stays sh l x) (eqb f (loopFace sh x m)) _ _
+      pick-ind (λ s. Stays sh l x (does sh s x)) (eqb f (loopFace sh x m)) _ _
       (face-stays b i 1 f m (omega arith) hf start) (other-stays b i m f d start)
 
 -- ---- an accepted operator

@@ -12,7 +12,7 @@ use Rattle.codec.specs.Operands.{pattern, rows}
 use Rattle.layout.specs.declared.shape.Shape.{Shape}
 use Rattle.layout.specs.Mate.{edgeOf}
 use Rattle.layout.specs.Fields.{Capacity, Columns}
-use Rattle.euler.specs.Operators.{kefTest}
+use Rattle.euler.specs.EdgeOperators.{kefTest}
 use Rattle.euler.specs.Exec.{useWord, condition, refusalOf}
 use Rattle.sound_tables.specs.Cells.{Shows, shows-ext}
 use Rattle.sound_tables.specs.Sound.{HalfUsed, Sound}

@@ -14,7 +14,7 @@ use Rattle.laws.specs.Sums.{countTo}
 use Rattle.codec.specs.Operands.{pattern, rows}
 use Rattle.layout.specs.declared.shape.Shape.{Shape}
 use Rattle.euler.specs.Surgery.{edgeOut}
-use Rattle.euler.specs.Operators.{kefTest, kefEdge, kefLinks}
+use Rattle.euler.specs.EdgeOperators.{kefTest, kefEdge, kefLinks}
 use Rattle.euler.specs.Exec.{useWord, condition, refusalOf, linksAfter, killedVertex, pointsAfter, inverse}
 use Rattle.layout.specs.Fields.{Face, Start, Loop, Next, Prev, Solid, Columns}
 use Rattle.sound_tables.specs.Cells.{Shows}
@@ -72,7 +72,7 @@ module _ {sh : Shape} {p : List ℤ} {c d : Columns} {q : Spot} (k : Cut sh c d 
 
   -- what it does
   pub kef-links : linksAfter sh y (kefOf (q .b)) ≡ mendList k s t v
-  unfolding linksAfter kefLinks kefEdge edgeOut
+  unfolding linksAfter kefLinks edgeOut
   kef-links = rw (bn, ba (k .site), next-a, next-b, prev-a, prev-b, loop-a, loop-b, start-b, face-m)
 
   -- the operator that undoes it

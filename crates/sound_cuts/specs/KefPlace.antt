@@ -12,7 +12,7 @@ use Rattle.laws.specs.Sums.{countTo}
 use Rattle.laws.specs.Update.{upd, relabel}
 use Rattle.layout.specs.declared.shape.Shape.{Shape}
 use Rattle.layout.specs.Mate.{mate}
-use Rattle.euler.specs.Operators.{kefTest}
+use Rattle.euler.specs.EdgeOperators.{kefTest}
 use Rattle.layout.specs.Fields.{Face, First, Isolated, Start, Loop, Next, Prev, Columns}
 use Rattle.layout.specs.Writes.{Write, write, changes}
 use Rattle.euler.specs.Surgery.{halfRecord, tied}

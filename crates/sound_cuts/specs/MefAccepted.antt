@@ -12,7 +12,7 @@ use Rattle.codec.specs.Operands.{pattern, rows}
 use Rattle.layout.specs.declared.shape.Shape.{Shape}
 use Rattle.layout.specs.Mate.{edgeOf}
 use Rattle.euler.specs.Surgery.{edgeIn}
-use Rattle.euler.specs.Operators.{mefTest, mefEdge, mefLinks}
+use Rattle.euler.specs.EdgeOperators.{mefTest, mefEdge, mefLinks}
 use Rattle.euler.specs.Exec.{limits, useWord, condition, refusalOf, linksAfter, pointsAfter, inverse}
 use Rattle.layout.specs.Fields.{Solid, Face, Start, Columns}
 use Rattle.sound_tables.specs.Cells.{Shows}
@@ -73,7 +73,7 @@ module _ {sh : Shape} {p : List ℤ} {c d : Columns} {q : Spot} (k : Cut sh c d 
 
     -- the stores are those of `cutList`
     links-is : mefLinks sh x (q .l) h1 h2 (q .a) (q .f) (q .m) w ≡ cutList k t s
-    unfolding mefLinks mefEdge edgeIn
+    unfolding mefLinks edgeIn
     links-is = rw (k .site .ab, o .N-is, o .P-is, o .M-is, o .Q-is, o .u-is, o .v-is)
 
     -- so are those of the operator

@@ -17,7 +17,7 @@ use Rattle.codec.specs.Operands.{pattern, rows}
 use Rattle.script.specs.Operator.{operandOf}
 use Rattle.layout.specs.declared.shape.Shape.{Shape}
 use Rattle.euler.specs.Surgery.{corner}
-use Rattle.euler.specs.Operators.{mefTest}
+use Rattle.euler.specs.EdgeOperators.{mefTest}
 use Rattle.euler.specs.Exec.{limits, useWord, condition, refusalOf}
 use Rattle.layout.specs.Fields.{Solid, Face, Start, Columns}
 use Rattle.sound_tables.specs.Sound.{In}

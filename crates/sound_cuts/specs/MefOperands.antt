@@ -12,7 +12,7 @@ use Rattle.script.specs.declared.Operator.{Operator}
 use Rattle.layout.specs.declared.shape.Shape.{Shape}
 use Rattle.layout.specs.Mate.{mate, edgeOf}
 use Rattle.euler.specs.Surgery.{halfBy, wayOf}
-use Rattle.euler.specs.Operators.{aAlone, bAlone}
+use Rattle.euler.specs.EdgeOperators.{aAlone, bAlone}
 use Rattle.layout.specs.Fields.{Isolated, Start, Loop, Next, Prev, Columns}
 use Rattle.sound_tables.specs.Cells.{Shows}
 use Rattle.sound_tables.specs.Sound.{HalfUsed, Sound}

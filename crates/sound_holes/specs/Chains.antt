@@ -15,7 +15,7 @@ use Rattle.layout.specs.Mate.{mate}
 use Rattle.check_shells.specs.Shells.{sideAs, Joins, linkedBy}
 use Rattle.check_shells.specs.ShellsLaws.{within-T, T-within, joins-T, T-joins}
 use Rattle.check_shells.specs.RuleLaws.{linked-T, T-linked}
-use Rattle.euler.specs.Operators.{linkedAfter}
+use Rattle.euler.specs.FaceOperators.{linkedAfter}
 use Rattle.layout.specs.Fields.{Face, Start, Loop, Columns}
 use Rattle.sound_tables.specs.Faces.{Share}
 use Rattle.sound_tables.specs.Sound.{In, HalfUsed, Sound}

@@ -12,7 +12,7 @@ use Rattle.laws.specs.Linked.{link, map-linked, linked-same}
 use Rattle.script.specs.declared.Operator.{Operator}
 use Rattle.layout.specs.declared.shape.Shape.{Shape}
 use Rattle.layout.specs.Mate.{mate}
-use Rattle.euler.specs.Operators.{linkedAfter}
+use Rattle.euler.specs.FaceOperators.{linkedAfter}
 use Rattle.euler.specs.Exec.{refusalOf, linksAfter}
 use Rattle.layout.specs.Fields.{SolidUsed, Solid, Face, Start, Loop}
 use Rattle.sound_tables.specs.Cells.{Shows, shows-ext}

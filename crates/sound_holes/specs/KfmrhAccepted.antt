@@ -15,7 +15,7 @@ use Rattle.laws.specs.Sums.{countTo}
 use Rattle.script.specs.declared.Operator.{Operator}
 use Rattle.codec.specs.Operands.{pattern, rows}
 use Rattle.layout.specs.declared.shape.Shape.{Shape}
-use Rattle.euler.specs.Operators.{kfmrhTest, kfmrhLinks}
+use Rattle.euler.specs.FaceOperators.{kfmrhTest, kfmrhLinks}
 use Rattle.euler.specs.Exec.{useWord, condition, refusalOf, linksAfter, pointsAfter, inverse}
 use Rattle.layout.specs.Fields.{Solid, Outer, Face}
 use Rattle.sound_tables.specs.Sound.{In, Sound}

@@ -14,7 +14,7 @@ use Rattle.script.specs.declared.Operator.{Operator}
 use Rattle.codec.specs.Operands.{pattern, rows}
 use Rattle.script.specs.Operator.{operandOf}
 use Rattle.layout.specs.declared.shape.Shape.{Shape}
-use Rattle.euler.specs.Operators.{linkedAfter, mfkrhTest, mfkrhLinks}
+use Rattle.euler.specs.FaceOperators.{linkedAfter, mfkrhTest, mfkrhLinks}
 use Rattle.euler.specs.Exec.{limits, useWord, useRefusal, condition, refusalOf, linksAfter, pointsAfter, inverse}
 use Rattle.layout.specs.Fields.{SolidUsed, Solid, Outer, Face, Columns}
 use Rattle.sound_tables.specs.Cells.{Shows}

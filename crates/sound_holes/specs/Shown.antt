@@ -12,7 +12,7 @@ use Rattle.laws.specs.Columns.{sweep}
 use Rattle.layout.specs.declared.shape.Shape.{Shape}
 use Rattle.layout.specs.Layout.{kind, setSolidUsed, setLoopFace}
 use Rattle.euler.specs.Surgery.{putFace}
-use Rattle.euler.specs.Operators.{moveFaces}
+use Rattle.euler.specs.FaceOperators.{moveFaces}
 use Rattle.layout.specs.Fields.{Field, Capacity, SolidUsed, Solid, Outer, Face, First, Isolated, Start, Loop, Next, Prev, VertexUsed, Columns, change, capOf}
 use Rattle.sound_tables.specs.Cells.{Shows, shows-put, shows-agree}
 use Rattle.sound_tables.specs.Shown.{sweepColumns, shows-sweep, sweep-at, sweep-other}

@@ -19,7 +19,8 @@ use Rattle.script.specs.Operator.{operandOf}
 use Rattle.layout.specs.declared.shape.Shape.{Shape}
 use Rattle.layout.specs.Points.{coordinate, rangeTest}
 use Rattle.euler.specs.Surgery.{putPoint}
-use Rattle.euler.specs.Operators.{faceIn, mvsfLinks, kvsfTest, kvsfLinks}
+use Rattle.euler.specs.Queries.{faceIn}
+use Rattle.euler.specs.FaceOperators.{mvsfLinks, kvsfTest, kvsfLinks}
 use Rattle.euler.specs.Exec.{limits, useWord, condition, refusalOf, linksAfter, killedVertex, pointsAfter, inverse}
 use Rattle.layout.specs.Fields.{Field, SolidUsed, Solid, Outer, Face, First, Isolated, VertexUsed, Columns, capOf}
 use Rattle.sound_tables.specs.Sound.{In, Sound}

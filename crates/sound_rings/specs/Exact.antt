@@ -19,7 +19,7 @@ use Rattle.layout.specs.declared.shape.Shape.{Shape}
 use Rattle.layout.specs.Layout.{setFaceOuter, setLoopFace}
 use Rattle.layout.specs.Mate.{mate}
 use Rattle.layout.specs.MateLaws.{mate-mate}
-use Rattle.euler.specs.Operators.{sharesOutside, rmovTest, rmovLinks}
+use Rattle.euler.specs.FaceOperators.{sharesOutside, rmovTest, rmovLinks}
 use Rattle.euler.specs.Exec.{useWord, condition, refusalOf, linksAfter, pointsAfter, inverse}
 use Rattle.layout.specs.Fields.{Solid, Outer, Face, Start, Loop, Columns, change}
 use Rattle.sound_tables.specs.Cells.{Shows, shows-put, put-back}

@@ -18,7 +18,7 @@ use Rattle.layout.specs.declared.shape.Shape.{Shape}
 use Rattle.layout.specs.Mate.{mate, edgeOf}
 use Rattle.layout.specs.Points.{coordinate, rangeTest}
 use Rattle.euler.specs.Surgery.{halfBy, wayOf, putPoint}
-use Rattle.euler.specs.Operators.{semvLinks, jekvTest, jekvLinks}
+use Rattle.euler.specs.EdgeOperators.{semvLinks, jekvTest, jekvLinks}
 use Rattle.euler.specs.Exec.{limits, useWord, condition, refusalOf, linksAfter, killedVertex, pointsAfter, inverse}
 use Rattle.layout.specs.Fields.{Start, Next, VertexUsed, Columns}
 use Rattle.sound_tables.specs.Sound.{In, HalfUsed}

@@ -14,7 +14,7 @@ use Rattle.layout.specs.Mate.{mate, edgeOf}
 use Rattle.layout.specs.MateLaws.{mate-range}
 use Rattle.layout.specs.Points.{coordinate, rangeTest}
 use Rattle.euler.specs.Surgery.{putPoint}
-use Rattle.euler.specs.Operators.{semvLinks, jekvLinks}
+use Rattle.euler.specs.EdgeOperators.{semvLinks, jekvLinks}
 use Rattle.euler.specs.Exec.{refusalOf}
 use Rattle.layout.specs.Fields.{Start, Next, Prev, VertexUsed, Columns}
 use Rattle.sound_tables.specs.Cells.{Shows, shows-ext}

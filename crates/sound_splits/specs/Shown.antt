@@ -10,8 +10,8 @@ use Rattle.laws.specs.Cycles.{Cycles}
 use Rattle.layout.specs.declared.shape.Shape.{Shape}
 use Rattle.layout.specs.Layout.{nextOf, setVertexUsed}
 use Rattle.layout.specs.Mate.{mate}
-use Rattle.euler.specs.Surgery.{renew}
-use Rattle.euler.specs.Operators.{insertAfter, semvLinks, jekvLinks}
+use Rattle.euler.specs.Surgery.{renew, insertAfter, tied}
+use Rattle.euler.specs.EdgeOperators.{semvLinks, jekvLinks}
 use Rattle.sound_tables.specs.EdgeIn.{next-prev, prev-in}
 use Rattle.layout.specs.Fields.{First, Start, Loop, Next, Prev, VertexUsed, Columns}
 use Rattle.layout.specs.Writes.{changes}
@@ -19,7 +19,6 @@ use Rattle.sound_tables.specs.Cells.{Shows, shows-put}
 use Rattle.sound_tables.specs.Sound.{In, HalfUsed, Sound}
 use Rattle.sound_tables.specs.Names.{start-unnamed}
 use Rattle.sound_tables.specs.FirstLow.{lower-new, first-low}
-use Rattle.euler.specs.Surgery.{tied}
 use Rattle.sound_tables.specs.WriteLaws.{shows-writes}
 use Rattle.sound_tables.specs.Shown.{shows-first}
 use Rattle.sound_splits.specs.CycleMoves.{swapFor, swap-at, swap-off}

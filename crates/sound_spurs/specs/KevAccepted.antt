@@ -19,7 +19,7 @@ use Rattle.layout.specs.Layout.{setVertexUsed}
 use Rattle.layout.specs.Mate.{mate, edgeOf}
 use Rattle.layout.specs.Points.{coordinate}
 use Rattle.euler.specs.Surgery.{wayOf, putPoint, edgeOut, renew}
-use Rattle.euler.specs.Operators.{kevTest, kevLinks}
+use Rattle.euler.specs.EdgeOperators.{kevTest, kevLinks}
 use Rattle.euler.specs.Exec.{useWord, condition, refusalOf, linksAfter, killedVertex, pointsAfter, inverse}
 use Rattle.layout.specs.Fields.{First, Start, Loop, Next, Prev, VertexUsed, Columns}
 use Rattle.sound_tables.specs.Cells.{Shows, shows-put}

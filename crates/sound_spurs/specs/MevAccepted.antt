@@ -21,7 +21,7 @@ use Rattle.layout.specs.Mate.{mate}
 use Rattle.layout.specs.MateLaws.{mate-range}
 use Rattle.layout.specs.Points.{rangeTest}
 use Rattle.euler.specs.Surgery.{corner, halfBy, putPoint, edgeIn, lower, renew}
-use Rattle.euler.specs.Operators.{mevLinks}
+use Rattle.euler.specs.EdgeOperators.{mevLinks}
 use Rattle.euler.specs.Exec.{limits, useWord, condition, refusalOf, linksAfter, pointsAfter, inverse}
 use Rattle.layout.specs.Fields.{Face, First, Isolated, Start, Loop, Prev, VertexUsed, Columns}
 use Rattle.sound_tables.specs.EdgeIn.{prev-in, next-prev}

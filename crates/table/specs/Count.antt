@@ -15,9 +15,9 @@ use Rattle.table.specs.declared.count.CountAnswer.{CountAnswer}
 use Rattle.table.specs.Check.{checkOf}
 use Rattle.check_items.specs.Rules.{some, faceUsed, loopUsed, halfUsed}
 
--- a ring is a loop that is not its face's outer loop
-abbrev pub isRing : Shape → List ℕ → ℕ → Bool
-isRing sh x l = loopUsed sh x l && not (eqb (faceOuter sh x (loopFace sh x l)) l)
+-- a ring, a loop that is not its face's outer loop, is in use
+abbrev pub ringUsed : Shape → List ℕ → ℕ → Bool
+ringUsed sh x l = loopUsed sh x l && not (eqb (faceOuter sh x (loopFace sh x l)) l)
 
 -- item n of a kind is in use
 unfoldable pub itemUsed : Item → Shape → List ℕ → ℕ → Bool
@@ -26,7 +26,7 @@ itemUsed Face sh x n = faceUsed sh x n
 itemUsed Loop sh x n = loopUsed sh x n
 itemUsed Edge sh x n = halfUsed sh x (2 * n)
 itemUsed Vertex sh x n = some (vertexUsed sh x n)
-itemUsed Ring sh x n = isRing sh x n
+itemUsed Ring sh x n = ringUsed sh x n
 
 -- how many of the items 1 to n of a kind are in use
 abbrev pub usedTo : Item → Shape → List ℕ → ℕ → ℕ

@@ -2,7 +2,7 @@
 ghost use mathlib.Core.Path.{_≡_};
 ghost use Prim.Native.Nat.{ℕ, _≤_, _<_};
 ghost use Rattle.laws.specs.Sums.{bit, countTo};
-ghost use Rattle.table.specs.Count.{isRing, itemUsed, usedTo};
+ghost use Rattle.table.specs.Count.{ringUsed, itemUsed, usedTo};
 use layout::columns::face_outer;
 use layout::columns::face_solid;
 use layout::columns::loop_face;
@@ -24,7 +24,7 @@ pub enum Item {
 // Loop n is in use and not its face's outer loop.
 fn is_ring(links: &[u16], sh: Shape, n: usize) -> bool
     requires { ⌜ n < 65536 ⌝ }
-    ensures { λ r. ⌜ r ≡ isRing sh (now (links .entry)) n ⌝ }
+    ensures { λ r. ⌜ r ≡ ringUsed sh (now (links .entry)) n ⌝ }
 {
     let f = loop_face(links, sh, n);
     (f != 0) & (face_outer(links, sh, f) != n)

@@ -1,4 +1,4 @@
-use Rattle.euler.specs.Operators.{kemrTest}
+use Rattle.euler.specs.EdgeOperators.{kemrTest}
 use borrow.Author.Needs.{needs}
 use Rattle.euler_bridges.proofs.kemr_mekr.kemr_fits.Statement.{statement}
 use Rattle.euler_bridges.proofs.kemr_mekr.kemr_fits.Tie as tie

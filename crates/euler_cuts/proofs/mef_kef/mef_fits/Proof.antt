@@ -1,4 +1,4 @@
-use Rattle.euler.specs.Operators.{mefTest}
+use Rattle.euler.specs.EdgeOperators.{mefTest}
 use borrow.Author.Needs.{needs}
 use Rattle.euler_cuts.proofs.mef_kef.mef_fits.Statement.{statement}
 use Rattle.euler_cuts.proofs.mef_kef.mef_fits.Tie as tie

@@ -1,4 +1,4 @@
-use Rattle.euler.specs.Operators.{kvsfLinks}
+use Rattle.euler.specs.FaceOperators.{kvsfLinks}
 use borrow.Author.Needs.{needs}
 use Rattle.euler_lone.proofs.lone.kvsf_links.Statement.{statement}
 use Rattle.euler_lone.proofs.lone.kvsf_links.Tie as tie

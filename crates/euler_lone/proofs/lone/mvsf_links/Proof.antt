@@ -1,4 +1,4 @@
-use Rattle.euler.specs.Operators.{mvsfLinks}
+use Rattle.euler.specs.FaceOperators.{mvsfLinks}
 use borrow.Author.Needs.{needs}
 use Rattle.euler_lone.proofs.lone.mvsf_links.Statement.{statement}
 use Rattle.euler_lone.proofs.lone.mvsf_links.Tie as tie

@@ -3,7 +3,7 @@ use mathlib.Core.Path.{_≡_, sym, _∙_}
 use native.Mathlib.Omega.{arith}
 use Prim.Native.Nat.{_+_, _-_, _≤_}
 use Rattle.laws.specs.Search.{least, leastFrom}
-use Rattle.euler.specs.Operators.{sharesOutside}
+use Rattle.euler.specs.FaceOperators.{sharesOutside}
 use Rattle.euler.specs.Scans.{least-all, found-here, found-on, found-none}
 use Rattle.euler_rings.proofs.rings.sharing_half.Statement.{statement}
 use Rattle.euler_rings.proofs.rings.sharing_half.Tie as tie

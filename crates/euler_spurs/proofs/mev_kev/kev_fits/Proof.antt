@@ -1,4 +1,4 @@
-use Rattle.euler.specs.Operators.{kevTest}
+use Rattle.euler.specs.EdgeOperators.{kevTest}
 use borrow.Author.Needs.{needs}
 use Rattle.euler_spurs.proofs.mev_kev.kev_fits.Statement.{statement}
 use Rattle.euler_spurs.proofs.mev_kev.kev_fits.Tie as tie
