@@ -1,5 +1,6 @@
--- A corner in the form with dummies: the member before it and the member after it, which are two half-edges of the loop
--- or twice its dummy.
+-- A corner in the form with dummies (`WithDummies` of crate sound_tables): the member before it and the member after
+-- it, which are two half-edges of the loop or twice its dummy. And what a member of a loop or of a vertex is: a
+-- half-edge, or a dummy.
 use mathlib.Core.Path.{_≡_, refl, sym, ap, _∙_}
 use mathlib.Core.Logic.{_≢_, _⊎_, inl, inr, ⊎-elim}
 use Prim.Native.Nat.{ℕ, _+_, _-_, _*_, _≤_, _<_}

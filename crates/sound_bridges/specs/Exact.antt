@@ -1,4 +1,5 @@
--- mekr and kemr: a good table stays good, and each undoes the other to the word.
+-- mekr and kemr: a good table stays good, and each undoes the other to the word. The crate's two theorems, `mekr-holds`
+-- and `kemr-holds`, stand at the end.
 use mathlib.Core.Path.{_≡_, refl, sym, ap, _∙_, subst}
 use mathlib.Core.Logic.{_≢_, inl, inr, ⊎-elim}
 use mathlib.Core.List.{List}

@@ -1,4 +1,5 @@
--- kemr as an operator: what it says that it is accepted, what it does, and what undoes it.
+-- kemr as an operator: what an accepted one says of the table, that what is asked is enough, and what it does to links
+-- and points; and the operator that undoes each of the two.
 use mathlib.Core.Path.{_≡_, refl}
 use mathlib.Core.Bool.{true}
 use mathlib.Core.List.{List, [], _∷_}

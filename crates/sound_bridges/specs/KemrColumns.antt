@@ -1,6 +1,5 @@
 -- What kemr leaves, as a list and as columns, and: these columns differ from those before by the bridge. The walk from
--- next
--- of k to its mate meets the half-edges of the new ring.
+-- next of k to its mate meets the half-edges of the new ring.
 use mathlib.Core.Path.{_≡_, refl, sym, ap, _∙_, subst}
 use mathlib.Core.Logic.{_≢_, inl, inr, ⊎-elim}
 use mathlib.Core.Bool.{false}

@@ -1,6 +1,5 @@
 -- kemr, first step: in the form with dummies a dummy goes in after each half of the edge, so that neither run between
--- them
--- is empty. Said here: where each goes then, which loop it names, and that the rules hold.
+-- them is empty. Said here: where each goes then, which loop it names, and that the rules hold.
 use mathlib.Core.Path.{_≡_, refl, sym, _∙_, subst}
 use mathlib.Core.Logic.{_≢_, inl, inr, ⊎-elim}
 use mathlib.Core.List.{List}

@@ -1,8 +1,6 @@
 -- kemr: the rules with dummies once the bridge is out. A dummy goes in after each half of the edge (`KemrDummies`); the
--- edge
--- comes out; then each dummy that is not alone is passed over. What comes out has the start, loop and next of c;
--- previous
--- undoes next in c itself.
+-- edge comes out; then each dummy that is not alone is passed over. What comes out has the start, loop and next of c;
+-- previous undoes next in c itself.
 use mathlib.Core.Path.{_≡_, refl, sym, ap, _∙_, subst}
 use mathlib.Core.Logic.{_≢_, inl, inr, ⊎-elim}
 use mathlib.Core.List.{List}

@@ -1,4 +1,4 @@
--- kemr on the list: what it leaves shows the columns without the bridge.
+-- kemr on the list: what it leaves shows the columns without the bridge, so a good table stays good.
 use mathlib.Core.Path.{_≡_, refl, sym, ap, _∙_}
 use mathlib.Core.Logic.{_≢_, _⊎_, inl, inr, ⊎-elim}
 use mathlib.Core.List.{List}

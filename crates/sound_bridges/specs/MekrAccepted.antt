@@ -1,4 +1,5 @@
--- mekr as an operator: what it says that it is accepted, what it does, and what undoes it.
+-- mekr as an operator: what an accepted one says of the table, that what is asked is enough, and what it does to links
+-- and points.
 use mathlib.Core.Path.{_≡_, refl, _∙_, subst}
 use mathlib.Core.Logic.{_≢_}
 use mathlib.Core.Bool.{Bool, true, not}
@@ -34,8 +35,7 @@ abbrev pub mekrOf : ℕ → ℕ → ℕ → ℕ → ℕ → ℕ → Operator
 mekrOf l h1 l2 h2 e w =
     record { code = 8; count = 6; args = pos l ∷ pos h1 ∷ pos l2 ∷ pos h2 ∷ pos e ∷ pos w ∷ pos 0 ∷ pos 0 ∷ [] }
 
--- the corner before half-edge h of loop l, or where h is 0 the isolated one, for an edge that leaves by k and comes by
--- b
+-- the corner before half-edge h of loop l, the isolated one where h is 0; the edge leaves by k and comes by b
 abbrev pub spotOf : Columns → (l h k b : ℕ) → Spot
 spotOf c l h k b = record {
   l = l;

@@ -1,7 +1,6 @@
 -- mekr: the rules with dummies once the bridge is in. The edge goes in between members of the two loops, dummies
--- included;
--- then the two dummies are passed over. What comes out has the start, loop and next of d; previous undoes next in d
--- itself.
+-- included; then the two dummies are passed over. What comes out has the start, loop and next of d; previous undoes
+-- next in d itself.
 use mathlib.Core.Path.{_≡_, refl, sym, ap, _∙_, subst}
 use mathlib.Core.Logic.{_≢_, _⊎_, inl, inr, ⊎-elim}
 use mathlib.Core.List.{List}

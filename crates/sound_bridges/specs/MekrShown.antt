@@ -1,6 +1,5 @@
--- mekr on the list: what it leaves shows the columns with the bridge. The walk that gives the ring its new loop meets
--- the
--- ring's half-edges and no others.
+-- mekr on the list: what it leaves shows the columns with the bridge, so a good table stays good. The walk that gives
+-- the ring its new loop meets the ring's half-edges and no others.
 use mathlib.Core.Path.{_≡_, refl, sym, ap, _∙_, subst}
 use mathlib.Core.Logic.{_≢_, ⊎-elim}
 use mathlib.Core.List.{List, [], _∷_}

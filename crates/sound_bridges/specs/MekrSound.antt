@@ -1,4 +1,5 @@
--- mekr on the columns: where c is sound, and d has the rules with dummies and the first of its loop, d is sound.
+-- mekr on the columns: d is sound where c is, and where d has the rules with dummies (`MekrRules`) and the first of its
+-- loop.
 use mathlib.Core.Path.{_≡_, refl, sym, ap, _∙_, subst}
 use mathlib.Core.Logic.{_≢_, inl, inr, ⊎-elim}
 use mathlib.Core.List.{List}

@@ -1,6 +1,6 @@
 -- A dummy that is passed over: what went to it goes on to where it goes. Where it is there and not alone it goes out;
--- where it is alone, or not
--- there, nothing changes. Two at once serve the two corners of an edge.
+-- where it is alone, or not there, nothing changes. Two at once serve the two corners of an edge. At the end: the rules
+-- of a table with its dummies, from columns that agree with it but in previous.
 use mathlib.Core.Path.{_≡_, refl, sym, ap, _∙_, subst}
 use mathlib.Core.Logic.{_≢_, _⊎_, inl, inr, ⊎-elim}
 use Prim.Native.Nat.{ℕ, _+_, _*_, _≤_}

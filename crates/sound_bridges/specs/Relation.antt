@@ -1,6 +1,7 @@
--- Two tables that differ by a bridge: in c the loops l and l2 of one face, in d the one loop l with an edge k, a
--- between two of their corners. mekr leads
--- from c to d and kemr from d to c; what is said of the two together stands here once.
+-- Two tables that differ by a bridge. In c a face has two loops, l and l2, the second a ring; in d it has the one loop
+-- l, with an edge, k and its mate, between a corner of each. mekr leads from c to d and kemr from d to c. What is said
+-- of the two tables together stands here once: the numbers of a bridge (`Bridge`), a corner (`Spot`), what c must be
+-- like (`Ends`), and what differs (`Bridged`).
 use mathlib.Core.Path.{_≡_, sym, ap, _∙_, subst}
 use mathlib.Core.Logic.{_≢_, _⊎_, ⊎-elim}
 use mathlib.Core.Bool.{false}

@@ -1,4 +1,4 @@
--- The run after k up to a of the same cycle: which numbers a walk meets on it.
+-- A run: the numbers that a walk along a permutation meets after k, up to a of the same cycle.
 use mathlib.Core.Path.{_≡_, refl, sym, ap, _∙_, subst}
 use mathlib.Core.Logic.{_≢_, _⊎_, inl, inr, ⊎-elim}
 use Prim.Native.Nat.{ℕ, zero, suc, _+_, _-_, _<_}
