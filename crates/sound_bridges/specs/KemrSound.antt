@@ -1,5 +1,5 @@
--- kemr on the columns: where d is sound, and c has the rules with dummies (`KemrRules`) and the firsts of its two
--- loops, c is sound.
+-- kemr on the columns: c is sound where d is, and where c has the rules with dummies (`KemrRules`) and the firsts of its
+-- two loops.
 use mathlib.Core.Path.{_≡_, refl, sym, ap, _∙_, subst}
 use mathlib.Core.Logic.{_≢_, inl, inr, ⊎-elim}
 use mathlib.Core.List.{List}

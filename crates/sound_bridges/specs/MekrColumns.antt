@@ -1,6 +1,5 @@
--- What mekr leaves, as a list and as columns, and: these columns differ from those before by the bridge. The walk that
--- gives the ring's half-edges their new loop is said here by its outcome (`joinedLoops`); `MekrShown` ties it to the
--- walk.
+-- What mekr leaves, as a list and as columns; these columns differ from those before by the bridge. Of the walk that
+-- gives the ring's half-edges their new loop the outcome is said (`joinedLoops`); `MekrShown` ties it to the walk.
 use mathlib.Core.Path.{_≡_, refl, sym, ap, _∙_}
 use mathlib.Core.Logic.{_≢_, ⊎-elim}
 use mathlib.Core.Bool.{false}

@@ -95,9 +95,8 @@ module _ {sh : Shape} {c : Columns} {s : Spot} (q : Corner sh c s) where
 
 -- ---- the two tables
 
--- a bridge by its numbers: the edge of half-edge k, from vertex u1 of loop l to vertex u2 of loop l2. Its corner in l
--- lies
--- between P1 and N1, its corner in l2 between P2 and N2
+-- a bridge by its numbers: half-edge k and its mate, from vertex u1 of loop l to vertex u2 of loop l2. Its corner in l
+-- lies between P1 and N1, its corner in l2 between P2 and N2
 pub record Bridge : Type 0 where
   pub k : ℕ
   pub l : ℕ
