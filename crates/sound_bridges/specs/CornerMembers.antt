@@ -1,4 +1,6 @@
--- A corner in the form with dummies: the member before it and the member after it, which are two half-edges of the loop or twice its dummy.
+-- A corner in the form with dummies (`WithDummies` of crate sound_tables): the member before it and the member after
+-- it, which are two half-edges of the loop or twice its dummy. And what a member of a loop or of a vertex is: a
+-- half-edge, or a dummy.
 use mathlib.Core.Path.{_≡_, refl, sym, ap, _∙_}
 use mathlib.Core.Logic.{_≢_, _⊎_, inl, inr, ⊎-elim}
 use Prim.Native.Nat.{ℕ, _+_, _-_, _*_, _≤_, _<_}
@@ -6,7 +8,8 @@ use native.Mathlib.Omega.{arith}
 use Rattle.layout.specs.declared.shape.Shape.{Shape}
 use Rattle.layout.specs.Fields.{Isolated, Start, Loop, Next, Columns}
 use Rattle.sound_tables.specs.Sound.{In, HalfUsed}
-use Rattle.sound_tables.specs.WithDummies.{upTo-low, upTo-high, extended, Dummy, Member, dummy-of, dummy-loop, dummy-start}
+use Rattle.sound_tables.specs.WithDummies.{upTo-low, upTo-high, extended, Dummy, Member, dummy-of, dummy-loop}
+use Rattle.sound_tables.specs.WithDummies.{dummy-start}
 use Rattle.sound_bridges.specs.Relation.{Spot, Corner}
 
 -- member y comes before it and z after it: the dummy, or the two half-edges
@@ -43,7 +46,8 @@ module _ {sh : Shape} {c : Columns} {s : Spot} (i : In (sh .loops) (s .l)) (x : 
         z = N;
         member = inl (r .before);
         next = upTo-low (2 * sh .edges) (c Next) _ P (r .before .1) ∙ r .next;
-        loop = upTo-low (2 * sh .edges) (c Loop) _ P (r .before .1) ∙ sym (keeps P (r .before)) ∙ ap (c Loop) (r .next) ∙ r .loop;
+        loop = upTo-low (2 * sh .edges) (c Loop) _ P (r .before .1) ∙ sym (keeps P (r .before)) ∙ ap (c Loop) (r .next)
+            ∙ r .loop;
         loop-z = upTo-low (2 * sh .edges) (c Loop) _ N (r .after .1) ∙ r .loop;
         start = upTo-low (2 * sh .edges) (c Start) _ N (r .after .1) ∙ r .start;
         which = inr (refl, refl, r .before, r .after, r .isolated);
@@ -75,7 +79,8 @@ module _ {sh : Shape} {c : Columns} {s : Spot} (t : Seat sh c s) where
   far-y w h e = ⊎-elim (λ r. not-dummy sh h (e ∙ r .0)) (λ r. omega (arith, w, r .2 .1, e ∙ r .0)) (t .which)
 
   -- a dummy of the loop is there
-  pub dummy-seat : Dummy sh c (2 * sh .edges + l) → (t .y ≡ 2 * sh .edges + l) × (t .z ≡ 2 * sh .edges + l) × (P ≡ b) × (N ≡ k)
+  pub dummy-seat : Dummy sh c (2 * sh .edges + l) → (t .y ≡ 2 * sh .edges + l) × (t .z ≡ 2 * sh .edges + l) × (P ≡ b)
+      × (N ≡ k)
   dummy-seat w = ⊎-elim (λ r. r) (λ r. absurd (w .2 (ap (c Isolated) (omega arith) ∙ r .4))) (t .which)
 
 -- ---- members of a loop and of a vertex
@@ -122,7 +127,8 @@ module _ (sh : Shape) (c : Columns) where
       (λ w. g i w (sym (upTo-high n (c Start) (λ j. c Isolated (j - n)) i (w .0)) ∙ e)) q
 
   -- a corner is a member of its loop and of its vertex
-  pub corner-members : {s : Spot} → In (sh .loops) (s .l) → s .u ≢ 0 → Corner sh c s → LoopMember sh c (s .l) × VertexMember sh c (s .u)
+  pub corner-members : {s : Spot} → In (sh .loops) (s .l) → s .u ≢ 0 → Corner sh c s
+      → LoopMember sh c (s .l) × VertexMember sh c (s .u)
   corner-members {s} i x = ⊎-elim
       (λ r.
       let w = dummy-of sh c (s .l) i (λ e. x (sym (r .isolated) ∙ e)) in

@@ -1,4 +1,5 @@
--- mekr and kemr: a good table stays good, and each undoes the other to the word.
+-- mekr and kemr: a good table stays good, and each undoes the other to the word. The crate's two theorems, `mekr-holds`
+-- and `kemr-holds`, stand at the end.
 use mathlib.Core.Path.{_≡_, refl, sym, ap, _∙_, subst}
 use mathlib.Core.Logic.{_≢_, inl, inr, ⊎-elim}
 use mathlib.Core.List.{List}
@@ -29,12 +30,15 @@ use Rattle.sound_bridges.specs.MekrColumns.{mekrList, mekrColumns, up-br
 use Rattle.sound_bridges.specs.MekrShown.{mekr-sound, mekr-shows, mekr-good}
 use Rattle.sound_bridges.specs.KemrColumns.{spanBridge, kemrList, kemrColumns, Span, walk, down-bridged}
 use Rattle.sound_bridges.specs.KemrShown.{kemr-sound, kemr-shows, kemr-good}
-use Rattle.sound_bridges.specs.MekrAccepted.{mekrOf, spotOf, bridgeOf, mekrBridge, MekrFacts, mekr-said, mekr-accepted, mekr-links, mekr-points}
-use Rattle.sound_bridges.specs.KemrAccepted.{kemrOf, kemr-facts, kemr-accepted, kemr-links, kemr-points, kemr-inverse, mekr-inverse}
+use Rattle.sound_bridges.specs.MekrAccepted.{mekrOf, spotOf, bridgeOf, mekrBridge, MekrFacts, mekr-said}
+use Rattle.sound_bridges.specs.MekrAccepted.{mekr-accepted, mekr-links, mekr-points}
+use Rattle.sound_bridges.specs.KemrAccepted.{kemrOf, kemr-facts, kemr-accepted, kemr-links, kemr-points}
+use Rattle.sound_bridges.specs.KemrAccepted.{kemr-inverse, mekr-inverse}
 
 -- ---- the corners of mekr
 
-module _ {sh : Shape} {p : List ℤ} {c : Columns} (a : Sound sh p c) {l h : ℕ} (i : In (sh .loops) l) (q : CornerAt sh c l h) where
+module _ {sh : Shape} {p : List ℤ} {c : Columns} (a : Sound sh p c) {l h : ℕ} (i : In (sh .loops) l)
+    (q : CornerAt sh c l h) where
   -- a corner as the operator reads it
   corner-of : (k b : ℕ) → Corner sh c (spotOf c l h k b)
   corner-of k b = ⊎-elim
@@ -50,14 +54,17 @@ module _ {sh : Shape} {p : List ℤ} {c : Columns} (a : Sound sh p c) {l h : ℕ
       }))) q
 
   -- its vertex is in use
-  corner-vertex : In (sh .vertices) (pick (eqb h 0) (c Isolated l) (c Start h)) × (c VertexUsed (pick (eqb h 0) (c Isolated l) (c Start h)) ≢ 0)
+  corner-vertex : In (sh .vertices) (pick (eqb h 0) (c Isolated l) (c Start h))
+      × (c VertexUsed (pick (eqb h 0) (c Isolated l) (c Start h)) ≢ 0)
   corner-vertex = ⊎-elim
       (λ r. let s = lone-used a l i (r .1) in rw (eqb-same (r .0)) (s .1, s .2))
-      (λ r. let z : h ≢ 0 = λ e. omega (arith, r .0 .0, e) in let s = a .half h (r .0 .0, r .0 .1) (r .0 .2) in rw (eqb-other z) (s .start-in, s .start-used)) q
+      (λ r. let z : h ≢ 0 = λ e. omega (arith, r .0 .0, e) in let s = a .half h (r .0 .0, r .0 .1) (r .0 .2) in
+      rw (eqb-other z) (s .start-in, s .start-used)) q
 
 -- ---- mekr
 
-module _ {sh : Shape} {x : List ℕ} {p : List ℤ} (g : Good sh x p) {l h1 l2 h2 e w : ℕ} (r : MekrFacts sh (own sh x) l h1 l2 h2 e w) {k : ℕ} (hk : halfBy e w ≡ k) where
+module _ {sh : Shape} {x : List ℕ} {p : List ℤ} (g : Good sh x p) {l h1 l2 h2 e w : ℕ}
+    (r : MekrFacts sh (own sh x) l h1 l2 h2 e w) {k : ℕ} (hk : halfBy e w ≡ k) where
   -- the columns before
   abbrev c : Columns
   c = own sh x
@@ -68,7 +75,8 @@ module _ {sh : Shape} {x : List ℕ} {p : List ℤ} (g : Good sh x p) {l h1 l2 h
 
   -- both halves are free
   free : In (2 * sh .edges) k × (c Start k ≡ 0) × (c Start (mate k) ≡ 0)
-  free = subst (λ j. In (2 * sh .edges) j × (c Start j ≡ 0) × (c Start (mate j) ≡ 0)) hk (free-halves (g .sound) e w (r .edge-in) (r .edge-free))
+  free = subst (λ j. In (2 * sh .edges) j × (c Start j ≡ 0) × (c Start (mate j) ≡ 0)) hk
+      (free-halves (g .sound) e w (r .edge-in) (r .edge-free))
 
   -- so mekr can be done
   ends : Ends sh (own sh x) (mekrBridge (own sh x) k l h1 l2 h2)
@@ -148,10 +156,12 @@ module _ {sh : Shape} {x : List ℕ} {p : List ℤ} (g : Good sh x p) {l h1 l2 h
 
   -- kemr leads back to the same columns
   mekr-back : Alike sh (kemrColumns sh (own sh y) k l2 (walk (gy .sound) span .0)) (own sh x)
-  mekr-back = down-same (kemr-sound gy span) (g .sound) (subst (Bridged sh _ _) read-up (down-bridged (gy .sound) span)) b (λ F i v h. s .at F i h)
+  mekr-back = down-same (kemr-sound gy span) (g .sound)
+      (subst (Bridged sh _ _) read-up (down-bridged (gy .sound) span)) b (λ F i v h. s .at F i h)
 
   -- each corner is found where it was said
-  found-at : {m h k′ : ℕ} (b′ : ℕ) → CornerAt sh c m h → ((i : ℕ) → HalfUsed sh c i → i ≢ k′) → foundAt (spotOf c m h k′ b′) ≡ h
+  found-at : {m h k′ : ℕ} (b′ : ℕ) → CornerAt sh c m h → ((i : ℕ) → HalfUsed sh c i → i ≢ k′)
+      → foundAt (spotOf c m h k′ b′) ≡ h
   found-at {h = h} {k′ = k′} b′ q off = ⊎-elim
       (λ v. rw (eqb-same (v .0), eqb-same {m = k′} refl) (sym (v .0)))
       (λ v. let z : h ≢ 0 = λ j. omega (arith, v .0 .0, j) in rw (eqb-other z, eqb-other (off h (v .0)))) q
@@ -164,12 +174,15 @@ module _ {sh : Shape} {x : List ℕ} {p : List ℤ} (g : Good sh x p) {l h1 l2 h
       let ei = mekr-inverse sh x p (g .capacities) r ∙ ap (λ j. kemrOf j l2) hk in
       record {
         accepted = rw (el, ei) (kemr-accepted sh y (g .capacities) span);
-        links = rw (el, ei) (kemr-links sh y (g .capacities) span ∙ shows-ext (kemr-shows gy span) (good-shows g) mekr-back);
+        links = rw (el, ei) (kemr-links sh y (g .capacities) span
+            ∙ shows-ext (kemr-shows gy span) (good-shows g) mekr-back);
         points = rw (el, ep, ei) (kemr-points sh y (g .capacities) span p);
         again = rw (el, ep, ei) (kemr-inverse sh y (g .capacities) span p
-            ∙ ap (λ Z. mekrOf (Z .l) (foundAt (spot1 Z)) (Z .l2) (foundAt (spot2 Z)) (edgeOf (Z .k)) (wayOf (Z .k))) read-up
+            ∙ ap (λ Z. mekrOf (Z .l) (foundAt (spot1 Z)) (Z .l2) (foundAt (spot2 Z)) (edgeOf (Z .k)) (wayOf (Z .k)))
+            read-up
             ∙ (λ t. mekrOf l (found-at (mate k) (r .at-1) (off-k b) t) l2 (found-at k (r .at-2) (off-a b) t)
-            ((ap edgeOf (sym hk) ∙ edge-by e w (r .edge-in .0)) t) ((ap wayOf (sym hk) ∙ way-by e w (r .edge-in .0) (r .way)) t)));
+            ((ap edgeOf (sym hk) ∙ edge-by e w (r .edge-in .0)) t)
+            ((ap wayOf (sym hk) ∙ way-by e w (r .edge-in .0) (r .way)) t)));
       }
 
 -- ---- kemr
@@ -199,7 +212,8 @@ module _ {sh : Shape} {x : List ℕ} {p : List ℤ} (g : Good sh x p) {k l2 : �
   bₖ : Bridged sh cₖ (own sh x) (spanBridge (own sh x) k l2)
   bₖ = down-bridged (g .sound) o
 
-  open Ends (bₖ .ends) using (half-in, loop-in, ring-in, two, used, one-face, ring, at-1, at-2, in-1, in-2, zero-k, zero-a)
+  open Ends (bₖ .ends) using (half-in, loop-in, ring-in, two, used, one-face, ring, at-1, at-2, in-1, in-2, zero-k)
+  open Ends (bₖ .ends) using (zero-a)
 
   -- the list shows them
   sₖ : Shows sh yₖ cₖ
@@ -218,18 +232,22 @@ module _ {sh : Shape} {x : List ℕ} {p : List ℤ} (g : Good sh x p) {k l2 : �
       → CornerAt sh (own sh yₖ) (s .l) (foundAt s)
   corner-at {s} q off i z = ⊎-elim
       (λ v. rw (eqb-same (v .after)) (inl (refl, λ t. z (sym (v .isolated) ∙ sym (sₖ .at Isolated (s .l) (i .1)) ∙ t))))
-      (λ v. let w = v .after in rw (eqb-other (off (s .N) w)) (inr ((w .0, w .1, λ t. w .2 (sym (sₖ .at Start (s .N) (w .1)) ∙ t)), sₖ .at Loop (s .N) (w .1) ∙ v .loop))) q
+      (λ v. let w = v .after in rw (eqb-other (off (s .N) w))
+      (inr ((w .0, w .1, λ t. w .2 (sym (sₖ .at Start (s .N) (w .1)) ∙ t)), sₖ .at Loop (s .N) (w .1) ∙ v .loop))) q
 
   -- and is read there as it was
   read-back : {s : Spot} → Corner sh cₖ s → ((i : ℕ) → HalfUsed sh cₖ i → i ≢ s .k) → In (sh .loops) (s .l)
       → spotOf (own sh yₖ) (s .l) (foundAt s) (s .k) (s .b) ≡ s
   read-back {s} q off i = ⊎-elim
-      (λ v. rw (eqb-same (v .after)) (spot-is (sₖ .at Isolated (s .l) (i .1) ∙ v .isolated) (sym (v .before)) (sym (v .after))))
-      (λ v. let w = v .after in let z : s .N ≢ 0 = λ t. omega (arith, w .0, t) in rw (eqb-other (off (s .N) w), eqb-other z)
+      (λ v. rw (eqb-same (v .after)) (spot-is (sₖ .at Isolated (s .l) (i .1) ∙ v .isolated) (sym (v .before))
+      (sym (v .after))))
+      (λ v. let w = v .after in let z : s .N ≢ 0 = λ t. omega (arith, w .0, t) in
+      rw (eqb-other (off (s .N) w), eqb-other z)
       (spot-is (sₖ .at Start (s .N) (w .1) ∙ v .start) (sₖ .at Prev (s .N) (w .1) ∙ v .prev) refl)) q
     where
       -- the same corner, with its numbers said otherwise
-      spot-is : {u P N : ℕ} → u ≡ s .u → P ≡ s .P → N ≡ s .N → _≡_ {A = Spot} (record { l = s .l; u = u; P = P; N = N; k = s .k; b = s .b }) s
+      spot-is : {u P N : ℕ} → u ≡ s .u → P ≡ s .P → N ≡ s .N
+          → _≡_ {A = Spot} (record { l = s .l; u = u; P = P; N = N; k = s .k; b = s .b }) s
       spot-is e f h = λ t. record { l = s .l; u = e t; P = f t; N = h t; k = s .k; b = s .b }
 
   -- mekr is accepted there
@@ -248,7 +266,8 @@ module _ {sh : Shape} {x : List ℕ} {p : List ℤ} (g : Good sh x p) {k l2 : �
         ring-used = λ z. ru (sym f-2 ∙ z);
         at-2 = corner-at at-2 (off-a bₖ) ring-in (λ z. omega (arith, in-2 .0, z));
         edge-in = edge-in k (sh .edges) half-in;
-        edge-free = sₖ .at Start (2 * edgeOf k) e2 ∙ ⊎-elim (λ q. ap (cₖ Start) q ∙ zero-k .s) (λ q. ap (cₖ Start) q ∙ zero-a .s) (second-half k);
+        edge-free = sₖ .at Start (2 * edgeOf k) e2 ∙ ⊎-elim (λ q. ap (cₖ Start) q ∙ zero-k .s)
+            (λ q. ap (cₖ Start) q ∙ zero-a .s) (second-half k);
         way = way-small k;
         two = two;
         one-face = f-1 ∙ sym (f-2 ∙ one-face);
@@ -265,7 +284,8 @@ module _ {sh : Shape} {x : List ℕ} {p : List ℤ} (g : Good sh x p) {k l2 : �
       let q1 = read-back at-1 (off-k bₖ) loop-in in
       let q2 = read-back at-2 (off-a bₖ) ring-in in
       up-same (mekr-sound gₖ (ends gₖ facts hₖ)) (g .sound)
-      (subst (Bridged sh _ _) (λ t. bridgeOf k (q1 t) (q2 t)) (up-bridged (ends gₖ facts hₖ))) bₖ (λ F i v h. sₖ .at F i h)
+      (subst (Bridged sh _ _) (λ t. bridgeOf k (q1 t) (q2 t)) (up-bridged (ends gₖ facts hₖ))) bₖ
+      (λ F i v h. sₖ .at F i h)
 
   -- mekr gives everything back
   kemr-undone : Undone sh x p (kemrOf k l2)
@@ -275,7 +295,8 @@ module _ {sh : Shape} {x : List ℕ} {p : List ℤ} (g : Good sh x p) {k l2 : �
       let ei = kemr-inverse sh x (g .capacities) o p in
       record {
         accepted = rw (el, ei) (mekr-accepted sh yₖ (g .capacities) facts);
-        links = rw (el, ei) (mekr-links sh yₖ (g .capacities) facts k hₖ ∙ shows-ext (mekr-shows gₖ (ends gₖ facts hₖ)) (good-shows g) kemr-back);
+        links = rw (el, ei) (mekr-links sh yₖ (g .capacities) facts k hₖ
+            ∙ shows-ext (mekr-shows gₖ (ends gₖ facts hₖ)) (good-shows g) kemr-back);
         points = rw (el, ep, ei) (mekr-points sh yₖ (g .capacities) facts p);
         again = rw (el, ep, ei) (mekr-inverse sh yₖ p (g .capacities) facts ∙ ap (λ j. kemrOf j l2) hₖ);
       }
@@ -283,13 +304,16 @@ module _ {sh : Shape} {x : List ℕ} {p : List ℤ} (g : Good sh x p) {k l2 : �
 -- ---- as operators
 
 -- both for mekr
-pub mekr-holds : (sh : Shape) (x : List ℕ) (p : List ℤ) (o : Operator) → Good sh x p → length (o .args) ≡ 8 → o .code ≡ 8 → refusalOf sh x o ≡ 0 → Kept sh x p o × Undone sh x p o
+pub mekr-holds : (sh : Shape) (x : List ℕ) (p : List ℤ) (o : Operator) → Good sh x p → length (o .args) ≡ 8
+    → o .code ≡ 8 → refusalOf sh x o ≡ 0 → Kept sh x p o × Undone sh x p o
 mekr-holds sh x p o g len e h =
     let r = mekr-said sh x o (g .capacities) len e h in
-    subst (λ q. Kept sh x p q × Undone sh x p q) (sym (r .is)) (mekr-kept g (r .facts) refl, mekr-undone g (r .facts) refl)
+    subst (λ q. Kept sh x p q × Undone sh x p q) (sym (r .is))
+    (mekr-kept g (r .facts) refl, mekr-undone g (r .facts) refl)
 
 -- both for kemr
-pub kemr-holds : (sh : Shape) (x : List ℕ) (p : List ℤ) (o : Operator) → Good sh x p → length (o .args) ≡ 8 → o .code ≡ 7 → refusalOf sh x o ≡ 0 → Kept sh x p o × Undone sh x p o
+pub kemr-holds : (sh : Shape) (x : List ℕ) (p : List ℤ) (o : Operator) → Good sh x p → length (o .args) ≡ 8
+    → o .code ≡ 7 → refusalOf sh x o ≡ 0 → Kept sh x p o × Undone sh x p o
 kemr-holds sh x p o g len e h =
     let r = kemr-facts sh x o (g .capacities) len e h in
     subst (λ q. Kept sh x p q × Undone sh x p q) (sym (r .is)) (kemr-kept g (r .span), kemr-undone g (r .span))

@@ -1,4 +1,5 @@
--- kemr as an operator: what it says that it is accepted, what it does, and what undoes it.
+-- kemr as an operator: what an accepted one says of the table, that what is asked is enough, and what it does to links
+-- and points; and the operator that undoes each of the two.
 use mathlib.Core.Path.{_≡_, refl}
 use mathlib.Core.Bool.{true}
 use mathlib.Core.List.{List, [], _∷_}
@@ -22,7 +23,7 @@ use Rattle.sound_tables.specs.TwoOperands.{two-operands, two-accepted}
 use Rattle.sound_tables.specs.Good.{own, Capacities}
 use Rattle.sound_tables.specs.CornerTest.{cornerLeft}
 use Rattle.sound_bridges.specs.KemrColumns.{kemrList, Span}
-use Rattle.sound_bridges.specs.MekrAccepted.{mekrOf, MekrFacts}
+use Rattle.sound_bridges.specs.MekrAccepted.{mekrOf, MekrFacts, read, small}
 
 -- kemr k l2
 abbrev pub kemrOf : ℕ → ℕ → Operator
@@ -41,10 +42,12 @@ unfolding kemrTest
 kemr-test sh x k t = eqb→eq _ _ (true-T t)
 
 -- all from the refusal 0
-pub kemr-facts : (sh : Shape) (x : List ℕ) (o : Operator) → Capacities sh → length (o .args) ≡ 8 → o .code ≡ 7 → refusalOf sh x o ≡ 0 → KemrFacts sh x o
+pub kemr-facts : (sh : Shape) (x : List ℕ) (o : Operator) → Capacities sh → length (o .args) ≡ 8 → o .code ≡ 7
+    → refusalOf sh x o ≡ 0 → KemrFacts sh x o
 unfolding pattern rows useWord condition
 kemr-facts sh x o caps len e h =
-    let a = two-operands sh x 7 9 7 refl refl refl refl (omega (arith, caps .edges)) refl refl (omega (arith, caps .loops)) refl o len e h in
+    let a = two-operands sh x 7 9 7 refl refl refl refl (omega (arith, caps .edges)) refl refl
+    (omega (arith, caps .loops)) refl o len e h in
     record {
       k = a .m;
       l2 = a .n;
@@ -69,7 +72,8 @@ module _ (sh : Shape) (x : List ℕ) {k l2 : ℕ} (caps : Capacities sh) (o : Sp
   -- it is accepted
   pub kemr-accepted : refusalOf sh x (kemrOf k l2) ≡ 0
   unfolding pattern rows useWord condition kemrTest
-  kemr-accepted = two-accepted sh x 7 9 7 refl refl refl refl (omega (arith, caps .edges)) refl refl (omega (arith, caps .loops)) refl k l2 (o .half .0, o .half .1) (o .ring-in) (o .half .2)
+  kemr-accepted = two-accepted sh x 7 9 7 refl refl refl refl (omega (arith, caps .edges)) refl refl
+      (omega (arith, caps .loops)) refl k l2 (o .half .0, o .half .1) (o .ring-in) (o .half .2)
       (new-use sh x 7 l2 (omega (arith, o .ring-in .0)) refl (o .free)) (rw kn (eqb-same (o .one)))
 
   -- what it does to the list
@@ -84,11 +88,13 @@ module _ (sh : Shape) (x : List ℕ) {k l2 : ℕ} (caps : Capacities sh) (o : Sp
 
   -- and the operator that undoes it
   pub kemr-inverse : (p : List ℤ) → inverse sh x p (kemrOf k l2)
-      ≡ mekrOf (own sh x Loop k) (cornerLeft (own sh x) k (mate k)) l2 (cornerLeft (own sh x) (mate k) k) (edgeOf k) (wayOf k)
+      ≡ mekrOf (own sh x Loop k) (cornerLeft (own sh x) k (mate k)) l2 (cornerLeft (own sh x) (mate k) k) (edgeOf k)
+      (wayOf k)
   unfolding inverse
   kemr-inverse p = rw (kn, ln)
 
 -- the operator that undoes mekr
-pub mekr-inverse : (sh : Shape) (x : List ℕ) (p : List ℤ) {l h1 l2 h2 e w : ℕ} → Capacities sh → MekrFacts sh (own sh x) l h1 l2 h2 e w → inverse sh x p (mekrOf l h1 l2 h2 e w) ≡ kemrOf (halfBy e w) l2
+pub mekr-inverse : (sh : Shape) (x : List ℕ) (p : List ℤ) {l h1 l2 h2 e w : ℕ} → Capacities sh
+    → MekrFacts sh (own sh x) l h1 l2 h2 e w → inverse sh x p (mekrOf l h1 l2 h2 e w) ≡ kemrOf (halfBy e w) l2
 unfolding inverse
-mekr-inverse sh x p {l2 = l2} {e = e} {w} caps r = rw (le-leb l2 8192 (omega (arith, r .ring-in .1, caps .loops)), le-leb e 8192 (omega (arith, r .edge-in .1, caps .edges)), le-leb w 8192 (omega (arith, r .way)))
+mekr-inverse sh x p caps r = let s = small sh x caps r in rw (read (s .2), read (s .4), read (s .5))

@@ -1,5 +1,5 @@
--- What kemr leaves, as a list and as columns, and: these columns differ from those before by the bridge. The walk from next
--- of k to its mate meets the half-edges of the new ring.
+-- What kemr leaves, as a list and as columns, and: these columns differ from those before by the bridge. The walk from
+-- next of k to its mate meets the half-edges of the new ring.
 use mathlib.Core.Path.{_≡_, refl, sym, ap, _∙_, subst}
 use mathlib.Core.Logic.{_≢_, inl, inr, ⊎-elim}
 use mathlib.Core.Bool.{false}
@@ -9,7 +9,7 @@ use native.Mathlib.Omega.{arith}
 use lib.Dec.{eqb}
 use lib.IntN.{ℤ}
 use Rattle.laws.specs.Bools.{pick, split, eqb-same, eqb-other}
-use Rattle.laws.specs.Update.{upd-same, upd-off}
+use Rattle.laws.specs.Update.{upd, upd-same, upd-off}
 use Rattle.laws.specs.Permutations.{Perm, inj}
 use Rattle.laws.specs.Cycles.{alone}
 use Rattle.layout.specs.declared.shape.Shape.{Shape}
@@ -18,16 +18,18 @@ use Rattle.layout.specs.MateLaws.{mate-mate}
 use Rattle.euler.specs.Surgery.{noEdgeWrites, loopRecord, edgeOut, putLoop, relabelRun, renew}
 use Rattle.layout.specs.Writes.{Write, write, changes}
 use Rattle.sound_tables.specs.WriteLaws.{not-among, others-stay}
-use Rattle.layout.specs.Fields.{Field, Outer, Face, First, Isolated, Start, Loop, Next, Prev, VertexUsed, Columns, among}
+use Rattle.layout.specs.Fields.{Field, Outer, Face, First, Isolated, Start, Loop, Next, Prev, VertexUsed, Columns}
+use Rattle.layout.specs.Fields.{among}
 use Rattle.sound_tables.specs.Mates.{mate-other}
 use Rattle.sound_tables.specs.EdgeIn.{Rules, prev-in, next-prev}
-use Rattle.sound_tables.specs.Sound.{In, HalfUsed, firstOf, Sound}
+use Rattle.sound_tables.specs.Sound.{In, HalfUsed, firstOf, HalfSound, Sound}
 use Rattle.sound_tables.specs.Names.{not-isolated}
 use Rattle.sound_tables.specs.Walking.{Steps, runColumns, run-met, run-off, run-other}
 use Rattle.sound_tables.specs.Good.{own}
 use Rattle.sound_tables.specs.CornerTest.{cornerLeft}
 use Rattle.sound_bridges.specs.Relation.{Corner, Bridge, Numbers, numbers, spot1, spot2, touched, Bridged}
-use Rattle.sound_bridges.specs.Runs.{Met, met?, run-to, met-in, not-k, not-a, met-next, met-prev, met-last, met-first}
+use Rattle.sound_bridges.specs.Runs.{Met, met?, run-to, met-in, not-k, not-a, met-next, met-prev, met-last}
+use Rattle.sound_bridges.specs.Runs.{met-first}
 
 -- ---- what kemr leaves
 
@@ -119,10 +121,6 @@ module _ {sh : Shape} {p : List ℤ} {d : Columns} (A : Sound sh p d) {k l2 : �
   ak : a ≢ k
   ak e = ka (sym e)
 
-  -- next of one in use is in use
-  next-in : (i : ℕ) → HalfUsed sh d i → HalfUsed sh d (d Next i)
-  next-in = perm .f-in
-
   -- neither half is alone in its loop
   N2k : N2 ≢ k
   N2k e = ak (alone loops half e a ua one)
@@ -151,7 +149,7 @@ module _ {sh : Shape} {p : List ℤ} {d : Columns} (A : Sound sh p d) {k l2 : �
 
   -- how long it is
   pub walk : (t : ℕ) × (t < 2 * sh .edges) × Steps (d Next) (d Next k) (mate k) t
-  walk = run-to loops (next-in k half) ua (loops .keeps k half ∙ sym one)
+  walk = run-to loops (perm .f-in k half) ua (loops .keeps k half ∙ sym one)
 
   -- i is met on the way
   abbrev OnRun : ℕ → Type 0
@@ -196,13 +194,18 @@ module _ {sh : Shape} {p : List ℤ} {d : Columns} (A : Sound sh p d) {k l2 : �
       let e : i ≢ k = λ z. w .2 (ap (c Start) z ∙ upd-off _ 0 ka ∙ upd-same _ k 0) in
       (e, f, (w .0, w .1, λ z. w .2 (c-start i e f ∙ z)))
 
-  -- the loop is in use and the ring is not
+  -- k is sound
+  hk : HalfSound sh d k
+  hk = A .half k (half .0, half .1) (half .2)
+
+  -- its loop is in use and the ring is not
   two : l ≢ l2
-  two e = A .half k (half .0, half .1) (half .2) .loop-used (ap (d Face) e ∙ free)
+  two e = hk .loop-used (ap (d Face) e ∙ free)
 
   -- no half-edge named the ring
   not-l2 : (i : ℕ) → In n i → d Loop i ≢ l2
-  not-l2 i j e = split (d Start i) 0 (λ z. omega (arith, ring-in .0, sym e ∙ A .half-free i j z .loop)) (λ z. A .half i j z .loop-used (ap (d Face) e ∙ free))
+  not-l2 i j e = split (d Start i) 0 (λ z. omega (arith, ring-in .0, sym e ∙ A .half-free i j z .loop))
+      (λ z. A .half i j z .loop-used (ap (d Face) e ∙ free))
 
   -- what follows the mate is not met
   N1-off : OnRun N1 → ⊥
@@ -210,7 +213,8 @@ module _ {sh : Shape} {p : List ℤ} {d : Columns} (A : Sound sh p d) {k l2 : �
 
   -- P1 goes to k, so it is not met
   P1-off : OnRun P1 → ⊥
-  P1-off m = ⊎-elim (λ e. ka (sym (next-prev rules k half) ∙ e)) (λ h. not-k perm half (walk .2) (subst OnRun (next-prev rules k half) h)) (met-next perm half (walk .2) m)
+  P1-off m = ⊎-elim (λ e. ka (sym (next-prev rules k half) ∙ e))
+      (λ h. not-k perm half (walk .2) (subst OnRun (next-prev rules k half) h)) (met-next perm half (walk .2) m)
 
   -- it names the loop
   l-N1 : d Loop N1 ≡ l
@@ -222,7 +226,8 @@ module _ {sh : Shape} {p : List ℤ} {d : Columns} (A : Sound sh p d) {k l2 : �
 
   -- away from the edge and its neighbours next is what it was
   c-next : (i : ℕ) → i ≢ k → i ≢ a → i ≢ P1 → i ≢ P2 → c Next i ≡ d Next i
-  c-next i e f g h = upd-off _ 0 f ∙ upd-off _ 0 e ∙ upd-off _ N2 h ∙ upd-off _ N1 g ∙ run-other d (walk .0) N2 l2 Next refl i
+  c-next i e f g h = upd-off _ 0 f ∙ upd-off _ 0 e ∙ upd-off _ N2 h ∙ upd-off _ N1 g
+      ∙ run-other d (walk .0) N2 l2 Next refl i
 
   -- what came before k goes to what followed the mate
   next-P1 : P1 ≢ a → c Next P1 ≡ N1
@@ -240,19 +245,23 @@ module _ {sh : Shape} {p : List ℤ} {d : Columns} (A : Sound sh p d) {k l2 : �
       (λ e.
       let Pa : P1 ≢ a = λ z. v .1 (e ∙ z) in
       let Nk : N1 ≢ k = λ z. Pa (ap (d Prev) (sym z) ∙ undone a ua) in
-      ap (c Loop) (ap (c Next) e ∙ next-P1 Pa) ∙ c-loop N1 Nk N1a ∙ loop-off N1-off ∙ l-N1 ∙ sym (ap (c Loop) e ∙ c-loop P1 P1k Pa ∙ loop-off P1-off ∙ l-P1))
+      ap (c Loop) (ap (c Next) e ∙ next-P1 Pa) ∙ c-loop N1 Nk N1a ∙ loop-off N1-off ∙ l-N1
+      ∙ sym (ap (c Loop) e ∙ c-loop P1 P1k Pa ∙ loop-off P1-off ∙ l-P1))
       (λ e. split i P2
       (λ f.
       let Pk : P2 ≢ k = λ z. v .0 (f ∙ z) in
       let Na : N2 ≢ a = λ z. Pk (ap (d Prev) (sym z) ∙ undone k half) in
       ap (c Loop) (ap (c Next) f ∙ next-P2 Pk) ∙ c-loop N2 N2k Na ∙ loop-met (met-first perm half (walk .2) Na)
-      ∙ sym (ap (c Loop) f ∙ c-loop P2 Pk P2a ∙ loop-met (met-last perm half (walk .2) (prev-in rules a ua) (next-prev rules a ua) Na)))
+      ∙ sym (ap (c Loop) f ∙ c-loop P2 Pk P2a
+      ∙ loop-met (met-last perm half (walk .2) (prev-in rules a ua) (next-prev rules a ua) Na)))
       (λ f.
       let nk : d Next i ≢ k = λ z. e (sym (undone i (v .2)) ∙ ap (d Prev) z) in
       let na : d Next i ≢ a = λ z. f (sym (undone i (v .2)) ∙ ap (d Prev) z) in
       ap (c Loop) (c-next i (v .0) (v .1) e f) ∙ c-loop (d Next i) nk na ∙ by-run i
-      (λ m. ⊎-elim (λ z. absurd (na z)) (λ m′. loop-met m′) (met-next perm half (walk .2) m) ∙ sym (c-loop i (v .0) (v .1) ∙ loop-met m))
-      (λ m. loop-off (λ m′. ⊎-elim (v .0) m (met-prev perm half (walk .2) (v .2) m′)) ∙ loops .keeps i (v .2) ∙ sym (c-loop i (v .0) (v .1) ∙ loop-off m))))
+      (λ m. ⊎-elim (λ z. absurd (na z)) (λ m′. loop-met m′) (met-next perm half (walk .2) m)
+      ∙ sym (c-loop i (v .0) (v .1) ∙ loop-met m))
+      (λ m. loop-off (λ m′. ⊎-elim (v .0) m (met-prev perm half (walk .2) (v .2) m′)) ∙ loops .keeps i (v .2)
+      ∙ sym (c-loop i (v .0) (v .1) ∙ loop-off m))))
 
   -- ---- the corners
 
@@ -267,12 +276,13 @@ module _ {sh : Shape} {p : List ℤ} {d : Columns} (A : Sound sh p d) {k l2 : �
   -- the corner of the loop
   corner-1 : Corner sh c (spot1 B)
   corner-1 = split N1 k
-      (λ e. inl (record { before = ap (d Prev) (sym e) ∙ undone a ua; after = e; isolated = isolated-l ∙ rw (eqb-same e) }))
+      (λ e. inl (record
+      { before = ap (d Prev) (sym e) ∙ undone a ua; after = e; isolated = isolated-l ∙ rw (eqb-same e) }))
       (λ e.
       let Pa : P1 ≢ a = λ z. e (ap (d Next) (sym z) ∙ next-prev rules k half) in
       inr (record {
         before = half-c P1 (prev-in rules k half) P1k Pa;
-        after = half-c N1 (next-in a ua) e N1a;
+        after = half-c N1 (perm .f-in a ua) e N1a;
         next = next-P1 Pa;
         prev = upd-off _ 0 N1a ∙ upd-off _ 0 e ∙ upd-off _ P2 N12 ∙ upd-same _ N1 P1;
         loop = c-loop N1 e N1a ∙ loop-off N1-off ∙ l-N1;
@@ -283,12 +293,13 @@ module _ {sh : Shape} {p : List ℤ} {d : Columns} (A : Sound sh p d) {k l2 : �
   -- the corner of the ring
   corner-2 : Corner sh c (spot2 B)
   corner-2 = split N2 a
-      (λ e. inl (record { before = ap (d Prev) (sym e) ∙ undone k half; after = e; isolated = isolated-l2 ∙ rw (eqb-same e) }))
+      (λ e. inl (record
+      { before = ap (d Prev) (sym e) ∙ undone k half; after = e; isolated = isolated-l2 ∙ rw (eqb-same e) }))
       (λ e.
       let Pk : P2 ≢ k = λ z. e (ap (d Next) (sym z) ∙ next-prev rules a ua) in
       inr (record {
         before = half-c P2 (prev-in rules a ua) Pk P2a;
-        after = half-c N2 (next-in k half) N2k e;
+        after = half-c N2 (perm .f-in k half) N2k e;
         next = next-P2 Pk;
         prev = upd-off _ 0 e ∙ upd-off _ 0 N2k ∙ upd-same _ N2 P2;
         loop = c-loop N2 N2k e ∙ loop-met (met-first perm half (walk .2) e);
@@ -296,15 +307,7 @@ module _ {sh : Shape} {p : List ℤ} {d : Columns} (A : Sound sh p d) {k l2 : �
         isolated = isolated-l2 ∙ rw (eqb-other e);
       }))
 
-  -- the loop of k has a half-edge
-  l-in : In (sh .loops) l
-  l-in = A .half k (half .0, half .1) (half .2) .loop-in
-
-  -- and lies in a face
-  l-used : d Face l ≢ 0
-  l-used = A .half k (half .0, half .1) (half .2) .loop-used
-
-  -- so it is not isolated
+  -- its loop is not isolated
   l-isolated : d Isolated l ≡ 0
   l-isolated = not-isolated A k half refl
 
@@ -317,29 +320,38 @@ module _ {sh : Shape} {p : List ℤ} {d : Columns} (A : Sound sh p d) {k l2 : �
   others F e i = sym (others-stay touched (cutWrites d k l2 ++ firstWrites sh d k l2 (walk .0)) e₀ F refl e i
       ∙ run-other d (walk .0) N2 l2 F (not-among touched Loop F refl e) i)
 
+  -- the words of k are 0
+  gone-k : (f : ℕ → ℕ) → upd (upd f k 0) a 0 k ≡ 0
+  gone-k f = upd-off _ 0 ka ∙ upd-same f k 0
+
+  -- if the ring were the outer loop of its face, no face would have been there
+  not-outer : c Outer (c Face l2) ≡ l2 → d Face l ≡ 0
+  not-outer e =
+      let L = A .loop l (hk .loop-in) (hk .loop-used) in
+      sym (A .face (d Face l) (L .face-in) (L .face-used) .outer-face)
+      ∙ ap (d Face) (others Outer refl (d Face l) ∙ ap (c Outer) (sym (upd-same _ l2 _)) ∙ e) ∙ free
+
   -- before and after kemr
   pub down-bridged : Bridged sh (kemrColumns sh d k l2 (walk .0)) d (spanBridge d k l2)
   down-bridged =
-      let hk = A .half k (half .0, half .1) (half .2) in
       let ha = A .half a (ua .0, ua .1) (ua .2) in
-      let L = A .loop l l-in l-used in
       record {
         ends = record {
           half-in = (half .0, half .1);
           mate-in = (ua .0, ua .1);
-          loop-in = l-in;
+          loop-in = hk .loop-in;
           ring-in = ring-in;
           two = two;
-          used = λ z. l-used (sym face-l ∙ z);
+          used = λ z. hk .loop-used (sym face-l ∙ z);
           one-face = upd-same _ l2 _ ∙ sym face-l;
-          ring = λ e. omega (arith, L .face-in .0, sym (A .face (d Face l) (L .face-in) (L .face-used) .outer-face) ∙ ap (d Face) (others Outer refl (d Face l) ∙ ap (c Outer) (sym (upd-same _ l2 _)) ∙ e) ∙ free);
+          ring = λ e. hk .loop-used (not-outer e);
           at-1 = corner-1;
           at-2 = corner-2;
           in-1 = hk .start-in;
           in-2 = ha .start-in;
           used-1 = λ z. hk .start-used (others VertexUsed refl _ ∙ z);
           used-2 = λ z. ha .start-used (others VertexUsed refl _ ∙ z);
-          zero-k = record { s = upd-off _ 0 ka ∙ upd-same _ k 0; l = upd-off _ 0 ka ∙ upd-same _ k 0; n = upd-off _ 0 ka ∙ upd-same _ k 0; p = upd-off _ 0 ka ∙ upd-same _ k 0 };
+          zero-k = record { s = gone-k _; l = gone-k _; n = gone-k _; p = gone-k _ };
           zero-a = record { s = upd-same _ a 0; l = upd-same _ a 0; n = upd-same _ a 0; p = upd-same _ a 0 };
           keeps = c-keeps;
         };
@@ -348,9 +360,13 @@ module _ {sh : Shape} {p : List ℤ} {d : Columns} (A : Sound sh p d) {k l2 : �
         start-o = λ i e f. sym (c-start i e f);
         loop-k = refl;
         loop-a = one;
-        loop-2 = λ i j z. split i k (λ e. absurd (omega (arith, ring-in .0, sym z ∙ ap (c Loop) e ∙ upd-off _ 0 ka ∙ upd-same _ k 0))) (λ e. split i a (λ f. absurd (omega (arith, ring-in .0, sym z ∙ ap (c Loop) f ∙ upd-same _ a 0)))
-            (λ f. by-run i (λ m. met-in loops (next-in k half) m .1 ∙ loops .keeps k half) (λ m. absurd (not-l2 i j (sym (c-loop i e f ∙ loop-off m) ∙ z)))));
-        loop-o = λ i e f z. by-run i (λ m. absurd (z (c-loop i e f ∙ loop-met m))) (λ m. sym (c-loop i e f ∙ loop-off m));
+        loop-2 = λ i j z. split i k
+            (λ e. absurd (omega (arith, ring-in .0, sym z ∙ ap (c Loop) e ∙ upd-off _ 0 ka ∙ upd-same _ k 0)))
+            (λ e. split i a (λ f. absurd (omega (arith, ring-in .0, sym z ∙ ap (c Loop) f ∙ upd-same _ a 0)))
+            (λ f. by-run i (λ m. met-in loops (perm .f-in k half) m .1 ∙ loops .keeps k half)
+            (λ m. absurd (not-l2 i j (sym (c-loop i e f ∙ loop-off m) ∙ z)))));
+        loop-o = λ i e f z. by-run i (λ m. absurd (z (c-loop i e f ∙ loop-met m)))
+            (λ m. sym (c-loop i e f ∙ loop-off m));
         next-k = refl;
         next-a = refl;
         next-1 = next-prev rules k half;
@@ -360,13 +376,16 @@ module _ {sh : Shape} {p : List ℤ} {d : Columns} (A : Sound sh p d) {k l2 : �
         prev-a = refl;
         prev-1 = undone a ua;
         prev-2 = undone k half;
-        prev-o = λ i e f g h. sym (upd-off _ 0 f ∙ upd-off _ 0 e ∙ upd-off _ P2 h ∙ upd-off _ P1 g ∙ run-other d (walk .0) N2 l2 Prev refl i);
+        prev-o = λ i e f g h. sym (upd-off _ 0 f ∙ upd-off _ 0 e ∙ upd-off _ P2 h ∙ upd-off _ P1 g
+            ∙ run-other d (walk .0) N2 l2 Prev refl i);
         face-2 = free;
         face-o = λ m e. sym (upd-off _ _ e ∙ run-other d (walk .0) N2 l2 Face refl m);
-        first-o = λ m e f. sym (upd-off _ _ e ∙ upd-off _ _ f ∙ upd-off _ 0 f ∙ run-other d (walk .0) N2 l2 First refl m);
+        first-o = λ m e f. sym (upd-off _ _ e ∙ upd-off _ _ f ∙ upd-off _ 0 f
+            ∙ run-other d (walk .0) N2 l2 First refl m);
         isolated-1 = l-isolated;
         isolated-2 = A .loop-free l2 ring-in free .1;
-        isolated-o = λ m e f. sym (upd-off _ _ e ∙ upd-off _ _ f ∙ upd-off _ 0 f ∙ run-other d (walk .0) N2 l2 Isolated refl m);
+        isolated-o = λ m e f. sym (upd-off _ _ e ∙ upd-off _ _ f ∙ upd-off _ 0 f
+            ∙ run-other d (walk .0) N2 l2 Isolated refl m);
         others = others;
       }
 

@@ -1,5 +1,5 @@
--- kemr, first step: in the form with dummies a dummy goes in after each half of the edge, so that neither run between them
--- is empty. Said here: where each goes then, which loop it names, and that the rules hold.
+-- kemr, first step: in the form with dummies a dummy goes in after each half of the edge, so that neither run between
+-- them is empty. Said here: where each goes then, which loop it names, and that the rules hold.
 use mathlib.Core.Path.{_≡_, refl, sym, _∙_, subst}
 use mathlib.Core.Logic.{_≢_, inl, inr, ⊎-elim}
 use mathlib.Core.List.{List}
@@ -17,7 +17,8 @@ use Rattle.sound_tables.specs.Dummies.{added, add-rules}
 use Rattle.sound_tables.specs.Sound.{HalfUsed, Sound}
 use Rattle.sound_tables.specs.WithDummies.{upTo-low, extended, Dummy, Member, sound-corners}
 use Rattle.sound_bridges.specs.PassedOver.{Rules⁺}
-use Rattle.sound_bridges.specs.Relation.{after-in, Bridge, Ends, Numbers, numbers, Bridged, ka, low-1, low-2, D21, D12, new-k, new-a, half-was, dummy-other}
+use Rattle.sound_bridges.specs.Relation.{after-in, Bridge, Ends, Numbers, numbers, Bridged, ka, low-1, low-2, D21}
+use Rattle.sound_bridges.specs.Relation.{D12, new-k, new-a, half-was, dummy-other}
 
 -- the columns with the loop's dummy after the mate
 abbrev pub oneIn : Shape → Columns → Bridge → Halves
@@ -90,7 +91,8 @@ module _ {sh : Shape} {c d : Columns} {B : Bridge} (b : Bridged sh c d B) where
 
   -- which goes on to where the mate went
   pub goes-D1 : G .next D1 ≡ N1
-  goes-D1 = upd-off _ _ (high-1 (half-in .1)) ∙ upd-off _ _ (D12 b) ∙ upd-off _ _ (high-1 (mate-in .1)) ∙ upd-same _ D1 _ ∙ went-a
+  goes-D1 = upd-off _ _ (high-1 (half-in .1)) ∙ upd-off _ _ (D12 b) ∙ upd-off _ _ (high-1 (mate-in .1))
+      ∙ upd-same _ D1 _ ∙ went-a
 
   -- and the second to where k went
   pub goes-D2 : G .next D2 ≡ N2
@@ -104,11 +106,13 @@ module _ {sh : Shape} {c d : Columns} {B : Bridge} (b : Bridged sh c d B) where
 
   -- k
   pub names-k : G .loop k ≡ l
-  names-k = upd-off _ _ (low-2 b (half-in .1)) ∙ upd-off _ _ (low-1 b (half-in .1)) ∙ upTo-low n (d Loop) _ k (half-in .1) ∙ b .loop-k
+  names-k = upd-off _ _ (low-2 b (half-in .1)) ∙ upd-off _ _ (low-1 b (half-in .1))
+      ∙ upTo-low n (d Loop) _ k (half-in .1) ∙ b .loop-k
 
   -- its mate
   pub names-a : G .loop a ≡ l
-  names-a = upd-off _ _ (low-2 b (mate-in .1)) ∙ upd-off _ _ (low-1 b (mate-in .1)) ∙ upTo-low n (d Loop) _ a (mate-in .1) ∙ b .loop-a
+  names-a = upd-off _ _ (low-2 b (mate-in .1)) ∙ upd-off _ _ (low-1 b (mate-in .1))
+      ∙ upTo-low n (d Loop) _ a (mate-in .1) ∙ b .loop-a
 
   -- the first dummy
   pub names-D1 : G .loop D1 ≡ l
@@ -136,7 +140,8 @@ module _ {sh : Shape} {c d : Columns} {B : Bridge} (b : Bridged sh c d B) where
   pub wide-rules : {pt : List ℤ} → Sound sh pt d → Rules⁺ sh (Wide sh d B) (bothIn sh d B)
   wide-rules A =
       let mm = mate⁺-mate⁺ (sh .edges) in
-      let one = add-rules (sound-corners A .rules) mm D1 a own-1 (inl (new-a b)) gone-1 (omega (arith, loop-in .0)) (omega (arith, loop-in .1)) in
+      let one = add-rules (sound-corners A .rules) mm D1 a own-1 (inl (new-a b)) gone-1 (omega (arith, loop-in .0))
+      (omega (arith, loop-in .1)) in
       add-rules one mm D2 k own-2 (inr (inl (new-k b))) gone-2 (omega (arith, ring-in .0)) (omega (arith, ring-in .1))
 
   -- a statement about each: about k, its mate, the two dummies, a half-edge of c, a dummy of another loop

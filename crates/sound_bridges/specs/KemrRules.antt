@@ -1,6 +1,6 @@
--- kemr: the rules with dummies once the bridge is out. A dummy goes in after each half of the edge (`KemrDummies`); the edge
--- comes out; then each dummy that is not alone is passed over. What comes out has the start, loop and next of c; previous
--- undoes next in c itself.
+-- kemr: the rules with dummies once the bridge is out. A dummy goes in after each half of the edge (`KemrDummies`); the
+-- edge comes out; then each dummy that is not alone is passed over. What comes out has the start, loop and next of c;
+-- previous undoes next in c itself.
 use mathlib.Core.Path.{_≡_, refl, sym, ap, _∙_, subst}
 use mathlib.Core.Logic.{_≢_, inl, inr, ⊎-elim}
 use mathlib.Core.List.{List}
@@ -19,17 +19,23 @@ use Rattle.sound_tables.specs.EdgeIn.{Halves, prev-in}
 use Rattle.sound_tables.specs.EdgeOut.{parted, kemr-loops, parted-rules}
 use Rattle.sound_tables.specs.Sound.{HalfUsed, Sound}
 use Rattle.sound_tables.specs.WithDummies.{upTo-low, upTo-high, extended, Dummy, Member, dummy-loop}
-use Rattle.sound_bridges.specs.PassedOver.{passed, pass-off, pass-one, pass-two, Left, pass-rules, Rules⁺, Undoes, undoes, table-rules}
+use Rattle.sound_bridges.specs.PassedOver.{passed, pass-off, pass-one, pass-two, Left, pass-rules, Rules⁺, Undoes}
+use Rattle.sound_bridges.specs.PassedOver.{undoes, table-rules}
 use Rattle.sound_bridges.specs.CornerMembers.{Seat, seat, not-dummy, off-P, far-y, dummy-seat}
-use Rattle.sound_bridges.specs.KemrDummies.{oneIn, bothIn, Wide, high-1, high-2, N1-low, N2-low, own-1, own-2, went-a, went-k, goes-k, goes-a, goes-D1, goes-D2, goes-o, names-k, names-a, names-D1, names-D2, names-o, wide-rules, each}
+use Rattle.sound_bridges.specs.KemrDummies.{oneIn, bothIn, Wide, high-1, high-2, N1-low, N2-low, own-1, own-2}
+use Rattle.sound_bridges.specs.KemrDummies.{went-a, went-k, goes-k, goes-a, goes-D1, goes-D2, goes-o, names-k}
+use Rattle.sound_bridges.specs.KemrDummies.{names-a, names-D1, names-D2, names-o, wide-rules, each}
 use Rattle.sound_bridges.specs.Runs.{till-same}
-use Rattle.sound_bridges.specs.Relation.{Spot, real-before, Bridge, Ends, Numbers, numbers, spot1, spot2, Bridged, ka, off-k, off-a, mem-k, mem-a, low-1, low-2, D21, D12, new-k, new-a, half-stays, half-back, dummy-stays, dummy-was}
+use Rattle.sound_bridges.specs.Relation.{Spot, real-before, Bridge, Ends, Numbers, numbers, spot1, spot2, Bridged}
+use Rattle.sound_bridges.specs.Relation.{ka, off-k, off-a, mem-k, mem-a, low-1, low-2, D21, D12, new-k, new-a}
+use Rattle.sound_bridges.specs.Relation.{half-stays, half-back, dummy-stays, dummy-was}
 
 module _ {sh : Shape} {pt : List ℤ} {c d : Columns} {B : Bridge} (A : Sound sh pt d) (b : Bridged sh c d B) where
   open Numbers (numbers sh B) using (n, a, D1, D2)
   open Bridge B using (k, l, l2, P1, N1, P2, N2)
   open Ends (b .ends) using (half-in, mate-in, loop-in, ring-in, two, at-1, at-2, in-1, in-2, keeps)
-  open Bridged b using (start-k, start-a, start-o, loop-2, loop-o, next-k, next-a, next-1, next-2, next-o, prev-k, prev-a, prev-o, face-2, isolated-o)
+  open Bridged b using (start-k, start-a, start-o, loop-2, loop-o, next-k, next-a, next-1, next-2, next-o, prev-k)
+  open Bridged b using (prev-a, prev-o, face-2, isolated-o)
 
   -- the columns with dummies afterwards
   abbrev H : Halves
@@ -54,9 +60,11 @@ module _ {sh : Shape} {pt : List ℤ} {c d : Columns} {B : Bridge} (A : Sound sh
   -- in c previous undoes next
   c-undone : (i : ℕ) → HalfUsed sh c i → Undoes sh c i
   c-undone i w = split i P1
-      (λ e. let r = real-before at-1 (λ z. off-a b i w (e ∙ z)) in undoes sh c (ap (c Next) e ∙ r .next) (r .after .1) (r .prev ∙ sym e))
+      (λ e. let r = real-before at-1 (λ z. off-a b i w (e ∙ z)) in
+      undoes sh c (ap (c Next) e ∙ r .next) (r .after .1) (r .prev ∙ sym e))
       (λ e. split i P2
-      (λ f. let r = real-before at-2 (λ z. off-k b i w (f ∙ z)) in undoes sh c (ap (c Next) f ∙ r .next) (r .after .1) (r .prev ∙ sym f))
+      (λ f. let r = real-before at-2 (λ z. off-k b i w (f ∙ z)) in
+      undoes sh c (ap (c Next) f ∙ r .next) (r .after .1) (r .prev ∙ sym f))
       (λ f.
       let v = half-stays b i w in
       let ik = off-k b i w in
@@ -65,7 +73,8 @@ module _ {sh : Shape} {pt : List ℤ} {c d : Columns} {B : Bridge} (A : Sound sh
       let p2 = subst (HalfUsed sh d) prev-a (prev-in (A .rules) a (new-a b)) in
       undoes sh c (sym (next-o i ik ia e f)) (perm .f-in i v .1)
       (sym (prev-o (d Next i) (λ z. e (inj perm v p1 (z ∙ sym next-1))) (λ z. f (inj perm v p2 (z ∙ sym next-2)))
-      (λ z. ia (inj perm v (new-a b) (z ∙ sym next-a))) (λ z. ik (inj perm v (new-k b) (z ∙ sym next-k)))) ∙ A .rules .undone i v)))
+      (λ z. ia (inj perm v (new-a b) (z ∙ sym next-a))) (λ z. ik (inj perm v (new-k b) (z ∙ sym next-k))))
+      ∙ A .rules .undone i v)))
 
   module _ (t1 : Seat sh c (spot1 B)) (t2 : Seat sh c (spot2 B)) where
     -- what comes before the corner of the loop
@@ -114,23 +123,28 @@ module _ {sh : Shape} {pt : List ℤ} {c d : Columns} {B : Bridge} (A : Sound sh
 
     -- a half-edge of c goes on as in d
     goes-half : (i : ℕ) → HalfUsed sh c i → G .next i ≡ d Next i
-    goes-half i w = goes-o b i (off-k b i w) (off-a b i w) (low-1 b (w .1)) (low-2 b (w .1)) ∙ upTo-low n (d Next) _ i (w .1)
+    goes-half i w = goes-o b i (off-k b i w) (off-a b i w) (low-1 b (w .1)) (low-2 b (w .1))
+        ∙ upTo-low n (d Next) _ i (w .1)
 
     -- p is there
     p-in : W p
-    p-in = ⊎-elim (λ r. inr (inl (r .0))) (λ r. inr (inr (inl (half-stays b p (subst (HalfUsed sh c) (sym (r .0)) (r .2)))))) (t1 .which)
+    p-in = ⊎-elim (λ r. inr (inl (r .0)))
+        (λ r. inr (inr (inl (half-stays b p (subst (HalfUsed sh c) (sym (r .0)) (r .2)))))) (t1 .which)
 
     -- and q
     q-in : W q
-    q-in = ⊎-elim (λ r. inl (r .0)) (λ r. inr (inr (inl (half-stays b q (subst (HalfUsed sh c) (sym (r .0)) (r .2)))))) (t2 .which)
+    q-in = ⊎-elim (λ r. inl (r .0)) (λ r. inr (inr (inl (half-stays b q (subst (HalfUsed sh c) (sym (r .0)) (r .2))))))
+        (t2 .which)
 
     -- p goes to k
     goes-p : G .next p ≡ k
-    goes-p = ⊎-elim (λ r. ap (G .next) (r .0) ∙ goes-D1 b ∙ r .3) (λ r. ap (G .next) (r .0) ∙ goes-half P1 (r .2) ∙ next-1) (t1 .which)
+    goes-p = ⊎-elim (λ r. ap (G .next) (r .0) ∙ goes-D1 b ∙ r .3)
+        (λ r. ap (G .next) (r .0) ∙ goes-half P1 (r .2) ∙ next-1) (t1 .which)
 
     -- q to the mate
     goes-q : G .next q ≡ a
-    goes-q = ⊎-elim (λ r. ap (G .next) (r .0) ∙ goes-D2 b ∙ r .3) (λ r. ap (G .next) (r .0) ∙ goes-half P2 (r .2) ∙ next-2) (t2 .which)
+    goes-q = ⊎-elim (λ r. ap (G .next) (r .0) ∙ goes-D2 b ∙ r .3)
+        (λ r. ap (G .next) (r .0) ∙ goes-half P2 (r .2) ∙ next-2) (t2 .which)
 
     -- they differ
     pq : p ≢ q
@@ -142,7 +156,8 @@ module _ {sh : Shape} {pt : List ℤ} {c d : Columns} {B : Bridge} (A : Sound sh
         let g = goes-half i w in
         let v : W i = inr (inr (inl (half-stays b i w))) in (
           next-o i (off-k b i w) (off-a b i w) (off-P t1 (off-a b i w) e) (off-P t2 (off-k b i w) f),
-          half-back b (d Next i) (perm .f-in i (half-stays b i w)) (λ z. e (inj (R .loops .perm) v p-in (g ∙ z ∙ sym goes-p)))
+          half-back b (d Next i) (perm .f-in i (half-stays b i w))
+              (λ z. e (inj (R .loops .perm) v p-in (g ∙ z ∙ sym goes-p)))
               (λ z. f (inj (R .loops .perm) v q-in (g ∙ z ∙ sym goes-q))),
         )
 
@@ -152,9 +167,11 @@ module _ {sh : Shape} {pt : List ℤ} {c d : Columns} {B : Bridge} (A : Sound sh
         (λ e f. absurd (e refl))
         (λ e f. ap lab (goes-a b) ∙ lab-D1 ∙ sym lab-a)
         (λ e f. ap lab (goes-D1 b)
-        ∙ ⊎-elim (λ r. ap lab (r .3) ∙ lab-k) (λ r. ap lab (sym (r .1)) ∙ lab-z t1 (r .1) (r .3)) (t1 .which) ∙ sym lab-D1)
+        ∙ ⊎-elim (λ r. ap lab (r .3) ∙ lab-k) (λ r. ap lab (sym (r .1)) ∙ lab-z t1 (r .1) (r .3)) (t1 .which)
+        ∙ sym lab-D1)
         (λ e f. ap lab (goes-D2 b)
-        ∙ ⊎-elim (λ r. absurd (f (sym (r .0)))) (λ r. ap lab (sym (r .1)) ∙ lab-z t2 (r .1) (r .3)) (t2 .which) ∙ sym lab-D2)
+        ∙ ⊎-elim (λ r. absurd (f (sym (r .0)))) (λ r. ap lab (sym (r .1)) ∙ lab-z t2 (r .1) (r .3)) (t2 .which)
+        ∙ sym lab-D2)
         (λ i w e f. split i p
         (λ z. ap lab (ap (G .next) z ∙ goes-p) ∙ lab-k ∙ sym (ap lab z ∙ lab-m p (t1 .member) ∙ t1 .loop))
         (λ z. let s = step i w z f in
@@ -171,13 +188,16 @@ module _ {sh : Shape} {pt : List ℤ} {c d : Columns} {B : Bridge} (A : Sound sh
     fresh = each b (λ i. G .loop i ≢ l2) (λ e. two (sym (names-k b) ∙ e)) (λ e. two (sym (names-a b) ∙ e))
         (λ e. two (sym (names-D1 b) ∙ e)) (λ e. two (sym (names-D2 b) ∙ e))
         (λ i w e. let v = half-stays b i w in A .half i (v .0, v .1) (v .2) .loop-used
-        (ap (d Face) (sym (names-o b i (low-1 b (w .1)) (low-2 b (w .1)) ∙ upTo-low n (d Loop) _ i (w .1)) ∙ e) ∙ face-2))
-        (λ i w x y e. y (sym (names-o b i (not-dummy sh x) (not-dummy sh y) ∙ upTo-high n (d Loop) (λ j. j - n) i (w .0)) ∙ e))
+        (ap (d Face) (sym (names-o b i (low-1 b (w .1)) (low-2 b (w .1)) ∙ upTo-low n (d Loop) _ i (w .1)) ∙ e)
+        ∙ face-2))
+        (λ i w x y e. y (sym (names-o b i (not-dummy sh x) (not-dummy sh y)
+        ∙ upTo-high n (d Loop) (λ j. j - n) i (w .0)) ∙ e))
 
     -- other loops keep theirs
     far : (i : ℕ) → W i → G .loop i ≢ G .loop k → lab i ≡ G .loop i
     far = each b (λ i. G .loop i ≢ G .loop k → lab i ≡ G .loop i)
-        (λ e. absurd (e refl)) (λ e. absurd (e (names-a b ∙ sym (names-k b)))) (λ e. absurd (e (names-D1 b ∙ sym (names-k b))))
+        (λ e. absurd (e refl)) (λ e. absurd (e (names-a b ∙ sym (names-k b))))
+        (λ e. absurd (e (names-D1 b ∙ sym (names-k b))))
         (λ e. absurd (e (names-D2 b ∙ sym (names-k b))))
         (λ i w e.
         let g : G .loop i ≡ d Loop i = names-o b i (low-1 b (w .1)) (low-2 b (w .1)) ∙ upTo-low n (d Loop) _ i (w .1) in
@@ -208,7 +228,8 @@ module _ {sh : Shape} {pt : List ℤ} {c d : Columns} {B : Bridge} (A : Sound sh
         let aq : a ≢ q = λ e. mem-a b q (t2 .member) (sym e) in
         let stays = R .loops .perm .f-in in
         parted-rules R mm k a p q mk (ka b) uk p-in q-in goes-p goes-q pa qk kp aq lab
-        (kemr-loops R mm k a p q mk (ka b) uk p-in q-in goes-p goes-q pa qk kp aq (names-k b ∙ sym (names-a b)) l2 fresh lab
+        (kemr-loops R mm k a p q mk (ka b) uk p-in q-in goes-p goes-q pa qk kp aq
+        (names-k b ∙ sym (names-a b)) l2 fresh lab
         (λ i u t. till-same {U = W} {lab = lab} stays keep u t ∙ lab-m q (t2 .member) ∙ t2 .loop)
         (λ i u t. till-same {U = W} {lab = lab} stays (λ j v e f. keep j v f e) u t ∙ lab-k
         ∙ sym (till-same {U = W} {lab = G .loop} stays (λ j v e f. R .loops .keeps j v) u t ∙ names-k b))
@@ -216,7 +237,8 @@ module _ {sh : Shape} {pt : List ℤ} {c d : Columns} {B : Bridge} (A : Sound sh
 
     -- p goes to the first dummy
     Q-p : Q .next p ≡ D1
-    Q-p = upd-off _ _ (mem-a b p (t1 .member)) ∙ upd-off _ _ (mem-k b p (t1 .member)) ∙ upd-off _ _ pq ∙ upd-same _ p _ ∙ goes-a b
+    Q-p = upd-off _ _ (mem-a b p (t1 .member)) ∙ upd-off _ _ (mem-k b p (t1 .member)) ∙ upd-off _ _ pq ∙ upd-same _ p _
+        ∙ goes-a b
 
     -- q to the second
     Q-q : Q .next q ≡ D2
@@ -305,11 +327,13 @@ module _ {sh : Shape} {pt : List ℤ} {c d : Columns} {B : Bridge} (A : Sound sh
         ∙ upd-off _ _ (low-2 b (w .1)) ∙ upd-off _ _ (low-1 b (w .1)) ∙ upTo-low n (d Start) _ i (w .1)
         ∙ start-o i (off-k b i w) (off-a b i w)))
         (λ e f g. ap (H .start) (sym f) ∙ t1 .start
-        ∙ sym (upd-off _ _ (high-1 b (mate-in .1)) ∙ upd-off _ _ (high-1 b (half-in .1)) ∙ upd-off _ _ (D12 b) ∙ upd-same _ D1 _
+        ∙ sym (upd-off _ _ (high-1 b (mate-in .1)) ∙ upd-off _ _ (high-1 b (half-in .1)) ∙ upd-off _ _ (D12 b)
+        ∙ upd-same _ D1 _
         ∙ ap (extended sh d .start) (went-a b ∙ g) ∙ upTo-low n (d Start) _ k (half-in .1) ∙ start-k))
         (λ e f g. ap (H .start) (sym f) ∙ t2 .start
         ∙ sym (upd-off _ _ (high-2 b (mate-in .1)) ∙ upd-off _ _ (high-2 b (half-in .1)) ∙ upd-same _ D2 _
-        ∙ ap (oneIn sh d B .start) (went-k b ∙ g) ∙ upd-off _ _ (low-1 b (mate-in .1)) ∙ upTo-low n (d Start) _ a (mate-in .1)
+        ∙ ap (oneIn sh d B .start) (went-k b ∙ g) ∙ upd-off _ _ (low-1 b (mate-in .1))
+        ∙ upTo-low n (d Start) _ a (mate-in .1)
         ∙ start-a))
         (λ i w e f. upTo-high n (c Start) (λ j. c Isolated (j - n)) i (w .0)
         ∙ sym (upd-off _ _ (mem-a b i (inr w)) ∙ upd-off _ _ (mem-k b i (inr w)) ∙ upd-off _ _ (not-dummy sh f)
@@ -329,12 +353,14 @@ module _ {sh : Shape} {pt : List ℤ} {c d : Columns} {B : Bridge} (A : Sound sh
         (λ e. split i q
         (λ f. let z : D2 ≢ q = λ z. low-2 b (w .1) (f ∙ sym z) in
         ap (H .next) f ∙ t2 .next ∙ ⊎-elim (λ r. absurd (z (sym (r .0)))) (λ r. r .1) (t2 .which)
-        ∙ sym (pass-two D1 D2 (Q .next) (D21 b) (ap (Q .next) f ∙ Q-q) (λ y. low-1 b (N2-low b) (sym (Q-D2 z) ∙ y)) ∙ Q-D2 z))
+        ∙ sym (pass-two D1 D2 (Q .next) (D21 b) (ap (Q .next) f ∙ Q-q) (λ y. low-1 b (N2-low b) (sym (Q-D2 z) ∙ y))
+        ∙ Q-D2 z))
         (λ f.
         let s = step i w e f in
         let g : Q .next i ≡ d Next i = Q-o i (off-k b i w) (off-a b i w) e f ∙ goes-half i w in
         upTo-low n (c Next) _ i (w .1) ∙ sym (s .0)
-        ∙ sym (pass-off D1 D2 (Q .next) (λ y. low-1 b (s .1 .1) (sym g ∙ y)) (λ y. low-2 b (s .1 .1) (sym g ∙ y)) ∙ g))))
+        ∙ sym (pass-off D1 D2 (Q .next) (λ y. low-1 b (s .1 .1) (sym g ∙ y)) (λ y. low-2 b (s .1 .1) (sym g ∙ y))
+        ∙ g))))
         (λ e f g. let h : Q .next D1 ≡ D1 = ap (Q .next) (sym e) ∙ Q-p in
         ap (H .next) (sym e) ∙ t1 .next ∙ f ∙ sym (pass-one D1 D2 (Q .next) h (λ y. D12 b (sym h ∙ y)) ∙ h))
         (λ e f g. let h : Q .next D2 ≡ D2 = ap (Q .next) (sym e) ∙ Q-q in
@@ -354,4 +380,5 @@ module _ {sh : Shape} {pt : List ℤ} {c d : Columns} {B : Bridge} (A : Sound sh
 
   -- the rules with dummies afterwards
   pub down-rules : Rules⁺ sh (Member sh c) (extended sh c)
-  down-rules = by-seats (seat loop-in (λ e. omega (arith, in-1 .0, e)) keeps at-1) (seat ring-in (λ e. omega (arith, in-2 .0, e)) keeps at-2)
+  down-rules = by-seats (seat loop-in (λ e. omega (arith, in-1 .0, e)) keeps at-1)
+      (seat ring-in (λ e. omega (arith, in-2 .0, e)) keeps at-2)

@@ -1,4 +1,4 @@
--- kemr on the list: what it leaves shows the columns without the bridge.
+-- kemr on the list: what it leaves shows the columns without the bridge, so a good table stays good.
 use mathlib.Core.Path.{_≡_, refl, sym, ap, _∙_}
 use mathlib.Core.Logic.{_≢_, _⊎_, inl, inr, ⊎-elim}
 use mathlib.Core.List.{List}
@@ -11,7 +11,6 @@ use Rattle.laws.specs.Search.{least-ext}
 use Rattle.laws.specs.Permutations.{iter-in}
 use Rattle.laws.specs.Cycles.{Cycles}
 use Rattle.layout.specs.declared.shape.Shape.{Shape}
-use Rattle.layout.specs.Mate.{mate}
 use Rattle.euler.specs.Surgery.{loopRecord, relabelRun, renew}
 use Rattle.sound_tables.specs.EdgeIn.{prev-in}
 use Rattle.layout.specs.Fields.{Capacity, Face, First, Isolated, Loop, Next, Prev, Columns}
@@ -24,10 +23,12 @@ use Rattle.sound_tables.specs.Walking.{runColumns, shows-relabel}
 use Rattle.sound_tables.specs.FirstLow.{first-low}
 use Rattle.sound_tables.specs.Shown.{withFirst, shows-no-edge, shows-first, shows-isolated}
 use Rattle.sound_tables.specs.Good.{own, Good, good-shows, good-after}
-use Rattle.sound_bridges.specs.Relation.{Spot, Corner, foundAt, Bridge, Numbers, numbers, spot1, spot2, Ends, Bridged, off-k, off-a, new-a}
+use Rattle.sound_bridges.specs.Relation.{Spot, Corner, foundAt, Bridge, Numbers, numbers, spot1, spot2, Ends}
+use Rattle.sound_bridges.specs.Relation.{Bridged, off-k, off-a, new-a}
 use Rattle.sound_bridges.specs.KemrSound.{down-sound}
 use Rattle.sound_bridges.specs.KemrRules.{down-rules}
-use Rattle.sound_bridges.specs.KemrColumns.{spanBridge, partedList, kemrList, cutColumns, kemrColumns, Span, walk, down-bridged, down-first, down-first-2}
+use Rattle.sound_bridges.specs.KemrColumns.{spanBridge, partedList, kemrList, cutColumns, kemrColumns, Span, walk}
+use Rattle.sound_bridges.specs.KemrColumns.{down-bridged, down-first, down-first-2}
 
 module _ {sh : Shape} {x : List ℕ} {p : List ℤ} (g : Good sh x p) {k l2 : ℕ} (o : Span sh (own sh x) k l2) where
   -- the columns before
@@ -94,7 +95,8 @@ module _ {sh : Shape} {x : List ℕ} {p : List ℤ} (g : Good sh x p) {k l2 : �
       first-low (g .sound) l i (loop-in .0) j was .1
 
   -- a loop with the corner at N gets its first, or is isolated at u
-  renewed : {y : List ℕ} {e : Columns} (s : Spot) → Shows sh y e → Cycles (2 * sh .edges) (HalfUsed sh c) (e Next) (e Loop)
+  renewed : {y : List ℕ} {e : Columns} (s : Spot) → Shows sh y e
+      → Cycles (2 * sh .edges) (HalfUsed sh c) (e Next) (e Loop)
       → ((i : ℕ) → e Loop i ≡ c Loop i) → Corner sh c s → In (sh .loops) (s .l) → In (sh .vertices) (s .u)
       → ((i : ℕ) → HalfUsed sh c i → i ≢ s .k) → (s .l ≡ l2) ⊎ (s .l ≡ l)
       → Shows sh (renew sh y (s .l) (own sh x First (own sh x Loop k)) (foundAt s) (s .u))

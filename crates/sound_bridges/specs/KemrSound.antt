@@ -1,4 +1,5 @@
--- kemr on the columns: where d is sound, and c has the rules with dummies and the firsts of its two loops, c is sound.
+-- kemr on the columns: c is sound where d is, and where c has the rules with dummies (`KemrRules`) and the firsts of its
+-- two loops.
 use mathlib.Core.Path.{_≡_, refl, sym, ap, _∙_, subst}
 use mathlib.Core.Logic.{_≢_, inl, inr, ⊎-elim}
 use mathlib.Core.List.{List}
@@ -11,22 +12,30 @@ use Rattle.laws.specs.Linked.{same, link, map-linked}
 use Rattle.layout.specs.declared.shape.Shape.{Shape}
 use Rattle.layout.specs.Mate.{mate}
 use Rattle.layout.specs.MateLaws.{mate-mate}
-use Rattle.layout.specs.Fields.{Solid, Outer, Face, First, Isolated, Start, Loop, Next, Prev, VertexUsed, SolidUsed, Columns}
+use Rattle.layout.specs.Fields.{Solid, Outer, Face, First, Isolated, Start, Loop, Next, Prev, VertexUsed, SolidUsed}
+use Rattle.layout.specs.Fields.{Columns}
 use Rattle.sound_tables.specs.Mates.{mate⁺}
 use Rattle.sound_tables.specs.EdgeIn.{Rules}
 use Rattle.sound_tables.specs.Solids.{Solids}
-use Rattle.sound_tables.specs.Sound.{In, HalfUsed, FaceUsed, side, firstOf, LoopSound, HalfSound, HalfFree, Sound, half-by}
+use Rattle.sound_tables.specs.Sound.{In, HalfUsed, FaceUsed, side, firstOf, LoopSound, HalfSound, HalfFree, Sound}
+use Rattle.sound_tables.specs.Sound.{half-by}
 use Rattle.sound_tables.specs.Names.{lone-kept}
-use Rattle.sound_tables.specs.WithDummies.{extended, Member, Corners, sound-corners, corners-rules, corners-loop, corners-vertex}
-use Rattle.sound_bridges.specs.CornerMembers.{LoopMember, VertexMember, half-loop, lone-loop, of-loop, half-vertex, lone-vertex, of-vertex, corner-members}
-use Rattle.sound_bridges.specs.Relation.{Spot, Bridge, Numbers, numbers, Ends, Corner, Bridged, corner-before, corner-after, off-k, off-a, half-stays, half-back, dummy-other, dummy-was, side-same, side-k, side-a, same-name}
+use Rattle.sound_tables.specs.WithDummies.{extended, Member, Corners, sound-corners, corners-rules, corners-loop}
+use Rattle.sound_tables.specs.WithDummies.{corners-vertex}
+use Rattle.sound_bridges.specs.CornerMembers.{LoopMember, VertexMember, half-loop, lone-loop, of-loop}
+use Rattle.sound_bridges.specs.CornerMembers.{half-vertex, lone-vertex, of-vertex, corner-members}
+use Rattle.sound_bridges.specs.Relation.{Spot, Bridge, Numbers, numbers, Ends, Corner, Bridged, corner-before}
+use Rattle.sound_bridges.specs.Relation.{corner-after, off-k, off-a, half-stays, half-back, dummy-other}
+use Rattle.sound_bridges.specs.Relation.{dummy-was, side-same, side-k, side-a, same-name}
 
 module _ {sh : Shape} {p : List ℤ} {c d : Columns} {B : Bridge} (a : Sound sh p d) (b : Bridged sh c d B)
-    (rules⁺ : Rules (2 * sh .edges + sh .loops) (mate⁺ (sh .edges)) (Member sh c) (extended sh c)) (first-1 : c First (B .l) ≡ firstOf sh c (B .l)) (first-2 : c First (B .l2) ≡ firstOf sh c (B .l2)) where
+    (rules⁺ : Rules (2 * sh .edges + sh .loops) (mate⁺ (sh .edges)) (Member sh c) (extended sh c))
+    (first-1 : c First (B .l) ≡ firstOf sh c (B .l)) (first-2 : c First (B .l2) ≡ firstOf sh c (B .l2)) where
   open Numbers (numbers sh B) using (n)
   open Bridge B using (k, l, l2, u1, u2)
   open Ends (b .ends) using (loop-in, ring-in, two, one-face, at-1, at-2, in-1, in-2, used-1, used-2, zero-k, zero-a)
-  open Bridged b using (start-k, start-a, start-o, loop-k, loop-a, loop-2, loop-o, next-o, prev-o, face-2, face-o, first-o, isolated-1, isolated-2, isolated-o, others)
+  open Bridged b using (start-k, start-a, start-o, loop-k, loop-a, loop-2, loop-o, next-o, prev-o, face-2, face-o)
+  open Bridged b using (first-o, isolated-1, isolated-2, isolated-o, others)
 
   -- ---- members of loops and vertices
 
@@ -84,22 +93,30 @@ module _ {sh : Shape} {p : List ℤ} {c d : Columns} {B : Bridge} (a : Sound sh 
   -- at a corner of the two
   corner-used : {s : Spot} → Corner sh c s → In (sh .vertices) (s .u) → c VertexUsed (s .u) ≢ 0 → c Isolated (s .l) ≢ 0
       → In (sh .vertices) (c Isolated (s .l)) × (c VertexUsed (c Isolated (s .l)) ≢ 0)
-  corner-used q i x h = ⊎-elim (λ r. (subst (In (sh .vertices)) (sym (r .isolated)) i, λ z. x (ap (c VertexUsed) (sym (r .isolated)) ∙ z))) (λ r. absurd (h (r .isolated))) q
+  corner-used q i x h =
+      ⊎-elim (λ r.
+      (subst (In (sh .vertices)) (sym (r .isolated)) i, λ z. x (ap (c VertexUsed) (sym (r .isolated)) ∙ z)))
+      (λ r. absurd (h (r .isolated))) q
 
   -- an isolated vertex is in use
-  isolated-used : (m : ℕ) → In (sh .loops) m → c Isolated m ≢ 0 → In (sh .vertices) (c Isolated m) × (c VertexUsed (c Isolated m) ≢ 0)
+  isolated-used : (m : ℕ) → In (sh .loops) m → c Isolated m ≢ 0
+      → In (sh .vertices) (c Isolated m) × (c VertexUsed (c Isolated m) ≢ 0)
   isolated-used m y h = split m l
-      (λ e. subst (λ m. c Isolated m ≢ 0 → In (sh .vertices) (c Isolated m) × (c VertexUsed (c Isolated m) ≢ 0)) (sym e) (corner-used at-1 in-1 used-1) h)
+      (λ e. subst (λ m. c Isolated m ≢ 0 → In (sh .vertices) (c Isolated m) × (c VertexUsed (c Isolated m) ≢ 0)) (sym e)
+      (corner-used at-1 in-1 used-1) h)
       (λ e. split m l2
-      (λ f. subst (λ m. c Isolated m ≢ 0 → In (sh .vertices) (c Isolated m) × (c VertexUsed (c Isolated m) ≢ 0)) (sym f) (corner-used at-2 in-2 used-2) h)
+      (λ f. subst (λ m. c Isolated m ≢ 0 → In (sh .vertices) (c Isolated m) × (c VertexUsed (c Isolated m) ≢ 0)) (sym f)
+      (corner-used at-2 in-2 used-2) h)
       (λ f. lone-kept a c m y (sym (isolated-o m e f)) used h))
 
   -- a free half-edge is all zero
   c-half-free : (i : ℕ) → In n i → c Start i ≡ 0 → HalfFree sh c i
   c-half-free i j z = split i k
-      (λ e. record { loop = ap (c Loop) e ∙ zero-k .l; next = ap (c Next) e ∙ zero-k .n; prev = ap (c Prev) e ∙ zero-k .p })
+      (λ e. record
+      { loop = ap (c Loop) e ∙ zero-k .l; next = ap (c Next) e ∙ zero-k .n; prev = ap (c Prev) e ∙ zero-k .p })
       (λ e. split i (mate k)
-      (λ f. record { loop = ap (c Loop) f ∙ zero-a .l; next = ap (c Next) f ∙ zero-a .n; prev = ap (c Prev) f ∙ zero-a .p })
+      (λ f. record
+      { loop = ap (c Loop) f ∙ zero-a .l; next = ap (c Next) f ∙ zero-a .n; prev = ap (c Prev) f ∙ zero-a .p })
       (λ f.
       let r = a .half-free i j (start-o i e f ∙ z) in
       let g : c Loop i ≢ l2 = λ q. omega (arith, loop-in .0, sym (loop-2 i j q) ∙ r .loop) in
@@ -114,7 +131,8 @@ module _ {sh : Shape} {p : List ℤ} {c d : Columns} {B : Bridge} (a : Sound sh 
   l-loop = a .loop l loop-in (face-was l two (b .ends .used))
 
   -- from a loop of d in the same face
-  loop-by : (m m′ : ℕ) → In (sh .loops) m → c Face m ≢ 0 → c Face m ≡ d Face m′ → LoopSound sh d m′ → c First m ≡ firstOf sh c m → LoopSound sh c m
+  loop-by : (m m′ : ℕ) → In (sh .loops) m → c Face m ≢ 0 → c Face m ≡ d Face m′ → LoopSound sh d m′
+      → c First m ≡ firstOf sh c m → LoopSound sh c m
   loop-by m m′ y h e r f = record {
     face-in = subst (In (sh .faces)) (sym e) (r .face-in);
     face-used = λ z. solid-back _ (r .face-used) (ap (c Solid) (sym e) ∙ z);
@@ -125,12 +143,15 @@ module _ {sh : Shape} {p : List ℤ} {c d : Columns} {B : Bridge} (a : Sound sh 
   -- a loop in use is sound
   c-loop : (m : ℕ) → In (sh .loops) m → c Face m ≢ 0 → LoopSound sh c m
   c-loop m y h = split m l
-      (λ e. loop-by m l y h (ap (c Face) e ∙ sym (face-o l two)) l-loop (ap (c First) e ∙ first-1 ∙ ap (firstOf sh c) (sym e)))
+      (λ e. loop-by m l y h (ap (c Face) e ∙ sym (face-o l two)) l-loop
+      (ap (c First) e ∙ first-1 ∙ ap (firstOf sh c) (sym e)))
       (λ e. split m l2
-      (λ f. loop-by m l y h (ap (c Face) f ∙ one-face ∙ sym (face-o l two)) l-loop (ap (c First) f ∙ first-2 ∙ ap (firstOf sh c) (sym f)))
+      (λ f. loop-by m l y h (ap (c Face) f ∙ one-face ∙ sym (face-o l two)) l-loop
+      (ap (c First) f ∙ first-2 ∙ ap (firstOf sh c) (sym f)))
       (λ f.
       let r = a .loop m y (face-was m f h) in
-      loop-by m m y h (sym (face-o m f)) r (sym (first-o m e f) ∙ r .first ∙ sym (least-ext n _ _ (λ i w z. same-name b m y e f i (w, z))))))
+      loop-by m m y h (sym (face-o m f)) r (sym (first-o m e f) ∙ r .first
+      ∙ sym (least-ext n _ _ (λ i w z. same-name b m y e f i (w, z))))))
 
   -- ---- half-edges
 
@@ -160,33 +181,42 @@ module _ {sh : Shape} {p : List ℤ} {c d : Columns} {B : Bridge} (a : Sound sh 
 
   -- from its other half as well
   other-side : (i : ℕ) → (i ≡ mate k) → side d i ≡ side d (mate i)
-  other-side i e = ap (side d) e ∙ side-a b ∙ sym (side-k b) ∙ ap (side d) (sym (mate-mate k)) ∙ ap (λ j. side d (mate j)) (sym e)
+  other-side i e = ap (side d) e ∙ side-a b ∙ sym (side-k b) ∙ ap (side d) (sym (mate-mate k))
+      ∙ ap (λ j. side d (mate j)) (sym e)
 
   -- mates of c are of c
   mate-back : (i : ℕ) → HalfUsed sh c i → HalfUsed sh c (mate i)
   mate-back i w = half-back b (mate i) (a .rules .mate-in i (half-stays b i w))
-      (λ e. off-a b i w (sym (mate-mate i) ∙ ap mate e)) (λ e. off-k b i w (sym (mate-mate i) ∙ ap mate e ∙ mate-mate k))
+      (λ e. off-a b i w (sym (mate-mate i) ∙ ap mate e))
+      (λ e. off-k b i w (sym (mate-mate i) ∙ ap mate e ∙ mate-mate k))
 
   -- rule 6: what the bridge linked was one face already
   c-solids : Solids (HalfUsed sh c) (FaceUsed sh c) (side c) mate (c Solid)
   c-solids = record {
-    side-in = λ i w. let f = a .solids .side-in i (half-stays b i w) in subst (FaceUsed sh c) (side-same b i w) (f .0, f .1, solid-back _ (f .2));
-    edge = λ i w. solid-of (sym (side-same b (mate i) (mate-back i w))) ∙ a .solids .edge i (half-stays b i w) ∙ sym (solid-of (sym (side-same b i w)));
+    side-in = λ i w. let f = a .solids .side-in i (half-stays b i w) in
+        subst (FaceUsed sh c) (side-same b i w) (f .0, f .1, solid-back _ (f .2));
+    edge = λ i w. solid-of (sym (side-same b (mate i) (mate-back i w))) ∙ a .solids .edge i (half-stays b i w)
+        ∙ sym (solid-of (sym (side-same b i w)));
     one = λ f g x y e. map-linked (λ i. i)
-        (λ i j t. split (t .0) k (λ q. same (sym (t .2) ∙ one-side (t .0) q ∙ t .3)) (λ q. split (t .0) (mate k) (λ q′. same (sym (t .2) ∙ other-side (t .0) q′ ∙ t .3))
-        (λ q′. let w = half-back b (t .0) (t .1) q q′ in link (t .0, w, sym (side-same b (t .0) w) ∙ t .2, sym (side-same b (mate (t .0)) (mate-back (t .0) w)) ∙ t .3))))
-        (a .solids .one f g (x .0, x .1, λ z. x .2 (sym (others Solid refl f) ∙ z)) (y .0, y .1, λ z. y .2 (sym (others Solid refl g) ∙ z)) (others Solid refl f ∙ e ∙ sym (others Solid refl g)));
+        (λ i j (h, u, e, e′). split h k (λ z. same (sym e ∙ one-side h z ∙ e′))
+        (λ z. split h (mate k) (λ y. same (sym e ∙ other-side h y ∙ e′))
+        (λ y. let w = half-back b h u z y in
+        link (h, w, sym (side-same b h w) ∙ e, sym (side-same b (mate h) (mate-back h w)) ∙ e′))))
+        (a .solids .one f g (x .0, x .1, λ z. x .2 (sym (others Solid refl f) ∙ z))
+        (y .0, y .1, λ z. y .2 (sym (others Solid refl g) ∙ z)) (others Solid refl f ∙ e ∙ sym (others Solid refl g)));
   }
 
   -- the table without the bridge is sound
   pub down-sound : Sound sh p c
   down-sound = record {
     solid-mark = λ s i. rw (← others SolidUsed refl s) (a .solid-mark s i);
-    solid = λ s i h. let r = a .solid s i (λ z. h (sym (others SolidUsed refl s) ∙ z)) in (r .0, r .1, sym (others Solid refl (r .0)) ∙ r .2);
+    solid = λ s i h. let r = a .solid s i (λ z. h (sym (others SolidUsed refl s) ∙ z)) in
+        (r .0, r .1, sym (others Solid refl (r .0)) ∙ r .2);
     face-free = λ f i h. sym (others Outer refl f) ∙ a .face-free f i (others Solid refl f ∙ h);
     face = λ f i h.
         let r = a .face f i (λ z. h (sym (others Solid refl f) ∙ z)) in
-        let o : c Outer f ≢ l2 = λ e. omega (arith, i .0, sym (r .outer-face) ∙ ap (d Face) (others Outer refl f ∙ e) ∙ face-2) in
+        let o : c Outer f ≢ l2 =
+        λ e. omega (arith, i .0, sym (r .outer-face) ∙ ap (d Face) (others Outer refl f ∙ e) ∙ face-2) in
         record {
           solid-in = subst (In (sh .solids)) (others Solid refl f) (r .solid-in);
           solid-used = λ z. r .solid-used (others SolidUsed refl _ ∙ ap (c SolidUsed) (others Solid refl f) ∙ z);
@@ -203,7 +233,8 @@ module _ {sh : Shape} {p : List ℤ} {c d : Columns} {B : Bridge} (a : Sound sh 
     half = λ i j h. c-half i (j .0, j .1, h);
     vertex-mark = λ w i. rw (← others VertexUsed refl w) (a .vertex-mark w i);
     vertex = corners-vertex c-corners;
-    point = λ w i. let r = a .point w i in record { range = r .range; zero = λ h. r .zero (others VertexUsed refl w ∙ h) };
+    point = λ w i. let r = a .point w i in
+        record { range = r .range; zero = λ h. r .zero (others VertexUsed refl w ∙ h) };
     rules = corners-rules c-corners;
     solids = c-solids;
   }

@@ -1,5 +1,5 @@
--- What mekr leaves, as a list and as columns, and: these columns differ from those before by the bridge. The walk that
--- gives the ring's half-edges their new loop is said here by its outcome (`joinedLoops`); `MekrShown` ties it to the walk.
+-- What mekr leaves, as a list and as columns; these columns differ from those before by the bridge. Of the walk that
+-- gives the ring's half-edges their new loop the outcome is said (`joinedLoops`); `MekrShown` ties it to the walk.
 use mathlib.Core.Path.{_≡_, refl, sym, ap, _∙_}
 use mathlib.Core.Logic.{_≢_, ⊎-elim}
 use mathlib.Core.Bool.{false}
@@ -140,13 +140,19 @@ module _ {sh : Shape} {c : Columns} {B : Bridge} (o : Ends sh c B) where
     loop-a = upd-same _ a l;
     loop-2 = λ i j z. upd-off _ l (ring-a z) ∙ upd-off _ l (ring-k z) ∙ relabel-at (c Loop) l2 l z;
     loop-o = λ i e f z. upd-off _ l f ∙ upd-off _ l e ∙ relabel-off (c Loop) l2 l z;
-    next-k = ⊎-elim (λ r. upd-at _ a (sym (r .before)) ∙ sym (r .after)) (λ r. upd-off _ a (λ e. off-k (r .before) (sym e)) ∙ upd-off _ k (λ e. P1k (sym e)) ∙ upd-off _ N1 ka ∙ upd-same _ k N2) at-2;
-    next-a = upd-off _ a (λ e. P2a (sym e)) ∙ ⊎-elim (λ r. upd-at _ k (sym (r .before)) ∙ sym (r .after)) (λ r. upd-off _ k (λ e. off-a (r .before) (sym e)) ∙ upd-same _ a N1) at-1;
+    next-k = ⊎-elim (λ r. upd-at _ a (sym (r .before)) ∙ sym (r .after))
+        (λ r. upd-off _ a (λ e. off-k (r .before) (sym e)) ∙ upd-off _ k (λ e. P1k (sym e)) ∙ upd-off _ N1 ka
+        ∙ upd-same _ k N2) at-2;
+    next-a = upd-off _ a (λ e. P2a (sym e)) ∙ ⊎-elim (λ r. upd-at _ k (sym (r .before)) ∙ sym (r .after))
+        (λ r. upd-off _ k (λ e. off-a (r .before) (sym e)) ∙ upd-same _ a N1) at-1;
     next-1 = upd-off _ a P12 ∙ upd-same _ P1 k;
     next-2 = upd-same _ P2 a;
     next-o = λ i e f g h. upd-off _ a h ∙ upd-off _ k g ∙ upd-off _ N1 f ∙ upd-off _ N2 e;
-    prev-k = ⊎-elim (λ r. upd-at _ a (sym (r .after)) ∙ sym (r .before)) (λ r. upd-off _ a (λ e. off-k (r .after) (sym e)) ∙ upd-off _ k (λ e. N2k (sym e)) ∙ upd-off _ P2 ka ∙ upd-same _ k P1) at-1;
-    prev-a = upd-off _ a (λ e. N1a (sym e)) ∙ ⊎-elim (λ r. upd-at _ k (sym (r .after)) ∙ sym (r .before)) (λ r. upd-off _ k (λ e. off-a (r .after) (sym e)) ∙ upd-same _ a P2) at-2;
+    prev-k = ⊎-elim (λ r. upd-at _ a (sym (r .after)) ∙ sym (r .before))
+        (λ r. upd-off _ a (λ e. off-k (r .after) (sym e)) ∙ upd-off _ k (λ e. N2k (sym e)) ∙ upd-off _ P2 ka
+        ∙ upd-same _ k P1) at-1;
+    prev-a = upd-off _ a (λ e. N1a (sym e)) ∙ ⊎-elim (λ r. upd-at _ k (sym (r .after)) ∙ sym (r .before))
+        (λ r. upd-off _ k (λ e. off-a (r .after) (sym e)) ∙ upd-same _ a P2) at-2;
     prev-1 = upd-same _ N1 a;
     prev-2 = upd-off _ a N21 ∙ upd-same _ N2 k;
     prev-o = λ i e f g h. upd-off _ a g ∙ upd-off _ k h ∙ upd-off _ P2 f ∙ upd-off _ P1 e;

@@ -1,6 +1,6 @@
--- mekr: the rules with dummies once the bridge is in. The edge goes in between members of the two loops, dummies included;
--- then the two dummies are passed over. What comes out has the start, loop and next of d; previous undoes next in d
--- itself.
+-- mekr: the rules with dummies once the bridge is in. The edge goes in between members of the two loops, dummies
+-- included; then the two dummies are passed over. What comes out has the start, loop and next of d; previous undoes
+-- next in d itself.
 use mathlib.Core.Path.{_≡_, refl, sym, ap, _∙_, subst}
 use mathlib.Core.Logic.{_≢_, _⊎_, inl, inr, ⊎-elim}
 use mathlib.Core.List.{List}
@@ -12,20 +12,24 @@ use Rattle.laws.specs.Update.{upd, upd-same, upd-off, relabel-at, relabel-off}
 use Rattle.laws.specs.Moves.{Or}
 use Rattle.layout.specs.declared.shape.Shape.{Shape}
 use Rattle.layout.specs.Mate.{mate}
-use Rattle.layout.specs.Fields.{Isolated, Start, Loop, Next, Prev, Columns}
+use Rattle.layout.specs.Fields.{Isolated, Start, Loop, Next, Columns}
 use Rattle.sound_tables.specs.Mates.{mate⁺-low, mate⁺-high, mate⁺-mate⁺}
 use Rattle.sound_tables.specs.EdgeIn.{Halves, joined, merged, merged-loops, joined-rules}
 use Rattle.sound_tables.specs.Sound.{In, HalfUsed, Sound}
 use Rattle.sound_tables.specs.WithDummies.{upTo-low, upTo-high, extended, Dummy, Member, sound-corners}
-use Rattle.sound_bridges.specs.PassedOver.{pass, passed, pass-off, pass-one, pass-two, Left, pass-rules, Rules⁺, Undoes, undoes, table-rules}
+use Rattle.sound_bridges.specs.PassedOver.{pass, passed, pass-off, pass-one, pass-two, Left, pass-rules, Rules⁺}
+use Rattle.sound_bridges.specs.PassedOver.{Undoes, undoes, table-rules}
 use Rattle.sound_bridges.specs.CornerMembers.{Seat, seat, not-dummy, seat-P, off-P, far-y, dummy-seat}
-use Rattle.sound_bridges.specs.Relation.{Spot, corner-ahead, after-in, Bridge, Ends, Numbers, numbers, spot1, spot2, Bridged, ka, off-k, off-a, mem-k, mem-a, low-1, low-2, D21, new-k, new-a, half-stays, half-was, dummy-stays, dummy-other, dummy-was}
+use Rattle.sound_bridges.specs.Relation.{Spot, corner-ahead, after-in, Bridge, Ends, Numbers, numbers, spot1}
+use Rattle.sound_bridges.specs.Relation.{spot2, Bridged, ka, off-k, off-a, mem-k, mem-a, low-1, low-2, D21, new-k}
+use Rattle.sound_bridges.specs.Relation.{new-a, half-stays, half-was, dummy-stays, dummy-other, dummy-was}
 
 module _ {sh : Shape} {pt : List ℤ} {c d : Columns} {B : Bridge} (A : Sound sh pt c) (b : Bridged sh c d B) where
   open Numbers (numbers sh B) using (n, a, D1, D2)
   open Bridge B using (k, l, l2, P1, P2)
   open Ends (b .ends) using (half-in, mate-in, loop-in, ring-in, two, at-1, at-2, in-1, in-2, keeps)
-  open Bridged b using (start-k, start-a, start-o, loop-k, loop-a, loop-2, loop-o, next-k, next-a, next-1, next-2, next-o, prev-k, prev-a, prev-1, prev-2, prev-o, isolated-o)
+  open Bridged b using (start-k, start-a, start-o, loop-k, loop-a, loop-2, loop-o, next-k, next-a, next-1, next-2)
+  open Bridged b using (next-o, prev-k, prev-a, prev-1, prev-2, prev-o, isolated-o)
 
   -- the columns with dummies before
   abbrev H : Halves
@@ -41,7 +45,8 @@ module _ {sh : Shape} {pt : List ℤ} {c d : Columns} {B : Bridge} (A : Sound sh
 
   -- in d previous undoes next
   d-undone : (i : ℕ) → HalfUsed sh d i → Undoes sh d i
-  d-undone = half-was b {Q = Undoes sh d} (undoes sh d next-k (after-in at-2 mate-in .1) prev-2) (undoes sh d next-a (after-in at-1 half-in .1) prev-1)
+  d-undone = half-was b {Q = Undoes sh d} (undoes sh d next-k (after-in at-2 mate-in .1) prev-2)
+      (undoes sh d next-a (after-in at-1 half-in .1) prev-1)
       (λ i w. split i P1 (λ e. undoes sh d (ap (d Next) e ∙ next-1) (half-in .1) (prev-k ∙ sym e))
       (λ e. split i P2 (λ f. undoes sh d (ap (d Next) f ∙ next-2) (mate-in .1) (prev-a ∙ sym f))
       (λ f.
@@ -71,7 +76,8 @@ module _ {sh : Shape} {pt : List ℤ} {c d : Columns} {B : Bridge} (A : Sound sh
 
     -- p goes to k
     goes-p : G .next p ≡ k
-    goes-p = upd-off _ _ (mem-a b p (t1 .member)) ∙ upd-off _ _ pq ∙ upd-off _ _ (mem-k b p (t1 .member)) ∙ upd-same _ p k
+    goes-p = upd-off _ _ (mem-a b p (t1 .member)) ∙ upd-off _ _ pq ∙ upd-off _ _ (mem-k b p (t1 .member))
+        ∙ upd-same _ p k
 
     -- q to the mate
     goes-q : G .next q ≡ a
@@ -109,7 +115,8 @@ module _ {sh : Shape} {pt : List ℤ} {c d : Columns} {B : Bridge} (A : Sound sh
     -- one that is a member is the dummy of its loop
     high-member : {D : ℕ} → 2 * sh .edges + 1 ≤ D → U D → Dummy sh c D
     high-member h = ⊎-elim (λ e. absurd (omega (arith, h, mate-in .1, e)))
-        (⊎-elim (λ e. absurd (omega (arith, h, half-in .1, e))) (⊎-elim (λ w. absurd (omega (arith, h, w .1))) (λ w. w)))
+        (⊎-elim (λ e. absurd (omega (arith, h, half-in .1, e)))
+        (⊎-elim (λ w. absurd (omega (arith, h, w .1))) (λ w. w)))
 
     -- the dummy of a corner's loop is there or not
     there : {s : Spot} → In (sh .loops) (s .l) → Seat sh c s → U (n + s .l) ⊎ (¬ U (n + s .l))
@@ -136,12 +143,14 @@ module _ {sh : Shape} {pt : List ℤ} {c d : Columns} {B : Bridge} (A : Sound sh
 
     -- who is left is a member of d
     to-member : (i : ℕ) → Rest i → Member sh d i
-    to-member i w = ⊎-elim (λ e. subst (Member sh d) (sym e) (inl (new-a b))) (⊎-elim (λ e. subst (Member sh d) (sym e) (inl (new-k b)))
+    to-member i w = ⊎-elim (λ e. subst (Member sh d) (sym e) (inl (new-a b)))
+        (⊎-elim (λ e. subst (Member sh d) (sym e) (inl (new-k b)))
         (⊎-elim (λ x. inl (half-stays b i x)) (λ x. inr (dummy-stays b i
         (λ e. let z : i ≡ D1 = omega (arith, e, x .0) in
         low-1 b (half-in .1) (sym goes-p ∙ ap (G .next) (dummy-seat t1 (subst (Dummy sh c) z x) .0) ∙ w .1 z))
         (λ e. let z : i ≡ D2 = omega (arith, e, x .0) in
-        low-2 b (mate-in .1) (sym goes-q ∙ ap (G .next) (dummy-seat t2 (subst (Dummy sh c) z x) .0) ∙ w .2 z)) x)))) (w .0)
+        low-2 b (mate-in .1) (sym goes-q ∙ ap (G .next) (dummy-seat t2 (subst (Dummy sh c) z x) .0) ∙ w .2 z)) x))))
+        (w .0)
 
     -- and back
     from-member : (i : ℕ) → Member sh d i → Rest i
@@ -152,7 +161,7 @@ module _ {sh : Shape} {pt : List ℤ} {c d : Columns} {B : Bridge} (A : Sound sh
     )
     from-member i (inr w) =
         let e = dummy-other b i w in
-        (inr (inr (inr (dummy-was b i w))), λ z. absurd (e .0 (omega (arith, z))), λ z. absurd (e .1 (omega (arith, z))))
+        (inr (inr (inr (dummy-was b i w))), λ z. absurd (not-dummy sh (e .0) z), λ z. absurd (not-dummy sh (e .1) z))
 
     -- a statement about each: about k, its mate, a half-edge of c, a dummy of another loop
     each : (Q : ℕ → Type 0) → Q k → Q (mate k) → ((i : ℕ) → HalfUsed sh c i → Q i)
@@ -185,7 +194,8 @@ module _ {sh : Shape} {pt : List ℤ} {c d : Columns} {B : Bridge} (A : Sound sh
         (λ i w.
         let h : H .loop i ≡ c Loop i = upTo-low n (c Loop) _ i (w .1) in
         upTo-low n (d Loop) _ i (w .1) ∙ split (c Loop i) l2
-        (λ e. loop-2 i (w .0, w .1) e ∙ sym (away _ _ _ i (inl w) ∙ relabel-at (H .loop) _ _ (h ∙ e ∙ sym (t2 .loop)) ∙ t1 .loop))
+        (λ e. loop-2 i (w .0, w .1) e ∙ sym (away _ _ _ i (inl w) ∙ relabel-at (H .loop) _ _ (h ∙ e ∙ sym (t2 .loop))
+        ∙ t1 .loop))
         (λ e. loop-o i (off-k b i w) (off-a b i w) e
         ∙ sym (away _ _ _ i (inl w) ∙ relabel-off (H .loop) _ _ (λ z. e (sym h ∙ z ∙ t2 .loop)) ∙ h)))
         (λ i w e f.
@@ -213,9 +223,11 @@ module _ {sh : Shape} {pt : List ℤ} {c d : Columns} {B : Bridge} (A : Sound sh
         (λ e. split i q
         (λ f. ap (d Next) (seat-P t2 ring-in w f) ∙ next-2 ∙ sym (pass-low i (ap (G .next) f ∙ goes-q) (mate-in .1)))
         (λ f. next-o i (off-k b i w) (off-a b i w) (off-P t1 (off-a b i w) e) (off-P t2 (off-k b i w) f)
-        ∙ sym (pass-low i (goes-o i (inl w) e f ∙ upTo-low n (c Next) _ i (w .1)) (A .rules .loops .perm .f-in i w .1)))))
+        ∙ sym (pass-low i (goes-o i (inl w) e f ∙ upTo-low n (c Next) _ i (w .1))
+        (A .rules .loops .perm .f-in i w .1)))))
         (λ i w e f.
-        let h : G .next i ≡ i = goes-o i (inr w) (far-y t1 (w .0) e) (far-y t2 (w .0) f) ∙ upTo-high n (c Next) (λ j. j) i (w .0) in
+        let h : G .next i ≡ i = goes-o i (inr w) (far-y t1 (w .0) e) (far-y t2 (w .0) f)
+        ∙ upTo-high n (c Next) (λ j. j) i (w .0) in
         upTo-high n (d Next) (λ j. j) i (w .0)
         ∙ sym (pass-off D1 D2 (G .next) (λ z. not-dummy sh e (sym h ∙ z)) (λ z. not-dummy sh f (sym h ∙ z)) ∙ h))
 
@@ -225,4 +237,5 @@ module _ {sh : Shape} {pt : List ℤ} {c d : Columns} {B : Bridge} (A : Sound sh
 
   -- the rules with dummies afterwards
   pub up-rules : Rules⁺ sh (Member sh d) (extended sh d)
-  up-rules = by-seats (seat loop-in (λ e. omega (arith, in-1 .0, e)) keeps at-1) (seat ring-in (λ e. omega (arith, in-2 .0, e)) keeps at-2)
+  up-rules = by-seats (seat loop-in (λ e. omega (arith, in-1 .0, e)) keeps at-1)
+      (seat ring-in (λ e. omega (arith, in-2 .0, e)) keeps at-2)

@@ -1,5 +1,5 @@
--- mekr on the list: what it leaves shows the columns with the bridge. The walk that gives the ring its new loop meets the
--- ring's half-edges and no others.
+-- mekr on the list: what it leaves shows the columns with the bridge, so a good table stays good. The walk that gives
+-- the ring its new loop meets the ring's half-edges and no others.
 use mathlib.Core.Path.{_≡_, refl, sym, ap, _∙_, subst}
 use mathlib.Core.Logic.{_≢_, ⊎-elim}
 use mathlib.Core.List.{List, [], _∷_}
@@ -23,10 +23,12 @@ use Rattle.sound_tables.specs.Walking.{Steps, runColumns, shows-relabel, run-me
 use Rattle.sound_tables.specs.FirstLow.{lower-one, lower-other, lower-new, first-low}
 use Rattle.sound_tables.specs.Shown.{shows-edge, shows-first}
 use Rattle.sound_tables.specs.Good.{own, Good, good-shows, good-after}
-use Rattle.sound_bridges.specs.Relation.{corner-away, before-in, after-in, Bridge, Numbers, numbers, Ends, Bridged, off-k, off-a, new-k, new-a, half-stays}
+use Rattle.sound_bridges.specs.Relation.{corner-away, before-in, after-in, Bridge, Numbers, numbers, Ends}
+use Rattle.sound_bridges.specs.Relation.{Bridged, off-k, off-a, new-k, new-a, half-stays}
 use Rattle.sound_bridges.specs.MekrSound.{up-sound}
 use Rattle.sound_bridges.specs.MekrRules.{up-rules}
-use Rattle.sound_bridges.specs.MekrColumns.{edgeList, mekrList, withLoops, loops-other, bridgeWrites, joinedLoops, mekrColumns, up-bridged, up-first, up-first-2}
+use Rattle.sound_bridges.specs.MekrColumns.{edgeList, mekrList, withLoops, loops-other, bridgeWrites, joinedLoops}
+use Rattle.sound_bridges.specs.MekrColumns.{mekrColumns, up-bridged, up-first, up-first-2}
 use Rattle.sound_bridges.specs.Runs.{Met, met?, run-to, met-in, met-next, met-first}
 
 module _ {sh : Shape} {x : List ℕ} {p : List ℤ} (g : Good sh x p) {B : Bridge} (o : Ends sh (own sh x) B) where
@@ -101,9 +103,11 @@ module _ {sh : Shape} {x : List ℕ} {p : List ℤ} (g : Good sh x p) {B : Bridg
   -- it meets every half-edge of the ring
   all-met : (i : ℕ) → HalfUsed sh c i → c Loop i ≡ l2 → OnRun i
   all-met i w z = ⊎-elim
-      (λ r. absurd (lone-unnamed (g .sound) l2 ring-in (λ q. omega (arith, in-2 .0, sym (r .isolated) ∙ q)) i (w .0, w .1) z))
+      (λ r. absurd (lone-unnamed (g .sound) l2 ring-in (λ q. omega (arith, in-2 .0, sym (r .isolated) ∙ q)) i
+      (w .0, w .1) z))
       (λ r.
-      let m = forwards (g .sound .rules .loops .perm) (g .sound .rules .loops .one N2 i (r .after) w (r .loop ∙ sym z)) in
+      let m = forwards (g .sound .rules .loops .perm)
+      (g .sound .rules .loops .one N2 i (r .after) w (r .loop ∙ sym z)) in
       let first : OnRun N2 = subst OnRun (b .next-k)
       (met-first perm (new-k b) (run .2) (λ e. off-a b N2 (r .after) (sym (b .next-k) ∙ e))) in
       subst OnRun (m .0 .1) (steps (r .next) first (m .0 .0) N2 first (r .after) (r .loop)))
@@ -121,8 +125,10 @@ module _ {sh : Shape} {x : List ℕ} {p : List ℤ} (g : Good sh x p) {B : Bridg
       -- one that is not met does not name the ring
       not-ring : ((t : ℕ) → t < run .0 → iter (d Next) t (d Next k) ≢ i) → c Loop i ≢ l2
       not-ring m z =
-          let i0 : 1 ≤ i = split i 0 (λ e. absurd (omega (arith, ring-in .0, sym z ∙ ap (c Loop) e))) (λ e. omega (arith, e)) in
-          let w : HalfUsed sh c i = (i0, h, λ q. omega (arith, ring-in .0, sym z ∙ g .sound .half-free i (i0, h) q .loop)) in
+          let i0 : 1 ≤ i = split i 0 (λ e. absurd (omega (arith, ring-in .0, sym z ∙ ap (c Loop) e)))
+          (λ e. omega (arith, e)) in
+          let w : HalfUsed sh c i =
+          (i0, h, λ q. omega (arith, ring-in .0, sym z ∙ g .sound .half-free i (i0, h) q .loop)) in
           let t = all-met i w z in m (t .0) (t .1) (t .2)
 
   -- and all other columns
@@ -162,7 +168,8 @@ module _ {sh : Shape} {x : List ℕ} {p : List ℤ} (g : Good sh x p) {B : Bridg
   -- the list shows these columns
   pub mekr-shows : Shows sh (mekrList sh x B) (mekrColumns sh (own sh x) B)
   mekr-shows =
-      shows-first {U = HalfUsed sh d} (shows-writes (loopRecord l2 0 0 0) joined-shows (ring-in, (ring-in, (ring-in, tt))))
+      shows-first {U = HalfUsed sh d} (shows-writes (loopRecord l2 0 0 0) joined-shows
+      (ring-in, (ring-in, (ring-in, tt))))
       l low k 0 loop-in cycles (new-k b) (b .loop-k)
       (λ i j e. (j .0, j .1, λ q. omega (arith, loop-in .0, sym e ∙ mekr-sound .half-free i j q .loop))) from
 

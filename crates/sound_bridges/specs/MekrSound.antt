@@ -1,4 +1,5 @@
--- mekr on the columns: where c is sound, and d has the rules with dummies and the first of its loop, d is sound.
+-- mekr on the columns: d is sound where c is, and where d has the rules with dummies (`MekrRules`) and the first of its
+-- loop.
 use mathlib.Core.Path.{_≡_, refl, sym, ap, _∙_, subst}
 use mathlib.Core.Logic.{_≢_, inl, inr, ⊎-elim}
 use mathlib.Core.List.{List}
@@ -15,18 +16,25 @@ use Rattle.layout.specs.Fields.{Solid, Outer, Face, First, Isolated, Start, Loo
 use Rattle.sound_tables.specs.Mates.{mate⁺}
 use Rattle.sound_tables.specs.EdgeIn.{Rules}
 use Rattle.sound_tables.specs.Solids.{Solids}
-use Rattle.sound_tables.specs.Sound.{In, HalfUsed, FaceUsed, side, firstOf, LoopSound, HalfSound, HalfFree, Sound, half-by}
+use Rattle.sound_tables.specs.Sound.{In, HalfUsed, FaceUsed, side, firstOf, LoopSound, HalfSound, HalfFree, Sound}
+use Rattle.sound_tables.specs.Sound.{half-by}
 use Rattle.sound_tables.specs.Names.{lone-kept}
-use Rattle.sound_tables.specs.WithDummies.{extended, Dummy, Member, Corners, sound-corners, corners-rules, corners-loop, corners-vertex}
-use Rattle.sound_bridges.specs.CornerMembers.{LoopMember, VertexMember, half-loop, lone-loop, of-loop, half-vertex, lone-vertex, of-vertex}
-use Rattle.sound_bridges.specs.Relation.{Spot, Bridge, Numbers, numbers, Ends, Corner, Bridged, corner-before, corner-after, off-k, off-a, new-k, new-a, half-stays, half-was, free-loop, dummy-stays, side-same, side-k, side-a, same-name}
+use Rattle.sound_tables.specs.WithDummies.{extended, Dummy, Member, Corners, sound-corners, corners-rules, corners-loop}
+use Rattle.sound_tables.specs.WithDummies.{corners-vertex}
+use Rattle.sound_bridges.specs.CornerMembers.{LoopMember, VertexMember, half-loop, lone-loop, of-loop}
+use Rattle.sound_bridges.specs.CornerMembers.{half-vertex, lone-vertex, of-vertex}
+use Rattle.sound_bridges.specs.Relation.{Spot, Bridge, Numbers, numbers, Ends, Corner, Bridged, corner-before}
+use Rattle.sound_bridges.specs.Relation.{corner-after, off-k, off-a, new-k, new-a, half-stays, half-was}
+use Rattle.sound_bridges.specs.Relation.{free-loop, dummy-stays, side-same, side-k, side-a, same-name}
 
 module _ {sh : Shape} {p : List ℤ} {c d : Columns} {B : Bridge} (a : Sound sh p c) (b : Bridged sh c d B)
-    (rules⁺ : Rules (2 * sh .edges + sh .loops) (mate⁺ (sh .edges)) (Member sh d) (extended sh d)) (first-1 : d First (B .l) ≡ firstOf sh d (B .l)) (first-2 : d First (B .l2) ≡ 0) where
+    (rules⁺ : Rules (2 * sh .edges + sh .loops) (mate⁺ (sh .edges)) (Member sh d) (extended sh d))
+    (first-1 : d First (B .l) ≡ firstOf sh d (B .l)) (first-2 : d First (B .l2) ≡ 0) where
   open Numbers (numbers sh B) using (n)
   open Bridge B using (k, l, l2, u1, u2)
   open Ends (b .ends) using (half-in, mate-in, loop-in, two, ring, at-1, at-2, in-1, in-2, used-1, used-2)
-  open Bridged b using (start-k, start-a, start-o, loop-k, loop-a, loop-2, loop-o, next-o, prev-o, face-2, face-o, first-o, isolated-1, isolated-2, isolated-o, others)
+  open Bridged b using (start-k, start-a, start-o, loop-k, loop-a, loop-2, loop-o, next-o, prev-o, face-2, face-o)
+  open Bridged b using (first-o, isolated-1, isolated-2, isolated-o, others)
 
   -- ---- members of loops and vertices
 
@@ -39,7 +47,8 @@ module _ {sh : Shape} {p : List ℤ} {c d : Columns} {B : Bridge} (a : Sound sh 
 
   -- a dummy of an isolated corner is at its vertex
   at-lone : {s : Spot} → Corner sh c s → (i : ℕ) → i - n ≡ s .l → Dummy sh c i → c Isolated (i - n) ≡ s .u
-  at-lone q i z w = ⊎-elim (λ r. ap (c Isolated) z ∙ r .isolated) (λ r. absurd (w .2 (ap (c Isolated) z ∙ r .isolated))) q
+  at-lone q i z w = ⊎-elim (λ r. ap (c Isolated) z ∙ r .isolated)
+      (λ r. absurd (w .2 (ap (c Isolated) z ∙ r .isolated))) q
 
   -- a vertex of d has a member
   vertex-member : (v : ℕ) → VertexMember sh c v → VertexMember sh d v
@@ -74,7 +83,8 @@ module _ {sh : Shape} {p : List ℤ} {c d : Columns} {B : Bridge} (a : Sound sh 
   solid-stays f x z = x (sym (others Solid refl f) ∙ z)
 
   -- an isolated vertex is in use
-  isolated-used : (m : ℕ) → In (sh .loops) m → d Isolated m ≢ 0 → In (sh .vertices) (d Isolated m) × (d VertexUsed (d Isolated m) ≢ 0)
+  isolated-used : (m : ℕ) → In (sh .loops) m → d Isolated m ≢ 0
+      → In (sh .vertices) (d Isolated m) × (d VertexUsed (d Isolated m) ≢ 0)
   isolated-used m y h =
       let e : m ≢ l = λ z. h (ap (d Isolated) z ∙ isolated-1) in
       let f : m ≢ l2 = λ z. h (ap (d Isolated) z ∙ isolated-2) in
@@ -116,7 +126,8 @@ module _ {sh : Shape} {p : List ℤ} {c d : Columns} {B : Bridge} (a : Sound sh 
   -- ---- half-edges
 
   -- from the values of start and loop
-  half-at : (i s m : ℕ) → d Start i ≡ s → d Loop i ≡ m → In (sh .vertices) s → c VertexUsed s ≢ 0 → In (sh .loops) m → c Face m ≢ 0 → m ≢ l2 → HalfSound sh d i
+  half-at : (i s m : ℕ) → d Start i ≡ s → d Loop i ≡ m → In (sh .vertices) s → c VertexUsed s ≢ 0 → In (sh .loops) m
+      → c Face m ≢ 0 → m ≢ l2 → HalfSound sh d i
   half-at i s m es em x y z w v = half-by s m es em x (used s y) z (λ g. w (sym (face-o m v) ∙ g))
 
   -- a half-edge in use is sound
@@ -124,9 +135,12 @@ module _ {sh : Shape} {p : List ℤ} {c d : Columns} {B : Bridge} (a : Sound sh 
   d-half = half-was b
       (half-at k u1 l start-k loop-k in-1 used-1 loop-in (b .ends .used) two)
       (half-at (mate k) u2 l start-a loop-a in-2 used-2 loop-in (b .ends .used) two)
-      (λ i w. let r = a .half i (w .0, w .1) (w .2) in let es = start-o i (off-k b i w) (off-a b i w) in split (c Loop i) l2
-      (λ e. half-at i (c Start i) l es (loop-2 i (w .0, w .1) e) (r .start-in) (r .start-used) loop-in (b .ends .used) two)
-      (λ e. half-at i (c Start i) (c Loop i) es (loop-o i (off-k b i w) (off-a b i w) e) (r .start-in) (r .start-used) (r .loop-in) (r .loop-used) e))
+      (λ i w. let r = a .half i (w .0, w .1) (w .2) in let es = start-o i (off-k b i w) (off-a b i w) in
+      split (c Loop i) l2
+      (λ e. half-at i (c Start i) l es (loop-2 i (w .0, w .1) e) (r .start-in) (r .start-used) loop-in
+      (b .ends .used) two)
+      (λ e. half-at i (c Start i) (c Loop i) es (loop-o i (off-k b i w) (off-a b i w) e) (r .start-in) (r .start-used)
+      (r .loop-in) (r .loop-used) e))
 
   -- ---- faces
 
@@ -145,28 +159,34 @@ module _ {sh : Shape} {p : List ℤ} {c d : Columns} {B : Bridge} (a : Sound sh 
   -- rule 6: the new edge has one face on both sides
   d-solids : Solids (HalfUsed sh d) (FaceUsed sh d) (side d) mate (d Solid)
   d-solids = record {
-    side-in = half-was b (subst (FaceUsed sh d) (sym (side-k b)) l-face) (subst (FaceUsed sh d) (sym (side-a b)) l-face) (λ i w. subst (FaceUsed sh d) (sym (side-same b i w)) (face-stays _ (a .solids .side-in i w)));
+    side-in = half-was b (subst (FaceUsed sh d) (sym (side-k b)) l-face) (subst (FaceUsed sh d) (sym (side-a b)) l-face)
+        (λ i w. subst (FaceUsed sh d) (sym (side-same b i w)) (face-stays _ (a .solids .side-in i w)));
     edge = half-was b
         (ap (d Solid) (side-a b ∙ sym (side-k b)))
         (ap (d Solid) (ap (side d) (mate-mate k) ∙ side-k b ∙ sym (side-a b)))
-        (λ i w. solid-of (side-same b (mate i) (a .rules .mate-in i w)) ∙ a .solids .edge i w ∙ sym (solid-of (side-same b i w)));
+        (λ i w. solid-of (side-same b (mate i) (a .rules .mate-in i w)) ∙ a .solids .edge i w
+        ∙ sym (solid-of (side-same b i w)));
     one = λ f g x y e. map-linked (λ i. i)
-        (λ i j (h, w, e, e′). link (h, half-stays b h w, side-same b h w ∙ e, side-same b (mate h) (a .rules .mate-in h w) ∙ e′))
-        (a .solids .one f g (x .0, x .1, λ z. x .2 (others Solid refl f ∙ z)) (y .0, y .1, λ z. y .2 (others Solid refl g ∙ z)) (sym (others Solid refl f) ∙ e ∙ others Solid refl g));
+        (λ i j (h, w, e, e′). link
+        (h, half-stays b h w, side-same b h w ∙ e, side-same b (mate h) (a .rules .mate-in h w) ∙ e′))
+        (a .solids .one f g (x .0, x .1, λ z. x .2 (others Solid refl f ∙ z))
+        (y .0, y .1, λ z. y .2 (others Solid refl g ∙ z)) (sym (others Solid refl f) ∙ e ∙ others Solid refl g));
   }
 
   -- the table with the bridge is sound
   pub up-sound : Sound sh p d
   up-sound = record {
     solid-mark = λ s i. rw (others SolidUsed refl s) (a .solid-mark s i);
-    solid = λ s i h. let r = a .solid s i (λ z. h (others SolidUsed refl s ∙ z)) in (r .0, r .1, others Solid refl (r .0) ∙ r .2);
+    solid = λ s i h. let r = a .solid s i (λ z. h (others SolidUsed refl s ∙ z)) in
+        (r .0, r .1, others Solid refl (r .0) ∙ r .2);
     face-free = λ f i h. others Outer refl f ∙ a .face-free f i (sym (others Solid refl f) ∙ h);
     face = λ f i h.
         let r = a .face f i (λ z. h (others Solid refl f ∙ z)) in
         let o : c Outer f ≢ l2 = λ e. ring (ap (c Outer) (ap (c Face) (sym e) ∙ r .outer-face) ∙ e) in
         record {
           solid-in = subst (In (sh .solids)) (sym (others Solid refl f)) (r .solid-in);
-          solid-used = λ z. r .solid-used (sym (others SolidUsed refl _) ∙ ap (d SolidUsed) (sym (others Solid refl f)) ∙ z);
+          solid-used = λ z. r .solid-used (sym (others SolidUsed refl _) ∙ ap (d SolidUsed) (sym (others Solid refl f))
+              ∙ z);
           outer-in = subst (In (sh .loops)) (sym (others Outer refl f)) (r .outer-in);
           outer-face = ap (d Face) (others Outer refl f) ∙ face-o _ o ∙ r .outer-face;
         };
@@ -182,7 +202,8 @@ module _ {sh : Shape} {p : List ℤ} {c d : Columns} {B : Bridge} (a : Sound sh 
     half = λ i j h. d-half i (j .0, j .1, h);
     vertex-mark = λ w i. rw (others VertexUsed refl w) (a .vertex-mark w i);
     vertex = corners-vertex d-corners;
-    point = λ w i. let r = a .point w i in record { range = r .range; zero = λ h. r .zero (sym (others VertexUsed refl w) ∙ h) };
+    point = λ w i. let r = a .point w i in
+        record { range = r .range; zero = λ h. r .zero (sym (others VertexUsed refl w) ∙ h) };
     rules = corners-rules d-corners;
     solids = d-solids;
   }

@@ -1,5 +1,6 @@
--- A dummy that is passed over: what went to it goes on to where it goes. Where it is there and not alone it goes out; where it is alone, or not
--- there, nothing changes. Two at once serve the two corners of an edge.
+-- A dummy that is passed over: what went to it goes on to where it goes. Where it is there and not alone it goes out;
+-- where it is alone, or not there, nothing changes. Two at once serve the two corners of an edge. At the end: the rules
+-- of a table with its dummies, from columns that agree with it but in previous.
 use mathlib.Core.Path.{_≡_, refl, sym, ap, _∙_, subst}
 use mathlib.Core.Logic.{_≢_, _⊎_, inl, inr, ⊎-elim}
 use Prim.Native.Nat.{ℕ, _+_, _*_, _≤_}
@@ -37,11 +38,13 @@ skipped h D = record { start = h .start; loop = h .loop; next = skip D (h .next)
 abbrev pub Tidy : (ℕ → ℕ) → ℕ → (ℕ → Type 0) → ℕ → Type 0
 Tidy f D U i = U i × (i ≡ D → f D ≡ D)
 
-module _ {n : ℕ} {mate : ℕ → ℕ} {U : ℕ → Type 0} {h : Halves} (r : Rules n mate U h) (mm : (i : ℕ) → mate (mate i) ≡ i) (D : ℕ) (own : mate D ≡ D) where
+module _ {n : ℕ} {mate : ℕ → ℕ} {U : ℕ → Type 0} {h : Halves} (r : Rules n mate U h) (mm : (i : ℕ) → mate (mate i) ≡ i)
+    (D : ℕ) (own : mate D ≡ D) where
   -- it is not there
   tidy-none : ¬ U D → Rules n mate (Tidy (h .next) D U) (skipped h D)
   tidy-none g = agree-rules r (λ i u. (u, λ e. absurd (g (subst U e u)))) (λ i u. u .0) (λ i u. refl) (λ i u. refl)
-      (λ i u. skip-off D (h .next) (λ e. g (subst U e (r .loops .perm .f-in i u)))) (λ i u. skip-off D (h .prev) (λ e. g (subst U e (prev-in r i u))))
+      (λ i u. skip-off D (h .next) (λ e. g (subst U e (r .loops .perm .f-in i u))))
+      (λ i u. skip-off D (h .prev) (λ e. g (subst U e (prev-in r i u))))
 
   -- it is alone
   tidy-alone : U D → h .next D ≡ D → Rules n mate (Tidy (h .next) D U) (skipped h D)
@@ -57,10 +60,12 @@ module _ {n : ℕ} {mate : ℕ → ℕ} {U : ℕ → Type 0} {h : Halves} (r : R
       let y = h .prev D in
       let yd : h .next (h .prev D) ≡ D = next-prev r D u in
       let dy : D ≢ h .prev D = λ e. n (ap (h .next) e ∙ yd) in
-      agree-rules (drop-rules r mm D (h .prev D) own (prev-in r D u) yd dy) (λ i v. (v .0, λ e. absurd (v .1 e))) (λ i v. (v .0, λ e. n (v .1 e))) (λ i v. refl) (λ i v. refl)
+      agree-rules (drop-rules r mm D (h .prev D) own (prev-in r D u) yd dy) (λ i v. (v .0, λ e. absurd (v .1 e)))
+      (λ i v. (v .0, λ e. n (v .1 e))) (λ i v. refl) (λ i v. refl)
       (λ i v. split i (h .prev D)
       (λ e. skip-at D (h .next) (ap (h .next) e ∙ yd) ∙ sym (rw e (upd-same _ (h .prev D) _)))
-      (λ e. skip-off D (h .next) (λ q. e (inj (r .loops .perm) (v .0) (prev-in r D u) (q ∙ sym yd))) ∙ sym (upd-off _ _ e)))
+      (λ e. skip-off D (h .next) (λ q. e (inj (r .loops .perm) (v .0) (prev-in r D u) (q ∙ sym yd)))
+      ∙ sym (upd-off _ _ e)))
       (λ i v. split i (h .next D)
       (λ e. skip-at D (h .prev) (ap (h .prev) e ∙ r .undone D u) ∙ sym (rw e (upd-same _ (h .next D) _)))
       (λ e. skip-off D (h .prev) (λ q. e (sym (next-prev r i (v .0)) ∙ ap (h .next) q)) ∙ sym (upd-off _ _ e)))
@@ -96,12 +101,15 @@ abbrev pub Left : (ℕ → ℕ) → ℕ → ℕ → (ℕ → Type 0) → ℕ →
 Left f D D′ U i = U i × (i ≡ D → f D ≡ D) × (i ≡ D′ → f D′ ≡ D′)
 
 -- the rules once both are passed over
-pub pass-rules : {n : ℕ} {mate : ℕ → ℕ} {U : ℕ → Type 0} {h : Halves} → Rules n mate U h → ((i : ℕ) → mate (mate i) ≡ i) → (D D′ : ℕ) → mate D ≡ D → mate D′ ≡ D′
+pub pass-rules : {n : ℕ} {mate : ℕ → ℕ} {U : ℕ → Type 0} {h : Halves} → Rules n mate U h → ((i : ℕ) → mate (mate i) ≡ i)
+    → (D D′ : ℕ) → mate D ≡ D → mate D′ ≡ D′
     → U D ⊎ (¬ U D) → U D′ ⊎ (¬ U D′) → D′ ≢ D → h .next D′ ≢ D → Rules n mate (Left (h .next) D D′ U) (passed h D D′)
 pass-rules {U = U} {h} r mm D D′ o o′ u u′ n m =
     let e : skip D (h .next) D′ ≡ h .next D′ = skip-off D (h .next) m in
-    agree-rules (tidy-rules (tidy-rules r mm D o u) mm D′ o′ (⊎-elim (λ w. inl (w, λ q. absurd (n q))) (λ w. inr (λ q. w (q .0))) u′))
-    (λ i w. (w .0 .0, w .0 .1, λ q. sym e ∙ w .1 q)) (λ i w. ((w .0, w .1), λ q. e ∙ w .2 q)) (λ i w. refl) (λ i w. refl) (λ i w. refl) (λ i w. refl)
+    agree-rules (tidy-rules (tidy-rules r mm D o u) mm D′ o′
+    (⊎-elim (λ w. inl (w, λ q. absurd (n q))) (λ w. inr (λ q. w (q .0))) u′))
+    (λ i w. (w .0 .0, w .0 .1, λ q. sym e ∙ w .1 q)) (λ i w. ((w .0, w .1), λ q. e ∙ w .2 q)) (λ i w. refl)
+    (λ i w. refl) (λ i w. refl) (λ i w. refl)
 
 -- ---- a table with its dummies
 
@@ -133,6 +141,7 @@ table-rules sh c {h = h} r to from es el en un =
       loops = q .loops;
       verts = q .verts;
       undone = λ i. ⊎-elim
-          (λ w. ap (H .prev) (upTo-low n (c Next) _ i (w .1)) ∙ upTo-low n (c Prev) _ (c Next i) (un i w .0) ∙ un i w .1)
+          (λ w. ap (H .prev) (upTo-low n (c Next) _ i (w .1)) ∙ upTo-low n (c Prev) _ (c Next i) (un i w .0)
+          ∙ un i w .1)
           (λ w. ap (H .prev) (upTo-high n (c Next) (λ j. j) i (w .0)) ∙ upTo-high n (c Prev) (λ j. j) i (w .0));
     }

@@ -1,5 +1,7 @@
--- Two tables that differ by a bridge: in c the loops l and l2 of one face, in d the one loop l with an edge k, a between two of their corners. mekr leads
--- from c to d and kemr from d to c; what is said of the two together stands here once.
+-- Two tables that differ by a bridge. In c a face has two loops, l and l2, the second a ring; in d it has the one loop
+-- l, with an edge, k and its mate, between a corner of each. mekr leads from c to d and kemr from d to c. What is said
+-- of the two tables together stands here once: the numbers of a bridge (`Bridge`), a corner (`Spot`), what c must be
+-- like (`Ends`), and what differs (`Bridged`).
 use mathlib.Core.Path.{_≡_, sym, ap, _∙_, subst}
 use mathlib.Core.Logic.{_≢_, _⊎_, ⊎-elim}
 use mathlib.Core.Bool.{false}
@@ -11,7 +13,8 @@ use Rattle.laws.specs.Bools.{pick, split, eqb-other}
 use Rattle.laws.specs.Permutations.{Perm, inj}
 use Rattle.layout.specs.declared.shape.Shape.{Shape}
 use Rattle.layout.specs.Mate.{mate}
-use Rattle.layout.specs.Fields.{Field, Outer, Face, First, Isolated, Start, Loop, Next, Prev, VertexUsed, Columns, among}
+use Rattle.layout.specs.Fields.{Field, Outer, Face, First, Isolated, Start, Loop, Next, Prev, VertexUsed, Columns}
+use Rattle.layout.specs.Fields.{among}
 use Rattle.sound_tables.specs.Mates.{mate-other}
 use Rattle.sound_tables.specs.EdgeIn.{Zero}
 use Rattle.sound_tables.specs.Sound.{In, halves, HalfUsed, side}
@@ -78,7 +81,8 @@ module _ {sh : Shape} {c : Columns} {s : Spot} (q : Corner sh c s) where
       (λ r. z (ap (c Loop) e ∙ sym (keeps P (r .before)) ∙ ap (c Loop) (r .next) ∙ r .loop)) q
 
   -- what follows it is followed by nothing but what comes before it
-  pub corner-ahead : Perm (2 * sh .edges) (HalfUsed sh c) (c Next) → {i : ℕ} → HalfUsed sh c i → c Next i ≢ k → i ≢ P → c Next i ≢ N
+  pub corner-ahead : Perm (2 * sh .edges) (HalfUsed sh c) (c Next) → {i : ℕ} → HalfUsed sh c i → c Next i ≢ k → i ≢ P
+      → c Next i ≢ N
   corner-ahead perm w n z e = ⊎-elim (λ r. n (e ∙ r .after)) (λ r. z (inj perm w (r .before) (e ∙ sym (r .next)))) q
 
   -- its neighbours are half-edges of the table
@@ -91,8 +95,8 @@ module _ {sh : Shape} {c : Columns} {s : Spot} (q : Corner sh c s) where
 
 -- ---- the two tables
 
--- a bridge by its numbers: the edge of half-edge k, from vertex u1 of loop l to vertex u2 of loop l2. Its corner in l lies
--- between P1 and N1, its corner in l2 between P2 and N2
+-- a bridge by its numbers: half-edge k and its mate, from vertex u1 of loop l to vertex u2 of loop l2. Its corner in l
+-- lies between P1 and N1, its corner in l2 between P2 and N2
 pub record Bridge : Type 0 where
   pub k : ℕ
   pub l : ℕ
@@ -240,8 +244,10 @@ module _ {sh : Shape} {c d : Columns} {B : Bridge} (b : Bridged sh c d B) where
   half-back i w e f = (w .0, w .1, λ z. w .2 (b .start-o i e f ∙ z))
 
   -- a statement about each half-edge of d: about the two, about one of c
-  pub half-was : {Q : ℕ → Type 0} → Q k → Q (mate k) → ((i : ℕ) → HalfUsed sh c i → Q i) → (i : ℕ) → HalfUsed sh d i → Q i
-  half-was {Q} qk qa qo i w = split i k (λ e. subst Q (sym e) qk) (λ e. split i (mate k) (λ f. subst Q (sym f) qa) (λ f. qo i (half-back i w e f)))
+  pub half-was : {Q : ℕ → Type 0} → Q k → Q (mate k) → ((i : ℕ) → HalfUsed sh c i → Q i) → (i : ℕ) → HalfUsed sh d i
+      → Q i
+  half-was {Q} qk qa qo i w = split i k (λ e. subst Q (sym e) qk)
+      (λ e. split i (mate k) (λ f. subst Q (sym f) qa) (λ f. qo i (half-back i w e f)))
 
   -- one that names no loop in c
   pub free-loop : (i : ℕ) → c Loop i ≡ 0 → c Loop i ≢ l2
@@ -274,11 +280,14 @@ module _ {sh : Shape} {c d : Columns} {B : Bridge} (b : Bridged sh c d B) where
   side-a = ap (d Face) (b .loop-a) ∙ b .face-o l two
 
   -- another loop is named by the same half-edges
-  pub same-name : (m : ℕ) → In (sh .loops) m → m ≢ l → m ≢ l2 → (i : ℕ) → In (2 * sh .edges) i → eqb (c Loop i) m ≡ eqb (d Loop i) m
+  pub same-name : (m : ℕ) → In (sh .loops) m → m ≢ l → m ≢ l2 → (i : ℕ) → In (2 * sh .edges) i
+      → eqb (c Loop i) m ≡ eqb (d Loop i) m
   same-name m y e f i j = split i k
       (λ z. neither (λ q. omega (arith, y .0, sym q ∙ ap (c Loop) z ∙ zero-k .l)) (ap (d Loop) z ∙ b .loop-k))
-      (λ z. split i (mate k) (λ z′. neither (λ q. omega (arith, y .0, sym q ∙ ap (c Loop) z′ ∙ zero-a .l)) (ap (d Loop) z′ ∙ b .loop-a))
-      (λ z′. split (c Loop i) l2 (λ q. neither (λ q′. f (sym q′ ∙ q)) (b .loop-2 i j q)) (λ q. ap (λ w. eqb w m) (sym (b .loop-o i z z′ q)))))
+      (λ z. split i (mate k)
+      (λ z′. neither (λ q. omega (arith, y .0, sym q ∙ ap (c Loop) z′ ∙ zero-a .l)) (ap (d Loop) z′ ∙ b .loop-a))
+      (λ z′. split (c Loop i) l2 (λ q. neither (λ q′. f (sym q′ ∙ q)) (b .loop-2 i j q))
+      (λ q. ap (λ w. eqb w m) (sym (b .loop-o i z z′ q)))))
     where
       -- where neither names m the tests agree
       neither : c Loop i ≢ m → d Loop i ≡ l → eqb (c Loop i) m ≡ eqb (d Loop i) m

@@ -1,4 +1,4 @@
--- The run after k up to a of the same cycle: which numbers a walk meets on it.
+-- A run: the numbers that a walk along a permutation meets after k, up to a of the same cycle.
 use mathlib.Core.Path.{_≡_, refl, sym, ap, _∙_, subst}
 use mathlib.Core.Logic.{_≢_, _⊎_, inl, inr, ⊎-elim}
 use Prim.Native.Nat.{ℕ, zero, suc, _+_, _-_, _<_}
@@ -17,7 +17,8 @@ Met f x d i = (t : ℕ) × (t < d) × (iter f t x ≡ i)
 pub met? : (f : ℕ → ℕ) (d x i : ℕ) → Met f x d i ⊎ ((t : ℕ) → t < d → iter f t x ≢ i)
 unfolding iter
 met? f zero x i = inr (λ t h. absurd (omega arith))
-met? f (suc d) x i = split x i (λ e. inl (0, omega arith, e)) (λ e. ⊎-elim (λ m. inl (suc (m .0), omega (arith, m .1), m .2)) (λ m. inr (later e m)) (met? f d (f x) i))
+met? f (suc d) x i = split x i (λ e. inl (0, omega arith, e))
+    (λ e. ⊎-elim (λ m. inl (suc (m .0), omega (arith, m .1), m .2)) (λ m. inr (later e m)) (met? f d (f x) i))
   where
     -- none of the first and of the others
     later : x ≢ i → ((t : ℕ) → t < d → iter f t (f x) ≢ i) → (t : ℕ) → t < suc d → iter f t x ≢ i
@@ -43,7 +44,8 @@ module _ {n : ℕ} {U : ℕ → Type 0} {f : ℕ → ℕ} (p : Perm n U f) {k a 
   not-k m =
       let e : suc (m .0) + (d - suc (m .0)) ≡ d = omega (arith, m .1) in
       let z : iter f (suc (m .0)) (f k) ≡ f k = iter-last f (m .0) (f k) ∙ ap f (m .2) in
-      s .first (d - suc (m .0)) (omega (arith, m .1)) (ap (iter f (d - suc (m .0))) (sym z) ∙ sym (iter-add f (suc (m .0)) (d - suc (m .0)) (f k)) ∙ ap (λ t. iter f t (f k)) e ∙ s .at)
+      s .first (d - suc (m .0)) (omega (arith, m .1)) (ap (iter f (d - suc (m .0))) (sym z)
+      ∙ sym (iter-add f (suc (m .0)) (d - suc (m .0)) (f k)) ∙ ap (λ t. iter f t (f k)) e ∙ s .at)
 
   -- a is not met
   pub not-a : Met f (f k) d a → ⊥
@@ -53,13 +55,15 @@ module _ {n : ℕ} {U : ℕ → Type 0} {f : ℕ → ℕ} (p : Perm n U f) {k a 
   pub met-next : {i : ℕ} → Met f (f k) d i → (f i ≡ a) ⊎ Met f (f k) d (f i)
   met-next {i} m =
       let e : iter f (suc (m .0)) (f k) ≡ f i = iter-last f (m .0) (f k) ∙ ap f (m .2) in
-      ⊎-elim (λ h. inr (suc (m .0), h, e)) (λ h. let q : suc (m .0) ≡ d = omega (arith, h, m .1) in inl (sym e ∙ ap (λ t. iter f t (f k)) q ∙ s .at)) (le? (suc (suc (m .0))) d)
+      ⊎-elim (λ h. inr (suc (m .0), h, e)) (λ h. let q : suc (m .0) ≡ d = omega (arith, h, m .1) in
+      inl (sym e ∙ ap (λ t. iter f t (f k)) q ∙ s .at)) (le? (suc (suc (m .0))) d)
 
   -- what comes before one that is met is k, or met
   pub met-prev : {i : ℕ} → U i → Met f (f k) d (f i) → (i ≡ k) ⊎ Met f (f k) d i
   unfolding iter
   met-prev {i} v (zero, h, e) = inl (inj p v u (sym e))
-  met-prev {i} v (suc t, h, e) = inr (t, omega (arith, h), inj p (iter-in p t (f k) (p .f-in k u)) v (sym (iter-last f t (f k)) ∙ e))
+  met-prev {i} v (suc t, h, e) =
+      inr (t, omega (arith, h), inj p (iter-in p t (f k) (p .f-in k u)) v (sym (iter-last f t (f k)) ∙ e))
 
   -- the one before a is met, unless the run is empty
   pub met-last : {i : ℕ} → U i → f i ≡ a → f k ≢ a → Met f (f k) d i
@@ -69,7 +73,8 @@ module _ {n : ℕ} {U : ℕ → Type 0} {f : ℕ → ℕ} (p : Perm n U f) {k a 
       -- by the length of the run
       by : (d : ℕ) → Steps f (f k) a d → Met f (f k) d i
       by zero r = absurd (h (r .at))
-      by (suc t) r = (t, omega arith, inj p (iter-in p t (f k) (p .f-in k u)) v (sym (iter-last f t (f k)) ∙ r .at ∙ sym e))
+      by (suc t) r =
+          (t, omega arith, inj p (iter-in p t (f k) (p .f-in k u)) v (sym (iter-last f t (f k)) ∙ r .at ∙ sym e))
 
   -- and so is the first
   pub met-first : f k ≢ a → Met f (f k) d (f k)
@@ -82,6 +87,8 @@ module _ {n : ℕ} {U : ℕ → Type 0} {f : ℕ → ℕ} (p : Perm n U f) {k a 
       by (suc t) r = (0, omega arith, refl)
 
 -- a label that no step changes but those from x and from y is y's along the run up to y
-pub till-same : {U : ℕ → Type 0} {f lab : ℕ → ℕ} {x y : ℕ} → ((i : ℕ) → U i → U (f i)) → ((i : ℕ) → U i → i ≢ x → i ≢ y → lab (f i) ≡ lab i) → {i : ℕ} → U i → Till f x y i → lab i ≡ lab y
+pub till-same : {U : ℕ → Type 0} {f lab : ℕ → ℕ} {x y : ℕ} → ((i : ℕ) → U i → U (f i))
+    → ((i : ℕ) → U i → i ≢ x → i ≢ y → lab (f i) ≡ lab i) → {i : ℕ} → U i → Till f x y i → lab i ≡ lab y
 till-same {lab = lab} stays keep u (stop e) = ap lab e
-till-same {lab = lab} stays keep u (go {z} h h′ t) = sym (keep z u h h′) ∙ till-same {lab = lab} stays keep (stays z u) t
+till-same {lab = lab} stays keep u (go {z} h h′ t) = sym (keep z u h h′)
+    ∙ till-same {lab = lab} stays keep (stays z u) t

@@ -15,7 +15,8 @@ use Rattle.layout.specs.Mate.{mate}
 use Rattle.layout.specs.Fields.{Field, Face, First, Isolated, Start, Loop, Next, Prev, Columns, capOf, by-fields}
 use Rattle.sound_tables.specs.Sound.{In, HalfUsed, Sound}
 use Rattle.sound_tables.specs.Names.{lone-unnamed}
-use Rattle.sound_bridges.specs.Relation.{Spot, Corner, real-before, real-after, Bridge, Ends, Bridged, touched, off-k, off-a}
+use Rattle.sound_bridges.specs.Relation.{Spot, Corner, real-before, real-after, Bridge, Ends, Bridged, touched}
+use Rattle.sound_bridges.specs.Relation.{off-k, off-a}
 
 -- two tables agree in field F up to its capacity
 abbrev pub AlikeIn : Shape → Columns → Columns → Field → Type 0
@@ -64,7 +65,8 @@ module _ {sh : Shape} {p p′ : List ℤ} {c c′ d d′ : Columns} {B : Bridge}
 
   -- the starts
   start-same : AlikeIn sh c c′ Start
-  start-same i v w = by-two (c Start) (c′ Start) k (mate k) (zero-k .s ∙ sym (zero-k′ .s)) (zero-a .s ∙ sym (zero-a′ .s)) i
+  start-same i v w = by-two (c Start) (c′ Start) k (mate k) (zero-k .s ∙ sym (zero-k′ .s))
+      (zero-a .s ∙ sym (zero-a′ .s)) i
       (λ x y. sym (b .start-o i x y) ∙ e Start i v w ∙ b′ .start-o i x y)
 
   -- so the same half-edges are in use
@@ -89,7 +91,8 @@ module _ {sh : Shape} {p p′ : List ℤ} {c c′ d d′ : Columns} {B : Bridge}
   ring-same : (i : ℕ) → In (2 * sh .edges) i → c Loop i ≡ l2 → c′ Loop i ≡ l2
   ring-same i j z = ⊎-elim
       (λ r. absurd (lone-unnamed s l2 ring-in (λ y. omega (arith, in-2 .0, sym (r .isolated) ∙ y)) i j z))
-      (λ r. linked-same (c′ Loop) (λ x y t. step x (t .0) ∙ ap (c′ Loop) (t .1)) (s .rules .loops .one i N2 used (r .after) (z ∙ sym (r .loop)))
+      (λ r. linked-same (c′ Loop) (λ x y t. step x (t .0) ∙ ap (c′ Loop) (t .1))
+      (s .rules .loops .one i N2 used (r .after) (z ∙ sym (r .loop)))
       ∙ ⊎-elim (λ r′. absurd (off-a b N2 (r .after) (r′ .after))) (λ r′. r′ .loop) at-2′)
       at-2
     where
@@ -114,18 +117,22 @@ module _ {sh : Shape} {p p′ : List ℤ} {c c′ d d′ : Columns} {B : Bridge}
   -- the faces of the loops
   face-same : AlikeIn sh c c′ Face
   face-same m x y =
-      let at : (m : ℕ) → 1 ≤ m → m ≤ sh .loops → m ≢ l2 → c Face m ≡ c′ Face m = λ m x y z. sym (b .face-o m z) ∙ e Face m x y ∙ b′ .face-o m z in
+      let at : (m : ℕ) → 1 ≤ m → m ≤ sh .loops → m ≢ l2 → c Face m ≡ c′ Face m = λ m x y z. sym (b .face-o m z)
+      ∙ e Face m x y ∙ b′ .face-o m z in
       split m l2 (λ z. rw z (one-face ∙ at l (loop-in .0) (loop-in .1) two ∙ sym one-face′)) (at m x y)
 
   -- the isolated vertices
   isolated-all : AlikeIn sh c c′ Isolated
   isolated-all m x y = by-two (c Isolated) (c′ Isolated) l l2 (isolated-same at-1 at-1′ (off-k b) (off-k b′))
-      (isolated-same at-2 at-2′ (off-a b) (off-a b′)) m (λ f g. sym (b .isolated-o m f g) ∙ e Isolated m x y ∙ b′ .isolated-o m f g)
+      (isolated-same at-2 at-2′ (off-a b) (off-a b′)) m
+      (λ f g. sym (b .isolated-o m f g) ∙ e Isolated m x y ∙ b′ .isolated-o m f g)
 
   -- the table without the bridge is settled
   pub down-same : Alike sh c c′
-  down-same = by-fields touched (AlikeIn sh c c′)
-      (start-same, (loop-same, (next-same, (prev-same, (face-same, (first-same s s′ face-same loop-same, (isolated-all, tt)))))))
+  down-same =
+      let first-all = first-same s s′ face-same loop-same in
+      by-fields touched (AlikeIn sh c c′)
+      (start-same, (loop-same, (next-same, (prev-same, (face-same, (first-all, (isolated-all, tt)))))))
       (λ F q i x y. sym (b .others F q i) ∙ e F i x y ∙ b′ .others F q i)
 
 -- ---- from the two loops to the loop with the bridge
@@ -136,38 +143,47 @@ module _ {sh : Shape} {p p′ : List ℤ} {c c′ d d′ : Columns} {B : Bridge}
 
   -- the starts
   start-again : AlikeIn sh d d′ Start
-  start-again i v w = by-two (d Start) (d′ Start) k (mate k) (b .start-k ∙ sym (b′ .start-k)) (b .start-a ∙ sym (b′ .start-a)) i
+  start-again i v w = by-two (d Start) (d′ Start) k (mate k) (b .start-k ∙ sym (b′ .start-k))
+      (b .start-a ∙ sym (b′ .start-a)) i
       (λ x y. b .start-o i x y ∙ e Start i v w ∙ sym (b′ .start-o i x y))
 
   -- the loops of the half-edges
   loop-again : AlikeIn sh d d′ Loop
-  loop-again i v w = by-two (d Loop) (d′ Loop) k (mate k) (b .loop-k ∙ sym (b′ .loop-k)) (b .loop-a ∙ sym (b′ .loop-a)) i
-      (λ x y. let f = e Loop i v w in split (c Loop i) l2 (λ z. b .loop-2 i (v, w) z ∙ sym (b′ .loop-2 i (v, w) (sym f ∙ z)))
+  loop-again i v w = by-two (d Loop) (d′ Loop) k (mate k) (b .loop-k ∙ sym (b′ .loop-k))
+      (b .loop-a ∙ sym (b′ .loop-a)) i
+      (λ x y. let f = e Loop i v w in split (c Loop i) l2
+      (λ z. b .loop-2 i (v, w) z ∙ sym (b′ .loop-2 i (v, w) (sym f ∙ z)))
       (λ z. b .loop-o i x y z ∙ f ∙ sym (b′ .loop-o i x y (λ t. z (f ∙ t)))))
 
   -- next
   next-again : AlikeIn sh d d′ Next
-  next-again i v w = by-two (d Next) (d′ Next) k (mate k) (b .next-k ∙ sym (b′ .next-k)) (b .next-a ∙ sym (b′ .next-a)) i
+  next-again i v w = by-two (d Next) (d′ Next) k (mate k) (b .next-k ∙ sym (b′ .next-k))
+      (b .next-a ∙ sym (b′ .next-a)) i
       (λ x y. by-two (d Next) (d′ Next) P1 P2 (b .next-1 ∙ sym (b′ .next-1)) (b .next-2 ∙ sym (b′ .next-2)) i
       (λ f g. b .next-o i x y f g ∙ e Next i v w ∙ sym (b′ .next-o i x y f g)))
 
   -- previous
   prev-again : AlikeIn sh d d′ Prev
-  prev-again i v w = by-two (d Prev) (d′ Prev) k (mate k) (b .prev-k ∙ sym (b′ .prev-k)) (b .prev-a ∙ sym (b′ .prev-a)) i
+  prev-again i v w = by-two (d Prev) (d′ Prev) k (mate k) (b .prev-k ∙ sym (b′ .prev-k))
+      (b .prev-a ∙ sym (b′ .prev-a)) i
       (λ x y. by-two (d Prev) (d′ Prev) N1 N2 (b .prev-1 ∙ sym (b′ .prev-1)) (b .prev-2 ∙ sym (b′ .prev-2)) i
       (λ f g. b .prev-o i x y f g ∙ e Prev i v w ∙ sym (b′ .prev-o i x y f g)))
 
   -- the faces of the loops
   face-again : AlikeIn sh d d′ Face
-  face-again m x y = split m l2 (λ z. rw z (b .face-2 ∙ sym (b′ .face-2))) (λ z. b .face-o m z ∙ e Face m x y ∙ sym (b′ .face-o m z))
+  face-again m x y = split m l2 (λ z. rw z (b .face-2 ∙ sym (b′ .face-2)))
+      (λ z. b .face-o m z ∙ e Face m x y ∙ sym (b′ .face-o m z))
 
   -- the isolated vertices
   isolated-again : AlikeIn sh d d′ Isolated
   isolated-again m x y = by-two (d Isolated) (d′ Isolated) l l2 (b .isolated-1 ∙ sym (b′ .isolated-1))
-      (b .isolated-2 ∙ sym (b′ .isolated-2)) m (λ f g. b .isolated-o m f g ∙ e Isolated m x y ∙ sym (b′ .isolated-o m f g))
+      (b .isolated-2 ∙ sym (b′ .isolated-2)) m (λ f g. b .isolated-o m f g ∙ e Isolated m x y
+      ∙ sym (b′ .isolated-o m f g))
 
   -- the table with the bridge is settled
   pub up-same : Alike sh d d′
-  up-same = by-fields touched (AlikeIn sh d d′)
-      (start-again, (loop-again, (next-again, (prev-again, (face-again, (first-same s s′ face-again loop-again, (isolated-again, tt)))))))
+  up-same =
+      let first-again = first-same s s′ face-again loop-again in
+      by-fields touched (AlikeIn sh d d′)
+      (start-again, (loop-again, (next-again, (prev-again, (face-again, (first-again, (isolated-again, tt)))))))
       (λ F q i x y. b .others F q i ∙ e F i x y ∙ sym (b′ .others F q i))
