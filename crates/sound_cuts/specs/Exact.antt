@@ -10,7 +10,6 @@ use lib.ListN.{length}
 use Rattle.script.specs.declared.Operator.{Operator}
 use Rattle.codec.specs.Operands.{pattern, rows}
 use Rattle.layout.specs.declared.shape.Shape.{Shape}
-use Rattle.layout.specs.Mate.{edgeOf}
 use Rattle.layout.specs.Fields.{Capacity, Columns}
 use Rattle.euler.specs.EdgeOperators.{kefTest}
 use Rattle.euler.specs.Exec.{useWord, condition, refusalOf}
@@ -19,10 +18,10 @@ use Rattle.sound_tables.specs.Sound.{HalfUsed, Sound}
 use Rattle.sound_tables.specs.OneOperand.{one-operand}
 use Rattle.sound_tables.specs.Good.{own, Capacities, Good, good-shows, good-after}
 use Rattle.sound_tables.specs.Undone.{Kept, Undone}
-use Rattle.sound_cuts.specs.Relation.{Spot, restOf, endOf, Cut}
+use Rattle.sound_cuts.specs.Relation.{Spot, Cut}
 use Rattle.sound_cuts.specs.MefShown.{cutList, cut-shows}
 use Rattle.sound_cuts.specs.KefShown.{mendList, mend-shows}
-use Rattle.sound_cuts.specs.MefOperands.{kefOf, wayBack}
+use Rattle.sound_cuts.specs.MefOperands.{kefOf}
 use Rattle.sound_cuts.specs.MefAccepted.{mefAt, mef-links, mef-inverse, mef-accepted, mef-points}
 use Rattle.sound_cuts.specs.KefPlace.{kef-place}
 use Rattle.sound_cuts.specs.KefRelation.{kef-cut, kef-only, kef-first}
@@ -44,18 +43,14 @@ module _ {sh : Shape} {x : List ℕ} {p : List ℤ} (g : Good sh x p) {d : Colum
   -- a good table stays good
   pub mef-kept : Kept sh x p (mefAt q)
   mef-kept =
-      rw (
-        mef-links k t (good-shows g) (g .capacities) (g .sound),
-        mef-points sh x p (q .l) (restOf q) (endOf q)
-            (edgeOf (q .b)) (q .f) (q .m) (wayBack q),
-      )
+      rw (mef-links k t (good-shows g) (g .capacities) (g .sound), mef-points sh x p q)
       (good-after g y-shows (k .others Capacity refl) refl t)
 
   -- kef gives everything back
   pub mef-undone : Undone sh x p (mefAt q)
   mef-undone =
       let el = mef-links k t (good-shows g) (g .capacities) (g .sound) in
-      let ep = mef-points sh x p (q .l) (restOf q) (endOf q) (edgeOf (q .b)) (q .f) (q .m) (wayBack q) in
+      let ep = mef-points sh x p q in
       let ei = mef-inverse k t (good-shows g) (g .capacities) (g .sound) p in
       record {
         accepted = rw (el, ei) (kef-accepted k (g .sound) t y-shows (g .capacities));
@@ -92,8 +87,7 @@ module _ {sh : Shape} {y : List ℕ} {p : List ℤ} (g : Good sh y p) {c : Colum
         accepted = rw (el, ei) (mef-accepted k (g .sound) x-shows (g .capacities) s);
         links = rw (el, ei) (mef-links k (g .sound) x-shows (g .capacities) s
             ∙ shows-ext (cut-shows k (g .sound) x-shows s) (good-shows g) (λ F n i j. refl));
-        points = rw (el, ep, ei) (mef-points sh x p (q .l) (restOf q) (endOf q) (edgeOf (q .b)) (q .f) (q .m)
-            (wayBack q));
+        points = rw (el, ep, ei) (mef-points sh x p q);
         again = rw (el, ep, ei) (mef-inverse k (g .sound) x-shows (g .capacities) s p);
       }
 

@@ -15,13 +15,43 @@ use Rattle.layout.specs.MateLaws.{mate-mate}
 use Rattle.layout.specs.Fields.{Solid, Outer, Face, First, Isolated, Start, Loop, Next, Prev, Columns}
 use Rattle.layout.specs.Writes.{changes}
 use Rattle.sound_tables.specs.Mates.{mate-other}
-use Rattle.sound_tables.specs.EdgeIn.{prev-in, next-prev}
+use Rattle.sound_tables.specs.EdgeIn.{prev-in, next-prev, prev-loop, start-mate}
 use Rattle.sound_tables.specs.Sound.{HalfUsed, firstOf, Sound}
 use Rattle.sound_tables.specs.Names.{not-isolated}
 use Rattle.sound_cuts.specs.FieldLaws.{loops-other, not-same, unwritten}
 use Rattle.sound_cuts.specs.Relation.{Spot, tieN, tieN′, Seated, Near, cutFields, Cut}
 use Rattle.sound_cuts.specs.KefSolids.{Only}
 use Rattle.sound_cuts.specs.KefPlace.{spotAt, mendLoop, mendWrites, mendColumns, KefPlace}
+
+-- a half-edge i and its neighbours in its loop, which can be itself
+record Around (sh : Shape) (d : Columns) (i : ℕ) : Type 0 where
+  next-in : HalfUsed sh d (d Next i)
+  prev-in : HalfUsed sh d (d Prev i)
+  follows : d Next (d Prev i) ≡ i
+  undone : d Prev (d Next i) ≡ i
+  next-loop : d Loop (d Next i) ≡ d Loop i
+  prev-loop : d Loop (d Prev i) ≡ d Loop i
+  start : d Start (d Next i) ≡ d Start (mate i)
+
+-- so it is with one in use
+neighbours : {sh : Shape} {p : List ℤ} {d : Columns} → Sound sh p d → (i : ℕ) → HalfUsed sh d i → Around sh d i
+neighbours t i w = record {
+  next-in = t .rules .loops .perm .f-in i w;
+  prev-in = prev-in (t .rules) i w;
+  follows = next-prev (t .rules) i w;
+  undone = t .rules .undone i w;
+  next-loop = t .rules .loops .keeps i w;
+  prev-loop = prev-loop (t .rules) i w;
+  start = start-mate (t .rules) mate-mate i w;
+}
+
+-- where it is alone, it also stands before itself
+alone : {sh : Shape} {d : Columns} {i : ℕ} → Around sh d i → d Next i ≡ i → d Prev i ≡ i
+alone {d = d} r e = ap (d Prev) (sym e) ∙ r .undone
+
+-- else another does
+accompanied : {sh : Shape} {d : Columns} {i : ℕ} → Around sh d i → d Next i ≢ i → d Prev i ≢ i
+accompanied {d = d} r e z = e (ap (d Next) (sym z) ∙ r .follows)
 
 module _ {sh : Shape} {p : List ℤ} {d : Columns} (t : Sound sh p d) (zero : d Loop 0 ≡ 0) {b : ℕ}
     (o : KefPlace sh d b) where
@@ -67,73 +97,21 @@ module _ {sh : Shape} {p : List ℤ} {d : Columns} (t : Sound sh p d) (zero : d 
 
   -- ---- the neighbours
 
-  -- previous of a is in use
-  uP : HalfUsed sh d (q .P)
-  uP = prev-in (t .rules) (mate b) ua
+  -- those of a
+  A : Around sh d (mate b)
+  A = neighbours t (mate b) ua
 
-  -- and a follows it
-  nP : d Next (q .P) ≡ mate b
-  nP = next-prev (t .rules) (mate b) ua
+  -- and of b
+  B : Around sh d b
+  B = neighbours t b (o .used)
 
-  -- previous of b is in use
-  uQ : HalfUsed sh d (q .Q)
-  uQ = prev-in (t .rules) b (o .used)
-
-  -- and b follows it
-  nQ : d Next (q .Q) ≡ b
-  nQ = next-prev (t .rules) b (o .used)
-
-  -- next of a is in use
-  uN : HalfUsed sh d (q .N)
-  uN = t .rules .loops .perm .f-in (mate b) ua
-
-  -- next of b is in use
-  uM : HalfUsed sh d (q .M)
-  uM = t .rules .loops .perm .f-in b (o .used)
-
-  -- their loops
-  lN : d Loop (q .N) ≡ q .l
-  lN = t .rules .loops .keeps (mate b) ua
-
-  -- that of next of b
-  lM : d Loop (q .M) ≡ q .m
-  lM = t .rules .loops .keeps b (o .used)
-
-  -- of previous of a
-  lP : d Loop (q .P) ≡ q .l
-  lP = sym (t .rules .loops .keeps (q .P) uP) ∙ ap (d Loop) nP
-
-  -- of previous of b
-  lQ : d Loop (q .Q) ≡ q .m
-  lQ = sym (t .rules .loops .keeps (q .Q) uQ) ∙ ap (d Loop) nQ
+  -- what follows a starts where b does
+  start-N : d Start (q .N) ≡ q .v
+  start-N = A .start ∙ ap (d Start) ab
 
   -- one of l is none of m
   apart : {i j : ℕ} → d Loop i ≡ q .l → d Loop j ≡ q .m → i ≢ j
   apart e g z = l-m (sym e ∙ ap (d Loop) z ∙ g)
-
-  -- a is alone on both sides or on none, and so is b
-  P-a : q .N ≡ mate b → q .P ≡ mate b
-  P-a e = ap (d Prev) (sym e) ∙ t .rules .undone (mate b) ua
-
-  -- not alone
-  a-P : q .N ≢ mate b → q .P ≢ mate b
-  a-P e z = e (ap (d Next) (sym z) ∙ nP)
-
-  -- b alone
-  Q-b : q .M ≡ b → q .Q ≡ b
-  Q-b e = ap (d Prev) (sym e) ∙ t .rules .undone b (o .used)
-
-  -- not alone
-  b-Q : q .M ≢ b → q .Q ≢ b
-  b-Q e z = e (ap (d Next) (sym z) ∙ nQ)
-
-  -- next of a half starts where the other does
-  start-M : d Start (q .M) ≡ q .u
-  start-M = ap (λ i. d Start (d Next i)) (sym ab) ∙ t .rules .verts .keeps (mate b) ua
-
-  -- the same of a
-  start-N : d Start (q .N) ≡ q .v
-  start-N = t .rules .verts .keeps b (o .used)
 
   -- ---- what stands in c away from the edge
 
@@ -173,61 +151,64 @@ module _ {sh : Shape} {p : List ℤ} {d : Columns} (t : Sound sh p d) (zero : d 
 
   -- M is not a
   M-a : q .M ≢ mate b
-  M-a z = apart refl lM (sym z)
+  M-a z = apart refl (B .next-loop) (sym z)
 
   -- Q is not a
   Q-a : q .Q ≢ mate b
-  Q-a z = apart refl lQ (sym z)
+  Q-a z = apart refl (B .prev-loop) (sym z)
 
   -- N is not b
   N-b : q .N ≢ b
-  N-b = apart lN refl
+  N-b = apart (A .next-loop) refl
 
   -- P is not b
   P-b : q .P ≢ b
-  P-b = apart lP refl
+  P-b = apart (A .prev-loop) refl
 
   -- where a is not alone
   seated-a : q .N ≢ mate b → Seated sh c (q .l) (q .u) (q .P) (q .N) (tieN q)
   seated-a e = split (q .M) b
       (λ g. subst (Seated sh c (q .l) (q .u) (q .P) (q .N)) (ap (λ t. pick t (q .N) (q .M)) (sym (eqb-same g)))
       (record {
-        before = c-used (q .P) uP (a-P e) P-b;
-        after = c-used (q .N) uN e N-b;
-        corner = c-used (q .N) uN e N-b;
-        next = next-as false true (eqb-other e) (eqb-same g) (q .P) (a-P e) P-b ∙ upd-same _ (q .P) (q .N);
+        before = c-used (q .P) (A .prev-in) (accompanied A e) P-b;
+        after = c-used (q .N) (A .next-in) e N-b;
+        corner = c-used (q .N) (A .next-in) e N-b;
+        next = next-as false true (eqb-other e) (eqb-same g) (q .P) (accompanied A e) P-b ∙ upd-same _ (q .P) (q .N);
         prev = prev-as false true (eqb-other e) (eqb-same g) (q .N) e N-b ∙ upd-same _ (q .N) (q .P);
         loop = loop-P;
-        start = c-start (q .N) e N-b ∙ start-N ∙ ap (d Start) (sym g) ∙ start-M;
+        start = c-start (q .N) e N-b ∙ start-N ∙ ap (d Start) (sym g) ∙ B .start;
       }))
       (λ g. subst (Seated sh c (q .l) (q .u) (q .P) (q .N)) (ap (λ t. pick t (q .N) (q .M)) (sym (eqb-other g)))
       (record {
-        before = c-used (q .P) uP (a-P e) P-b;
-        after = c-used (q .N) uN e N-b;
-        corner = c-used (q .M) uM M-a g;
-        next = next-as false false (eqb-other e) (eqb-other g) (q .P) (a-P e) P-b ∙ upd-off _ _ (apart lP lQ)
+        before = c-used (q .P) (A .prev-in) (accompanied A e) P-b;
+        after = c-used (q .N) (A .next-in) e N-b;
+        corner = c-used (q .M) (B .next-in) M-a g;
+        next = next-as false false (eqb-other e) (eqb-other g) (q .P) (accompanied A e) P-b
+            ∙ upd-off _ _ (apart (A .prev-loop) (B .prev-loop))
             ∙ upd-same _ (q .P) (q .M);
-        prev = prev-as false false (eqb-other e) (eqb-other g) (q .M) M-a g ∙ upd-off _ _ (λ z. apart lN lM (sym z))
+        prev = prev-as false false (eqb-other e) (eqb-other g) (q .M) M-a g
+            ∙ upd-off _ _ (λ z. apart (A .next-loop) (B .next-loop) (sym z))
             ∙ upd-same _ (q .M) (q .P);
         loop = loop-P;
-        start = c-start (q .M) M-a g ∙ start-M;
+        start = c-start (q .M) M-a g ∙ B .start;
       }))
     where
       -- P stays in l
       loop-P : c Loop (q .P) ≡ q .l
-      loop-P = c-else (q .P) (a-P e) P-b (λ z. l-m (sym lP ∙ z)) ∙ lP
+      loop-P = c-else (q .P) (accompanied A e) P-b (λ z. l-m (sym (A .prev-loop) ∙ z)) ∙ A .prev-loop
 
   -- where b is not alone
   seated-b : q .M ≢ b → Seated sh c (q .l) (q .v) (q .Q) (q .M) (tieN′ q)
   seated-b g = record {
-    before = c-used (q .Q) uQ Q-a (b-Q g);
-    after = c-used (q .M) uM M-a g;
-    corner = c-used (tieN′ q) (pick-ind (HalfUsed sh d) (eqb (q .N) (mate b)) (q .M) (q .N) uM uN) n-a n-b;
-    next = next-as (eqb (q .N) (mate b)) false refl (eqb-other g) (q .Q) Q-a (b-Q g) ∙ upd-same _ (q .Q) _;
+    before = c-used (q .Q) (B .prev-in) Q-a (accompanied B g);
+    after = c-used (q .M) (B .next-in) M-a g;
+    corner = c-used (tieN′ q) (pick-ind (HalfUsed sh d) (eqb (q .N) (mate b)) (q .M) (q .N) (B .next-in)
+        (A .next-in)) n-a n-b;
+    next = next-as (eqb (q .N) (mate b)) false refl (eqb-other g) (q .Q) Q-a (accompanied B g) ∙ upd-same _ (q .Q) _;
     prev = prev-as (eqb (q .N) (mate b)) false refl (eqb-other g) (tieN′ q) n-a n-b ∙ upd-same _ (tieN′ q) (q .Q);
-    loop = c-new (q .Q) Q-a (b-Q g) lQ;
+    loop = c-new (q .Q) Q-a (accompanied B g) (B .prev-loop);
     start = c-start (tieN′ q) n-a n-b ∙ split (q .N) (mate b)
-        (λ e. rw (eqb-same e) (start-M ∙ ap (d Start) (sym e) ∙ start-N)) (λ e. rw (eqb-other e) start-N);
+        (λ e. rw (eqb-same e) (B .start ∙ ap (d Start) (sym e) ∙ start-N)) (λ e. rw (eqb-other e) start-N);
   }
     where
       -- what follows Q is not a
@@ -242,11 +223,11 @@ module _ {sh : Shape} {p : List ℤ} {d : Columns} (t : Sound sh p d) (zero : d 
   near : Near sh c q
   near = record {
     at-a = split (q .N) (mate b) (λ e. inl (record
-        { before = P-a e; after = e; ends = ap (d Start) (sym e) ∙ start-N })) (λ e. inr (seated-a e));
-    at-b = split (q .M) b (λ g. inl (record { before = Q-b g; after = g; ends = sym start-M ∙ ap (d Start) g }))
+        { before = alone A e; after = e; ends = ap (d Start) (sym e) ∙ start-N })) (λ e. inr (seated-a e));
+    at-b = split (q .M) b (λ g. inl (record { before = alone B g; after = g; ends = sym (B .start) ∙ ap (d Start) g }))
         (λ g. inr (seated-b g));
-    apart = apart lP lQ;
-    N-M = apart lN lM;
+    apart = apart (A .prev-loop) (B .prev-loop);
+    N-M = apart (A .next-loop) (B .next-loop);
     isolated = upd-same _ (q .l) _;
   }
 
@@ -312,15 +293,15 @@ module _ {sh : Shape} {p : List ℤ} {d : Columns} (t : Sound sh p d) (zero : d 
         loop-else = λ i h e z. sym (c-else i e (λ g. z (ap (d Loop) g)) z);
         next-a = refl;
         next-b = refl;
-        next-P = nP;
-        next-Q = nQ;
+        next-P = A .follows;
+        next-Q = B .follows;
         next-else = λ i e g x y. sym (upd-off _ _ g ∙ upd-off _ _ e
             ∙ upd-off _ _ (pick-ind (λ j. i ≢ j) (eqb (q .M) b) (q .P) (q .Q) x y)
             ∙ upd-off _ _ (pick-ind (λ j. i ≢ j) (eqb (q .N) (mate b)) (q .Q) (q .P) y x));
         prev-a = refl;
         prev-b = refl;
-        prev-N = t .rules .undone (mate b) ua;
-        prev-M = t .rules .undone b (o .used);
+        prev-N = A .undone;
+        prev-M = B .undone;
         prev-else = λ i e g x y. sym (upd-off _ _ g ∙ upd-off _ _ e
             ∙ upd-off _ _ (pick-ind (λ j. i ≢ j) (eqb (q .N) (mate b)) (q .M) (q .N) y x)
             ∙ upd-off _ _ (pick-ind (λ j. i ≢ j) (eqb (q .M) b) (q .N) (q .M) x y));

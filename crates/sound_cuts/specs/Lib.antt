@@ -12,7 +12,6 @@ pub mod KefSolids
 pub mod KefSound
 pub mod Round
 pub mod MefPlace
-pub mod MefLoops
 pub mod MefShown
 pub mod KefShown
 pub mod KefPlace

@@ -165,7 +165,6 @@ module _ {sh : Shape} {p : List ℤ} {c d : Columns} {q : Spot} (k : Cut sh c d 
     mef-accepted = accepted-by (restOf q) (endOf q) (wayBack q) oo
 
 -- points stay
-pub mef-points : (sh : Shape) (x : List ℕ) (v : List ℤ) (l h1 h2 e f m w : ℕ)
-    → pointsAfter sh x v (mefOf l h1 h2 e f m w) ≡ v
+pub mef-points : (sh : Shape) (x : List ℕ) (v : List ℤ) (q : Spot) → pointsAfter sh x v (mefAt q) ≡ v
 unfolding pointsAfter
-mef-points sh x v l h1 h2 e f m w = refl
+mef-points sh x v q = refl

@@ -29,8 +29,7 @@ use Rattle.sound_cuts.specs.MefSound.{cut-sound}
 use Rattle.sound_cuts.specs.MefOperands.{mefOf, wayBack}
 use Rattle.sound_cuts.specs.MefAccepted.{mefAt}
 use Rattle.sound_cuts.specs.Exact.{mef-kept, mef-undone}
-use Rattle.sound_cuts.specs.MefPlace.{mef-cut}
-use Rattle.sound_cuts.specs.MefLoops.{labelled}
+use Rattle.sound_cuts.specs.MefPlace.{mef-cut, mef-marked}
 use Rattle.sound_cuts.specs.MefFacts.{MefFacts, mef-facts}
 
 module _ {sh : Shape} {x : List ℕ} {p : List ℤ} (g : Good sh x p) {o : Operator} (r : MefFacts sh (own sh x) o) where
@@ -132,9 +131,8 @@ module _ {sh : Shape} {x : List ℕ} {p : List ℤ} (g : Good sh x p) {o : Opera
   -- then both hold
   holds-at : {A B : Bool} {u v P N Q M : ℕ} → Choice A B u v P N Q M → Kept sh x p op × Undone sh x p op
   holds-at {u = u} {v} {P} {N} {Q} {M} y =
-      let L = labelled (g .sound) refl (place y) in
-      let k = mef-cut (g .sound) refl (place y) (L .lab) (L .parts) in
-      let t = cut-sound k (L .marked) (g .sound) in
+      let k = mef-cut (g .sound) refl (place y) in
+      let t = cut-sound k (mef-marked (g .sound) refl (place y)) (g .sound) in
       let e1 : restOf (spot u v P N Q M) ≡ r .h1 = rw (y .A-is, y .B-is) (y .h1-is) in
       let e2 : endOf (spot u v P N Q M) ≡ r .h2 = rw (y .A-is, y .B-is) (y .h2-is) in
       let e3 : wayBack (spot u v P N Q M) ≡ r .w = rw (y .A-is, y .B-is) (y .w-is) in

@@ -20,7 +20,8 @@ use Rattle.sound_tables.specs.Names.{lone-alone}
 use Rattle.sound_cuts.specs.Seats.{seat-in}
 use Rattle.sound_cuts.specs.Relation.{Spot, seat, spur, restOf, a-b, off-a, off-b, first-corner, l-m, ba, Cut}
 use Rattle.sound_cuts.specs.Relation.{Marked, or-used, used-or}
-use Rattle.sound_cuts.specs.Spur.{With, vertexSeat, vertex-place, a-new, b-new, Q-in, Q-a, spur-cycles, next-spur}
+use Rattle.sound_cuts.specs.Spur.{With, vertexSeat, vertex-place, a-new, b-new, Q-in, Q-a, spurLoop, loop-c}
+use Rattle.sound_cuts.specs.Spur.{loop-Q, spur-cycles, next-spur}
 use Rattle.sound_cuts.specs.Spur.{next-mate, start-with}
 use Rattle.sound_cuts.specs.MefSolids.{unnamed}
 
@@ -36,21 +37,9 @@ module _ {sh : Shape} {p : List ℤ} {c d : Columns} {q : Spot} (k : Cut sh c d 
 
   -- ---- loops
 
-  -- the loops with the spur
-  abbrev L : ℕ → ℕ
-  L = upd (upd (c Loop) (q .a) (q .l)) (q .b) (q .l)
-
-  -- that of a
-  L-a : L (q .a) ≡ q .l
+  -- the spur's half a is of l
+  L-a : spurLoop c q (q .a) ≡ q .l
   L-a = upd-off _ _ (a-b (k .site)) ∙ upd-same _ (q .a) (q .l)
-
-  -- of one of c
-  L-c : (i : ℕ) → HalfUsed sh c i → L i ≡ c Loop i
-  L-c i x = upd-off _ _ (off-b (k .site) i x) ∙ upd-off _ _ (off-a (k .site) i x)
-
-  -- of Q
-  L-Q : L (q .Q) ≡ q .l
-  L-Q = ⊎-elim (λ o. upd-at _ _ (o .before)) (λ o. L-c (q .Q) (o .before) ∙ o .loop) (k .site .near .at-b)
 
   -- Q is in use
   Q-with : With sh c q (q .Q)
@@ -61,7 +50,8 @@ module _ {sh : Shape} {p : List ℤ} {c d : Columns} {q : Spot} (k : Cut sh c d 
   run-b =
       let y = spur-cycles (k .site) s in
       let e : spur c q (q .a) ≡ q .b = upd-same _ (q .a) (q .b) in
-      let m = forwards (y .perm) (y .one (q .b) (q .Q) (inl refl) Q-with (upd-same _ (q .b) (q .l) ∙ sym L-Q)) .0 in
+      let m = forwards (y .perm) (y .one (q .b) (q .Q) (inl refl) Q-with
+      (upd-same _ (q .b) (q .l) ∙ sym (loop-Q (k .site)))) .0 in
       subst (Till (spur c q) (q .a) (q .Q)) e
       (till-fx (spur c q) (q .a) (q .Q) a-Q (m .0) (subst (λ i. iter (spur c q) (m .0) i ≡ q .Q) (sym e) (m .1)))
 
@@ -72,17 +62,19 @@ module _ {sh : Shape} {p : List ℤ} {c d : Columns} {q : Spot} (k : Cut sh c d 
   -- the spur's loop is parted
   parted : Cycles n (With sh c q) (xchg (spur c q) (q .a) (q .Q)) (d Loop)
   parted = halve-cycles (spur-cycles (k .site) s) (q .a) (q .Q) (q .m) (d Loop) (inr (inl refl)) Q-with a-Q
-      (L-a ∙ sym L-Q)
+      (L-a ∙ sym (loop-Q (k .site)))
       (λ i. ⊎-elim (λ e z. l-m (k .site) (sym (upd-at _ _ e) ∙ z))
-      (⊎-elim (λ e z. l-m (k .site) (sym L-a ∙ ap L (sym e) ∙ z)) (λ x z. unnamed k s i x (sym (L-c i x) ∙ z))))
+      (⊎-elim (λ e z. l-m (k .site) (sym L-a ∙ ap (spurLoop c q) (sym e) ∙ z))
+      (λ x z. unnamed k s i x (sym (loop-c (k .site) i x) ∙ z))))
       (λ i. ⊎-elim (λ e t. ap (d Loop) e ∙ k .loop-b)
       (⊎-elim (λ e t. absurd (not-both (spur c q) (q .a) (q .Q) a-Q (subst (Till (spur c q) (q .a) (q .Q)) e t)
       (stop refl))) (w .run i)))
       (λ i. ⊎-elim (λ e t. absurd (not-both (spur c q) (q .a) (q .Q) a-Q run-b
       (subst (Till (spur c q) (q .Q) (q .a)) e t)))
-      (⊎-elim (λ e t. ap (d Loop) e ∙ k .loop-a ∙ sym (ap L e ∙ L-a)) (λ x t. w .rest i x t ∙ sym (L-c i x))))
-      (λ i. ⊎-elim (λ e z. absurd (z (upd-at _ _ e ∙ sym L-a))) (⊎-elim (λ e z. absurd (z (ap L e)))
-      (λ x z. far i x (λ y. z (L-c i x ∙ y ∙ sym L-a)) ∙ sym (L-c i x))))
+      (⊎-elim (λ e t. ap (d Loop) e ∙ k .loop-a ∙ sym (ap (spurLoop c q) e ∙ L-a))
+      (λ x t. w .rest i x t ∙ sym (loop-c (k .site) i x))))
+      (λ i. ⊎-elim (λ e z. absurd (z (upd-at _ _ e ∙ sym L-a))) (⊎-elim (λ e z. absurd (z (ap (spurLoop c q) e)))
+      (λ x z. far i x (λ y. z (loop-c (k .site) i x ∙ y ∙ sym L-a)) ∙ sym (loop-c (k .site) i x))))
 
   -- that is d
   loops : Cycles n (HalfUsed sh d) (d Next) (d Loop)

@@ -24,6 +24,10 @@ use Rattle.sound_cuts.specs.Seats.{seat-in, turned}
 abbrev pub With : Shape → Columns → Spot → ℕ → Type 0
 With sh c q = Or (q .b) (Or (q .a) (HalfUsed sh c))
 
+-- the loops with the spur
+abbrev pub spurLoop : Columns → Spot → ℕ → ℕ
+spurLoop c q = upd (upd (c Loop) (q .a) (q .l)) (q .b) (q .l)
+
 -- the seat among the half-edges of a vertex
 abbrev pub vertexSeat : Spot → ℕ
 vertexSeat q = pick (eqb (seat q) (q .a)) (q .a) (mate (seat q))
@@ -102,9 +106,17 @@ module _ {sh : Shape} {c : Columns} {q : Spot} (s : Site sh c q) where
 
   -- ---- its loops
 
+  -- of one of c the loop is as it was
+  pub loop-c : (i : ℕ) → HalfUsed sh c i → spurLoop c q i ≡ c Loop i
+  loop-c i x = upd-off _ _ (off-b s i x) ∙ upd-off _ _ (off-a s i x)
+
+  -- that of Q is l
+  pub loop-Q : spurLoop c q (q .Q) ≡ q .l
+  loop-Q = ⊎-elim (λ o. upd-at _ _ (o .before)) (λ o. loop-c (q .Q) (o .before) ∙ o .loop) (s .near .at-b)
+
   module _ {p : List ℤ} (r : Sound sh p c) where
     -- the spur is of loop l
-    pub spur-cycles : Cycles (2 * sh .edges) (With sh c q) (spur c q) (upd (upd (c Loop) (q .a) (q .l)) (q .b) (q .l))
+    pub spur-cycles : Cycles (2 * sh .edges) (With sh c q) (spur c q) (spurLoop c q)
     spur-cycles = seat-in (seat-in (r .rules .loops) (q .a) (seat q) (q .l) a-new (s .a-in) (⊎-elim
         (λ o. inl (o .1 .before, o .1 .loop))
         (λ o. inr (
