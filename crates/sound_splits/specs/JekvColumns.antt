@@ -6,7 +6,7 @@ use Prim.Native.Nat.{ℕ, _*_}
 use native.Mathlib.Omega.{arith}
 use lib.IntN.{ℤ}
 use Rattle.laws.specs.Bools.{split}
-use Rattle.laws.specs.Update.{upd, upd-at, upd-same, upd-off}
+use Rattle.laws.specs.Update.{Apart, apart, upd, upd-at, upd-same, upd-off}
 use Rattle.laws.specs.Permutations.{inj}
 use Rattle.layout.specs.declared.shape.Shape.{Shape}
 use Rattle.layout.specs.Mate.{mate}
@@ -67,7 +67,7 @@ module _ {sh : Shape} {p : List ℤ} {d : Columns} (a : Sound sh p d) {k n : ℕ
   P = d Prev (mate n)
 
   -- it is in use
-  pub P-used : HalfUsed sh d (d Prev (mate n))
+  P-used : HalfUsed sh d (d Prev (mate n))
   P-used = prev-in (a .rules) (mate n) b-used
 
   -- and the mate follows it
@@ -98,11 +98,9 @@ module _ {sh : Shape} {p : List ℤ} {d : Columns} (a : Sound sh p d) {k n : ℕ
   k≢n : k ≢ n
   k≢n e = o .n≢k (sym e)
 
-  -- all of it, for `simp` to find
-  apart₂ : {A : Type 0} → (n ≢ mate n → k ≢ mate k → mate k ≢ k → k ≢ mate n → mate n ≢ k → mate k ≢ mate n
-      → mate n ≢ mate k
-      → mate k ≢ n → k ≢ n → A) → A
-  apart₂ f = f n≢b k≢m (λ z. k≢m (sym z)) k≢b (λ z. k≢b (sym z)) m≢b (λ z. m≢b (sym z)) m≢n k≢n
+  -- all four, for `apart` to hand out
+  differ : Apart k (mate k) n (mate n)
+  differ = record { ka = k≢m; kp = k≢n; kq = k≢b; ap = m≢n; aq = m≢b; pq = n≢b }
 
   -- k does not come before n's mate
   P≢k : P ≢ k
@@ -139,7 +137,7 @@ module _ {sh : Shape} {p : List ℤ} {d : Columns} (a : Sound sh p d) {k n : ℕ
 
   -- k's mate starts where n's mate did
   start-b : d Start (mate n) ≡ c Start (mate k)
-  start-b = apart₂ λ c1 c2 c3 c4 c5 c6 c7 c8 c9. simp (upd-same, upd-off)
+  start-b = apart differ λ c1 c2 c3 c4 c5 c6 c7 c8 c9 c10 c11 c12. simp (upd-same, upd-off)
 
   -- k is in use afterwards, n, its mate and its start are free
   joint-place : Place sh c k n (d Start n)
@@ -201,7 +199,7 @@ module _ {sh : Shape} {p : List ℤ} {d : Columns} (a : Sound sh p d) {k n : ℕ
 
   -- what precedes k's mate
   prev-m : c Prev (mate k) ≡ q
-  prev-m = apart₂ λ c1 c2 c3 c4 c5 c6 c7 c8 c9. simp (upd-same, upd-off)
+  prev-m = apart differ λ c1 c2 c3 c4 c5 c6 c7 c8 c9 c10 c11 c12. simp (upd-same, upd-off)
 
   -- what precedes another
   prev-o : (i : ℕ) → HalfUsed sh c i → i ≢ mate k → c Prev i ≡ upd (d Prev) (d Next n) k i

@@ -9,6 +9,7 @@ use Prim.Native.Nat.{ℕ, _*_}
 use native.Mathlib.Omega.{arith}
 use lib.IntN.{ℤ}
 use Rattle.laws.specs.Bools.{split}
+use Rattle.laws.specs.Update.{Apart}
 use Rattle.layout.specs.declared.shape.Shape.{Shape}
 use Rattle.layout.specs.Mate.{mate}
 use Rattle.layout.specs.MateLaws.{mate-mate}
@@ -112,12 +113,16 @@ module _ {sh : Shape} {c : Columns} {k n v : ℕ} (o : Place sh c k n v) where
   pub b≢m : mate n ≢ mate k
   b≢m e = off-b (mate k) (o .m-used) (sym e)
 
-  -- all of it, for `simp` to find
-  pub apart : {A : Type 0} → (n ≢ mate n → mate n ≢ n → n ≢ k → k ≢ n → n ≢ mate k → mate k ≢ n → mate n ≢ k
-      → k ≢ mate n
-      → mate n ≢ mate k → mate k ≢ mate n → A) → A
-  apart f = f n≢b (λ z. n≢b (sym z)) n≢k (λ z. n≢k (sym z)) n≢m (λ z. n≢m (sym z)) b≢k (λ z. b≢k (sym z)) b≢m
-      (λ z. b≢m (sym z))
+  -- all four, for `apart` to hand out
+  pub four : Apart k (mate k) n (mate n)
+  four = record {
+    ka = mate-other k (o .k-used .0);
+    kp = λ z. n≢k (sym z);
+    kq = λ z. b≢k (sym z);
+    ap = λ z. n≢m (sym z);
+    aq = λ z. b≢m (sym z);
+    pq = n≢b;
+  }
 
   -- the mate of what is read for m is read for k
   pub mate-fore : (i : ℕ) → mate (fore k n i) ≡ aft k n (mate i)

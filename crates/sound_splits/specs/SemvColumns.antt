@@ -6,7 +6,7 @@ use Prim.Native.Nat.{ℕ, _*_}
 use native.Mathlib.Omega.{arith}
 use lib.IntN.{ℤ}
 use Rattle.laws.specs.Bools.{split}
-use Rattle.laws.specs.Update.{upd, upd-at, upd-same, upd-off}
+use Rattle.laws.specs.Update.{apart, upd, upd-at, upd-same, upd-off}
 use Rattle.layout.specs.declared.shape.Shape.{Shape}
 use Rattle.layout.specs.Mate.{mate}
 use Rattle.sound_tables.specs.EdgeIn.{prev-in, next-prev}
@@ -17,7 +17,7 @@ use Rattle.layout.specs.Writes.{Write, write, changes}
 use Rattle.euler.specs.Surgery.{halfRecord, seated}
 use Rattle.sound_splits.specs.CycleMoves.{swapFor, swap-at, swap-off, swap-back}
 use Rattle.sound_splits.specs.Firsts.{closed, closed-others, clear-zero, far-first, first-set}
-use Rattle.sound_splits.specs.Relation.{Tidy, sound-tidy, Place, fore, aft, Split, off-n, off-b, n≢b, n≢k, apart}
+use Rattle.sound_splits.specs.Relation.{Tidy, sound-tidy, Place, fore, aft, Split, off-n, off-b, n≢b, n≢k, four}
 
 -- half-edge n from v in loop l goes in between k and A
 abbrev pub afterWrites : ℕ → ℕ → ℕ → ℕ → ℕ → List Write
@@ -68,7 +68,7 @@ module _ {sh : Shape} {p : List ℤ} {c : Columns} (a : Sound sh p c) {k n v : �
 
   -- what follows one in use before n's mate goes in
   pub first-next : (i : ℕ) → HalfUsed sh c i → upd (upd (c Next) n (c Next k)) k n (aft k n i) ≡ c Next i
-  first-next i u = apart o λ c1 c2 c3 c4 c5 c6 c7 c8 c9 c10.
+  first-next i u = apart (four o) λ c1 c2 c3 c4 c5 c6 c7 c8 c9 c10 c11 c12.
       split i k (λ e. rw e (simp (upd-same, upd-off))) (λ e. let f = off-n o i u in simp upd-off)
 
   -- what precedes one in use then
@@ -93,13 +93,13 @@ module _ {sh : Shape} {p : List ℤ} {c : Columns} (a : Sound sh p c) {k n v : �
 
   -- what precedes what is read for one in use
   semv-prev : (i : ℕ) → HalfUsed sh c i → d Prev (fore k n i) ≡ aft k n (c Prev i)
-  semv-prev i u = apart o λ c1 c2 c3 c4 c5 c6 c7 c8 c9 c10.
+  semv-prev i u = apart (four o) λ c1 c2 c3 c4 c5 c6 c7 c8 c9 c10 c11 c12.
       split i (mate k) (λ e. rw e (simp (upd-same, upd-off)))
       (λ e. let f = off-b o i u in simp upd-off (first-prev i u))
 
   -- n lies with k
   loop-n : d Loop n ≡ c Loop k
-  loop-n = apart o λ c1 c2 c3 c4 c5 c6 c7 c8 c9 c10. simp (upd-same, upd-off)
+  loop-n = apart (four o) λ c1 c2 c3 c4 c5 c6 c7 c8 c9 c10 c11 c12. simp (upd-same, upd-off)
 
   -- n's mate lies with m
   loop-b : d Loop (mate n) ≡ c Loop (mate k)
@@ -115,11 +115,11 @@ module _ {sh : Shape} {p : List ℤ} {c : Columns} (a : Sound sh p c) {k n v : �
 
   -- so does n
   start-n : d Start n ≡ v
-  start-n = apart o λ c1 c2 c3 c4 c5 c6 c7 c8 c9 c10. simp (upd-same, upd-off)
+  start-n = apart (four o) λ c1 c2 c3 c4 c5 c6 c7 c8 c9 c10 c11 c12. simp (upd-same, upd-off)
 
   -- n's mate starts where m did
   start-b : d Start (mate n) ≡ c Start (mate k)
-  start-b = apart o λ c1 c2 c3 c4 c5 c6 c7 c8 c9 c10. simp (upd-same, upd-off)
+  start-b = apart (four o) λ c1 c2 c3 c4 c5 c6 c7 c8 c9 c10 c11 c12. simp (upd-same, upd-off)
 
   -- the others where they did
   start-o : (i : ℕ) → i ≢ mate k → i ≢ n → i ≢ mate n → d Start i ≡ c Start i
@@ -165,13 +165,14 @@ module _ {sh : Shape} {p : List ℤ} {c : Columns} (a : Sound sh p c) {k n v : �
     loop-n = loop-n;
     loop-b = loop-b;
     loop = loop-o;
-    next-k = apart o λ c1 c2 c3 c4 c5 c6 c7 c8 c9 c10. let q≢k : k ≢ q = λ z. aft-k P (sym z) in
+    next-k = apart (four o) λ c1 c2 c3 c4 c5 c6 c7 c8 c9 c10 c11 c12. let q≢k : k ≢ q = λ z. aft-k P (sym z) in
         simp (upd-same, upd-off);
-    next-b = apart o λ c1 c2 c3 c4 c5 c6 c7 c8 c9 c10. let q≢b : mate n ≢ q = λ z. aft-b P P-used (sym z) in
+    next-b = apart (four o) λ c1 c2 c3 c4 c5 c6 c7 c8 c9 c10 c11 c12. let q≢b : mate n ≢ q =
+        λ z. aft-b P P-used (sym z) in
         simp (upd-same, upd-off);
     next = semv-next;
     prev-m = simp upd-same;
-    prev-n = apart o λ c1 c2 c3 c4 c5 c6 c7 c8 c9 c10. let f : n ≢ c Next k =
+    prev-n = apart (four o) λ c1 c2 c3 c4 c5 c6 c7 c8 c9 c10 c11 c12. let f : n ≢ c Next k =
         λ z. off-n o (c Next k) (next-in k (o .k-used)) (sym z) in simp (upd-same, upd-off);
     prev = semv-prev;
     next-old = λ i u. off-b o (c Next i) (next-in i u);

@@ -4,7 +4,7 @@ use mathlib.Core.Path.{_≡_, refl, sym, ap, _∙_, subst}
 use mathlib.Core.Logic.{_≢_, inl, inr, ⊎-elim}
 use Prim.Native.Nat.{ℕ, _*_}
 use Rattle.laws.specs.Bools.{split}
-use Rattle.laws.specs.Update.{upd, upd-at, upd-same, upd-off}
+use Rattle.laws.specs.Update.{apart, upd, upd-at, upd-same, upd-off}
 use Rattle.laws.specs.Cycles.{Cycles, agree, insert, remove, birth, death}
 use Rattle.laws.specs.Moves.{Or, But, ins, out, ins-cycles, out-cycles}
 use Rattle.layout.specs.declared.shape.Shape.{Shape}
@@ -15,7 +15,7 @@ use Rattle.sound_tables.specs.EdgeIn.{Rules}
 use Rattle.sound_tables.specs.Sound.{halves, HalfUsed}
 use Rattle.sound_splits.specs.CycleMoves.{swapFor, swap-at, swap-off, swap-back, before-cycles, before-out}
 use Rattle.sound_splits.specs.CycleMoves.{rename}
-use Rattle.sound_splits.specs.Relation.{fore, aft, Split, off-n, off-b, n≢b, n≢k, n≢m, b≢k, b≢m, apart, mate-fore}
+use Rattle.sound_splits.specs.Relation.{fore, aft, Split, off-n, off-b, n≢b, n≢k, n≢m, b≢k, b≢m, four, mate-fore}
 use Rattle.sound_splits.specs.Relation.{used-n, used-b, used-old, used-was, by-next}
 
 module _ {sh : Shape} {c d : Columns} {k n v : ℕ} (r : Split sh c d k n v) where
@@ -90,12 +90,12 @@ module _ {sh : Shape} {c d : Columns} {k n v : ℕ} (r : Split sh c d k n v) whe
         (λ i. ⊎-elim (λ e. subst U′ (sym e) (used-b r))
         (⊎-elim (λ e. subst U′ (sym e) (used-n r)) (λ u. used-old r i u)))
         (used-was r (Or (mate n) (Or n U)) (inr (inl refl)) (inl refl) (λ i u. inr (inr u)))
-        (λ i. apart o λ c1 c2 c3 c4 c5 c6 c7 c8 c9 c10. ⊎-elim
+        (λ i. apart (four o) λ c1 c2 c3 c4 c5 c6 c7 c8 c9 c10 c11 c12. ⊎-elim
         (λ e. rw e (r .next-b ∙ sym (simp upd-same)))
         (⊎-elim (λ e. rw e (next-n ∙ sym (simp (upd-same, upd-off))))
         (λ u. let f = off-n o i u in let g = off-b o i u in split i k
         (λ e. rw e (r .next-k ∙ sym (simp (upd-same, upd-off)))) (λ e. next-o i u e ∙ sym (simp upd-off)))))
-        (λ i. apart o λ c1 c2 c3 c4 c5 c6 c7 c8 c9 c10. ⊎-elim
+        (λ i. apart (four o) λ c1 c2 c3 c4 c5 c6 c7 c8 c9 c10 c11 c12. ⊎-elim
         (λ e. rw e (r .loop-b ∙ sym (simp (upd-same, upd-off))))
         (⊎-elim (λ e. rw e (r .loop-n ∙ sym (simp (upd-same, upd-off))))
         (λ u. let f = off-n o i u in let g = off-b o i u in r .loop i f g ∙ sym (simp upd-off))))

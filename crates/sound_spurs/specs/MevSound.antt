@@ -113,7 +113,7 @@ module _ {sh : Shape} {c : Columns} {E : NewEdge} (o : MevPlace sh c E) where
   start-b = upd-same _ (mate k) v
 
   -- the others where they did
-  pub start-old : (i : ℕ) → i ≢ k → i ≢ mate k → d Start i ≡ c Start i
+  start-old : (i : ℕ) → i ≢ k → i ≢ mate k → d Start i ≡ c Start i
   start-old i e f = upd-off _ v f ∙ upd-off (c Start) u e
 
   -- k lies in the loop
@@ -121,7 +121,7 @@ module _ {sh : Shape} {c : Columns} {E : NewEdge} (o : MevPlace sh c E) where
   loop-k = upd-off _ l kb ∙ upd-same (c Loop) k l
 
   -- so does its mate
-  pub loop-b : d Loop (mate k) ≡ l
+  loop-b : d Loop (mate k) ≡ l
   loop-b = upd-same _ (mate k) l
 
   -- the others where they did
@@ -323,7 +323,8 @@ module _ {sh : Shape} {c : Columns} {E : NewEdge} (o : MevPlace sh c E) where
           (ap (c Solid) (ap (side d) (mate-mate k) ∙ side-k ∙ sym side-b))
           (λ i w. ap (c Solid) (side-mate i w) ∙ a .solids .edge i w ∙ ap (c Solid) (sym (side-old i w)));
       one = λ f g x y e. map-linked (λ i. i)
-          (λ i j t. let u = t .1 in link (t .0, half-stays (t .0) u, side-old (t .0) u ∙ t .2, side-mate (t .0) u ∙ t .3))
+          (λ i j t. let u = t .1 in
+          link (t .0, half-stays (t .0) u, side-old (t .0) u ∙ t .2, side-mate (t .0) u ∙ t .3))
           (a .solids .one f g x y e);
     }
 
