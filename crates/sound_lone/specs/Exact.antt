@@ -14,32 +14,23 @@ use Rattle.layout.specs.declared.shape.Shape.{Shape}
 use Rattle.layout.specs.Points.{coordinate, rangeTest}
 use Rattle.euler.specs.Surgery.{putPoint}
 use Rattle.euler.specs.Exec.{refusalOf}
-use Rattle.layout.specs.Fields.{Field, Capacity, SolidUsed, Solid, Outer, Face, First, Isolated, Start, Loop, Next, Prev, VertexUsed, Columns}
-use Rattle.sound_tables.specs.Cells.{upd-back, Shows, shows-ext}
+use Rattle.layout.specs.Fields.{Field, SolidUsed, Solid, Face, VertexUsed, Columns}
+use Rattle.sound_tables.specs.Cells.{Shows, shows-ext}
+use Rattle.sound_tables.specs.WriteLaws.{frame, Stand, write-back}
 use Rattle.sound_tables.specs.PointLists.{put-length, put-at, put-back, put-cleared, points-new, points-cleared}
 use Rattle.sound_tables.specs.Good.{own, Good, good-shows, good-after}
 use Rattle.sound_tables.specs.Undone.{Kept, Undone}
-use Rattle.sound_lone.specs.MvsfSound.{placed, placedLinks, shows-placed, mvsf-sound}
+use Rattle.sound_lone.specs.MvsfSound.{placedWrites, placed, placedLinks, shows-placed, mvsf-sound}
 use Rattle.sound_lone.specs.KvsfSound.{OneLoop, one-used, kvsf-sound}
 use Rattle.sound_lone.specs.Accepted.{mvsfOf, kvsfOf, Free, mvsf-facts, kvsf-facts, one-agree, made-one, tested-one, kvsf-links, kvsf-points, kvsf-inverse, kvsf-accepted, mvsf-links, mvsf-points, mvsf-inverse, mvsf-accepted}
 
 -- ---- there and back
 
--- the places of a solid, its face, its loop and its vertex written over and written back
-place-back : (c : Columns) (s f l v m s′ l′ f′ v′ m₀ s₀ l₀ f₀ v₀ : ℕ) → c SolidUsed s ≡ m₀ → c Solid f ≡ s₀ → c Outer f ≡ l₀ → c Face l ≡ f₀ → c First l ≡ 0 → c Isolated l ≡ v₀ → c VertexUsed v ≡ m₀
+-- the places of a solid, its face, its loop and its vertex written over, and what stood there written back
+place-back : (c : Columns) (s f l v m s′ l′ f′ v′ m₀ s₀ l₀ f₀ v₀ : ℕ) → Stand c (placedWrites s f l v m₀ s₀ l₀ f₀ v₀)
     → (F : Field) (n : ℕ) → placed (placed c s f l v m s′ l′ f′ v′) s f l v m₀ s₀ l₀ f₀ v₀ F n ≡ c F n
-place-back c s f l v m s′ l′ f′ v′ m₀ s₀ l₀ f₀ v₀ e1 e2 e3 e4 e5 e6 e7 Capacity n = refl
-place-back c s f l v m s′ l′ f′ v′ m₀ s₀ l₀ f₀ v₀ e1 e2 e3 e4 e5 e6 e7 SolidUsed n = upd-back (c SolidUsed) s m m₀ e1 n
-place-back c s f l v m s′ l′ f′ v′ m₀ s₀ l₀ f₀ v₀ e1 e2 e3 e4 e5 e6 e7 Solid n = upd-back (c Solid) f s′ s₀ e2 n
-place-back c s f l v m s′ l′ f′ v′ m₀ s₀ l₀ f₀ v₀ e1 e2 e3 e4 e5 e6 e7 Outer n = upd-back (c Outer) f l′ l₀ e3 n
-place-back c s f l v m s′ l′ f′ v′ m₀ s₀ l₀ f₀ v₀ e1 e2 e3 e4 e5 e6 e7 Face n = upd-back (c Face) l f′ f₀ e4 n
-place-back c s f l v m s′ l′ f′ v′ m₀ s₀ l₀ f₀ v₀ e1 e2 e3 e4 e5 e6 e7 First n = upd-back (c First) l 0 0 e5 n
-place-back c s f l v m s′ l′ f′ v′ m₀ s₀ l₀ f₀ v₀ e1 e2 e3 e4 e5 e6 e7 Isolated n = upd-back (c Isolated) l v′ v₀ e6 n
-place-back c s f l v m s′ l′ f′ v′ m₀ s₀ l₀ f₀ v₀ e1 e2 e3 e4 e5 e6 e7 Start n = refl
-place-back c s f l v m s′ l′ f′ v′ m₀ s₀ l₀ f₀ v₀ e1 e2 e3 e4 e5 e6 e7 Loop n = refl
-place-back c s f l v m s′ l′ f′ v′ m₀ s₀ l₀ f₀ v₀ e1 e2 e3 e4 e5 e6 e7 Next n = refl
-place-back c s f l v m s′ l′ f′ v′ m₀ s₀ l₀ f₀ v₀ e1 e2 e3 e4 e5 e6 e7 Prev n = refl
-place-back c s f l v m s′ l′ f′ v′ m₀ s₀ l₀ f₀ v₀ e1 e2 e3 e4 e5 e6 e7 VertexUsed n = upd-back (c VertexUsed) v m m₀ e7 n
+place-back c s f l v m s′ l′ f′ v′ m₀ s₀ l₀ f₀ v₀ e = write-back (placedWrites s f l v m₀ s₀ l₀ f₀ v₀) c _ e
+    (λ F n a. frame (placedWrites s f l v m s′ l′ f′ v′) c F n a)
 
 -- ---- mvsf
 
@@ -73,8 +64,11 @@ module _ {sh : Shape} {x : List ℕ} {p : List ℤ} (g : Good sh x p) {s f l v :
   mvsf-back : placedLinks sh y s f l v 0 0 0 0 0 ≡ x
   mvsf-back =
       let k = g .sound .loop-free l (r .loop-in) (r .loop) in
+      let o = g .sound .face-free f (r .face-in) (r .face) in
+      let stood : Stand (own sh x) (placedWrites s f l v 0 0 0 0 0)
+      = (r .solid, (r .face, (o, (r .loop, (k .0, (k .1, (r .vertex, tt))))))) in
       shows-ext (shows-placed y-shows s f l v 0 0 0 0 0 (r .solid-in) (r .face-in) (r .loop-in) (r .vertex-in)) (good-shows g)
-      (λ F n i j. place-back (own sh x) s f l v 1 s l f v 0 0 0 0 0 (r .solid) (r .face) (g .sound .face-free f (r .face-in) (r .face)) (r .loop) (k .0) (k .1) (r .vertex) F n)
+      (λ F n i j. place-back (own sh x) s f l v 1 s l f v 0 0 0 0 0 stood F n)
 
   point-back : putPoint q v (pos 0) (pos 0) (pos 0) ≡ p
   point-back = put-cleared (sh .vertices) p v a b z (g .points) (r .vertex-in) (g .sound .point v (r .vertex-in) .zero (r .vertex))
@@ -140,7 +134,8 @@ module _ {sh : Shape} {x : List ℕ} {p : List ℤ} (g : Good sh x p) {s f l v :
   kvsf-back : placedLinks sh ky s f l v 1 s l f v ≡ x
   kvsf-back =
       shows-ext (shows-placed ky-shows s f l v 1 s l f v (o .solid-in) (o .face-in) (o .loop-in) (o .vertex-in)) (good-shows g)
-      (λ F n i j. place-back (own sh x) s f l v 0 0 0 0 0 1 s l f v s-mark (o .solid) (o .outer) (o .face) (o .first) (o .isolated) v-mark F n)
+      (λ F n i j. place-back (own sh x) s f l v 0 0 0 0 0 1 s l f v
+      (s-mark, (o .solid, (o .outer, (o .face, (o .first, (o .isolated, (v-mark, tt))))))) F n)
 
   -- mvsf gives everything back
   pub kvsf-undone : Undone sh x p (kvsfOf s)

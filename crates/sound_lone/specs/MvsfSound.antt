@@ -1,7 +1,7 @@
 -- mvsf and kvsf on the columns: a solid of one face with one isolated loop comes, or goes. Both write the same places: `placed`.
 use mathlib.Core.Path.{_≡_, refl, sym, ap, _∙_}
 use mathlib.Core.Logic.{_≢_, _⊎_, inl, inr, ⊎-elim}
-use mathlib.Core.List.{List}
+use mathlib.Core.List.{List, [], _∷_, _++_}
 use Prim.Native.Nat.{ℕ, _*_}
 use native.Mathlib.Omega.{arith}
 use lib.IntN.{ℤ}
@@ -10,39 +10,35 @@ use Rattle.laws.specs.Update.{upd, upd-same, upd-off}
 use Rattle.laws.specs.Search.{least-none}
 use Rattle.laws.specs.Linked.{same, link, map-linked}
 use Rattle.layout.specs.declared.shape.Shape.{Shape}
-use Rattle.layout.specs.Layout.{setSolidUsed, setVertexUsed}
 use Rattle.layout.specs.Mate.{mate}
-use Rattle.euler.specs.Surgery.{putFace, putLoop}
-use Rattle.layout.specs.Fields.{SolidUsed, Solid, Outer, Face, First, Isolated, Start, Loop, VertexUsed, Columns, change}
-use Rattle.sound_tables.specs.Cells.{Shows, shows-put}
+use Rattle.euler.specs.Surgery.{faceRecord, loopRecord}
+use Rattle.layout.specs.Fields.{SolidUsed, Solid, Outer, Face, First, Isolated, Start, Loop, VertexUsed, Columns}
+use Rattle.layout.specs.Writes.{Write, write, writes, changes}
+use Rattle.sound_tables.specs.Cells.{Shows}
+use Rattle.sound_tables.specs.WriteLaws.{shows-writes}
 use Rattle.sound_tables.specs.Solids.{Solids}
 use Rattle.sound_tables.specs.Sound.{In, HalfUsed, FaceUsed, side, FaceSound, FirstOrIsolated, LoopSound, HalfSound, VertexSound, alone, joined, PointSound, Sound}
 use Rattle.sound_tables.specs.Names.{loop-unnamed, start-unnamed, isolated-unnamed}
 
--- the record of face f becomes s, l
-abbrev pub withFace : Columns → ℕ → ℕ → ℕ → Columns
-withFace c f s l = change (change c Solid f s) Outer f l
-
--- the record of loop l becomes f, k, v
-abbrev pub withLoop : Columns → ℕ → ℕ → ℕ → ℕ → Columns
-withLoop c l f k v = change (change (change c Face l f) First l k) Isolated l v
-
 -- solid s and vertex v get the mark m, face f the words s′ l′, loop l the words f′ 0 v′
+abbrev pub placedWrites : ℕ → ℕ → ℕ → ℕ → ℕ → ℕ → ℕ → ℕ → ℕ → List Write
+placedWrites s f l v m s′ l′ f′ v′ =
+    write SolidUsed s m ∷ (faceRecord f s′ l′ ++ (loopRecord l f′ 0 v′ ++ (write VertexUsed v m ∷ [])))
+
+-- on the columns
 abbrev pub placed : Columns → ℕ → ℕ → ℕ → ℕ → ℕ → ℕ → ℕ → ℕ → ℕ → Columns
-placed c s f l v m s′ l′ f′ v′ = change (withLoop (withFace (change c SolidUsed s m) f s′ l′) l f′ 0 v′) VertexUsed v m
+placed c s f l v m s′ l′ f′ v′ = changes (placedWrites s f l v m s′ l′ f′ v′) c
 
--- the same on the list
+-- and on the list
 abbrev pub placedLinks : Shape → List ℕ → ℕ → ℕ → ℕ → ℕ → ℕ → ℕ → ℕ → ℕ → ℕ → List ℕ
-placedLinks sh x s f l v m s′ l′ f′ v′ = setVertexUsed sh (putLoop sh (putFace sh (setSolidUsed sh x s m) f s′ l′) l f′ 0 v′) v m
+placedLinks sh x s f l v m s′ l′ f′ v′ = writes sh (placedWrites s f l v m s′ l′ f′ v′) x
 
--- seven stores
-pub shows-placed : {sh : Shape} {x : List ℕ} {c : Columns} → Shows sh x c → (s f l v m s′ l′ f′ v′ : ℕ) → In (sh .solids) s → In (sh .faces) f → In (sh .loops) l → In (sh .vertices) v
+-- the list shows the columns
+pub shows-placed : {sh : Shape} {x : List ℕ} {c : Columns} → Shows sh x c → (s f l v m s′ l′ f′ v′ : ℕ)
+    → In (sh .solids) s → In (sh .faces) f → In (sh .loops) l → In (sh .vertices) v
     → Shows sh (placedLinks sh x s f l v m s′ l′ f′ v′) (placed c s f l v m s′ l′ f′ v′)
 shows-placed h s f l v m s′ l′ f′ v′ is jf il iv =
-    let h1 = shows-put h SolidUsed s m (is .0) (is .1) in
-    let h2 = shows-put (shows-put h1 Solid f s′ (jf .0) (jf .1)) Outer f l′ (jf .0) (jf .1) in
-    let h3 = shows-put (shows-put (shows-put h2 Face l f′ (il .0) (il .1)) First l 0 (il .0) (il .1)) Isolated l v′ (il .0) (il .1) in
-    shows-put h3 VertexUsed v m (iv .0) (iv .1)
+    shows-writes (placedWrites s f l v m s′ l′ f′ v′) h (is, (jf, (jf, (il, (il, (il, (iv, tt)))))))
 
 -- ---- mvsf
 
