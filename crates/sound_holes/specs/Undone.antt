@@ -9,12 +9,12 @@ use lib.IntN.{ℤ}
 use Rattle.laws.specs.Bools.{split, ask}
 use Rattle.laws.specs.Update.{upd, upd-at, upd-off, upd-same, relabel-at, relabel-off}
 use Rattle.layout.specs.declared.shape.Shape.{Shape}
-use Rattle.layout.specs.Fields.{Field, SolidUsed, Solid, Outer, Face, Columns, capOf}
+use Rattle.layout.specs.Fields.{Field, SolidUsed, Solid, Outer, Face, Columns, capOf, by-fields}
 use Rattle.sound_tables.specs.Cells.{upd-back}
 use Rattle.sound_tables.specs.Sound.{In, Sound}
-use Rattle.sound_holes.specs.Regroup.{regrouped-back}
-use Rattle.sound_holes.specs.MfkrhSound.{cutSolid, cut, RingFace, Moved, old-face, old-solid, face-other, face-unnamed, cut-new, cut-old, cut-other}
-use Rattle.sound_holes.specs.KfmrhSound.{joinedSolid, joined, TwoFaces, first-marked, second-marked, ring-in, ring-face, joined-second, joined-first, joined-other}
+use Rattle.sound_holes.specs.Regroup.{grouping}
+use Rattle.sound_holes.specs.MfkrhSound.{cutSolid, cut, cut-others, RingFace, Moved, old-face, old-solid, face-other, face-unnamed, cut-new, cut-old, cut-other}
+use Rattle.sound_holes.specs.KfmrhSound.{joinedSolid, joined, joined-others, TwoFaces, first-marked, second-marked, ring-in, ring-face, joined-second, joined-first, joined-other}
 
 -- ---- the same in columns that agree
 
@@ -80,7 +80,13 @@ module _ {sh : Shape} {p : List ℤ} {c : Columns} (a : Sound sh p c) {l f f₀ 
 
   -- every entry comes back
   pub cut-joined : (F : Field) (n : ℕ) → 1 ≤ n → n ≤ capOf sh F → joined (cut c l f s₀ s moved) f₀ f l s₀ s F n ≡ c F n
-  cut-joined = regrouped-back sh c _ _ _ _ _ _ _ _ (λ n i. mark-back n) solid-back (λ n i. upd-back (c Outer) f l 0 (a .face-free f (r .face-in) (r .face-free)) n) (λ n i. upd-back (c Face) l f f₀ (r .loop-face) n)
+  cut-joined = by-fields grouping _ (
+    λ n i j. mark-back n,
+    (
+      λ n i j. solid-back n (i, j),
+      (λ n i j. upd-back (c Outer) f l 0 (a .face-free f (r .face-in) (r .face-free)) n, (λ n i j. upd-back (c Face) l f f₀ (r .loop-face) n, tt)),
+    ),
+  ) (λ F h n i j. joined-others (cut c l f s₀ s moved) f₀ f l s₀ s F h n ∙ cut-others c l f s₀ s moved F h n)
 
 -- ---- kfmrh, then mfkrh
 
@@ -112,4 +118,10 @@ module _ {sh : Shape} {p : List ℤ} {c : Columns} (a : Sound sh p c) {f1 f2 l s
 
     -- every entry comes back
     pub joined-cut : (F : Field) (n : ℕ) → 1 ≤ n → n ≤ capOf sh F → cut (joined c f1 f2 l s1 s2) l f2 s1 s2 moved F n ≡ c F n
-    joined-cut = regrouped-back sh c _ _ _ _ _ _ _ _ (λ n i. mark-again n) solid-again (λ n i. upd-back (c Outer) f2 0 l (r .outer) n) (λ n i. upd-back (c Face) l f1 f2 (ring-face a r) n)
+    joined-cut = by-fields grouping _ (
+      λ n i j. mark-again n,
+      (
+        λ n i j. solid-again n (i, j),
+        (λ n i j. upd-back (c Outer) f2 0 l (r .outer) n, (λ n i j. upd-back (c Face) l f1 f2 (ring-face a r) n, tt)),
+      ),
+    ) (λ F h n i j. cut-others (joined c f1 f2 l s1 s2) l f2 s1 s2 moved F h n ∙ joined-others c f1 f2 l s1 s2 F h n)

@@ -27,7 +27,8 @@ use Rattle.sound_tables.specs.Labels.{label-found, label-some, label-only, many
 use Rattle.sound_tables.specs.PointLists.{three, all-three}
 use Rattle.sound_tables.specs.Accepted.{by-place, eight, accepted-back, ranges-cons, item-cons, use-new, new-use, in-range, Number, number, coordinate-range, unused-range, unused-use, three-range, three-use}
 use Rattle.sound_tables.specs.Good.{own, Capacities}
-use Rattle.sound_lone.specs.MvsfSound.{placed, placedLinks}
+use Rattle.sound_lone.specs.Placed.{Place, placed, placedLinks}
+use Rattle.sound_lone.specs.MvsfSound.{Free, free-place}
 use Rattle.sound_lone.specs.KvsfSound.{OneLoop}
 use Rattle.sound_tables.specs.OneOperand.{one-operand, one-accepted}
 
@@ -40,17 +41,6 @@ mvsfOf s f l v x y z = record { code = 1; count = 7; args = pos s ∷ pos f ∷ 
 -- kvsf s
 abbrev pub kvsfOf : ℕ → Operator
 kvsfOf s = record { code = 2; count = 1; args = pos s ∷ pos 0 ∷ pos 0 ∷ pos 0 ∷ pos 0 ∷ pos 0 ∷ pos 0 ∷ pos 0 ∷ [] }
-
--- s, f, l and v are free
-pub record Free (sh : Shape) (c : Columns) (s f l v : ℕ) : Type 0 where
-  pub solid-in : In (sh .solids) s
-  pub face-in : In (sh .faces) f
-  pub loop-in : In (sh .loops) l
-  pub vertex-in : In (sh .vertices) v
-  pub solid : c SolidUsed s ≡ 0
-  pub face : c Solid f ≡ 0
-  pub loop : c Face l ≡ 0
-  pub vertex : c VertexUsed v ≡ 0
 
 -- what an accepted mvsf says
 pub record MvsfFacts (sh : Shape) (c : Columns) (o : Operator) : Type 0 where
@@ -146,12 +136,8 @@ made-one {c = c} {s} {f} {l} {v} a r = record {
   face = upd-same _ l f;
   first = upd-same _ l 0;
   isolated = upd-same _ l v;
-  only-face = λ g i q. split g f (λ x. x) (λ x.
-      let e : c Solid g ≡ s = sym (upd-off (c Solid) s x) ∙ q in
-      absurd (a .face g i (λ z. omega (arith, r .solid-in .0, sym e ∙ z)) .solid-used (ap (c SolidUsed) e ∙ r .solid)));
-  only-loop = λ m i q. split m l (λ x. x) (λ x.
-      let e : c Face m ≡ f = sym (upd-off (c Face) f x) ∙ q in
-      absurd (a .loop m i (λ z. omega (arith, r .face-in .0, sym e ∙ z)) .face-used (ap (c Solid) e ∙ r .face)));
+  only-face = λ g i q. split g f (λ x. x) (λ x. absurd (free-place a r .no-face g i x (sym (upd-off (c Solid) s x) ∙ q)));
+  only-loop = λ m i q. split m l (λ x. x) (λ x. absurd (free-place a r .no-loop m i x (sym (upd-off (c Face) f x) ∙ q)));
 }
 
 -- kvsf's test finds one

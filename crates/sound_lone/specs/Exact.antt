@@ -20,9 +20,10 @@ use Rattle.sound_tables.specs.WriteLaws.{frame, Stand, write-back}
 use Rattle.sound_tables.specs.PointLists.{put-length, put-at, put-back, put-cleared, points-new, points-cleared}
 use Rattle.sound_tables.specs.Good.{own, Good, good-shows, good-after}
 use Rattle.sound_tables.specs.Undone.{Kept, Undone}
-use Rattle.sound_lone.specs.MvsfSound.{placedWrites, placed, placedLinks, shows-placed, mvsf-sound}
+use Rattle.sound_lone.specs.Placed.{placedWrites, placed, placedLinks, shows-placed}
+use Rattle.sound_lone.specs.MvsfSound.{Free, mvsf-sound}
 use Rattle.sound_lone.specs.KvsfSound.{OneLoop, one-used, kvsf-sound}
-use Rattle.sound_lone.specs.Accepted.{mvsfOf, kvsfOf, Free, mvsf-facts, kvsf-facts, one-agree, made-one, tested-one, kvsf-links, kvsf-points, kvsf-inverse, kvsf-accepted, mvsf-links, mvsf-points, mvsf-inverse, mvsf-accepted}
+use Rattle.sound_lone.specs.Accepted.{mvsfOf, kvsfOf, mvsf-facts, kvsf-facts, one-agree, made-one, tested-one, kvsf-links, kvsf-points, kvsf-inverse, kvsf-accepted, mvsf-links, mvsf-points, mvsf-inverse, mvsf-accepted}
 
 -- ---- there and back
 
@@ -55,7 +56,7 @@ module _ {sh : Shape} {x : List ℕ} {p : List ℤ} (g : Good sh x p) {s f l v :
   pub mvsf-kept : Kept sh x p (mvsfOf s f l v a b z)
   mvsf-kept = rw (mvsf-links sh x s f l v a b z (g .capacities) r, mvsf-points sh x s f l v a b z (g .capacities) r p)
       (good-after g y-shows (λ n. refl) (put-length p v a b z)
-      (mvsf-sound (g .sound) s f l v (r .solid-in) (r .face-in) (r .loop-in) (r .vertex-in) (r .solid) (r .face) (r .loop) (r .vertex)
+      (mvsf-sound (g .sound) r
       (points-new sh p (own sh x) d v (g .points) (r .vertex-in) (g .sound .point) (λ w n. upd-off (own sh x VertexUsed) 1 n) a b z ha hb hz (upd-same (own sh x VertexUsed) v 1))))
 
   y-one : OneLoop sh (own sh y) s f l v
