@@ -17,7 +17,7 @@ use Rattle.euler.specs.Surgery.{faceRecord}
 use Rattle.sound_tables.specs.WriteLaws.{changes-other, withColumn, column-other}
 use Rattle.sound_tables.specs.Solids.{Solids}
 use Rattle.sound_tables.specs.Sound.{In, HalfUsed, FaceUsed, side, FaceSound, Sound}
-use Rattle.sound_holes.specs.Regroup.{grouping, Regroup, regroup-sound}
+use Rattle.sound_tables.specs.Regroup.{grouping, Regroup, regroup-sound}
 use Rattle.sound_holes.specs.Chains.{sideIn, Chain}
 
 -- the solids afterwards: f2 is free, and what lay in s2 lies in s1

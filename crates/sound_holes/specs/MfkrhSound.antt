@@ -19,7 +19,7 @@ use Rattle.sound_tables.specs.WriteLaws.{changes-other, withColumn, column-othe
 use Rattle.sound_tables.specs.Solids.{Solids, stays, parts}
 use Rattle.sound_tables.specs.Sound.{In, HalfUsed, FaceUsed, side, FaceSound, Sound}
 use Rattle.sound_tables.specs.Names.{outer-other}
-use Rattle.sound_holes.specs.Regroup.{grouping, Regroup, regroup-sound}
+use Rattle.sound_tables.specs.Regroup.{grouping, Regroup, regroup-sound}
 use Rattle.sound_holes.specs.Chains.{sideIn, Chain}
 
 -- the solids afterwards: face f lies in s₀, then what is moved passes to s

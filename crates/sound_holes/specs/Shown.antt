@@ -11,7 +11,7 @@ use Rattle.laws.specs.Columns.{sweep}
 use Rattle.layout.specs.declared.shape.Shape.{Shape}
 use Rattle.layout.specs.Layout.{kind, setSolidUsed}
 use Rattle.euler.specs.Operators.{moveFaces}
-use Rattle.layout.specs.Fields.{Field, SolidUsed, Solid, Columns, capOf, by-fields}
+use Rattle.layout.specs.Fields.{SolidUsed, Solid, Columns, by-fields}
 use Rattle.layout.specs.Writes.{write, writes, changes}
 use Rattle.sound_tables.specs.Cells.{Shows, shows-agree}
 use Rattle.sound_tables.specs.WriteLaws.{shows-writes, among-off, changes-other, withColumn, column-other}

@@ -10,7 +10,7 @@ use Rattle.layout.specs.declared.shape.Shape.{Shape}
 use Rattle.layout.specs.Fields.{Solid, Outer, Face, First, Isolated, Start, VertexUsed, Columns}
 use Rattle.sound_tables.specs.Sound.{In, PointSound, Sound}
 use Rattle.sound_tables.specs.Names.{lone-used, lone-unnamed, lone-alone}
-use Rattle.sound_lone.specs.Placed.{placed, Place, placed-sound}
+use Rattle.sound_lone.specs.Placed.{placed, Detached, placed-sound}
 
 -- solid s has the face f alone, f the loop l alone, and l is isolated at v
 pub record OneLoop (sh : Shape) (c : Columns) (s f l v : ℕ) : Type 0 where
@@ -39,9 +39,9 @@ module _ {sh : Shape} {p : List ℤ} {c : Columns} (a : Sound sh p c) {s f l v :
   v-only : ((m : ℕ) → In (sh .loops) m → c Isolated m ≡ v → m ≡ l) × ((k : ℕ) → In (2 * sh .edges) k → c Start k ≢ v)
   v-only = rw (o .isolated) at (lone-alone a l (o .loop-in) (one-isolated o))
 
-  -- it is a place
-  one-place : Place sh c s f l v
-  one-place = record {
+  -- no other item names one of the four, and they name no other
+  one-detached : Detached sh c s f l v
+  one-detached = record {
     solid-in = o .solid-in;
     face-in = o .face-in;
     loop-in = o .loop-in;
@@ -59,4 +59,4 @@ module _ {sh : Shape} {p : List ℤ} {c : Columns} (a : Sound sh p c) {s f l v :
   -- the table is sound afterwards
   pub kvsf-sound : {q : List ℤ} → ((w : ℕ) → In (sh .vertices) w → PointSound q (placed c s f l v 0 0 0 0 0) w)
       → Sound sh q (placed c s f l v 0 0 0 0 0)
-  kvsf-sound = placed-sound a one-place false
+  kvsf-sound = placed-sound a one-detached false

@@ -9,7 +9,7 @@ use Rattle.layout.specs.declared.shape.Shape.{Shape}
 use Rattle.layout.specs.Fields.{SolidUsed, Solid, Face, VertexUsed, Columns}
 use Rattle.sound_tables.specs.Sound.{In, PointSound, Sound}
 use Rattle.sound_tables.specs.Names.{loop-unnamed, start-unnamed, isolated-unnamed}
-use Rattle.sound_lone.specs.Placed.{placed, Place, placed-sound}
+use Rattle.sound_lone.specs.Placed.{placed, Detached, placed-sound}
 
 -- s, f, l and v are free
 pub record Free (sh : Shape) (c : Columns) (s f l v : ℕ) : Type 0 where
@@ -24,8 +24,8 @@ pub record Free (sh : Shape) (c : Columns) (s f l v : ℕ) : Type 0 where
 
 module _ {sh : Shape} {p : List ℤ} {c : Columns} (a : Sound sh p c) {s f l v : ℕ} (r : Free sh c s f l v) where
   -- what is free is named by nothing and names nothing
-  pub free-place : Place sh c s f l v
-  free-place = record {
+  pub free-detached : Detached sh c s f l v
+  free-detached = record {
     solid-in = r .solid-in;
     face-in = r .face-in;
     loop-in = r .loop-in;
@@ -43,4 +43,4 @@ module _ {sh : Shape} {p : List ℤ} {c : Columns} (a : Sound sh p c) {s f l v :
   -- the table is sound afterwards
   pub mvsf-sound : {q : List ℤ} → ((w : ℕ) → In (sh .vertices) w → PointSound q (placed c s f l v 1 s l f v) w)
       → Sound sh q (placed c s f l v 1 s l f v)
-  mvsf-sound = placed-sound a free-place true
+  mvsf-sound = placed-sound a free-detached true

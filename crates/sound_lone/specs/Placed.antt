@@ -43,7 +43,7 @@ shows-placed h s f l v m s′ l′ f′ v′ is jf il iv =
     shows-writes (placedWrites s f l v m s′ l′ f′ v′) h (is, (jf, (jf, (il, (il, (il, (iv, tt)))))))
 
 -- no other item names one of the four, and none of the four names another item
-pub record Place (sh : Shape) (c : Columns) (s f l v : ℕ) : Type 0 where
+pub record Detached (sh : Shape) (c : Columns) (s f l v : ℕ) : Type 0 where
   pub solid-in : In (sh .solids) s
   pub face-in : In (sh .faces) f
   pub loop-in : In (sh .loops) l
@@ -57,7 +57,7 @@ pub record Place (sh : Shape) (c : Columns) (s f l v : ℕ) : Type 0 where
   pub loop-own : (g : ℕ) → In (sh .faces) g → g ≢ f → c Face l ≢ g
   pub lone-own : (w : ℕ) → In (sh .vertices) w → w ≢ v → c Isolated l ≢ w
 
-module _ {sh : Shape} {p : List ℤ} {c : Columns} (a : Sound sh p c) {s f l v : ℕ} (o : Place sh c s f l v) where
+module _ {sh : Shape} {p : List ℤ} {c : Columns} (a : Sound sh p c) {s f l v : ℕ} (o : Detached sh c s f l v) where
   -- the columns afterwards: the place is filled (true) or empty (false)
   abbrev d : Bool → Columns
   d b = placed c s f l v (pick b 1 0) (pick b s 0) (pick b l 0) (pick b f 0) (pick b v 0)

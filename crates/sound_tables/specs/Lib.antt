@@ -29,3 +29,4 @@ pub mod Walking
 pub mod Shown
 pub mod EdgeInstances
 pub mod WriteLaws
+pub mod Regroup
