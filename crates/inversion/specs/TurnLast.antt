@@ -18,7 +18,7 @@ use Rattle.layout.specs.Fields.{First, SolidUsed, Solid, Outer, Face, Isolated,
 use Rattle.sound_tables.specs.Sound.{In}
 use Rattle.sound_tables.specs.Labels.{one-many}
 use Rattle.sound_tables.specs.Cells.{Shows}
-use Rattle.sound_lone.specs.MvsfSound.{placed, placedLinks, shows-placed}
+use Rattle.sound_lone.specs.Placed.{placed, placedLinks, shows-placed}
 use Rattle.sound_lone.specs.KvsfSound.{OneLoop}
 use Rattle.sound_lone.specs.Accepted.{kvsf-links, kvsf-points, kvsf-accepted}
 use Rattle.sound_tables.specs.Good.{Good, own, good-shows}

@@ -17,7 +17,7 @@ use Rattle.layout.specs.Mate.{mate}
 use Rattle.layout.specs.MateLaws.{mate-mate}
 use Rattle.euler.specs.Surgery.{noEdgeWrites, loopRecord, edgeOut, putLoop, relabelRun, renew}
 use Rattle.layout.specs.Writes.{Write, write, changes}
-use Rattle.sound_tables.specs.WriteLaws.{not-among, others-stay}
+use Rattle.sound_tables.specs.WriteLaws.{among-off, unwritten}
 use Rattle.layout.specs.Fields.{Field, Outer, Face, First, Isolated, Start, Loop, Next, Prev, VertexUsed, Columns}
 use Rattle.layout.specs.Fields.{among}
 use Rattle.sound_tables.specs.Mates.{mate-other}
@@ -317,8 +317,8 @@ module _ {sh : Shape} {p : List ℤ} {d : Columns} (A : Sound sh p d) {k l2 : �
 
   -- the fields that a bridge does not touch
   others : (F : Field) → among touched F ≡ false → (i : ℕ) → d F i ≡ c F i
-  others F e i = sym (others-stay touched (cutWrites d k l2 ++ firstWrites sh d k l2 (walk .0)) e₀ F refl e i
-      ∙ run-other d (walk .0) N2 l2 F (not-among touched Loop F refl e) i)
+  others F e i = sym (unwritten touched (cutWrites d k l2 ++ firstWrites sh d k l2 (walk .0)) refl e₀ F e i
+      ∙ run-other d (walk .0) N2 l2 F (among-off touched Loop F refl e) i)
 
   -- the words of k are 0
   gone-k : (f : ℕ → ℕ) → upd (upd f k 0) a 0 k ≡ 0

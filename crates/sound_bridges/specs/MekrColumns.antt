@@ -16,7 +16,7 @@ use Rattle.euler.specs.Surgery.{edgeWrites, loopRecord, edgeIn, putLoop, relabe
 use Rattle.sound_tables.specs.Mates.{mate-other}
 use Rattle.sound_tables.specs.Sound.{HalfUsed, firstOf}
 use Rattle.sound_tables.specs.Shown.{withFirst}
-use Rattle.sound_tables.specs.WriteLaws.{not-among, others-stay}
+use Rattle.sound_tables.specs.WriteLaws.{among-off, unwritten, withColumn, column-off}
 use Rattle.sound_tables.specs.Good.{own}
 use Rattle.sound_bridges.specs.Relation.{corner-away, Bridge, Numbers, numbers, touched, Ends, Bridged}
 
@@ -34,14 +34,6 @@ mekrList sh x B =
 
 -- ---- the columns
 
--- the loop column is f
-abbrev pub withLoops : Columns → (ℕ → ℕ) → Columns
-withLoops c f F = pick (sameField Loop F) f (c F)
-
--- no other column changes
-pub loops-other : (c : Columns) (f : ℕ → ℕ) (F : Field) → sameField Loop F ≡ false → (i : ℕ) → withLoops c f F i ≡ c F i
-loops-other c f F e i = rw e
-
 -- the edge's words
 abbrev pub bridgeWrites : Bridge → List Write
 bridgeWrites B = edgeWrites (B .k) (B .u1) (B .l) (B .N2) (B .P1) (B .u2) (B .l) (B .N1) (B .P2)
@@ -52,7 +44,7 @@ joinedLoops c B = upd (upd (relabel (c Loop) (B .l2) (B .l)) (B .k) (B .l)) (mat
 
 -- all but the first of l
 abbrev pub bridgeColumns : Columns → Bridge → Columns
-bridgeColumns c B = changes (loopRecord (B .l2) 0 0 0) (withLoops (changes (bridgeWrites B) c) (joinedLoops c B))
+bridgeColumns c B = changes (loopRecord (B .l2) 0 0 0) (withColumn (changes (bridgeWrites B) c) Loop (joinedLoops c B))
 
 -- the columns afterwards
 abbrev pub mekrColumns : Shape → Columns → Bridge → Columns
@@ -125,9 +117,9 @@ module _ {sh : Shape} {c : Columns} {B : Bridge} (o : Ends sh c B) where
   up-others : (F : Field) → among touched F ≡ false → (i : ℕ) → d F i ≡ c F i
   up-others F e i =
       let ws = loopRecord l2 0 0 0 ++ (write First l (firstOf sh (bridgeColumns c B) l) ∷ write Isolated l 0 ∷ []) in
-      others-stay touched ws (withLoops (changes (bridgeWrites B) c) (joinedLoops c B)) F refl e i
-      ∙ loops-other (changes (bridgeWrites B) c) (joinedLoops c B) F (not-among touched Loop F refl e) i
-      ∙ others-stay touched (bridgeWrites B) c F refl e i
+      unwritten touched ws refl (withColumn (changes (bridgeWrites B) c) Loop (joinedLoops c B)) F e i
+      ∙ column-off (changes (bridgeWrites B) c) Loop (joinedLoops c B) F (among-off touched Loop F refl e) i
+      ∙ unwritten touched (bridgeWrites B) refl c F e i
 
   -- before and after mekr
   pub up-bridged : Bridged sh c (mekrColumns sh c B) B

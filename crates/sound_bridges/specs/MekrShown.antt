@@ -16,7 +16,7 @@ use Rattle.layout.specs.Fields.{Field, First, Loop, Next, Columns, capOf, by-fi
 use Rattle.layout.specs.Writes.{changes}
 use Rattle.euler.specs.Surgery.{loopRecord, relabelRun, lower}
 use Rattle.sound_tables.specs.Cells.{Shows, shows-agree, upd-near}
-use Rattle.sound_tables.specs.WriteLaws.{shows-writes, not-among}
+use Rattle.sound_tables.specs.WriteLaws.{shows-writes, among-off, withColumn, column-off}
 use Rattle.sound_tables.specs.Sound.{In, HalfUsed, Sound}
 use Rattle.sound_tables.specs.Names.{lone-unnamed}
 use Rattle.sound_tables.specs.Walking.{Steps, runColumns, shows-relabel, run-met, run-off, run-other}
@@ -27,7 +27,7 @@ use Rattle.sound_bridges.specs.Relation.{corner-away, before-in, after-i
 use Rattle.sound_bridges.specs.Relation.{Bridged, off-k, off-a, new-k, new-a, half-stays}
 use Rattle.sound_bridges.specs.MekrSound.{up-sound}
 use Rattle.sound_bridges.specs.MekrRules.{up-rules}
-use Rattle.sound_bridges.specs.MekrColumns.{edgeList, mekrList, withLoops, loops-other, bridgeWrites, joinedLoops}
+use Rattle.sound_bridges.specs.MekrColumns.{edgeList, mekrList, bridgeWrites, joinedLoops}
 use Rattle.sound_bridges.specs.MekrColumns.{mekrColumns, up-bridged, up-first, up-first-2}
 use Rattle.sound_bridges.specs.Runs.{Met, met?, run-to, met-in, met-next, met-first}
 
@@ -133,12 +133,12 @@ module _ {sh : Shape} {x : List ℕ} {p : List ℤ} (g : Good sh x p) {B : Bridg
 
   -- and all other columns
   run-agree : (F : Field) (i : ℕ) → i ≤ capOf sh F
-      → runColumns e₀ (d Next k) (run .0) l F i ≡ withLoops e₀ (joinedLoops c B) F i
+      → runColumns e₀ (d Next k) (run .0) l F i ≡ withColumn e₀ Loop (joinedLoops c B) F i
   run-agree = by-fields (Loop ∷ [])
-      (λ F. (i : ℕ) → i ≤ capOf sh F → runColumns e₀ (d Next k) (run .0) l F i ≡ withLoops e₀ (joinedLoops c B) F i)
+      (λ F. (i : ℕ) → i ≤ capOf sh F → runColumns e₀ (d Next k) (run .0) l F i ≡ withColumn e₀ Loop (joinedLoops c B) F i)
       (loop-agree, tt)
-      (λ F q i h. let f = not-among (Loop ∷ []) Loop F refl q in
-      run-other e₀ (run .0) (d Next k) l F f i ∙ sym (loops-other e₀ (joinedLoops c B) F f i))
+      (λ F q i h. let f = among-off (Loop ∷ []) Loop F refl q in
+      run-other e₀ (run .0) (d Next k) l F f i ∙ sym (column-off e₀ Loop (joinedLoops c B) F f i))
 
   -- ---- the list
 
@@ -155,14 +155,14 @@ module _ {sh : Shape} {x : List ℕ} {p : List ℤ} (g : Good sh x p) {B : Bridg
       (λ y. absurd (z (sym (b .loop-o i f h y) ∙ e))))))
 
   -- the walk shows the joined loops
-  joined-shows : Shows sh (relabelRun sh (edgeList sh x B) N2 a l) (withLoops e₀ (joinedLoops c B))
+  joined-shows : Shows sh (relabelRun sh (edgeList sh x B) N2 a l) (withColumn e₀ Loop (joinedLoops c B))
   joined-shows =
       let s1 : Shows sh (edgeList sh x B) e₀ = shows-edge (good-shows g) k u1 l N2 P1 u2 l N1 P2 half-in mate-in
       (after-in at-2 mate-in) (before-in at-1 mate-in) (after-in at-1 half-in) (before-in at-2 half-in) in
       let s2 : Shows sh (relabelRun sh (edgeList sh x B) (d Next k) a l) (runColumns e₀ (d Next k) (run .0) l) =
       shows-relabel sh n (run .0) _ e₀ (d Next k) a l s1 (omega (arith, run .1)) (run .2)
       (λ t h. let w = iter-in perm t (d Next k) N2-in in (w .0, w .1)) in
-      subst (λ z. Shows sh (relabelRun sh (edgeList sh x B) z a l) (withLoops e₀ (joinedLoops c B))) (b .next-k)
+      subst (λ z. Shows sh (relabelRun sh (edgeList sh x B) z a l) (withColumn e₀ Loop (joinedLoops c B))) (b .next-k)
       (shows-agree s2 run-agree)
 
   -- the list shows these columns

@@ -1,15 +1,15 @@
--- Columns, field by field: what a list of writes names and what it leaves, and how to see that a column changed by
--- writes is another one. All for any field, so that a new word of a record changes nothing here or in what is built on
+-- Columns, field by field: some taken from elsewhere, and how to see that a column changed by writes is another one. All for any field, so that a new word of a record changes nothing here or in what is built on
 -- it.
 use mathlib.Core.Path.{_≡_, refl, sym, ap, _∙_, subst}
-use mathlib.Core.Logic.{_≢_, ⊎-elim}
+use mathlib.Core.Logic.{_≢_}
 use mathlib.Core.Bool.{Bool, true, false, _&&_}
 use mathlib.Core.List.{List, [], _∷_}
 use Prim.Native.Nat.{ℕ}
-use Rattle.laws.specs.Bools.{pick, split, ask, true-T, and-T, T-true, false-T}
+use Rattle.laws.specs.Bools.{pick, split, true-T, and-T, T-true}
 use Rattle.laws.specs.Update.{upd, upd-at, upd-off}
-use Rattle.layout.specs.Fields.{Field, Start, Loop, Next, Prev, Columns, change, sameField, same-field, among}
+use Rattle.layout.specs.Fields.{Field, Start, Loop, Next, Prev, Columns, change, sameField, among}
 use Rattle.layout.specs.Writes.{Write, changes}
+use Rattle.sound_tables.specs.WriteLaws.{among-off}
 
 -- ---- some columns taken from elsewhere
 
@@ -26,21 +26,7 @@ pub patch-other : (Fs : List Field) (d c : Columns) (F : Field) → among Fs F �
     → patch Fs d c F n ≡ c F n
 patch-other Fs d c F e n = rw e
 
--- the loop column is f
-abbrev pub withLoops : (ℕ → ℕ) → Columns → Columns
-withLoops f c F = pick (sameField Loop F) f (c F)
-
--- the others are c's
-pub loops-other : (f : ℕ → ℕ) (c : Columns) (F : Field) → sameField Loop F ≡ false → (n : ℕ) → withLoops f c F n ≡ c F n
-loops-other f c F e n = rw e
-
--- ---- what no write names stays
-
--- a field outside Fs is another than one of Fs
-pub not-same : (Fs : List Field) (G F : Field) → among Fs G ≡ true → among Fs F ≡ false → sameField G F ≡ false
-not-same Fs G F g f =
-    ⊎-elim (λ e. absurd (false-T f (true-T (ap (among Fs) (sym (same-field G F e)) ∙ g)))) (λ e. e)
-    (ask (sameField G F))
+-- ---- fields outside a list
 
 -- each of Gs is one of Fs
 abbrev pub inside : List Field → List Field → Bool
@@ -52,22 +38,7 @@ pub outside : (Fs Gs : List Field) → inside Fs Gs ≡ true → (F : Field) →
 outside Fs [] h F e = refl
 outside Fs (G ∷ Gs) h F e =
     let t = and-T (among Fs G) (inside Fs Gs) (true-T h) in
-    rw (not-same Fs G F (T-true (t .0)) e) (outside Fs Gs (T-true (t .1)) F e)
-
--- every write goes to one of the fields Fs
-abbrev pub within : List Field → List Write → Bool
-within Fs [] = true
-within Fs (w ∷ ws) = among Fs (w .field) && within Fs ws
-
--- so the columns of the other fields stay
-pub unwritten : (Fs : List Field) (ws : List Write) → within Fs ws ≡ true → (c : Columns) (F : Field)
-    → among Fs F ≡ false
-    → (n : ℕ) → changes ws c F n ≡ c F n
-unwritten Fs [] h c F e n = refl
-unwritten Fs (w ∷ ws) h c F e n =
-    let t = and-T (among Fs (w .field)) (within Fs ws) (true-T h) in
-    unwritten Fs ws (T-true (t .1)) (change c (w .field) (w .item) (w .value)) F e n
-    ∙ rw (not-same Fs (w .field) F (T-true (t .0)) e)
+    rw (among-off Fs G F (T-true (t .0)) e) (outside Fs Gs (T-true (t .1)) F e)
 
 -- ---- a column changed by writes is f, where f has what is written last and elsewhere what stood there
 

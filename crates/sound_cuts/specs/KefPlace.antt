@@ -19,7 +19,7 @@ use Rattle.euler.specs.Surgery.{halfRecord, tied}
 use Rattle.sound_tables.specs.Sound.{In, HalfUsed, Sound}
 use Rattle.sound_tables.specs.Labels.{leastWith, one-many}
 use Rattle.sound_tables.specs.Good.{own}
-use Rattle.sound_cuts.specs.FieldLaws.{withLoops}
+use Rattle.sound_tables.specs.WriteLaws.{withColumn}
 use Rattle.sound_cuts.specs.Relation.{Spot, tieP, tieN, tieP′, tieN′}
 use Rattle.sound_cuts.specs.KefShown.{faceOff}
 
@@ -53,7 +53,7 @@ mendWrites sh d q =
 
 -- the columns once it is out
 abbrev pub mendColumns : Shape → Columns → Spot → Columns
-mendColumns sh d q = withLoops (mendLoop d q) (changes (mendWrites sh d q) d)
+mendColumns sh d q = withColumn (changes (mendWrites sh d q) d) Loop (mendLoop d q)
 
 -- what kef's test says
 pub record KefPlace (sh : Shape) (d : Columns) (b : ℕ) : Type 0 where

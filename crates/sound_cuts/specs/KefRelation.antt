@@ -18,7 +18,7 @@ use Rattle.sound_tables.specs.Mates.{mate-other}
 use Rattle.sound_tables.specs.EdgeIn.{prev-in, next-prev, prev-loop, start-mate}
 use Rattle.sound_tables.specs.Sound.{HalfUsed, firstOf, Sound}
 use Rattle.sound_tables.specs.Names.{not-isolated}
-use Rattle.sound_cuts.specs.FieldLaws.{loops-other, not-same, unwritten}
+use Rattle.sound_tables.specs.WriteLaws.{among-off, unwritten, column-off}
 use Rattle.sound_cuts.specs.Relation.{Spot, tieN, tieN′, Seated, Near, cutFields, Cut}
 use Rattle.sound_cuts.specs.KefSolids.{Only}
 use Rattle.sound_cuts.specs.KefPlace.{spotAt, mendLoop, mendWrites, mendColumns, KefPlace}
@@ -257,8 +257,8 @@ module _ {sh : Shape} {p : List ℤ} {d : Columns} (t : Sound sh p d) (zero : d 
           v-some = o .used .2;
           near = near;
         };
-        others = λ F e i. sym (loops-other (mendLoop d q) (changes (mendWrites sh d q) d) F
-            (not-same cutFields Loop F refl e) i
+        others = λ F e i. sym (column-off (changes (mendWrites sh d q) d) Loop (mendLoop d q) F
+            (among-off cutFields Loop F refl e) i
             ∙ unwritten cutFields (mendWrites sh d q) refl d F e i);
         solid-new = ap (λ i. d Solid (d Face (d Loop i))) (sym ab) ∙ t .solids .edge (mate b) ua
             ∙ sym (ap (c Solid) (upd-off (d Face) 0 l-m) ∙ upd-off (d Solid) 0 f0-f);

@@ -20,7 +20,8 @@ use Rattle.sound_tables.specs.Sound.{In, HalfUsed, firstOf, Sound}
 use Rattle.sound_tables.specs.Names.{lone-used}
 use Rattle.sound_tables.specs.FirstLow.{lower-one, lower-other, first-low}
 use Rattle.sound_tables.specs.Shown.{withFirst, shows-first, shows-isolated}
-use Rattle.sound_cuts.specs.FieldLaws.{halfFields, patch, patch-other, not-same, outside, unwritten, settled}
+use Rattle.sound_cuts.specs.FieldLaws.{halfFields, patch, patch-other, outside, settled}
+use Rattle.sound_tables.specs.WriteLaws.{among-off, unwritten}
 use Rattle.sound_cuts.specs.Relation.{Spot, tieP, tieN, tieP′, tieN′, restOf, AtA, AtB, seat, off-a, off-b}
 use Rattle.sound_cuts.specs.Relation.{first-corner, cutFields, Cut, used-b, around}
 use Rattle.sound_cuts.specs.Round.{names-new, roundColumns, shows-round, round-other, round-in, round-off}
@@ -147,7 +148,7 @@ module _ {sh : Shape} {p : List ℤ} {c d : Columns} {q : Spot} (k : Cut sh c d 
       (λ x x′ g e. run-other Prev refl i ∙ k .prev-else i e g (off-N k i x′ e) (off-M k i x g)) in
       by-fields halfFields (λ F. i ≤ capOf sh F → changes (edgeOff q) R F i ≡ H F i)
       (λ h. start, (loop, (λ h. next, (λ h. prev, tt))))
-      (λ F e h. unwritten halfFields (edgeOff q) refl R F e i ∙ run-other F (not-same halfFields Loop F refl e) i
+      (λ F e h. unwritten halfFields (edgeOff q) refl R F e i ∙ run-other F (among-off halfFields Loop F refl e) i
       ∙ sym (patch-other halfFields c d F e i)) F
 
   -- the list with the edge out

@@ -21,7 +21,7 @@ use Rattle.sound_tables.specs.Sound.{HalfUsed, Sound}
 use Rattle.sound_tables.specs.Labels.{leastWith}
 use Rattle.sound_tables.specs.Names.{free-zero}
 use Rattle.sound_tables.specs.Walking.{iter-keeps}
-use Rattle.sound_cuts.specs.FieldLaws.{withLoops, loops-other, not-same, unwritten}
+use Rattle.sound_tables.specs.WriteLaws.{among-off, unwritten, withColumn, column-off}
 use Rattle.sound_cuts.specs.Relation.{Spot, spur, Site, a-b, l-m, off-a, off-b, cutFields, Cut, Marked}
 use Rattle.sound_cuts.specs.Spur.{Q-a, spurLoop, loop-c, loop-Q, spur-cycles}
 
@@ -57,7 +57,7 @@ cutWrites sh c q = edgeAt q ++ faceAt q (leastWith (2 * sh .edges) (cutLoop sh c
 
 -- the columns once it is in
 abbrev pub cutColumns : Shape → Columns → Spot → Columns
-cutColumns sh c q = withLoops (cutLoop sh c q) (changes (cutWrites sh c q) c)
+cutColumns sh c q = withColumn (changes (cutWrites sh c q) c) Loop (cutLoop sh c q)
 
 module _ {sh : Shape} {p : List ℤ} {c : Columns} {q : Spot} (s : Sound sh p c) (zero : c Loop 0 ≡ 0)
     (o : Site sh c q) where
@@ -117,8 +117,8 @@ module _ {sh : Shape} {p : List ℤ} {c : Columns} {q : Spot} (s : Sound sh p c)
       let f1 : q .a ≢ q .b = a-b o in
       record {
         site = o;
-        others = λ F e i. loops-other (cutLoop sh c q) (changes (cutWrites sh c q) c) F
-            (not-same cutFields Loop F refl e) i
+        others = λ F e i. column-off (changes (cutWrites sh c q) c) Loop (cutLoop sh c q) F
+            (among-off cutFields Loop F refl e) i
             ∙ unwritten cutFields (cutWrites sh c q) refl c F e i;
         solid-new = upd-same (c Solid) (q .f) _;
         solid-else = λ i e. upd-off (c Solid) _ e;

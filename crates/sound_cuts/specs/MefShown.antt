@@ -19,7 +19,8 @@ use Rattle.sound_tables.specs.WriteLaws.{shows-writes}
 use Rattle.sound_tables.specs.Sound.{In, HalfUsed, firstOf, Sound}
 use Rattle.sound_tables.specs.FirstLow.{lower-new, first-low}
 use Rattle.sound_tables.specs.Shown.{shows-first}
-use Rattle.sound_cuts.specs.FieldLaws.{halfFields, patch, patch-other, not-same, outside, unwritten, settled}
+use Rattle.sound_cuts.specs.FieldLaws.{halfFields, patch, patch-other, outside, settled}
+use Rattle.sound_tables.specs.WriteLaws.{among-off, unwritten}
 use Rattle.sound_cuts.specs.Relation.{Spot, cutFields, l-m, Cut, used-a, used-b, around}
 use Rattle.sound_cuts.specs.MefPlace.{edgeAt}
 use Rattle.sound_cuts.specs.Round.{names-new, roundColumns, shows-round, round-other, round-in, round-off}
@@ -100,7 +101,7 @@ module _ {sh : Shape} {p : List ℤ} {c d : Columns} {q : Spot} (k : Cut sh c d 
   run-same : (F : Field) (i : ℕ) → i ≤ capOf sh F → R F i ≡ H F i
   run-same F i = by-fields halfFields (λ F. i ≤ capOf sh F → R F i ≡ H F i)
       (λ h. run-other Start refl i, (run-loop i, (λ h. run-other Next refl i, (λ h. run-other Prev refl i, tt))))
-      (λ F e h. run-other F (not-same halfFields Loop F refl e) i
+      (λ F e h. run-other F (among-off halfFields Loop F refl e) i
       ∙ patch-other (Start ∷ Next ∷ Prev ∷ []) d (changes (edgeAt q) c) F
       (outside halfFields (Start ∷ Next ∷ Prev ∷ []) refl F e) i
       ∙ unwritten halfFields (edgeAt q) refl c F e i ∙ sym (patch-other halfFields d c F e i)) F

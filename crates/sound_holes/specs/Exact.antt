@@ -3,13 +3,15 @@ use mathlib.Core.Path.{_≡_, refl, sym, ap, _∙_, subst}
 use mathlib.Core.Logic.{inl, inr, ⊎-elim}
 use mathlib.Core.Bool.{true, false, false≢true}
 use mathlib.Core.List.{List}
-use Prim.Native.Nat.{ℕ}
+use Prim.Native.Nat.{ℕ, _≤_}
+use native.Mathlib.Omega.{arith}
 use lib.IntN.{ℤ}
 use lib.ListN.{length}
 use Rattle.laws.specs.Bools.{split, ask, eqb-same, eqb-other}
 use Rattle.laws.specs.Update.{upd-at, upd-off, upd-same}
 use Rattle.laws.specs.Linked.{link, map-linked, linked-same}
 use Rattle.script.specs.declared.Operator.{Operator}
+use Rattle.codec.specs.Operands.{pattern, rows}
 use Rattle.layout.specs.declared.shape.Shape.{Shape}
 use Rattle.layout.specs.Mate.{mate}
 use Rattle.euler.specs.FaceOperators.{linkedAfter}
@@ -18,13 +20,14 @@ use Rattle.layout.specs.Fields.{SolidUsed, Solid, Face, Start, Loop}
 use Rattle.sound_tables.specs.Cells.{Shows, shows-ext}
 use Rattle.sound_tables.specs.Sound.{In, HalfUsed, side}
 use Rattle.sound_tables.specs.Good.{own, Good, good-shows, good-after}
-use Rattle.sound_tables.specs.Undone.{Kept, Undone}
+use Rattle.sound_tables.specs.Undone.{Kept, Undone, exact}
+use Rattle.sound_tables.specs.TwoOperands.{two-operands}
 use Rattle.sound_holes.specs.Chains.{sideIn, Chain, after-chain, chain-after}
 use Rattle.sound_holes.specs.MfkrhSound.{cut, RingFace, Moved, old-solid, cut-sound}
 use Rattle.sound_holes.specs.KfmrhSound.{joined, TwoFaces, second-face, first-marked, second-marked, ring-in, ring-face, joined-sound}
-use Rattle.sound_holes.specs.Undone.{two-agree, ring-agree, cut-two, cut-joined, joined-ring, joined-cut}
+use Rattle.sound_holes.specs.Undone.{cut-two, cut-joined, joined-ring, joined-cut}
 use Rattle.sound_holes.specs.Shown.{joinedLinks, shows-joined}
-use Rattle.sound_holes.specs.KfmrhAccepted.{kfmrhOf, mfkrhOf, solidOperand, kfmrh-facts, kfmrh-two, kfmrh-accepted, kfmrh-links, kfmrh-inverse, kfmrh-points}
+use Rattle.sound_holes.specs.KfmrhAccepted.{kfmrhOf, mfkrhOf, solidOperand, kfmrh-two, kfmrh-accepted, kfmrh-links, kfmrh-inverse, kfmrh-points}
 use Rattle.sound_holes.specs.MfkrhAccepted.{Outcome, movedTo, mfkrh-facts, outcome-moved, mfkrh-accepted, mfkrh-inverse, mfkrh-shows, mfkrh-points}
 
 -- ---- mfkrh
@@ -52,7 +55,7 @@ module _ {sh : Shape} {x : List ℕ} {p : List ℤ} (g : Good sh x p) {l f f₀ 
 
   -- the two faces that kfmrh joins again
   y-two : TwoFaces sh (own sh y) f₀ f l s₀ s
-  y-two = two-agree (λ F n h. y-shows .at F n h) (cut-two (g .sound) r what-moves)
+  y-two = cut-two (g .sound) r what-moves (λ F n h. y-shows .at F n h)
 
   -- joined again, the list is the first one
   cut-back : linksAfter sh y (kfmrhOf f₀ f) ≡ x
@@ -60,21 +63,12 @@ module _ {sh : Shape} {x : List ℕ} {p : List ℤ} (g : Good sh x p) {l f f₀ 
       kfmrh-links (y-good .sound) (g .capacities) y-two
       ∙ shows-ext (shows-joined y-shows f₀ f l s₀ s (r .face-in) (r .loop-in) (old-solid (g .sound) r .0) (what-moves .solid-in)) (good-shows g) (cut-joined (g .sound) r what-moves)
 
-  -- a good table stays good
-  pub mfkrh-kept : Kept sh x p op
-  mfkrh-kept = rw (mfkrh-points sh x l f (solidOperand s₀ s) p) y-good
-
-  -- kfmrh gives everything back
-  pub mfkrh-undone : Undone sh x p op
-  mfkrh-undone =
-      let ep = mfkrh-points sh x l f (solidOperand s₀ s) p in
-      let ei = mfkrh-inverse (g .sound) (g .capacities) r u p in
-      record {
-        accepted = rw ei (kfmrh-accepted (y-good .sound) (g .capacities) y-two);
-        links = rw ei cut-back;
-        points = rw (ep, ei) (kfmrh-points sh y f₀ f p);
-        again = rw (ep, ei) (kfmrh-inverse (y-good .sound) (g .capacities) y-two p);
-      }
+  -- a good table stays good, and kfmrh gives everything back
+  pub mfkrh-exact : Kept sh x p op × Undone sh x p op
+  mfkrh-exact =
+      let caps = g .capacities in
+      exact refl (mfkrh-points sh x l f (solidOperand s₀ s) p) (mfkrh-inverse (g .sound) caps r u p) y-good
+      (kfmrh-accepted (y-good .sound) caps y-two) cut-back (kfmrh-points sh y f₀ f p) (kfmrh-inverse (y-good .sound) caps y-two p)
 
 -- ---- kfmrh
 
@@ -93,7 +87,7 @@ module _ {sh : Shape} {x : List ℕ} {p : List ℤ} (g : Good sh x p) {f1 f2 l s
 
   -- the ring that mfkrh makes a face again
   yk-ring : RingFace sh (own sh yk) l f2 f1 s1
-  yk-ring = ring-agree (λ F n h. yk-shows .at F n h) (r .first-in) (joined-ring (g .sound) r)
+  yk-ring = joined-ring (g .sound) r (λ F n h. yk-shows .at F n h)
 
   -- the half-edges in use are the same
   half-to : (k : ℕ) → HalfUsed sh (own sh yk) k → HalfUsed sh (own sh x) k
@@ -157,34 +151,28 @@ module _ {sh : Shape} {x : List ℕ} {p : List ℤ} (g : Good sh x p) {f1 f2 l s
   joined-back = shows-ext (mfkrh-shows (yk-good .sound) (g .capacities) yk-ring yk-outcome yk-shows (upd-same _ s1 1)) (good-shows g)
       (joined-cut (g .sound) r (movedTo sh yk l f2 s1 s2) moved-second unmoved)
 
-  -- a good table stays good
-  pub kfmrh-kept : Kept sh x p (kfmrhOf f1 f2)
-  kfmrh-kept = rw (kfmrh-links (g .sound) (g .capacities) r, kfmrh-points sh x f1 f2 p) yk-good
-
-  -- mfkrh gives everything back
-  pub kfmrh-undone : Undone sh x p (kfmrhOf f1 f2)
-  kfmrh-undone =
-      let el = kfmrh-links (g .sound) (g .capacities) r in
-      let ep = kfmrh-points sh x f1 f2 p in
-      let ei = kfmrh-inverse (g .sound) (g .capacities) r p in
-      record {
-        accepted = rw (el, ei) (mfkrh-accepted (yk-good .sound) (g .capacities) yk-ring yk-outcome);
-        links = rw (el, ei) joined-back;
-        points = rw (el, ep, ei) (mfkrh-points sh yk l f2 (solidOperand s1 s2) p);
-        again = rw (el, ep, ei) (mfkrh-inverse (yk-good .sound) (g .capacities) yk-ring yk-outcome p);
-      }
+  -- a good table stays good, and mfkrh gives everything back
+  pub kfmrh-exact : Kept sh x p (kfmrhOf f1 f2) × Undone sh x p (kfmrhOf f1 f2)
+  kfmrh-exact =
+      let caps = g .capacities in
+      exact (kfmrh-links (g .sound) caps r) (kfmrh-points sh x f1 f2 p) (kfmrh-inverse (g .sound) caps r p) yk-good
+      (mfkrh-accepted (yk-good .sound) caps yk-ring yk-outcome) joined-back (mfkrh-points sh yk l f2 (solidOperand s1 s2) p)
+      (mfkrh-inverse (yk-good .sound) caps yk-ring yk-outcome p)
 
 -- ---- as operators
 
 -- both for kfmrh
-pub kfmrh-holds : (sh : Shape) (x : List ℕ) (p : List ℤ) (o : Operator) → Good sh x p → length (o .args) ≡ 8 → o .code ≡ 9 → refusalOf sh x o ≡ 0 → Kept sh x p o × Undone sh x p o
+pub kfmrh-holds : (sh : Shape) (x : List ℕ) (p : List ℤ) (o : Operator) → Good sh x p → length (o .args) ≡ 8 → o .code ≡ 9
+    → refusalOf sh x o ≡ 0 → Kept sh x p o × Undone sh x p o
+unfolding pattern rows
 kfmrh-holds sh x p o g len e h =
-    let k = kfmrh-facts sh x o (g .capacities) len e h in
-    let r = kfmrh-two x (g .sound) k in
-    subst (λ q. Kept sh x p q × Undone sh x p q) (sym (k .is)) (kfmrh-kept g r, kfmrh-undone g r)
+    let most : sh .faces ≤ 8192 = omega (arith, g .capacities .faces) in
+    let k = two-operands sh x 9 4 4 refl refl refl refl most refl refl most refl o len e h in
+    subst (λ q. Kept sh x p q × Undone sh x p q) (sym (k .is)) (kfmrh-exact g (kfmrh-two x (g .sound) k))
 
 -- both for mfkrh
-pub mfkrh-holds : (sh : Shape) (x : List ℕ) (p : List ℤ) (o : Operator) → Good sh x p → length (o .args) ≡ 8 → o .code ≡ 10 → refusalOf sh x o ≡ 0 → Kept sh x p o × Undone sh x p o
+pub mfkrh-holds : (sh : Shape) (x : List ℕ) (p : List ℤ) (o : Operator) → Good sh x p → length (o .args) ≡ 8 → o .code ≡ 10
+    → refusalOf sh x o ≡ 0 → Kept sh x p o × Undone sh x p o
 mfkrh-holds sh x p o g len e h =
     let k = mfkrh-facts sh x p o (g .sound) (g .capacities) len e h in
-    subst (λ q. Kept sh x p q × Undone sh x p q) (sym (k .is)) (mfkrh-kept g (k .ring) (k .outcome), mfkrh-undone g (k .ring) (k .outcome))
+    subst (λ q. Kept sh x p q × Undone sh x p q) (sym (k .is)) (mfkrh-exact g (k .ring) (k .outcome))

@@ -18,17 +18,17 @@ use Rattle.layout.specs.declared.shape.Shape.{Shape}
 use Rattle.euler.specs.FaceOperators.{kfmrhTest, kfmrhLinks}
 use Rattle.euler.specs.Exec.{useWord, condition, refusalOf, linksAfter, pointsAfter, inverse}
 use Rattle.layout.specs.Fields.{Solid, Outer, Face}
-use Rattle.sound_tables.specs.Sound.{In, Sound}
+use Rattle.sound_tables.specs.Sound.{Sound}
 use Rattle.sound_tables.specs.Labels.{many-one, one-many}
 use Rattle.sound_tables.specs.Accepted.{use-old, old-use}
-use Rattle.sound_tables.specs.TwoOperands.{two-operands, two-accepted}
+use Rattle.sound_tables.specs.TwoOperands.{twoOf, TwoOperands, two-accepted}
 use Rattle.sound_tables.specs.Good.{own, Capacities}
 use Rattle.sound_holes.specs.KfmrhSound.{TwoFaces, ring-in, ring-face}
 use Rattle.sound_holes.specs.Shown.{joinedLinks}
 
 -- kfmrh f1 f2
 abbrev pub kfmrhOf : ℕ → ℕ → Operator
-kfmrhOf f1 f2 = record { code = 9; count = 2; args = pos f1 ∷ pos f2 ∷ pos 0 ∷ pos 0 ∷ pos 0 ∷ pos 0 ∷ pos 0 ∷ pos 0 ∷ [] }
+kfmrhOf f1 f2 = twoOf 9 f1 f2
 
 -- mfkrh l f s
 abbrev pub mfkrhOf : ℕ → ℕ → ℕ → Operator
@@ -38,51 +38,26 @@ mfkrhOf l f s = record { code = 10; count = 3; args = pos l ∷ pos f ∷ pos s 
 abbrev pub solidOperand : ℕ → ℕ → ℕ
 solidOperand s₀ s = pick (eqb s₀ s) 0 s
 
--- what an accepted kfmrh says
-pub record KfmrhFacts (sh : Shape) (x : List ℕ) (o : Operator) : Type 0 where
-  pub f1 : ℕ
-  pub f2 : ℕ
-  pub is : o ≡ kfmrhOf f1 f2
-  pub first-in : In (sh .faces) f1
-  pub first-used : own sh x Solid f1 ≢ 0
-  pub second-in : In (sh .faces) f2
-  pub second-used : own sh x Solid f2 ≢ 0
-  pub test : kfmrhTest sh x f1 f2 ≡ true
-
--- all from the refusal 0
-pub kfmrh-facts : (sh : Shape) (x : List ℕ) (o : Operator) → Capacities sh → length (o .args) ≡ 8 → o .code ≡ 9 → refusalOf sh x o ≡ 0 → KfmrhFacts sh x o
-unfolding pattern rows useWord condition
-kfmrh-facts sh x o caps len e h =
-    let a = two-operands sh x 9 4 4 refl refl refl refl (omega (arith, caps .faces)) refl refl (omega (arith, caps .faces)) refl o len e h in
-    record {
-      f1 = a .m;
-      f2 = a .n;
-      is = a .is;
-      first-in = a .m-in;
-      first-used = a .m-used;
-      second-in = a .n-in;
-      second-used = use-old sh x 4 (a .n) (omega (arith, a .n-in .0)) refl (a .n-use);
-      test = rw (a .m-small, a .n-small) at (a .holds);
-    }
-
--- the two faces that it names
-pub kfmrh-two : {sh : Shape} {p : List ℤ} (x : List ℕ) {o : Operator} → Sound sh p (own sh x) → (k : KfmrhFacts sh x o)
-    → TwoFaces sh (own sh x) (k .f1) (k .f2) (own sh x Outer (k .f2)) (own sh x Solid (k .f1)) (own sh x Solid (k .f2))
-unfolding kfmrhTest
+-- the two faces that an accepted kfmrh names
+pub kfmrh-two : {sh : Shape} {p : List ℤ} (x : List ℕ) {o : Operator} → Sound sh p (own sh x) → (k : TwoOperands sh x o 9 4 4)
+    → TwoFaces sh (own sh x) (k .m) (k .n) (own sh x Outer (k .n)) (own sh x Solid (k .m)) (own sh x Solid (k .n))
+unfolding kfmrhTest useWord condition
 kfmrh-two {sh} x a k =
     let c = own sh x in
-    let t = every-T (not (eqb (k .f1) (k .f2)) ∷ eqb (countTo (sh .loops) (λ m. eqb (c Face m) (k .f2))) 1 ∷ []) (true-T (k .test)) in
-    let b = a .face (k .f2) (k .second-in) (k .second-used) in
+    let test : kfmrhTest sh x (k .m) (k .n) ≡ true = rw (k .m-small, k .n-small) at (k .holds) in
+    let t = every-T (not (eqb (k .m) (k .n)) ∷ eqb (countTo (sh .loops) (λ m. eqb (c Face m) (k .n))) 1 ∷ []) (true-T test) in
+    let used : c Solid (k .n) ≢ 0 = use-old sh x 4 (k .n) (omega (arith, k .n-in .0)) refl (k .n-use) in
+    let b = a .face (k .n) (k .n-in) used in
     record {
-      first-in = k .first-in;
+      first-in = k .m-in;
       first-solid = refl;
-      first-used = k .first-used;
-      second-in = k .second-in;
+      first-used = k .m-used;
+      second-in = k .n-in;
       second-solid = refl;
-      second-used = k .second-used;
-      other = λ e. T-not (eqb (k .f1) (k .f2)) (t .0) (true-T (eqb-same e));
+      second-used = used;
+      other = λ e. T-not (eqb (k .m) (k .n)) (t .0) (true-T (eqb-same e));
       outer = refl;
-      only = λ m i e. one-many (sh .loops) (c Face) (k .f2) (eqb→eq _ _ (t .1 .0)) (c Outer (k .f2)) m (b .outer-in) (b .outer-face) i e;
+      only = λ m i e. one-many (sh .loops) (c Face) (k .n) (eqb→eq _ _ (t .1 .0)) (c Outer (k .n)) m (b .outer-in) (b .outer-face) i e;
     }
 
 module _ {sh : Shape} {x : List ℕ} {p : List ℤ} (a : Sound sh p (own sh x)) (caps : Capacities sh) {f1 f2 l s1 s2 : ℕ} (r : TwoFaces sh (own sh x) f1 f2 l s1 s2) where

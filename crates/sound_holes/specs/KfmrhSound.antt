@@ -1,7 +1,8 @@
 -- kfmrh on the columns: the only loop of a face becomes a ring of another face, and the solids of the two become one.
-use mathlib.Core.Path.{_≡_, sym, ap, _∙_, subst}
+use mathlib.Core.Path.{_≡_, refl, sym, ap, _∙_, subst}
 use mathlib.Core.Logic.{_≢_, _⊎_, inl, inr, ⊎-elim}
-use mathlib.Core.List.{List}
+use mathlib.Core.Bool.{false}
+use mathlib.Core.List.{List, [], _∷_}
 use Prim.Native.Nat.{ℕ, _≤_}
 use native.Mathlib.Omega.{arith}
 use lib.IntN.{ℤ}
@@ -10,23 +11,42 @@ use Rattle.laws.specs.Update.{upd, upd-at, upd-off, upd-same, relabel, relabel-
 use Rattle.laws.specs.Linked.{link, back, via, map-linked}
 use Rattle.layout.specs.declared.shape.Shape.{Shape}
 use Rattle.layout.specs.Mate.{mate}
-use Rattle.layout.specs.Fields.{SolidUsed, Solid, Outer, Face, Loop, Columns}
+use Rattle.layout.specs.Fields.{Field, SolidUsed, Solid, Outer, Face, Loop, Columns, among}
+use Rattle.layout.specs.Writes.{Write, write, changes}
+use Rattle.euler.specs.Surgery.{faceRecord}
+use Rattle.sound_tables.specs.WriteLaws.{unwritten, withColumn, column-other}
 use Rattle.sound_tables.specs.Solids.{Solids}
-use Rattle.sound_tables.specs.Sound.{In, HalfUsed, FaceUsed, side, Sound}
-use Rattle.sound_holes.specs.Regroup.{regrouped, Regroup, regroup-sound}
+use Rattle.sound_tables.specs.Sound.{In, HalfUsed, FaceUsed, side, FaceSound, Sound}
+use Rattle.sound_tables.specs.Regroup.{grouping, Regroup, regroup-sound}
 use Rattle.sound_holes.specs.Chains.{sideIn, Chain}
 
 -- the solids afterwards: f2 is free, and what lay in s2 lies in s1
 abbrev pub joinedSolid : Columns → ℕ → ℕ → ℕ → ℕ → ℕ
 joinedSolid c f2 s1 s2 = relabel (upd (c Solid) f2 0) s2 s1
 
--- the marks: that of s2 is cleared, then that of s1 set, which may be the same
-abbrev pub joinedMark : Columns → ℕ → ℕ → ℕ → ℕ
+-- loop l goes to face f1, and face f2 is free
+abbrev pub ringWrites : ℕ → ℕ → ℕ → List Write
+ringWrites f1 f2 l = write Face l f1 ∷ faceRecord f2 0 0
+
+-- the mark of s2 is cleared, then that of s1 set, which may be the same
+abbrev pub markWrites : ℕ → ℕ → List Write
+markWrites s1 s2 = write SolidUsed s2 0 ∷ write SolidUsed s1 1 ∷ []
+
+-- the marks afterwards
+abbrev joinedMark : Columns → ℕ → ℕ → ℕ → ℕ
 joinedMark c s1 s2 = upd (upd (c SolidUsed) s2 0) s1 1
 
--- the columns afterwards: loop l lies in face f1
+-- the columns afterwards
 abbrev pub joined : Columns → ℕ → ℕ → ℕ → ℕ → ℕ → Columns
-joined c f1 f2 l s1 s2 = regrouped c (joinedMark c s1 s2) (joinedSolid c f2 s1 s2) (upd (c Outer) f2 0) (upd (c Face) l f1)
+joined c f1 f2 l s1 s2 = changes (markWrites s1 s2) (withColumn (changes (ringWrites f1 f2 l) c) Solid (joinedSolid c f2 s1 s2))
+
+-- they differ in the grouping alone
+pub joined-others : (c : Columns) (f1 f2 l s1 s2 : ℕ) (F : Field) → among grouping F ≡ false → (n : ℕ) → joined c f1 f2 l s1 s2 F n ≡ c F n
+joined-others c f1 f2 l s1 s2 F h n =
+    let e = changes (ringWrites f1 f2 l) c in
+    let t = joinedSolid c f2 s1 s2 in
+    unwritten grouping (markWrites s1 s2) refl (withColumn e Solid t) F h n ∙ column-other grouping Solid refl e t F h n
+    ∙ unwritten grouping (ringWrites f1 f2 l) refl c F h n
 
 -- two faces, f1 in solid s1 and f2 in solid s2; l is the only loop of f2
 pub record TwoFaces (sh : Shape) (c : Columns) (f1 f2 l s1 s2 : ℕ) : Type 0 where
@@ -97,11 +117,11 @@ module _ {sh : Shape} {p : List ℤ} {c : Columns} (a : Sound sh p c) {f1 f2 l s
   joined-first = ⊎-elim (λ e. e .1) (λ e. e .1 ∙ r .first-solid) (joined-other f1 (r .other))
 
   -- the faces in use are those that were, but f2
-  to-used : (g : ℕ) → FaceUsed sh c g → g ≢ f2 → (1 ≤ g) × (g ≤ sh .faces) × (joinedSolid c f2 s1 s2 g ≢ 0)
+  to-used : (g : ℕ) → FaceUsed sh c g → g ≢ f2 → FaceUsed sh (joined c f1 f2 l s1 s2) g
   to-used g u n = (u .0, u .1, ⊎-elim (λ e z. r .first-used (sym (e .1) ∙ z)) (λ e z. u .2 (sym (e .1) ∙ z)) (joined-other g n))
 
   -- and back
-  from-used : (g : ℕ) → (1 ≤ g) × (g ≤ sh .faces) × (joinedSolid c f2 s1 s2 g ≢ 0) → FaceUsed sh c g × (g ≢ f2)
+  from-used : (g : ℕ) → FaceUsed sh (joined c f1 f2 l s1 s2) g → FaceUsed sh c g × (g ≢ f2)
   from-used g u =
       let n : g ≢ f2 = λ e. u .2 (ap (joinedSolid c f2 s1 s2) e ∙ joined-second) in
       ((u .0, u .1, ⊎-elim (λ e z. r .second-used (sym (e .0) ∙ z)) (λ e z. u .2 (e .1 ∙ z)) (joined-other g n)), n)
@@ -149,7 +169,7 @@ module _ {sh : Shape} {p : List ℤ} {c : Columns} (a : Sound sh p c) {f1 f2 l s
       ∙ ⊎-elim (λ q. q .1 ∙ sym (relabel-at (c Solid) s2 s1 (q .0))) (λ q. q .1 ∙ sym (relabel-off (c Solid) s2 s1 (q .0))) (joined-other (side c k) n))
 
   -- rule 6
-  joined-solids : Solids (HalfUsed sh c) (λ f. (1 ≤ f) × (f ≤ sh .faces) × (joinedSolid c f2 s1 s2 f ≢ 0)) (sideIn c l f1) mate (joinedSolid c f2 s1 s2)
+  joined-solids : Solids (HalfUsed sh c) (FaceUsed sh (joined c f1 f2 l s1 s2)) (sideIn c l f1) mate (joinedSolid c f2 s1 s2)
   joined-solids = record {
     side-in = λ k u. let q = side-used k u in to-used _ (q .0) (q .1);
     edge = λ k u. side-solid (mate k) (a .rules .mate-in k u) ∙ relabel-same (c Solid) s2 s1 (a .solids .edge k u) ∙ sym (side-solid k u);
@@ -169,35 +189,33 @@ module _ {sh : Shape} {p : List ℤ} {c : Columns} (a : Sound sh p c) {f1 f2 l s
       let b = a .solid n i (λ z. h (upd-off (upd (c SolidUsed) s2 0) 1 q ∙ upd-off (c SolidUsed) 0 d ∙ z)) in
       (b .0, b .1, ⊎-elim (λ e. absurd (d (sym (b .2) ∙ e .0))) (λ e. e .1 ∙ b .2) (joined-other (b .0) (λ e. d (sym (b .2) ∙ ap (c Solid) e ∙ r .second-solid)))))
 
-  -- the solid of a face in use is in use
-  solid-there : (g : ℕ) → FaceUsed sh c g × (g ≢ f2) → In (sh .solids) (joinedSolid c f2 s1 s2 g) × (joinedMark c s1 s2 (joinedSolid c f2 s1 s2 g) ≢ 0)
-  solid-there g u = let b = a .face g (u .0 .0, u .0 .1) (u .0 .2) in ⊎-elim
-      (λ e. rw (e .1) (first-marked .0, λ z. omega (arith, upd-same (upd (c SolidUsed) s2 0) s1 1, z)))
-      (λ e. rw (e .1) (b .solid-in, marked (c Solid g) (e .0) (b .solid-used))) (joined-other g (u .1))
-
-  -- its outer loop names it
-  outer-there : (g : ℕ) → FaceUsed sh c g × (g ≢ f2) → In (sh .loops) (upd (c Outer) f2 0 g) × (upd (c Face) l f1 (upd (c Outer) f2 0 g) ≡ g)
-  outer-there g u =
+  -- a face in use: its solid is in use, and its outer loop names it
+  face-there : (g : ℕ) → FaceUsed sh c g × (g ≢ f2) → FaceSound sh (joined c f1 f2 l s1 s2) g
+  face-there g u =
       let b = a .face g (u .0 .0, u .0 .1) (u .0 .2) in
-      rw (upd-off (c Outer) 0 (u .1)) (b .outer-in, upd-off (c Face) f1 (λ e. u .1 (sym (b .outer-face) ∙ ap (c Face) e ∙ ring-face)) ∙ b .outer-face)
+      let n = u .1 in
+      let e : c Outer g ≢ l = λ e. n (sym (b .outer-face) ∙ ap (c Face) e ∙ ring-face) in
+      let q : In (sh .solids) (joinedSolid c f2 s1 s2 g) × (joinedMark c s1 s2 (joinedSolid c f2 s1 s2 g) ≢ 0) = ⊎-elim
+      (λ e. rw (e .1) (first-marked .0, λ z. omega (arith, upd-same (upd (c SolidUsed) s2 0) s1 1, z)))
+      (λ e. rw (e .1) (b .solid-in, marked (c Solid g) (e .0) (b .solid-used))) (joined-other g n) in
+      record { solid-in = q .0; solid-used = q .1; outer-in = simp upd-off (b .outer-in); outer-face = simp upd-off (b .outer-face) }
 
   -- all that is asked of the four columns
-  joined-regroup : Regroup sh c (joinedMark c s1 s2) (joinedSolid c f2 s1 s2) (upd (c Outer) f2 0) (upd (c Face) l f1)
+  joined-regroup : Regroup sh c (joined c f1 f2 l s1 s2)
   joined-regroup = record {
     mark = λ n i. split n s1 (λ e. rw (upd-at (upd (c SolidUsed) s2 0) 1 e) (omega arith)) (λ q. rw (upd-off (upd (c SolidUsed) s2 0) 1 q)
         (split n s2 (λ e. rw (upd-at (c SolidUsed) 0 e) (omega arith)) (λ d. rw (upd-off (c SolidUsed) 0 d) (a .solid-mark n i))));
     solid = some-face;
     face-free = λ g i h. split g f2 (λ e. upd-at (c Outer) 0 e)
         (λ n. upd-off (c Outer) 0 n ∙ a .face-free g i (⊎-elim (λ e. absurd (r .first-used (sym (e .1) ∙ h))) (λ e. sym (e .1) ∙ h) (joined-other g n)));
-    face-solid = λ g i h. solid-there g (from-used g (i .0, i .1, h));
-    face-outer = λ g i h. outer-there g (from-used g (i .0, i .1, h));
+    face = λ g u. face-there g (from-used g u);
     loop-free = λ n i z. upd-off (c Face) f1 (λ e. omega (arith, r .second-in .0, sym ring-face ∙ ap (c Face) (sym e) ∙ z)) ∙ z;
     loop = λ n i h.
         let b = a .loop n i h in
-        let q : (g : ℕ) → FaceUsed sh c g → g ≢ f2 → In (sh .faces) g × (joinedSolid c f2 s1 s2 g ≢ 0) = λ g u d. let w = to-used g u d in ((w .0, w .1), w .2) in
-        split n l (λ e. rw (upd-at (c Face) f1 e) (q f1 first-face (r .other)))
-        (λ d. rw (upd-off (c Face) f1 d) (q (c Face n) (b .face-in .0, b .face-in .1, b .face-used) (λ e. d (r .only n i e))));
+        split n l (λ e. rw (upd-at (c Face) f1 e) (to-used f1 first-face (r .other)))
+        (λ d. rw (upd-off (c Face) f1 d) (to-used (c Face n) (b .face-in .0, b .face-in .1, b .face-used) (λ e. d (r .only n i e))));
     solids = joined-solids;
+    others = joined-others c f1 f2 l s1 s2;
   }
 
   -- the table is sound afterwards

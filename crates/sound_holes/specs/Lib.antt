@@ -1,4 +1,3 @@
-pub mod Regroup
 pub mod Chains
 pub mod MfkrhSound
 pub mod KfmrhSound

@@ -3,7 +3,7 @@
 use mathlib.Core.Path.{_≡_, refl, sym, ap, _∙_, subst}
 use mathlib.Core.Logic.{_≢_, _⊎_, inl, inr, ⊎-elim}
 use mathlib.Core.Bool.{Bool, true, false, false≢true}
-use mathlib.Core.List.{List}
+use mathlib.Core.List.{List, [], _∷_, _++_}
 use Prim.Native.Nat.{ℕ, _≤_}
 use native.Mathlib.Omega.{arith}
 use lib.IntN.{ℤ}
@@ -12,20 +12,35 @@ use Rattle.laws.specs.Update.{upd, upd-at, upd-off, upd-same}
 use Rattle.laws.specs.Linked.{same, back, linked-same}
 use Rattle.layout.specs.declared.shape.Shape.{Shape}
 use Rattle.layout.specs.Mate.{mate}
-use Rattle.layout.specs.Fields.{SolidUsed, Solid, Outer, Face, Loop, Columns}
+use Rattle.layout.specs.Fields.{Field, SolidUsed, Solid, Outer, Face, Loop, Columns, among}
+use Rattle.layout.specs.Writes.{Write, write, changes}
+use Rattle.euler.specs.Surgery.{faceRecord}
+use Rattle.sound_tables.specs.WriteLaws.{unwritten, withColumn, column-other}
 use Rattle.sound_tables.specs.Solids.{Solids, stays, parts}
-use Rattle.sound_tables.specs.Sound.{In, HalfUsed, FaceUsed, side, Sound}
+use Rattle.sound_tables.specs.Sound.{In, HalfUsed, FaceUsed, side, FaceSound, Sound}
 use Rattle.sound_tables.specs.Names.{outer-other}
-use Rattle.sound_holes.specs.Regroup.{regrouped, Regroup, regroup-sound}
+use Rattle.sound_tables.specs.Regroup.{grouping, Regroup, regroup-sound}
 use Rattle.sound_holes.specs.Chains.{sideIn, Chain}
 
 -- the solids afterwards: face f lies in s₀, then what is moved passes to s
 abbrev pub cutSolid : Columns → ℕ → ℕ → ℕ → (ℕ → Bool) → ℕ → ℕ
 cutSolid c f s₀ s moved g = pick (moved g) s (upd (c Solid) f s₀ g)
 
--- the columns afterwards: l is the outer loop of the new face f
+-- l is the outer loop of the new face f, in solid s₀
+abbrev pub faceWrites : ℕ → ℕ → ℕ → List Write
+faceWrites l f s₀ = faceRecord f s₀ l ++ (write Face l f ∷ [])
+
+-- the columns afterwards: solid s is in use
 abbrev pub cut : Columns → ℕ → ℕ → ℕ → ℕ → (ℕ → Bool) → Columns
-cut c l f s₀ s moved = regrouped c (upd (c SolidUsed) s 1) (cutSolid c f s₀ s moved) (upd (c Outer) f l) (upd (c Face) l f)
+cut c l f s₀ s moved = withColumn (changes (write SolidUsed s 1 ∷ []) (changes (faceWrites l f s₀) c)) Solid (cutSolid c f s₀ s moved)
+
+-- they differ in the grouping alone
+pub cut-others : (c : Columns) (l f s₀ s : ℕ) (moved : ℕ → Bool) (F : Field) → among grouping F ≡ false → (n : ℕ) → cut c l f s₀ s moved F n ≡ c F n
+cut-others c l f s₀ s moved F h n =
+    let e = changes (faceWrites l f s₀) c in
+    let m = write SolidUsed s 1 ∷ [] in
+    column-other grouping Solid refl (changes m e) (cutSolid c f s₀ s moved) F h n ∙ unwritten grouping m refl e F h n
+    ∙ unwritten grouping (faceWrites l f s₀) refl c F h n
 
 -- l is a ring of face f₀, which lies in solid s₀, and face f is free
 pub record RingFace (sh : Shape) (c : Columns) (l f f₀ s₀ : ℕ) : Type 0 where
@@ -150,12 +165,12 @@ module _ {sh : Shape} {p : List ℤ} {c : Columns} (a : Sound sh p c) {l f f₀ 
     marked n h z = split n s (λ e. omega (arith, upd-at (c SolidUsed) 1 e, z)) (λ q. h q (sym (upd-off (c SolidUsed) 1 q) ∙ z))
 
     -- the faces in use are the new one and those that were
-    to-used : (g : ℕ) → (g ≡ f) ⊎ FaceUsed sh c g → (1 ≤ g) × (g ≤ sh .faces) × (cutSolid c f s₀ s moved g ≢ 0)
-    to-used g (inl e) = subst (λ g. (1 ≤ g) × (g ≤ sh .faces) × (cutSolid c f s₀ s moved g ≢ 0)) (sym e) (r .face-in .0, r .face-in .1, λ z. omega (arith, m .solid-in .0, cut-new, z))
+    to-used : (g : ℕ) → (g ≡ f) ⊎ FaceUsed sh c g → FaceUsed sh (cut c l f s₀ s moved) g
+    to-used g (inl e) = subst (FaceUsed sh (cut c l f s₀ s moved)) (sym e) (r .face-in .0, r .face-in .1, λ z. omega (arith, m .solid-in .0, cut-new, z))
     to-used g (inr u) = (u .0, u .1, ⊎-elim (λ e z. u .2 (sym e ∙ z)) (λ e z. omega (arith, m .solid-in .0, e .1, z)) (cut-other g (used-other g (u .2))))
 
     -- and back
-    from-used : (g : ℕ) → (1 ≤ g) × (g ≤ sh .faces) × (cutSolid c f s₀ s moved g ≢ 0) → (g ≡ f) ⊎ FaceUsed sh c g
+    from-used : (g : ℕ) → FaceUsed sh (cut c l f s₀ s moved) g → (g ≡ f) ⊎ FaceUsed sh c g
     from-used g u = split g f (λ e. inl e) (λ n. inr (u .0, u .1, ⊎-elim (λ e z. u .2 (e ∙ z)) (λ e z. omega (arith, old-solid .0 .0, e .0, z)) (cut-other g n)))
 
     -- each solid in use has a face
@@ -164,35 +179,38 @@ module _ {sh : Shape} {p : List ℤ} {c : Columns} (a : Sound sh p c) {l f f₀ 
         let b = a .solid n i (λ z. h (upd-off (c SolidUsed) 1 d ∙ z)) in
         (b .0, b .1, ⊎-elim (λ e. e ∙ b .2) (λ e. absurd (q (sym (b .2) ∙ e .0))) (cut-other (b .0) (used-other (b .0) (λ z. omega (arith, i .0, b .2, z)))))))
 
-    -- the solid of a face in use is in use
-    solid-there : (g : ℕ) → (g ≡ f) ⊎ FaceUsed sh c g → In (sh .solids) (cutSolid c f s₀ s moved g) × (upd (c SolidUsed) s 1 (cutSolid c f s₀ s moved g) ≢ 0)
-    solid-there g (inl e) = rw (ap (cutSolid c f s₀ s moved) e ∙ cut-new) (m .solid-in, marked s (λ n. absurd (n refl)))
-    solid-there g (inr u) = let b = a .face g (u .0, u .1) (u .2) in ⊎-elim
-        (λ e. rw e (b .solid-in, marked (c Solid g) (λ n. b .solid-used)))
-        (λ e. rw (e .1) (m .solid-in, marked s (λ n. absurd (n refl)))) (cut-other g (used-other g (u .2)))
-
-    -- its outer loop names it
-    outer-there : (g : ℕ) → (g ≡ f) ⊎ FaceUsed sh c g → In (sh .loops) (upd (c Outer) f l g) × (upd (c Face) l f (upd (c Outer) f l g) ≡ g)
-    outer-there g (inl e) = rw (upd-at (c Outer) l e) (r .loop-in, upd-same (c Face) l f ∙ sym e)
-    outer-there g (inr u) =
+    -- a face in use: its solid is in use, and its outer loop names it
+    face-there : (g : ℕ) → (g ≡ f) ⊎ FaceUsed sh c g → FaceSound sh (cut c l f s₀ s moved) g
+    face-there g (inl e) = record {
+      solid-in = rw (ap (cutSolid c f s₀ s moved) e ∙ cut-new) (m .solid-in);
+      solid-used = rw (ap (cutSolid c f s₀ s moved) e ∙ cut-new) (marked s (λ n. absurd (n refl)));
+      outer-in = rw (upd-at (c Outer) l e) (r .loop-in);
+      outer-face = rw (upd-at (c Outer) l e) (upd-same (c Face) l f ∙ sym e);
+    }
+    face-there g (inr u) =
         let b = a .face g (u .0, u .1) (u .2) in
-        rw (upd-off (c Outer) l (used-other g (u .2))) (b .outer-in, upd-off (c Face) f (outer-other a l (λ z. r .ring (ap (c Outer) (sym (r .loop-face)) ∙ z)) g (u .0, u .1) (u .2)) ∙ b .outer-face)
+        let n = used-other g (u .2) in
+        let d = outer-other a l (λ z. r .ring (ap (c Outer) (sym (r .loop-face)) ∙ z)) g (u .0, u .1) (u .2) in
+        let q : In (sh .solids) (cutSolid c f s₀ s moved g) × (upd (c SolidUsed) s 1 (cutSolid c f s₀ s moved g) ≢ 0) = ⊎-elim
+        (λ e. rw e (b .solid-in, marked (c Solid g) (λ n. b .solid-used)))
+        (λ e. rw (e .1) (m .solid-in, marked s (λ n. absurd (n refl)))) (cut-other g n) in
+        record { solid-in = q .0; solid-used = q .1; outer-in = simp upd-off (b .outer-in); outer-face = simp upd-off (b .outer-face) }
 
     -- all that is asked of the four columns
-    cut-regroup : Regroup sh c (upd (c SolidUsed) s 1) (cutSolid c f s₀ s moved) (upd (c Outer) f l) (upd (c Face) l f)
+    cut-regroup : Regroup sh c (cut c l f s₀ s moved)
     cut-regroup = record {
       mark = λ n i. split n s (λ e. rw (upd-at (c SolidUsed) 1 e) (omega arith)) (λ q. rw (upd-off (c SolidUsed) 1 q) (a .solid-mark n i));
       solid = some-face;
       face-free = λ g i h. split g f (λ e. absurd (omega (arith, m .solid-in .0, ap (cutSolid c f s₀ s moved) e ∙ cut-new, h)))
           (λ n. upd-off (c Outer) l n ∙ a .face-free g i (⊎-elim (λ e. sym e ∙ h) (λ e. absurd (omega (arith, m .solid-in .0, e .1, h))) (cut-other g n)));
-      face-solid = λ g i h. solid-there g (from-used g (i .0, i .1, h));
-      face-outer = λ g i h. outer-there g (from-used g (i .0, i .1, h));
+      face = λ g u. face-there g (from-used g u);
       loop-free = λ n i z. upd-off (c Face) f (λ e. r .loop-used (ap (c Face) (sym e) ∙ z)) ∙ z;
       loop = λ n i h.
           let b = a .loop n i h in
-          let q : (g : ℕ) → (g ≡ f) ⊎ FaceUsed sh c g → In (sh .faces) g × (cutSolid c f s₀ s moved g ≢ 0) = λ g u. let w = to-used g u in ((w .0, w .1), w .2) in
-          split n l (λ e. rw (upd-at (c Face) f e) (q f (inl refl))) (λ d. rw (upd-off (c Face) f d) (q (c Face n) (inr (b .face-in .0, b .face-in .1, b .face-used))));
+          split n l (λ e. rw (upd-at (c Face) f e) (to-used f (inl refl)))
+          (λ d. rw (upd-off (c Face) f d) (to-used (c Face n) (inr (b .face-in .0, b .face-in .1, b .face-used))));
       solids = solids-same to-used from-used (λ g. refl) (m .solids);
+      others = cut-others c l f s₀ s moved;
     }
 
     -- the table is sound afterwards

@@ -2,144 +2,78 @@
 use mathlib.Core.Path.{_≡_, refl, sym, ap, _∙_}
 use mathlib.Core.Logic.{_≢_}
 use mathlib.Core.Bool.{Bool, false}
-use mathlib.Core.List.{List}
+use mathlib.Core.List.{List, [], _∷_}
 use Prim.Native.Nat.{ℕ, zero, suc, _≤_}
 use native.Mathlib.Omega.{arith}
-use lib.Dec.{eqb}
 use Rattle.laws.specs.Bools.{pick, split, eqb-other}
-use Rattle.laws.specs.Update.{upd, upd-ext, upd-at, upd-off, relabel}
+use Rattle.laws.specs.Update.{upd-at, upd-off, relabel}
 use Rattle.laws.specs.Columns.{sweep}
 use Rattle.layout.specs.declared.shape.Shape.{Shape}
-use Rattle.layout.specs.Layout.{kind, setSolidUsed, setLoopFace}
-use Rattle.euler.specs.Surgery.{putFace}
+use Rattle.layout.specs.Layout.{kind, setSolidUsed}
 use Rattle.euler.specs.FaceOperators.{moveFaces}
-use Rattle.layout.specs.Fields.{Field, Capacity, SolidUsed, Solid, Outer, Face, First, Isolated, Start, Loop, Next, Prev, VertexUsed, Columns, change, capOf}
-use Rattle.sound_tables.specs.Cells.{Shows, shows-put, shows-agree}
+use Rattle.layout.specs.Fields.{SolidUsed, Solid, Columns, by-fields}
+use Rattle.layout.specs.Writes.{write, writes, changes}
+use Rattle.sound_tables.specs.Cells.{Shows, shows-agree}
+use Rattle.sound_tables.specs.WriteLaws.{shows-writes, among-off, unwritten, withColumn, column-other}
 use Rattle.sound_tables.specs.Shown.{sweepColumns, shows-sweep, sweep-at, sweep-other}
 use Rattle.sound_tables.specs.Sound.{In}
-use Rattle.sound_holes.specs.MfkrhSound.{cutSolid, cut}
-use Rattle.sound_holes.specs.KfmrhSound.{joinedSolid, joined}
+use Rattle.sound_holes.specs.MfkrhSound.{faceWrites, cutSolid, cut}
+use Rattle.sound_holes.specs.KfmrhSound.{ringWrites, markWrites, joined}
 
--- a sweep begins at face 1
-sweep-zero : (c : Columns) (n : ℕ) (g : ℕ → ℕ → ℕ) → sweepColumns c n g Solid 0 ≡ c Solid 0
-unfolding sweepColumns
-sweep-zero c zero g = refl
-sweep-zero c (suc n) g = upd-off _ _ (λ z. omega (arith, z)) ∙ sweep-zero c n g
+-- a sweep over all faces: the solid of each is g of the face and of what it was
+swept : {sh : Shape} {x y : List ℕ} {c : Columns} (g : ℕ → ℕ → ℕ) → g 0 0 ≡ 0 → Shows sh x c
+    → Shows sh y (sweepColumns c (sh .faces) g) → Shows sh y (withColumn c Solid (λ n. g n (c Solid n)))
+swept {sh} {c = c} g z s t = shows-agree t (by-fields (Solid ∷ []) _ (solid, tt) (λ F h n u.
+    sweep-other c (sh .faces) g F (among-off (Solid ∷ []) Solid F refl h) n ∙ sym (column-other (Solid ∷ []) Solid refl c _ F h n)))
+  where
+    -- there is no face 0
+    solid : (n : ℕ) → n ≤ sh .faces → sweepColumns c (sh .faces) g Solid n ≡ g n (c Solid n)
+    solid zero h = sym (t .at Solid 0 (omega arith)) ∙ sym z ∙ ap (g 0) (s .at Solid 0 (omega arith))
+    solid (suc n) h = sweep-at c (sh .faces) g (suc n) (omega arith, h)
 
 -- ---- kfmrh
 
 -- the list afterwards
 abbrev pub joinedLinks : Shape → List ℕ → ℕ → ℕ → ℕ → ℕ → ℕ → List ℕ
-joinedLinks sh x f1 f2 l s1 s2 = setSolidUsed sh (setSolidUsed sh (moveFaces sh (putFace sh (setLoopFace sh x l f1) f2 0 0) s2 s1) s2 0) s1 1
+joinedLinks sh x f1 f2 l s1 s2 = writes sh (markWrites s1 s2) (moveFaces sh (writes sh (ringWrites f1 f2 l) x) s2 s1)
 
-module _ {sh : Shape} {x : List ℕ} {c : Columns} (s : Shows sh x c) (f1 f2 l s1 s2 : ℕ) (i2 : In (sh .faces) f2) (il : In (sh .loops) l) (j1 : In (sh .solids) s1) (j2 : In (sh .solids) s2) where
-  -- the columns before the sweep
-  abbrev freed : Columns
-  freed = change (change (change c Face l f1) Solid f2 0) Outer f2 0
-
-  -- what the sweep does to the solid of a face
-  abbrev pass : ℕ → ℕ → ℕ
-  pass f old = pick (eqb old s2) s1 old
-
-  -- up to the last face the sweep gives the solids of `joined`
-  passed : (n : ℕ) → n ≤ sh .faces → sweepColumns freed (sh .faces) pass Solid n ≡ joinedSolid c f2 s1 s2 n
-  unfolding relabel
-  passed zero h =
-      let z : 0 ≡ c Solid 0 = s .at Solid 0 (omega arith) in
-      let o : upd (c Solid) f2 0 0 ≡ 0 = upd-off (c Solid) 0 (λ e. omega (arith, i2 .0, e)) ∙ sym z in
-      let d : upd (c Solid) f2 0 0 ≢ s2 = λ e. omega (arith, j2 .0, o, e) in
-      sweep-zero freed (sh .faces) pass ∙ sym (rw (eqb-other d))
-  passed (suc n) h = sweep-at freed (sh .faces) pass (suc n) (omega arith, h)
-
-  -- it shows the columns of `joined`
-  pub shows-joined : Shows sh (joinedLinks sh x f1 f2 l s1 s2) (joined c f1 f2 l s1 s2)
-  shows-joined =
-      let t1 = shows-put (shows-put (shows-put s Face l f1 (il .0) (il .1)) Solid f2 0 (i2 .0) (i2 .1)) Outer f2 0 (i2 .0) (i2 .1) in
-      let t2 = shows-sweep t1 (sh .faces) pass (omega arith) in
-      shows-agree (shows-put (shows-put t2 SolidUsed s2 0 (j2 .0) (j2 .1)) SolidUsed s1 1 (j1 .0) (j1 .1)) same
-    where
-      -- column by column
-      same : (F : Field) (n : ℕ) → n ≤ capOf sh F → change (change (sweepColumns freed (sh .faces) pass) SolidUsed s2 0) SolidUsed s1 1 F n ≡ joined c f1 f2 l s1 s2 F n
-      same Capacity n h = sweep-other freed (sh .faces) pass Capacity refl n
-      same SolidUsed n h = upd-ext _ _ s1 1 (upd-ext _ _ s2 0 (sweep-other freed (sh .faces) pass SolidUsed refl)) n
-      same Solid n h = passed n h
-      same Outer n h = sweep-other freed (sh .faces) pass Outer refl n
-      same Face n h = sweep-other freed (sh .faces) pass Face refl n
-      same First n h = sweep-other freed (sh .faces) pass First refl n
-      same Isolated n h = sweep-other freed (sh .faces) pass Isolated refl n
-      same Start n h = sweep-other freed (sh .faces) pass Start refl n
-      same Loop n h = sweep-other freed (sh .faces) pass Loop refl n
-      same Next n h = sweep-other freed (sh .faces) pass Next refl n
-      same Prev n h = sweep-other freed (sh .faces) pass Prev refl n
-      same VertexUsed n h = sweep-other freed (sh .faces) pass VertexUsed refl n
+-- it shows the columns of `joined`
+pub shows-joined : {sh : Shape} {x : List ℕ} {c : Columns} → Shows sh x c → (f1 f2 l s1 s2 : ℕ)
+    → In (sh .faces) f2 → In (sh .loops) l → In (sh .solids) s1 → In (sh .solids) s2
+    → Shows sh (joinedLinks sh x f1 f2 l s1 s2) (joined c f1 f2 l s1 s2)
+unfolding relabel
+shows-joined {sh} s f1 f2 l s1 s2 i2 il j1 j2 =
+    let t = shows-writes (ringWrites f1 f2 l) s (il, (i2, (i2, tt))) in
+    let d : 0 ≢ s2 = λ e. omega (arith, j2 .0, e) in
+    shows-writes (markWrites s1 s2) (swept _ (rw (eqb-other d)) t (shows-sweep t (sh .faces) _ (omega arith))) (j2, (j1, tt))
 
 -- ---- mfkrh
 
 -- the list with l as the outer loop of f, in solid s₀
 abbrev pub faceLinks : Shape → List ℕ → ℕ → ℕ → ℕ → List ℕ
-faceLinks sh x l f s₀ = setLoopFace sh (putFace sh x f s₀ l) l f
+faceLinks sh x l f s₀ = writes sh (faceWrites l f s₀) x
 
 -- and with the moved faces in solid s
 abbrev pub movedLinks : Shape → List ℕ → ℕ → ℕ → ℕ → ℕ → (ℕ → Bool) → List ℕ
 movedLinks sh x l f s₀ s moved = sweep (kind (sh .face0) 2) 0 (sh .faces) (λ g old. pick (moved g) s old) (setSolidUsed sh (faceLinks sh x l f s₀) s 1)
 
 module _ {sh : Shape} {x : List ℕ} {c : Columns} (t : Shows sh x c) (l f s₀ : ℕ) (il : In (sh .loops) l) (jf : In (sh .faces) f) where
-  -- its columns
-  abbrev withRing : Columns
-  withRing = change (change (change c Solid f s₀) Outer f l) Face l f
-
-  -- three stores
-  shows-ring : Shows sh (faceLinks sh x l f s₀) withRing
-  shows-ring = shows-put (shows-put (shows-put t Solid f s₀ (jf .0) (jf .1)) Outer f l (jf .0) (jf .1)) Face l f (il .0) (il .1)
-
   -- where nothing moves it shows the columns of `cut`: the mark of s₀ is set already
   pub shows-face : c SolidUsed s₀ ≡ 1 → Shows sh (faceLinks sh x l f s₀) (cut c l f s₀ s₀ (λ g. false))
-  shows-face m = shows-agree shows-ring same
+  shows-face m = shows-agree (shows-writes (faceWrites l f s₀) t (jf, (jf, (il, tt))))
+      (by-fields (SolidUsed ∷ Solid ∷ []) _ (mark, ((λ n h. refl), tt)) (λ F h n u.
+      let e = changes (faceWrites l f s₀) c in
+      let w = write SolidUsed s₀ 1 ∷ [] in
+      sym (column-other (SolidUsed ∷ Solid ∷ []) Solid refl (changes w e) (cutSolid c f s₀ s₀ (λ g. false)) F h n
+      ∙ unwritten (SolidUsed ∷ Solid ∷ []) w refl e F h n)))
     where
-      -- column by column
-      same : (F : Field) (n : ℕ) → n ≤ capOf sh F → withRing F n ≡ cut c l f s₀ s₀ (λ g. false) F n
-      same Capacity n h = refl
-      same SolidUsed n h = split n s₀ (λ e. ap (c SolidUsed) e ∙ m ∙ sym (upd-at (c SolidUsed) 1 e)) (λ d. sym (upd-off (c SolidUsed) 1 d))
-      same Solid n h = refl
-      same Outer n h = refl
-      same Face n h = refl
-      same First n h = refl
-      same Isolated n h = refl
-      same Start n h = refl
-      same Loop n h = refl
-      same Next n h = refl
-      same Prev n h = refl
-      same VertexUsed n h = refl
+      -- the mark, written again
+      mark : (n : ℕ) → n ≤ sh .solids → c SolidUsed n ≡ cut c l f s₀ s₀ (λ g. false) SolidUsed n
+      mark n h = split n s₀ (λ e. ap (c SolidUsed) e ∙ m ∙ sym (upd-at (c SolidUsed) 1 e)) (λ d. sym (upd-off (c SolidUsed) 1 d))
 
-  module _ (s : ℕ) (js : In (sh .solids) s) (moved : ℕ → Bool) (none : moved 0 ≡ false) where
-    -- the columns before the sweep
-    abbrev fresh : Columns
-    fresh = change withRing SolidUsed s 1
-
-    -- what the sweep does to the solid of a face
-    abbrev move : ℕ → ℕ → ℕ
-    move g old = pick (moved g) s old
-
-    -- up to the last face the sweep gives the solids of `cut`
-    moves : (n : ℕ) → n ≤ sh .faces → sweepColumns fresh (sh .faces) move Solid n ≡ cutSolid c f s₀ s moved n
-    moves zero h = sweep-zero fresh (sh .faces) move ∙ sym (rw none)
-    moves (suc n) h = sweep-at fresh (sh .faces) move (suc n) (omega arith, h)
-
-    -- the sweep shows them
-    pub shows-moved : Shows sh (movedLinks sh x l f s₀ s moved) (cut c l f s₀ s moved)
-    shows-moved = shows-agree (shows-sweep (shows-put shows-ring SolidUsed s 1 (js .0) (js .1)) (sh .faces) move (omega arith)) same
-      where
-        -- column by column
-        same : (F : Field) (n : ℕ) → n ≤ capOf sh F → sweepColumns fresh (sh .faces) move F n ≡ cut c l f s₀ s moved F n
-        same Capacity n h = sweep-other fresh (sh .faces) move Capacity refl n
-        same SolidUsed n h = sweep-other fresh (sh .faces) move SolidUsed refl n
-        same Solid n h = moves n h
-        same Outer n h = sweep-other fresh (sh .faces) move Outer refl n
-        same Face n h = sweep-other fresh (sh .faces) move Face refl n
-        same First n h = sweep-other fresh (sh .faces) move First refl n
-        same Isolated n h = sweep-other fresh (sh .faces) move Isolated refl n
-        same Start n h = sweep-other fresh (sh .faces) move Start refl n
-        same Loop n h = sweep-other fresh (sh .faces) move Loop refl n
-        same Next n h = sweep-other fresh (sh .faces) move Next refl n
-        same Prev n h = sweep-other fresh (sh .faces) move Prev refl n
-        same VertexUsed n h = sweep-other fresh (sh .faces) move VertexUsed refl n
+  -- where faces move, the sweep shows them
+  pub shows-moved : (s : ℕ) → In (sh .solids) s → (moved : ℕ → Bool) → moved 0 ≡ false
+      → Shows sh (movedLinks sh x l f s₀ s moved) (cut c l f s₀ s moved)
+  shows-moved s js moved none =
+      let q = shows-writes (write SolidUsed s 1 ∷ []) (shows-writes (faceWrites l f s₀) t (jf, (jf, (il, tt)))) (js, tt) in
+      swept (λ g old. pick (moved g) s old) (rw none) q (shows-sweep q (sh .faces) _ (omega arith))

@@ -9,57 +9,28 @@ use lib.IntN.{ℤ}
 use Rattle.laws.specs.Bools.{split, ask}
 use Rattle.laws.specs.Update.{upd, upd-at, upd-off, upd-same, relabel-at, relabel-off}
 use Rattle.layout.specs.declared.shape.Shape.{Shape}
-use Rattle.layout.specs.Fields.{Field, SolidUsed, Solid, Outer, Face, Columns, capOf}
+use Rattle.layout.specs.Fields.{Field, SolidUsed, Solid, Outer, Face, Columns, capOf, by-fields}
 use Rattle.sound_tables.specs.Cells.{upd-back}
 use Rattle.sound_tables.specs.Sound.{In, Sound}
-use Rattle.sound_holes.specs.Regroup.{regrouped-back}
-use Rattle.sound_holes.specs.MfkrhSound.{cutSolid, cut, RingFace, Moved, old-face, old-solid, face-other, face-unnamed, cut-new, cut-old, cut-other}
-use Rattle.sound_holes.specs.KfmrhSound.{joinedSolid, joined, TwoFaces, first-marked, second-marked, ring-in, ring-face, joined-second, joined-first, joined-other}
-
--- ---- the same in columns that agree
-
-module _ {sh : Shape} {c d : Columns} (e : (F : Field) (n : ℕ) → n ≤ capOf sh F → d F n ≡ c F n) where
-  -- two faces to be joined
-  pub two-agree : {f1 f2 l s1 s2 : ℕ} → TwoFaces sh c f1 f2 l s1 s2 → TwoFaces sh d f1 f2 l s1 s2
-  two-agree {f1} {f2} r = record {
-    first-in = r .first-in;
-    first-solid = e Solid f1 (r .first-in .1) ∙ r .first-solid;
-    first-used = r .first-used;
-    second-in = r .second-in;
-    second-solid = e Solid f2 (r .second-in .1) ∙ r .second-solid;
-    second-used = r .second-used;
-    other = r .other;
-    outer = e Outer f2 (r .second-in .1) ∙ r .outer;
-    only = λ m i q. r .only m i (sym (e Face m (i .1)) ∙ q);
-  }
-
-  -- a ring to be made a face
-  pub ring-agree : {l f f₀ s₀ : ℕ} → In (sh .faces) f₀ → RingFace sh c l f f₀ s₀ → RingFace sh d l f f₀ s₀
-  ring-agree {l} {f} {f₀} i r = record {
-    loop-in = r .loop-in;
-    loop-used = λ z. r .loop-used (sym (e Face l (r .loop-in .1)) ∙ z);
-    loop-face = e Face l (r .loop-in .1) ∙ r .loop-face;
-    face-solid = e Solid f₀ (i .1) ∙ r .face-solid;
-    ring = λ q. r .ring (sym (e Outer f₀ (i .1)) ∙ q);
-    face-in = r .face-in;
-    face-free = e Solid f (r .face-in .1) ∙ r .face-free;
-  }
+use Rattle.sound_tables.specs.Regroup.{grouping}
+use Rattle.sound_holes.specs.MfkrhSound.{cutSolid, cut, cut-others, RingFace, Moved, old-face, old-solid, face-other, face-unnamed, cut-new, cut-old, cut-other}
+use Rattle.sound_holes.specs.KfmrhSound.{joinedSolid, joined, joined-others, TwoFaces, first-marked, second-marked, ring-in, ring-face, joined-second, joined-first, joined-other}
 
 -- ---- mfkrh, then kfmrh
 
 module _ {sh : Shape} {p : List ℤ} {c : Columns} (a : Sound sh p c) {l f f₀ s₀ : ℕ} (r : RingFace sh c l f f₀ s₀) {s : ℕ} {moved : ℕ → Bool} (m : Moved sh c l f f₀ s₀ s moved) where
-  -- the ring is the only loop of the new face
-  pub cut-two : TwoFaces sh (cut c l f s₀ s moved) f₀ f l s₀ s
-  cut-two = record {
+  -- the ring is the only loop of the new face, also in columns that agree
+  pub cut-two : {d : Columns} → ((F : Field) (n : ℕ) → n ≤ capOf sh F → d F n ≡ cut c l f s₀ s moved F n) → TwoFaces sh d f₀ f l s₀ s
+  cut-two e = record {
     first-in = (old-face a r .0, old-face a r .1);
-    first-solid = cut-old a r m;
+    first-solid = e Solid f₀ (old-face a r .1) ∙ cut-old a r m;
     first-used = λ z. omega (arith, old-solid a r .0 .0, z);
     second-in = r .face-in;
-    second-solid = cut-new a r m;
+    second-solid = e Solid f (r .face-in .1) ∙ cut-new a r m;
     second-used = λ z. omega (arith, m .solid-in .0, z);
     other = face-other a r;
-    outer = upd-same (c Outer) f l;
-    only = λ n i q. split n l (λ e. e) (λ d. absurd (face-unnamed a r n i (sym (upd-off (c Face) f d) ∙ q)));
+    outer = e Outer f (r .face-in .1) ∙ upd-same (c Outer) f l;
+    only = λ n i q. split n l (λ x. x) (λ x. absurd (face-unnamed a r n i (sym (e Face n (i .1) ∙ upd-off (c Face) f x) ∙ q)));
   }
 
   -- the marks come back: that of s₀ was set, that of another solid s was not
@@ -80,22 +51,33 @@ module _ {sh : Shape} {p : List ℤ} {c : Columns} (a : Sound sh p c) {l f f₀ 
 
   -- every entry comes back
   pub cut-joined : (F : Field) (n : ℕ) → 1 ≤ n → n ≤ capOf sh F → joined (cut c l f s₀ s moved) f₀ f l s₀ s F n ≡ c F n
-  cut-joined = regrouped-back sh c _ _ _ _ _ _ _ _ (λ n i. mark-back n) solid-back (λ n i. upd-back (c Outer) f l 0 (a .face-free f (r .face-in) (r .face-free)) n) (λ n i. upd-back (c Face) l f f₀ (r .loop-face) n)
+  cut-joined = by-fields grouping _ (
+    λ n i j. mark-back n,
+    (
+      λ n i j. solid-back n (i, j),
+      (λ n i j. upd-back (c Outer) f l 0 (a .face-free f (r .face-in) (r .face-free)) n, (λ n i j. upd-back (c Face) l f f₀ (r .loop-face) n, tt)),
+    ),
+  ) (λ F h n i j. joined-others (cut c l f s₀ s moved) f₀ f l s₀ s F h n ∙ cut-others c l f s₀ s moved F h n)
 
 -- ---- kfmrh, then mfkrh
 
 module _ {sh : Shape} {p : List ℤ} {c : Columns} (a : Sound sh p c) {f1 f2 l s1 s2 : ℕ} (r : TwoFaces sh c f1 f2 l s1 s2) where
-  -- the loop is a ring, and f2 is free
-  pub joined-ring : RingFace sh (joined c f1 f2 l s1 s2) l f2 f1 s1
-  joined-ring = record {
-    loop-in = ring-in a r;
-    loop-used = λ z. omega (arith, r .first-in .0, upd-same (c Face) l f1, z);
-    loop-face = upd-same (c Face) l f1;
-    face-solid = joined-first a r;
-    ring = λ e. r .other (sym (a .face f1 (r .first-in) (λ z. r .first-used (sym (r .first-solid) ∙ z)) .outer-face) ∙ ap (c Face) (sym (upd-off (c Outer) 0 (r .other)) ∙ e) ∙ ring-face a r);
-    face-in = r .second-in;
-    face-free = joined-second a r;
-  }
+  -- the loop is a ring, and f2 is free, also in columns that agree
+  pub joined-ring : {d : Columns} → ((F : Field) (n : ℕ) → n ≤ capOf sh F → d F n ≡ joined c f1 f2 l s1 s2 F n) → RingFace sh d l f2 f1 s1
+  joined-ring e =
+      let i = ring-in a r in
+      let face = e Face l (i .1) ∙ upd-same (c Face) l f1 in
+      let outer = e Outer f1 (r .first-in .1) ∙ upd-off (c Outer) 0 (r .other) in
+      let own = a .face f1 (r .first-in) (λ z. r .first-used (sym (r .first-solid) ∙ z)) .outer-face in
+      record {
+        loop-in = i;
+        loop-used = λ z. omega (arith, r .first-in .0, face, z);
+        loop-face = face;
+        face-solid = e Solid f1 (r .first-in .1) ∙ joined-first a r;
+        ring = λ q. r .other (sym own ∙ ap (c Face) (sym outer ∙ q) ∙ ring-face a r);
+        face-in = r .second-in;
+        face-free = e Solid f2 (r .second-in .1) ∙ joined-second a r;
+      }
 
   -- the marks come back: both were set
   mark-again : (n : ℕ) → upd (upd (upd (c SolidUsed) s2 0) s1 1) s2 1 n ≡ c SolidUsed n
@@ -112,4 +94,10 @@ module _ {sh : Shape} {p : List ℤ} {c : Columns} (a : Sound sh p c) {f1 f2 l s
 
     -- every entry comes back
     pub joined-cut : (F : Field) (n : ℕ) → 1 ≤ n → n ≤ capOf sh F → cut (joined c f1 f2 l s1 s2) l f2 s1 s2 moved F n ≡ c F n
-    joined-cut = regrouped-back sh c _ _ _ _ _ _ _ _ (λ n i. mark-again n) solid-again (λ n i. upd-back (c Outer) f2 0 l (r .outer) n) (λ n i. upd-back (c Face) l f1 f2 (ring-face a r) n)
+    joined-cut = by-fields grouping _ (
+      λ n i j. mark-again n,
+      (
+        λ n i j. solid-again n (i, j),
+        (λ n i j. upd-back (c Outer) f2 0 l (r .outer) n, (λ n i j. upd-back (c Face) l f1 f2 (ring-face a r) n, tt)),
+      ),
+    ) (λ F h n i j. cut-others (joined c f1 f2 l s1 s2) l f2 s1 s2 moved F h n ∙ joined-others c f1 f2 l s1 s2 F h n)

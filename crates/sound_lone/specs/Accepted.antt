@@ -22,15 +22,16 @@ use Rattle.euler.specs.Surgery.{putPoint}
 use Rattle.euler.specs.Queries.{faceIn}
 use Rattle.euler.specs.FaceOperators.{mvsfLinks, kvsfTest, kvsfLinks}
 use Rattle.euler.specs.Exec.{limits, useWord, condition, refusalOf, linksAfter, killedVertex, pointsAfter, inverse}
-use Rattle.layout.specs.Fields.{Field, SolidUsed, Solid, Outer, Face, First, Isolated, VertexUsed, Columns, capOf}
+use Rattle.layout.specs.Fields.{Field, SolidUsed, Solid, Outer, Face, First, Isolated, Columns, capOf}
 use Rattle.sound_tables.specs.Sound.{In, Sound}
 use Rattle.sound_tables.specs.Labels.{label-found, label-some, label-only, many-one, one-many}
 use Rattle.sound_tables.specs.PointLists.{three, all-three}
 use Rattle.sound_tables.specs.Accepted.{by-place, eight, accepted-back, ranges-cons, item-cons, use-new, new-use, in-range, Number, number, coordinate-range, unused-range, unused-use, three-range, three-use}
 use Rattle.sound_tables.specs.Good.{own, Capacities}
-use Rattle.sound_lone.specs.MvsfSound.{placed, placedLinks}
+use Rattle.sound_lone.specs.Placed.{placed, placedLinks}
+use Rattle.sound_lone.specs.MvsfSound.{Free, free-detached}
 use Rattle.sound_lone.specs.KvsfSound.{OneLoop}
-use Rattle.sound_tables.specs.OneOperand.{one-operand, one-accepted}
+use Rattle.sound_tables.specs.OneOperand.{oneOf, one-accepted}
 
 -- ---- the operands
 
@@ -40,18 +41,7 @@ mvsfOf s f l v x y z = record { code = 1; count = 7; args = pos s ∷ pos f ∷ 
 
 -- kvsf s
 abbrev pub kvsfOf : ℕ → Operator
-kvsfOf s = record { code = 2; count = 1; args = pos s ∷ pos 0 ∷ pos 0 ∷ pos 0 ∷ pos 0 ∷ pos 0 ∷ pos 0 ∷ pos 0 ∷ [] }
-
--- s, f, l and v are free
-pub record Free (sh : Shape) (c : Columns) (s f l v : ℕ) : Type 0 where
-  pub solid-in : In (sh .solids) s
-  pub face-in : In (sh .faces) f
-  pub loop-in : In (sh .loops) l
-  pub vertex-in : In (sh .vertices) v
-  pub solid : c SolidUsed s ≡ 0
-  pub face : c Solid f ≡ 0
-  pub loop : c Face l ≡ 0
-  pub vertex : c VertexUsed v ≡ 0
+kvsfOf s = oneOf 2 s
 
 -- what an accepted mvsf says
 pub record MvsfFacts (sh : Shape) (c : Columns) (o : Operator) : Type 0 where
@@ -102,57 +92,25 @@ mvsf-facts sh x o caps len e h =
       range = all-three (λ q. T (rangeTest q)) _ _ _ c4 c5 c6;
     }
 
--- what an accepted kvsf says
-pub record KvsfFacts (sh : Shape) (x : List ℕ) (o : Operator) : Type 0 where
-  pub s : ℕ
-  pub is : o ≡ kvsfOf s
-  pub solid-in : In (sh .solids) s
-  pub used : own sh x SolidUsed s ≢ 0
-  pub test : kvsfTest sh x s ≡ true
-
--- all from the refusal 0
-pub kvsf-facts : (sh : Shape) (x : List ℕ) (o : Operator) → Capacities sh → length (o .args) ≡ 8 → o .code ≡ 2 → refusalOf sh x o ≡ 0 → KvsfFacts sh x o
-unfolding pattern rows useWord condition
-kvsf-facts sh x o caps len e h =
-    let a = one-operand sh x 2 1 refl refl refl refl (omega (arith, caps .solids)) refl o len e h in
-    record { s = a .n; is = a .is; solid-in = a .range; used = a .used; test = rw (a .small) at (a .holds) }
-
 -- ---- a solid of one isolated loop
 
--- the same in columns that agree
-pub one-agree : {sh : Shape} {c d : Columns} {s f l v : ℕ} → ((F : Field) (n : ℕ) → n ≤ capOf sh F → d F n ≡ c F n) → OneLoop sh c s f l v → OneLoop sh d s f l v
-one-agree {s = s} {f} {l} {v} e o = record {
-  solid-in = o .solid-in;
-  face-in = o .face-in;
-  loop-in = o .loop-in;
-  vertex-in = o .vertex-in;
-  solid = e Solid f (o .face-in .1) ∙ o .solid;
-  outer = e Outer f (o .face-in .1) ∙ o .outer;
-  face = e Face l (o .loop-in .1) ∙ o .face;
-  first = e First l (o .loop-in .1) ∙ o .first;
-  isolated = e Isolated l (o .loop-in .1) ∙ o .isolated;
-  only-face = λ g i q. o .only-face g i (sym (e Solid g (i .1)) ∙ q);
-  only-loop = λ m i q. o .only-loop m i (sym (e Face m (i .1)) ∙ q);
-}
-
--- what mvsf makes is one
-pub made-one : {sh : Shape} {p : List ℤ} {c : Columns} {s f l v : ℕ} → Sound sh p c → Free sh c s f l v → OneLoop sh (placed c s f l v 1 s l f v) s f l v
-made-one {c = c} {s} {f} {l} {v} a r = record {
+-- what mvsf makes is one, also in columns that agree
+pub made-one : {sh : Shape} {p : List ℤ} {c d : Columns} {s f l v : ℕ} → Sound sh p c → Free sh c s f l v
+    → ((F : Field) (n : ℕ) → n ≤ capOf sh F → d F n ≡ placed c s f l v 1 s l f v F n) → OneLoop sh d s f l v
+made-one {c = c} {s = s} {f} {l} {v} a r e = record {
   solid-in = r .solid-in;
   face-in = r .face-in;
   loop-in = r .loop-in;
   vertex-in = r .vertex-in;
-  solid = upd-same _ f s;
-  outer = upd-same _ f l;
-  face = upd-same _ l f;
-  first = upd-same _ l 0;
-  isolated = upd-same _ l v;
-  only-face = λ g i q. split g f (λ x. x) (λ x.
-      let e : c Solid g ≡ s = sym (upd-off (c Solid) s x) ∙ q in
-      absurd (a .face g i (λ z. omega (arith, r .solid-in .0, sym e ∙ z)) .solid-used (ap (c SolidUsed) e ∙ r .solid)));
-  only-loop = λ m i q. split m l (λ x. x) (λ x.
-      let e : c Face m ≡ f = sym (upd-off (c Face) f x) ∙ q in
-      absurd (a .loop m i (λ z. omega (arith, r .face-in .0, sym e ∙ z)) .face-used (ap (c Solid) e ∙ r .face)));
+  solid = e Solid f (r .face-in .1) ∙ upd-same _ f s;
+  outer = e Outer f (r .face-in .1) ∙ upd-same _ f l;
+  face = e Face l (r .loop-in .1) ∙ upd-same _ l f;
+  first = e First l (r .loop-in .1) ∙ upd-same _ l 0;
+  isolated = e Isolated l (r .loop-in .1) ∙ upd-same _ l v;
+  only-face = λ g i q. split g f (λ x. x)
+      (λ x. absurd (free-detached a r .no-face g i x (sym (e Solid g (i .1) ∙ upd-off (c Solid) s x) ∙ q)));
+  only-loop = λ m i q. split m l (λ x. x)
+      (λ x. absurd (free-detached a r .no-loop m i x (sym (e Face m (i .1) ∙ upd-off (c Face) f x) ∙ q)));
 }
 
 -- kvsf's test finds one
@@ -192,9 +150,11 @@ module _ {sh : Shape} {x : List ℕ} {s f l v : ℕ} (o : OneLoop sh (own sh x) 
   one-face : faceIn sh x s ≡ f
   one-face = label-only (sh .faces) (own sh x Solid) s f (o .face-in) (o .solid) (o .only-face)
 
+  -- its loop
   one-outer : own sh x Outer (faceIn sh x s) ≡ l
   one-outer = ap (own sh x Outer) one-face ∙ o .outer
 
+  -- and its vertex
   one-isolated : own sh x Isolated (own sh x Outer (faceIn sh x s)) ≡ v
   one-isolated = ap (own sh x Isolated) one-outer ∙ o .isolated
 
@@ -235,16 +195,19 @@ module _ {sh : Shape} {x : List ℕ} {s f l v : ℕ} (o : OneLoop sh (own sh x) 
 -- ---- mvsf on free numbers
 
 module _ (sh : Shape) (x : List ℕ) (s f l v : ℕ) (a b c : ℤ) (caps : Capacities sh) (r : Free sh (own sh x) s f l v) where
-  -- the four numbers are read as they stand
+  -- s is read as it stands
   sn : s ≤ 8192
   sn = omega (arith, r .solid-in .1, caps .solids)
 
+  -- f too
   fn : f ≤ 8192
   fn = omega (arith, r .face-in .1, caps .faces)
 
+  -- l too
   ln : l ≤ 8192
   ln = omega (arith, r .loop-in .1, caps .loops)
 
+  -- v too
   vn : v ≤ 8192
   vn = omega (arith, r .vertex-in .1, caps .vertices)
 

@@ -3,7 +3,7 @@
 use mathlib.Core.Path.{_≡_, refl, sym, _∙_, subst}
 use mathlib.Core.Logic.{_≢_}
 use mathlib.Core.List.{List}
-use Prim.Native.Nat.{ℕ, _*_, _≤_}
+use Prim.Native.Nat.{ℕ, _<_}
 use native.Mathlib.Omega.{arith}
 use lib.Dec.{T}
 use lib.IntN.{ℤ, pos}
@@ -13,108 +13,115 @@ use Rattle.script.specs.declared.Operator.{Operator}
 use Rattle.layout.specs.declared.shape.Shape.{Shape}
 use Rattle.layout.specs.Points.{coordinate, rangeTest}
 use Rattle.euler.specs.Surgery.{putPoint}
-use Rattle.euler.specs.Exec.{refusalOf}
-use Rattle.layout.specs.Fields.{Field, Capacity, SolidUsed, Solid, Outer, Face, First, Isolated, Start, Loop, Next, Prev, VertexUsed, Columns}
-use Rattle.sound_tables.specs.Cells.{upd-back, Shows, shows-ext}
-use Rattle.sound_tables.specs.PointLists.{put-length, put-at, put-back, put-cleared, points-new, points-cleared}
+use Rattle.codec.specs.Operands.{pattern, rows}
+use Rattle.euler.specs.Exec.{useWord, condition, refusalOf}
+use Rattle.layout.specs.Fields.{Field, SolidUsed, Solid, Face, VertexUsed, Columns}
+use Rattle.sound_tables.specs.Cells.{Shows, shows-ext}
+use Rattle.sound_tables.specs.WriteLaws.{frame, Stand, write-back}
+use Rattle.sound_tables.specs.PointLists.{three, put-length, put-at, put-back, put-cleared, points-new, points-cleared}
 use Rattle.sound_tables.specs.Good.{own, Good, good-shows, good-after}
-use Rattle.sound_tables.specs.Undone.{Kept, Undone}
-use Rattle.sound_lone.specs.MvsfSound.{placed, placedLinks, shows-placed, mvsf-sound}
+use Rattle.sound_tables.specs.Undone.{Kept, Undone, exact}
+use Rattle.sound_tables.specs.OneOperand.{one-operand}
+use Rattle.sound_lone.specs.Placed.{placedWrites, placed, placedLinks, shows-placed}
+use Rattle.sound_lone.specs.MvsfSound.{Free, mvsf-sound}
 use Rattle.sound_lone.specs.KvsfSound.{OneLoop, one-used, kvsf-sound}
-use Rattle.sound_lone.specs.Accepted.{mvsfOf, kvsfOf, Free, mvsf-facts, kvsf-facts, one-agree, made-one, tested-one, kvsf-links, kvsf-points, kvsf-inverse, kvsf-accepted, mvsf-links, mvsf-points, mvsf-inverse, mvsf-accepted}
+use Rattle.sound_lone.specs.Accepted.{mvsfOf, kvsfOf, mvsf-facts, made-one, tested-one, kvsf-links, kvsf-points, kvsf-inverse, kvsf-accepted, mvsf-links, mvsf-points, mvsf-inverse, mvsf-accepted}
 
 -- ---- there and back
 
--- the places of a solid, its face, its loop and its vertex written over and written back
-place-back : (c : Columns) (s f l v m s′ l′ f′ v′ m₀ s₀ l₀ f₀ v₀ : ℕ) → c SolidUsed s ≡ m₀ → c Solid f ≡ s₀ → c Outer f ≡ l₀ → c Face l ≡ f₀ → c First l ≡ 0 → c Isolated l ≡ v₀ → c VertexUsed v ≡ m₀
+-- the places of a solid, its face, its loop and its vertex written over, and what stood there written back
+place-back : (c : Columns) (s f l v m s′ l′ f′ v′ m₀ s₀ l₀ f₀ v₀ : ℕ) → Stand c (placedWrites s f l v m₀ s₀ l₀ f₀ v₀)
     → (F : Field) (n : ℕ) → placed (placed c s f l v m s′ l′ f′ v′) s f l v m₀ s₀ l₀ f₀ v₀ F n ≡ c F n
-place-back c s f l v m s′ l′ f′ v′ m₀ s₀ l₀ f₀ v₀ e1 e2 e3 e4 e5 e6 e7 Capacity n = refl
-place-back c s f l v m s′ l′ f′ v′ m₀ s₀ l₀ f₀ v₀ e1 e2 e3 e4 e5 e6 e7 SolidUsed n = upd-back (c SolidUsed) s m m₀ e1 n
-place-back c s f l v m s′ l′ f′ v′ m₀ s₀ l₀ f₀ v₀ e1 e2 e3 e4 e5 e6 e7 Solid n = upd-back (c Solid) f s′ s₀ e2 n
-place-back c s f l v m s′ l′ f′ v′ m₀ s₀ l₀ f₀ v₀ e1 e2 e3 e4 e5 e6 e7 Outer n = upd-back (c Outer) f l′ l₀ e3 n
-place-back c s f l v m s′ l′ f′ v′ m₀ s₀ l₀ f₀ v₀ e1 e2 e3 e4 e5 e6 e7 Face n = upd-back (c Face) l f′ f₀ e4 n
-place-back c s f l v m s′ l′ f′ v′ m₀ s₀ l₀ f₀ v₀ e1 e2 e3 e4 e5 e6 e7 First n = upd-back (c First) l 0 0 e5 n
-place-back c s f l v m s′ l′ f′ v′ m₀ s₀ l₀ f₀ v₀ e1 e2 e3 e4 e5 e6 e7 Isolated n = upd-back (c Isolated) l v′ v₀ e6 n
-place-back c s f l v m s′ l′ f′ v′ m₀ s₀ l₀ f₀ v₀ e1 e2 e3 e4 e5 e6 e7 Start n = refl
-place-back c s f l v m s′ l′ f′ v′ m₀ s₀ l₀ f₀ v₀ e1 e2 e3 e4 e5 e6 e7 Loop n = refl
-place-back c s f l v m s′ l′ f′ v′ m₀ s₀ l₀ f₀ v₀ e1 e2 e3 e4 e5 e6 e7 Next n = refl
-place-back c s f l v m s′ l′ f′ v′ m₀ s₀ l₀ f₀ v₀ e1 e2 e3 e4 e5 e6 e7 Prev n = refl
-place-back c s f l v m s′ l′ f′ v′ m₀ s₀ l₀ f₀ v₀ e1 e2 e3 e4 e5 e6 e7 VertexUsed n = upd-back (c VertexUsed) v m m₀ e7 n
+place-back c s f l v m s′ l′ f′ v′ m₀ s₀ l₀ f₀ v₀ e = write-back (placedWrites s f l v m₀ s₀ l₀ f₀ v₀) c _ e
+    (λ F n a. frame (placedWrites s f l v m s′ l′ f′ v′) c F n a)
 
 -- ---- mvsf
 
-module _ {sh : Shape} {x : List ℕ} {p : List ℤ} (g : Good sh x p) {s f l v : ℕ} (r : Free sh (own sh x) s f l v) (a b z : ℤ) (ha : T (rangeTest a)) (hb : T (rangeTest b)) (hz : T (rangeTest z)) where
-  -- the columns and the list afterwards
+module _ {sh : Shape} {x : List ℕ} {p : List ℤ} (g : Good sh x p) {s f l v : ℕ} (r : Free sh (own sh x) s f l v) (a b z : ℤ)
+    (range : (i : ℕ) → i < 3 → T (rangeTest (three a b z i))) where
+  -- the columns afterwards
   abbrev d : Columns
   d = placed (own sh x) s f l v 1 s l f v
 
+  -- the list
   abbrev y : List ℕ
   y = placedLinks sh x s f l v 1 s l f v
 
+  -- the points
   abbrev q : List ℤ
   q = putPoint p v a b z
 
+  -- the list shows the columns
   y-shows : Shows sh y d
   y-shows = shows-placed (good-shows g) s f l v 1 s l f v (r .solid-in) (r .face-in) (r .loop-in) (r .vertex-in)
 
-  long : 3 * v ≤ length p
-  long = omega (arith, g .points, r .vertex-in .1)
+  -- list and points are good
+  y-good : Good sh y q
+  y-good = good-after g y-shows (λ n. refl) (put-length p v a b z) (mvsf-sound (g .sound) r
+      (points-new sh p (own sh x) d v (g .points) (r .vertex-in) (g .sound .point) (λ w n. upd-off (own sh x VertexUsed) 1 n)
+      a b z (range 0 (omega arith)) (range 1 (omega arith)) (range 2 (omega arith)) (upd-same (own sh x VertexUsed) v 1)))
 
-  -- a good table stays good
-  pub mvsf-kept : Kept sh x p (mvsfOf s f l v a b z)
-  mvsf-kept = rw (mvsf-links sh x s f l v a b z (g .capacities) r, mvsf-points sh x s f l v a b z (g .capacities) r p)
-      (good-after g y-shows (λ n. refl) (put-length p v a b z)
-      (mvsf-sound (g .sound) s f l v (r .solid-in) (r .face-in) (r .loop-in) (r .vertex-in) (r .solid) (r .face) (r .loop) (r .vertex)
-      (points-new sh p (own sh x) d v (g .points) (r .vertex-in) (g .sound .point) (λ w n. upd-off (own sh x VertexUsed) 1 n) a b z ha hb hz (upd-same (own sh x VertexUsed) v 1))))
-
+  -- there is the solid that kvsf kills
   y-one : OneLoop sh (own sh y) s f l v
-  y-one = one-agree (λ F n h. y-shows .at F n h) (made-one (g .sound) r)
+  y-one = made-one (g .sound) r (λ F n h. y-shows .at F n h)
 
+  -- it is in use
+  y-used : own sh y SolidUsed s ≢ 0
+  y-used e = omega (arith, sym (upd-same (own sh x SolidUsed) s 1) ∙ sym (y-shows .at SolidUsed s (r .solid-in .1)) ∙ e)
+
+  -- killed, it leaves the first list
   mvsf-back : placedLinks sh y s f l v 0 0 0 0 0 ≡ x
   mvsf-back =
       let k = g .sound .loop-free l (r .loop-in) (r .loop) in
+      let o = g .sound .face-free f (r .face-in) (r .face) in
+      let stood : Stand (own sh x) (placedWrites s f l v 0 0 0 0 0)
+      = (r .solid, (r .face, (o, (r .loop, (k .0, (k .1, (r .vertex, tt))))))) in
       shows-ext (shows-placed y-shows s f l v 0 0 0 0 0 (r .solid-in) (r .face-in) (r .loop-in) (r .vertex-in)) (good-shows g)
-      (λ F n i j. place-back (own sh x) s f l v 1 s l f v 0 0 0 0 0 (r .solid) (r .face) (g .sound .face-free f (r .face-in) (r .face)) (r .loop) (k .0) (k .1) (r .vertex) F n)
+      (λ F n i j. place-back (own sh x) s f l v 1 s l f v 0 0 0 0 0 stood F n)
 
+  -- and its point cleared, the first points
   point-back : putPoint q v (pos 0) (pos 0) (pos 0) ≡ p
   point-back = put-cleared (sh .vertices) p v a b z (g .points) (r .vertex-in) (g .sound .point v (r .vertex-in) .zero (r .vertex))
 
-  -- kvsf gives everything back
-  pub mvsf-undone : Undone sh x p (mvsfOf s f l v a b z)
-  mvsf-undone =
-      let el = mvsf-links sh x s f l v a b z (g .capacities) r in
-      let ep = mvsf-points sh x s f l v a b z (g .capacities) r p in
-      let ei = mvsf-inverse sh x s f l v a b z (g .capacities) r p in
-      let lo = long in
-      record {
-        accepted = rw (el, ei) (kvsf-accepted y-one (g .capacities) (λ e. omega (arith, sym (upd-same (own sh x SolidUsed) s 1) ∙ sym (y-shows .at SolidUsed s (r .solid-in .1)) ∙ e)));
-        links = rw (el, ei) (kvsf-links y-one (g .capacities) ∙ mvsf-back);
-        points = rw (el, ep, ei) (kvsf-points y-one (g .capacities) q ∙ point-back);
-        again = rw (el, ep, ei) (kvsf-inverse y-one (g .capacities) q ∙ (λ t. mvsfOf s f l v (put-at p v a b z (r .vertex-in .0) lo 0 (omega arith) t) (put-at p v a b z (r .vertex-in .0) lo 1 (omega arith) t) (put-at p v a b z (r .vertex-in .0) lo 2 (omega arith) t)));
-      }
+  -- the point is read back
+  point-at : (i : ℕ) → i < 3 → coordinate q v i ≡ three a b z i
+  point-at = put-at p v a b z (r .vertex-in .0) (omega (arith, g .points, r .vertex-in .1))
+
+  -- a good table stays good, and kvsf gives everything back
+  pub mvsf-exact : Kept sh x p (mvsfOf s f l v a b z) × Undone sh x p (mvsfOf s f l v a b z)
+  mvsf-exact =
+      let caps = g .capacities in
+      exact (mvsf-links sh x s f l v a b z caps r) (mvsf-points sh x s f l v a b z caps r p) (mvsf-inverse sh x s f l v a b z caps r p)
+      y-good (kvsf-accepted y-one caps y-used) (kvsf-links y-one caps ∙ mvsf-back) (kvsf-points y-one caps q ∙ point-back)
+      (kvsf-inverse y-one caps q
+      ∙ (λ t. mvsfOf s f l v (point-at 0 (omega arith) t) (point-at 1 (omega arith) t) (point-at 2 (omega arith) t)))
 
 -- ---- kvsf
 
-module _ {sh : Shape} {x : List ℕ} {p : List ℤ} (g : Good sh x p) {s f l v : ℕ} (o : OneLoop sh (own sh x) s f l v) (used : own sh x SolidUsed s ≢ 0) where
-  -- the columns and the list afterwards
+module _ {sh : Shape} {x : List ℕ} {p : List ℤ} (g : Good sh x p) {s f l v : ℕ} (o : OneLoop sh (own sh x) s f l v)
+    (used : own sh x SolidUsed s ≢ 0) where
+  -- the columns afterwards
   abbrev kd : Columns
   kd = placed (own sh x) s f l v 0 0 0 0 0
 
+  -- the list
   abbrev ky : List ℕ
   ky = placedLinks sh x s f l v 0 0 0 0 0
 
+  -- the points
   abbrev kq : List ℤ
   kq = putPoint p v (pos 0) (pos 0) (pos 0)
 
+  -- the list shows the columns
   ky-shows : Shows sh ky kd
   ky-shows = shows-placed (good-shows g) s f l v 0 0 0 0 0 (o .solid-in) (o .face-in) (o .loop-in) (o .vertex-in)
 
-  -- a good table stays good
-  pub kvsf-kept : Kept sh x p (kvsfOf s)
-  kvsf-kept = rw (kvsf-links o (g .capacities), kvsf-points o (g .capacities) p)
-      (good-after g ky-shows (λ n. refl) (put-length p v (pos 0) (pos 0) (pos 0))
-      (kvsf-sound (g .sound) o (points-cleared sh p (own sh x) kd v (g .points) (o .vertex-in) (g .sound .point) (λ w n. upd-off (own sh x VertexUsed) 0 n))))
+  -- list and points are good
+  ky-good : Good sh ky kq
+  ky-good = good-after g ky-shows (λ n. refl) (put-length p v (pos 0) (pos 0) (pos 0)) (kvsf-sound (g .sound) o
+      (points-cleared sh p (own sh x) kd v (g .points) (o .vertex-in) (g .sound .point) (λ w n. upd-off (own sh x VertexUsed) 0 n)))
 
+  -- the four numbers are free
   ky-free : Free sh (own sh ky) s f l v
   ky-free = record {
     solid-in = o .solid-in;
@@ -127,52 +134,52 @@ module _ {sh : Shape} {x : List ℕ} {p : List ℤ} (g : Good sh x p) {s f l v :
     vertex = ky-shows .at VertexUsed v (o .vertex-in .1) ∙ upd-same _ v 0;
   }
 
-  -- a mark that is set is 1
+  -- a mark that is set is 1: that of the vertex
   v-mark : own sh x VertexUsed v ≡ 1
   v-mark =
       let m = g .sound .vertex-mark v (o .vertex-in) in
       let u : own sh x VertexUsed v ≢ 0 = one-used (g .sound) o in
       omega (arith, m, u)
 
+  -- and that of the solid
   s-mark : own sh x SolidUsed s ≡ 1
   s-mark = let m = g .sound .solid-mark s (o .solid-in) in omega (arith, m, used)
 
+  -- made again, it leaves the first list
   kvsf-back : placedLinks sh ky s f l v 1 s l f v ≡ x
   kvsf-back =
       shows-ext (shows-placed ky-shows s f l v 1 s l f v (o .solid-in) (o .face-in) (o .loop-in) (o .vertex-in)) (good-shows g)
-      (λ F n i j. place-back (own sh x) s f l v 0 0 0 0 0 1 s l f v s-mark (o .solid) (o .outer) (o .face) (o .first) (o .isolated) v-mark F n)
+      (λ F n i j. place-back (own sh x) s f l v 0 0 0 0 0 1 s l f v
+      (s-mark, (o .solid, (o .outer, (o .face, (o .first, (o .isolated, (v-mark, tt))))))) F n)
 
-  -- mvsf gives everything back
-  pub kvsf-undone : Undone sh x p (kvsfOf s)
-  kvsf-undone =
-      let el = kvsf-links o (g .capacities) in
-      let ep = kvsf-points o (g .capacities) p in
-      let ei = kvsf-inverse o (g .capacities) p in
+  -- a good table stays good, and mvsf gives everything back
+  pub kvsf-exact : Kept sh x p (kvsfOf s) × Undone sh x p (kvsfOf s)
+  kvsf-exact =
+      let caps = g .capacities in
       let a = coordinate p v 0 in
       let b = coordinate p v 1 in
       let z = coordinate p v 2 in
       let r = g .sound .point v (o .vertex-in) .range in
-      record {
-        accepted = rw (el, ei) (mvsf-accepted sh ky s f l v a b z (g .capacities) ky-free (r 0 (omega arith)) (r 1 (omega arith)) (r 2 (omega arith)));
-        links = rw (el, ei) (mvsf-links sh ky s f l v a b z (g .capacities) ky-free ∙ kvsf-back);
-        points = rw (el, ep, ei) (mvsf-points sh ky s f l v a b z (g .capacities) ky-free kq ∙ put-back (sh .vertices) p v (pos 0) (pos 0) (pos 0) (g .points) (o .vertex-in));
-        again = rw (el, ep, ei) (mvsf-inverse sh ky s f l v a b z (g .capacities) ky-free kq);
-      }
+      exact (kvsf-links o caps) (kvsf-points o caps p) (kvsf-inverse o caps p) ky-good
+      (mvsf-accepted sh ky s f l v a b z caps ky-free (r 0 (omega arith)) (r 1 (omega arith)) (r 2 (omega arith)))
+      (mvsf-links sh ky s f l v a b z caps ky-free ∙ kvsf-back)
+      (mvsf-points sh ky s f l v a b z caps ky-free kq ∙ put-back (sh .vertices) p v (pos 0) (pos 0) (pos 0) (g .points) (o .vertex-in))
+      (mvsf-inverse sh ky s f l v a b z caps ky-free kq)
 
 -- ---- as operators
 
 -- both for mvsf
-pub mvsf-holds : (sh : Shape) (x : List ℕ) (p : List ℤ) (o : Operator) → Good sh x p → length (o .args) ≡ 8 → o .code ≡ 1 → refusalOf sh x o ≡ 0 → Kept sh x p o × Undone sh x p o
+pub mvsf-holds : (sh : Shape) (x : List ℕ) (p : List ℤ) (o : Operator) → Good sh x p → length (o .args) ≡ 8 → o .code ≡ 1
+    → refusalOf sh x o ≡ 0 → Kept sh x p o × Undone sh x p o
 mvsf-holds sh x p o g len e h =
     let k = mvsf-facts sh x o (g .capacities) len e h in
-    subst (λ q. Kept sh x p q × Undone sh x p q) (sym (k .is)) (
-      mvsf-kept g (k .free) (k .x) (k .y) (k .z) (k .range 0 (omega arith)) (k .range 1 (omega arith)) (k .range 2 (omega arith)),
-      mvsf-undone g (k .free) (k .x) (k .y) (k .z) (k .range 0 (omega arith)) (k .range 1 (omega arith)) (k .range 2 (omega arith)),
-    )
+    subst (λ q. Kept sh x p q × Undone sh x p q) (sym (k .is)) (mvsf-exact g (k .free) (k .x) (k .y) (k .z) (k .range))
 
 -- both for kvsf
-pub kvsf-holds : (sh : Shape) (x : List ℕ) (p : List ℤ) (o : Operator) → Good sh x p → length (o .args) ≡ 8 → o .code ≡ 2 → refusalOf sh x o ≡ 0 → Kept sh x p o × Undone sh x p o
+pub kvsf-holds : (sh : Shape) (x : List ℕ) (p : List ℤ) (o : Operator) → Good sh x p → length (o .args) ≡ 8 → o .code ≡ 2
+    → refusalOf sh x o ≡ 0 → Kept sh x p o × Undone sh x p o
+unfolding pattern rows useWord condition
 kvsf-holds sh x p o g len e h =
-    let k = kvsf-facts sh x o (g .capacities) len e h in
-    let r = tested-one x (g .sound) (k .s) (k .solid-in) (k .used) (k .test) in
-    subst (λ q. Kept sh x p q × Undone sh x p q) (sym (k .is)) (kvsf-kept g r (k .used), kvsf-undone g r (k .used))
+    let k = one-operand sh x 2 1 refl refl refl refl (omega (arith, g .capacities .solids)) refl o len e h in
+    let r = tested-one x (g .sound) (k .n) (k .range) (k .used) (rw (k .small) at (k .holds)) in
+    subst (λ q. Kept sh x p q × Undone sh x p q) (sym (k .is)) (kvsf-exact g r (k .used))

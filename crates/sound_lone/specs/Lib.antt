@@ -1,4 +1,5 @@
+pub mod Placed
+pub mod MvsfSound
+pub mod KvsfSound
 pub mod Accepted
 pub mod Exact
-pub mod KvsfSound
-pub mod MvsfSound

@@ -9,9 +9,9 @@ use lib.Dec.{eqb, eqb→eq, T-not, not-T}
 use lib.IntN.{ℤ, pos}
 use lib.ListN.{length}
 use borrow.Author.Tests.{le-leb}
-use Rattle.laws.specs.Bools.{true-T, T-true, false-T, and-T, T-and, or-T, T-or-l, T-or-r, split, eqb-same, eqb-other}
+use Rattle.laws.specs.Bools.{true-T, T-true, and-T, or-T, split, eqb-same, eqb-other}
 use Rattle.laws.specs.Every.{every-T, T-every}
-use Rattle.laws.specs.Search.{least, Least, none-is, one-is, leastFrom-is}
+use Rattle.laws.specs.Search.{least}
 use Rattle.laws.specs.Update.{upd-same, upd-off}
 use Rattle.script.specs.declared.Operator.{Operator}
 use Rattle.codec.specs.Operands.{pattern, rows}
@@ -24,45 +24,21 @@ use Rattle.euler.specs.Exec.{useWord, condition, refusalOf, linksAfter, pointsA
 use Rattle.layout.specs.Fields.{Solid, Outer, Face, Start, Loop, Columns, change}
 use Rattle.sound_tables.specs.Cells.{Shows, shows-put, put-back}
 use Rattle.sound_tables.specs.Sound.{In, HalfUsed, side}
+use Rattle.sound_tables.specs.Labels.{least-found, least-some}
 use Rattle.sound_tables.specs.Accepted.{use-old, old-use}
-use Rattle.sound_tables.specs.TwoOperands.{two-operands, two-accepted}
+use Rattle.sound_tables.specs.TwoOperands.{twoOf, two-operands, two-accepted}
 use Rattle.sound_tables.specs.Good.{own, Capacities, Good, good-shows, good-after}
-use Rattle.sound_tables.specs.Undone.{Kept, Undone}
+use Rattle.sound_tables.specs.Undone.{Kept, Undone, exact}
 use Rattle.sound_rings.specs.Sound.{Ring, Shared, swap-sound, move-sound, mate-outside}
 
 -- rmov l f
 abbrev pub rmovOf : ℕ → ℕ → Operator
-rmovOf l f = record { code = 13; count = 2; args = pos l ∷ pos f ∷ pos 0 ∷ pos 0 ∷ pos 0 ∷ pos 0 ∷ pos 0 ∷ pos 0 ∷ [] }
-
--- what an accepted rmov says
-pub record RmovFacts (sh : Shape) (x : List ℕ) (o : Operator) : Type 0 where
-  pub l : ℕ
-  pub f : ℕ
-  pub is : o ≡ rmovOf l f
-  pub loop-in : In (sh .loops) l
-  pub loop-used : own sh x Face l ≢ 0
-  pub face-in : In (sh .faces) f
-  pub face-used : own sh x Solid f ≢ 0
-  pub test : rmovTest sh x l f ≡ true
-
-rmov-facts : (sh : Shape) (x : List ℕ) (o : Operator) → Capacities sh → length (o .args) ≡ 8 → o .code ≡ 13 → refusalOf sh x o ≡ 0 → RmovFacts sh x o
-unfolding pattern rows useWord condition
-rmov-facts sh x o caps len e h =
-    let a = two-operands sh x 13 6 4 refl refl refl refl (omega (arith, caps .loops)) refl refl (omega (arith, caps .faces)) refl o len e h in
-    record {
-      l = a .m;
-      f = a .n;
-      is = a .is;
-      loop-in = a .m-in;
-      loop-used = a .m-used;
-      face-in = a .n-in;
-      face-used = use-old sh x 4 (a .n) (omega (arith, a .n-in .0)) refl (a .n-use);
-      test = rw (a .m-small, a .n-small) at (a .holds);
-    }
+rmovOf l f = twoOf 13 l f
 
 -- ---- the condition
 
 module _ (sh : Shape) (x : List ℕ) (l f : ℕ) where
+  -- the table's columns
   abbrev c : Columns
   c = own sh x
 
@@ -70,6 +46,7 @@ module _ (sh : Shape) (x : List ℕ) (l f : ℕ) where
   abbrev tests : ℕ → List Bool
   tests k = not (eqb (c Start k) 0) ∷ eqb (side c k) (c Face l) ∷ not (eqb (c Loop k) l) ∷ eqb (side c (mate k)) f ∷ []
 
+  -- what passes is shared
   shared-of : (k : ℕ) → In (2 * sh .edges) k → sharesOutside sh x l f k ≡ true → Shared sh c l f k
   shared-of k i t =
       let s = every-T (tests k) (true-T t) in
@@ -80,6 +57,7 @@ module _ (sh : Shape) (x : List ℕ) (l f : ℕ) where
         there = eqb→eq _ _ (s .1 .1 .1 .0);
       }
 
+  -- and what is shared passes
   of-shared : (k : ℕ) → Shared sh c l f k → sharesOutside sh x l f k ≡ true
   of-shared k s = T-true (T-every (tests k)
       (not-T (eqb (c Start k) 0) (λ t. s .used .2 (eqb→eq (c Start k) 0 t)), (true-T (eqb-same (s .here)), (not-T (eqb (c Loop k) l) (λ t. s .outside (eqb→eq (c Loop k) l t)), (true-T (eqb-same (s .there)), tt)))))
@@ -88,60 +66,65 @@ module _ (sh : Shape) (x : List ℕ) (l f : ℕ) where
   abbrev Reached : Type 0
   Reached = (f ≡ c Face l) ⊎ ((f ≢ c Face l) × (k : ℕ) × Shared sh c l f k)
 
+  -- the least half-edge that is shared, or 0
+  abbrev shared : ℕ
+  shared = least (2 * sh .edges) (sharesOutside sh x l f)
+
+  -- what the test says
   reached-of : rmovTest sh x l f ≡ true → (c Outer (c Face l) ≢ l) × Reached
   unfolding rmovTest
   reached-of t =
-      let a = and-T (not (eqb (c Outer (c Face l)) l)) (eqb f (c Face l) || not (eqb (least (2 * sh .edges) (sharesOutside sh x l f)) 0)) (true-T t) in (
+      let a = and-T (not (eqb (c Outer (c Face l)) l)) (eqb f (c Face l) || not (eqb shared 0)) (true-T t) in
+      let other : f ≢ c Face l → shared ≢ 0 = λ n. ⊎-elim (λ s. absurd (n (eqb→eq _ _ s)))
+      (λ s z. T-not (eqb shared 0) s (true-T (eqb-same z))) (or-T (eqb f (c Face l)) (not (eqb shared 0)) (a .1)) in (
         λ e. T-not (eqb (c Outer (c Face l)) l) (a .0) (true-T (eqb-same e)),
-        split f (c Face l) (λ e. inl e) (λ n. let w = find (leastFrom-is (2 * sh .edges) 1 (sharesOutside sh x l f))
-            (⊎-elim (λ s. absurd (n (eqb→eq _ _ s))) (λ s z. T-not (eqb (least (2 * sh .edges) (sharesOutside sh x l f)) 0) s (true-T (eqb-same z))) (or-T (eqb f (c Face l)) (not (eqb (least (2 * sh .edges) (sharesOutside sh x l f)) 0)) (a .1))) in inr (n, w .0, w .1)),
+        split f (c Face l) inl (λ n.
+            let w = least-found (2 * sh .edges) (sharesOutside sh x l f) (other n) in
+            inr (n, shared, shared-of shared (w .0) (w .1))),
       )
-    where
-      find : Least (2 * sh .edges) 1 (sharesOutside sh x l f) (least (2 * sh .edges) (sharesOutside sh x l f)) → least (2 * sh .edges) (sharesOutside sh x l f) ≢ 0 → (k : ℕ) × Shared sh c l f k
-      find (none-is z f₀) h = absurd (h z)
-      find (one-is b e t f₀) h = (least (2 * sh .edges) (sharesOutside sh x l f), shared-of _ (b, omega arith) t)
 
+  -- and when it passes
   of-reached : c Outer (c Face l) ≢ l → Reached → rmovTest sh x l f ≡ true
   unfolding rmovTest
-  of-reached h r = T-true (T-and (not (eqb (c Outer (c Face l)) l)) (eqb f (c Face l) || not (eqb (least (2 * sh .edges) (sharesOutside sh x l f)) 0))
-      (not-T (eqb (c Outer (c Face l)) l) (λ t. h (eqb→eq _ _ t)))
-      (⊎-elim (λ e. T-or-l (eqb f (c Face l)) (not (eqb (least (2 * sh .edges) (sharesOutside sh x l f)) 0)) (true-T (eqb-same e)))
-      (λ q. T-or-r (eqb f (c Face l)) (not (eqb (least (2 * sh .edges) (sharesOutside sh x l f)) 0)) (not-T (eqb (least (2 * sh .edges) (sharesOutside sh x l f)) 0)
-      (λ t. some (q .1) (q .2) (leastFrom-is (2 * sh .edges) 1 (sharesOutside sh x l f)) (eqb→eq (least (2 * sh .edges) (sharesOutside sh x l f)) 0 t)))) r))
-    where
-      some : (k : ℕ) → Shared sh c l f k → Least (2 * sh .edges) 1 (sharesOutside sh x l f) (least (2 * sh .edges) (sharesOutside sh x l f)) → least (2 * sh .edges) (sharesOutside sh x l f) ≢ 0
-      some k s (none-is z f₀) y = false-T (f₀ k (s .used .0) (omega (arith, s .used .1))) (true-T (of-shared k s))
-      some k s (one-is b e t f₀) y = omega (arith, b, y)
+  of-reached h r = rw (eqb-other h) (⊎-elim (λ e. rw (eqb-same {m = f} {n = c Face l} e)) (λ q.
+      let u = q .2 .used in
+      rw (eqb-other (q .0), eqb-other (least-some (2 * sh .edges) (sharesOutside sh x l f) (q .1) (u .0, u .1) (of-shared (q .1) (q .2))))) r)
 
-  -- both numbers are read as they stand
+  -- l is read as it stands
   ln : Capacities sh → Ring sh c l f → l ≤ 8192
   ln caps r = omega (arith, r .loop-in .1, caps .loops)
 
+  -- and f
   fn : Capacities sh → Ring sh c l f → f ≤ 8192
   fn caps r = omega (arith, r .face-in .1, caps .faces)
 
+  -- it is accepted
   rmov-accepted : Capacities sh → Ring sh c l f → Reached → refusalOf sh x (rmovOf l f) ≡ 0
   unfolding pattern rows useWord condition
   rmov-accepted caps r q = two-accepted sh x 13 6 4 refl refl refl refl (omega (arith, caps .loops)) refl refl (omega (arith, caps .faces)) refl l f (r .loop-in) (r .face-in) (r .loop-used)
       (old-use sh x 4 f (omega (arith, r .face-in .0)) refl (r .face-used)) (rw (le-leb l 8192 (ln caps r), le-leb f 8192 (fn caps r)) (of-reached (r .ring) q))
 
-  -- what it does
+  -- what it does where the face is l's own
   swap-links : Capacities sh → Ring sh c l f → f ≡ c Face l → linksAfter sh x (rmovOf l f) ≡ setFaceOuter sh x f l
   unfolding linksAfter rmovLinks
   swap-links caps r e = rw (le-leb l 8192 (ln caps r), le-leb f 8192 (fn caps r), eqb-same e)
 
+  -- and where it is another
   move-links : Capacities sh → Ring sh c l f → f ≢ c Face l → linksAfter sh x (rmovOf l f) ≡ setLoopFace sh x l f
   unfolding linksAfter rmovLinks
   move-links caps r n = rw (le-leb l 8192 (ln caps r), le-leb f 8192 (fn caps r), eqb-other n)
 
+  -- points stay
   rmov-points : (p : List ℤ) → pointsAfter sh x p (rmovOf l f) ≡ p
   unfolding pointsAfter
   rmov-points p = refl
 
+  -- the inverse where the face is l's own
   swap-inverse : Capacities sh → Ring sh c l f → (p : List ℤ) → f ≡ c Face l → inverse sh x p (rmovOf l f) ≡ rmovOf (c Outer f) f
   unfolding inverse
   swap-inverse caps r p e = rw (le-leb l 8192 (ln caps r), le-leb f 8192 (fn caps r), eqb-same e)
 
+  -- and where it is another
   move-inverse : Capacities sh → Ring sh c l f → (p : List ℤ) → f ≢ c Face l → inverse sh x p (rmovOf l f) ≡ rmovOf l (c Face l)
   unfolding inverse
   move-inverse caps r p n = rw (le-leb l 8192 (ln caps r), le-leb f 8192 (fn caps r), eqb-other n)
@@ -149,12 +132,15 @@ module _ (sh : Shape) (x : List ℕ) (l f : ℕ) where
 -- ---- the ring becomes the outer loop
 
 module _ {sh : Shape} {x : List ℕ} {p : List ℤ} (g : Good sh x p) {l f : ℕ} (r : Ring sh (own sh x) l f) (e : f ≡ own sh x Face l) where
+  -- the list afterwards
   abbrev y : List ℕ
   y = setFaceOuter sh x f l
 
+  -- and its columns
   abbrev d : Columns
   d = change (own sh x) Outer f l
 
+  -- the list shows them
   y-shows : Shows sh y d
   y-shows = shows-put (good-shows g) Outer f l (r .face-in .0) (r .face-in .1)
 
@@ -162,15 +148,19 @@ module _ {sh : Shape} {x : List ℕ} {p : List ℤ} (g : Good sh x p) {l f : ℕ
   abbrev l₀ : ℕ
   l₀ = own sh x Outer f
 
+  -- it is a loop
   old-in : In (sh .loops) l₀
   old-in = g .sound .face f (r .face-in) (r .face-used) .outer-in
 
+  -- of f
   old-face : own sh x Face l₀ ≡ f
   old-face = g .sound .face f (r .face-in) (r .face-used) .outer-face
 
+  -- and still is
   y-face : own sh y Face l₀ ≡ f
   y-face = y-shows .at Face l₀ (old-in .1) ∙ old-face
 
+  -- the outer loop is l
   y-outer : own sh y Outer f ≡ l
   y-outer = y-shows .at Outer f (r .face-in .1) ∙ upd-same (own sh x Outer) f l
 
@@ -184,30 +174,28 @@ module _ {sh : Shape} {x : List ℕ} {p : List ℤ} (g : Good sh x p) {l f : ℕ
     ring = λ q. r .ring (ap (own sh x Outer) (sym e) ∙ sym q ∙ ap (own sh y Outer) y-face ∙ y-outer);
   }
 
+  -- and its outer loop put back, the list is the first one
   swap-back : setFaceOuter sh y f l₀ ≡ x
   swap-back = put-back (good-shows g) Outer f l l₀ (r .face-in .0) (r .face-in .1) refl
 
-  swap-kept : Kept sh x p (rmovOf l f)
-  swap-kept = rw (swap-links sh x l f (g .capacities) r e, rmov-points sh x l f p) (good-after g y-shows (λ n. refl) refl (swap-sound (g .sound) r e))
-
-  swap-undone : Undone sh x p (rmovOf l f)
-  swap-undone =
-      let el = swap-links sh x l f (g .capacities) r e in
-      let ep = rmov-points sh x l f p in
-      let ei = swap-inverse sh x l f (g .capacities) r p e in
-      record {
-        accepted = rw (el, ei) (rmov-accepted sh y l₀ f (g .capacities) y-ring (inl (sym y-face)));
-        links = rw (el, ei) (swap-links sh y l₀ f (g .capacities) y-ring (sym y-face) ∙ swap-back);
-        points = rw (el, ep, ei) (rmov-points sh y l₀ f p);
-        again = rw (el, ep, ei) (swap-inverse sh y l₀ f (g .capacities) y-ring p (sym y-face) ∙ ap (λ m. rmovOf m f) y-outer);
-      }
+  -- a good table stays good, and the inverse gives everything back
+  swap-exact : Kept sh x p (rmovOf l f) × Undone sh x p (rmovOf l f)
+  swap-exact = exact
+      (swap-links sh x l f (g .capacities) r e) (rmov-points sh x l f p) (swap-inverse sh x l f (g .capacities) r p e)
+      (good-after g y-shows (λ n. refl) refl (swap-sound (g .sound) r e))
+      (rmov-accepted sh y l₀ f (g .capacities) y-ring (inl (sym y-face)))
+      (swap-links sh y l₀ f (g .capacities) y-ring (sym y-face) ∙ swap-back)
+      (rmov-points sh y l₀ f p)
+      (swap-inverse sh y l₀ f (g .capacities) y-ring p (sym y-face) ∙ ap (λ m. rmovOf m f) y-outer)
 
 -- ---- the ring goes to another face
 
 module _ {sh : Shape} {x : List ℕ} {p : List ℤ} (g : Good sh x p) {l f k : ℕ} (r : Ring sh (own sh x) l f) (n : f ≢ own sh x Face l) (s : Shared sh (own sh x) l f k) where
+  -- the list afterwards
   abbrev ym : List ℕ
   ym = setLoopFace sh x l f
 
+  -- and its columns
   abbrev dm : Columns
   dm = change (own sh x) Face l f
 
@@ -215,15 +203,19 @@ module _ {sh : Shape} {x : List ℕ} {p : List ℤ} (g : Good sh x p) {l f k : �
   abbrev f₀ : ℕ
   f₀ = own sh x Face l
 
+  -- the list shows them
   ym-shows : Shows sh ym dm
   ym-shows = shows-put (good-shows g) Face l f (r .loop-in .0) (r .loop-in .1)
 
+  -- the face of l is f
   ym-face : own sh ym Face l ≡ f
   ym-face = ym-shows .at Face l (r .loop-in .1) ∙ upd-same (own sh x Face) l f
 
+  -- the old face is in use
   old-loop : In (sh .faces) f₀ × (own sh x Solid f₀ ≢ 0)
   old-loop = let b = g .sound .loop l (r .loop-in) (r .loop-used) in (b .face-in, b .face-used)
 
+  -- l is a ring of it to be
   ym-ring : Ring sh (own sh ym) l f₀
   ym-ring = record {
     loop-in = r .loop-in;
@@ -251,34 +243,39 @@ module _ {sh : Shape} {x : List ℕ} {p : List ℤ} (g : Good sh x p) {l f k : �
         there = ap (side (own sh ym)) (mate-mate k) ∙ side-stays k (s .used) (s .outside) ∙ s .here;
       }
 
+  -- f is not the old face
   ym-other : f₀ ≢ own sh ym Face l
   ym-other q = n (sym (q ∙ ym-face))
 
+  -- and l put back, the list is the first one
   move-back : setLoopFace sh ym l f₀ ≡ x
   move-back = put-back (good-shows g) Face l f f₀ (r .loop-in .0) (r .loop-in .1) refl
 
-  move-kept : Kept sh x p (rmovOf l f)
-  move-kept = rw (move-links sh x l f (g .capacities) r n, rmov-points sh x l f p) (good-after g ym-shows (λ n. refl) refl (move-sound (g .sound) r n s))
-
-  move-undone : Undone sh x p (rmovOf l f)
-  move-undone =
-      let el = move-links sh x l f (g .capacities) r n in
-      let ep = rmov-points sh x l f p in
-      let ei = move-inverse sh x l f (g .capacities) r p n in
-      record {
-        accepted = rw (el, ei) (rmov-accepted sh ym l f₀ (g .capacities) ym-ring (inr (ym-other, mate k, ym-shared)));
-        links = rw (el, ei) (move-links sh ym l f₀ (g .capacities) ym-ring ym-other ∙ move-back);
-        points = rw (el, ep, ei) (rmov-points sh ym l f₀ p);
-        again = rw (el, ep, ei) (move-inverse sh ym l f₀ (g .capacities) ym-ring p ym-other ∙ ap (rmovOf l) ym-face);
-      }
+  -- a good table stays good, and the inverse gives everything back
+  move-exact : Kept sh x p (rmovOf l f) × Undone sh x p (rmovOf l f)
+  move-exact = exact
+      (move-links sh x l f (g .capacities) r n) (rmov-points sh x l f p) (move-inverse sh x l f (g .capacities) r p n)
+      (good-after g ym-shows (λ n. refl) refl (move-sound (g .sound) r n s))
+      (rmov-accepted sh ym l f₀ (g .capacities) ym-ring (inr (ym-other, mate k, ym-shared)))
+      (move-links sh ym l f₀ (g .capacities) ym-ring ym-other ∙ move-back)
+      (rmov-points sh ym l f₀ p)
+      (move-inverse sh ym l f₀ (g .capacities) ym-ring p ym-other ∙ ap (rmovOf l) ym-face)
 
 -- ---- as an operator
 
 -- a good table stays good, and the inverse gives everything back
-pub rmov-holds : (sh : Shape) (x : List ℕ) (p : List ℤ) (o : Operator) → Good sh x p → length (o .args) ≡ 8 → o .code ≡ 13 → refusalOf sh x o ≡ 0 → Kept sh x p o × Undone sh x p o
+pub rmov-holds : (sh : Shape) (x : List ℕ) (p : List ℤ) (o : Operator) → Good sh x p → length (o .args) ≡ 8 → o .code ≡ 13
+    → refusalOf sh x o ≡ 0 → Kept sh x p o × Undone sh x p o
+unfolding pattern rows useWord condition
 rmov-holds sh x p o g len e h =
-    let k = rmov-facts sh x o (g .capacities) len e h in
-    let q = reached-of sh x (k .l) (k .f) (k .test) in
-    let r : Ring sh (own sh x) (k .l) (k .f) = record { loop-in = k .loop-in; loop-used = k .loop-used; face-in = k .face-in; face-used = k .face-used; ring = q .0 } in
-    subst (λ o. Kept sh x p o × Undone sh x p o) (sym (k .is))
-    (⊎-elim (λ a. (swap-kept g r a, swap-undone g r a)) (λ a. (move-kept g r (a .0) (a .2), move-undone g r (a .0) (a .2))) (q .1))
+    let caps = g .capacities in
+    let k = two-operands sh x 13 6 4 refl refl refl refl (omega (arith, caps .loops)) refl refl (omega (arith, caps .faces)) refl o len e h in
+    let q = reached-of sh x (k .m) (k .n) (rw (k .m-small, k .n-small) at (k .holds)) in
+    let r : Ring sh (own sh x) (k .m) (k .n) = record {
+      loop-in = k .m-in;
+      loop-used = k .m-used;
+      face-in = k .n-in;
+      face-used = use-old sh x 4 (k .n) (omega (arith, k .n-in .0)) refl (k .n-use);
+      ring = q .0;
+    } in
+    subst (λ o. Kept sh x p o × Undone sh x p o) (sym (k .is)) (⊎-elim (swap-exact g r) (λ a. move-exact g r (a .0) (a .2)) (q .1))

@@ -15,7 +15,7 @@ use Rattle.layout.specs.Mate.{mate}
 use Rattle.layout.specs.Fields.{Field, First, Isolated, Loop, VertexUsed, Columns, among}
 use Rattle.layout.specs.Writes.{Write, write, changes}
 use Rattle.sound_tables.specs.Sound.{firstOf}
-use Rattle.sound_splits.specs.Unwritten.{within, unwritten}
+use Rattle.sound_tables.specs.WriteLaws.{within, unwritten}
 use Rattle.sound_splits.specs.Relation.{moved}
 
 -- the last stores of both: the loops l and m have their firsts anew and no isolated vertex, vertex v its mark t

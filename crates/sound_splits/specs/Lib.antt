@@ -14,4 +14,3 @@ pub mod Unique
 pub mod Exact
 pub mod CycleMoves
 pub mod Firsts
-pub mod Unwritten

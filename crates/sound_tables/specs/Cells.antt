@@ -8,7 +8,7 @@ use native.Mathlib.Omega.{arith}
 use lib.ListN.{length, getD}
 use Rattle.laws.specs.Bools.{split, le?, eqb-same, eqb-other}
 use Rattle.laws.specs.Update.{upd, upd-same, upd-off}
-use Rattle.laws.specs.Columns.{Kind, Chained, Agree, columns-ext, store-length}
+use Rattle.laws.specs.Columns.{Kind, Chained, Agree, AllAgree, columns-ext, store-length}
 use Rattle.laws.specs.Columns.{col-store, col-store-other, col-store-apart}
 use Rattle.layout.specs.declared.shape.Shape.{Shape}
 use Rattle.layout.specs.Fields.{Field, groupOf, wordOf, groups, groupAt, cell, putCell, capOf}
@@ -118,12 +118,19 @@ shows-put {sh} {x} {c} s F k v lk uk = record {
 
 -- ---- two tables of one shape with the same columns are equal
 
+-- kinds that agree one by one agree all
+all-agree : (κs : List Kind) (x y : List ℕ) → ((i : ℕ) → Agree 0 (nth κs i) x y) → AllAgree 0 κs x y
+all-agree [] x y h = tt
+all-agree (κ ∷ κs) x y h = (h 0, all-agree κs x y (λ i. h (suc i)))
+
+-- lists that show the same columns
 pub shows-ext : {sh : Shape} {x y : List ℕ} {c d : Columns} → Shows sh x c → Shows sh y d → ((F : Field) (n : ℕ) → 1 ≤ n → n ≤ capOf sh F → c F n ≡ d F n) → x ≡ y
 shows-ext {sh} {x} {y} {c} {d} s t e =
     columns-ext 0 0 (groups sh) x y (chain-end (groups sh) 0 (length x) (length y) (s .fit) (t .fit)) (s .fit)
     (λ k h. absurd (omega arith))
-    (group 0, (group 1, (group 2, (group 3, (group 4, (group 5, tt))))))
+    (all-agree (groups sh) x y group)
   where
+    -- word j of the records of kind g
     by : (g j n : ℕ) → Named g j → 1 ≤ n → n ≤ groupAt sh g .count → cell sh g j x n ≡ cell sh g j y n
     by g j n r l = subst (λ i. n ≤ groupAt sh i .count → cell sh i j x n ≡ cell sh i j y n) (r .group)
         (λ u. subst (λ i. cell sh (groupOf (r .field)) i x n ≡ cell sh (groupOf (r .field)) i y n) (r .word) (s .at (r .field) n u ∙ e (r .field) n l u ∙ sym (t .at (r .field) n u)))

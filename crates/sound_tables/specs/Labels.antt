@@ -1,6 +1,8 @@
--- The least number with a label: where there is one, and what is known of it. (A loop's first half-edge, a vertex's starter, a solid's least face.)
+-- The least number that passes a test, above all the test of a label: where there is one, and what is known of it. (A loop's first half-edge, a
+-- vertex's starter, a solid's least face.) And how many there are.
 use mathlib.Core.Path.{_≡_, refl, ap, _∙_}
 use mathlib.Core.Logic.{_≢_, ⊎-elim}
+use mathlib.Core.Bool.{Bool, true}
 use Prim.Native.Nat.{ℕ, _+_, _≤_}
 use native.Mathlib.Omega.{arith}
 use lib.Dec.{eqb, eqb→eq}
@@ -8,6 +10,29 @@ use Rattle.laws.specs.Bools.{pick, true-T, false-T, same-T, eqb-same, eqb-other
 use Rattle.laws.specs.Search.{least, Least, none-is, one-is, leastFrom-is, least-unique, least-none}
 use Rattle.laws.specs.Sums.{bit, sumTo, countTo, sum-ext, sum-change, sum-lt, sum-zero, count-one}
 use Rattle.sound_tables.specs.Sound.{In}
+
+module _ (n : ℕ) (p : ℕ → Bool) where
+  -- what is found passes the test, and is not above any that does
+  pub least-found : least n p ≢ 0 → In n (least n p) × (p (least n p) ≡ true) × ((k : ℕ) → In n k → p k ≡ true → least n p ≤ k)
+  least-found h = go (leastFrom-is n 1 p)
+    where
+      -- by what a search finds
+      go : Least n 1 p (least n p) → In n (least n p) × (p (least n p) ≡ true) × ((k : ℕ) → In n k → p k ≡ true → least n p ≤ k)
+      go (none-is z f) = absurd (h z)
+      go (one-is a b t f) = (
+        (a, omega arith),
+        t,
+        λ k i e. ⊎-elim (λ g. g) (λ g. absurd (false-T (f k (i .0) g) (true-T e))) (le? (least n p) k),
+      )
+
+  -- where one passes, one is found
+  pub least-some : (k : ℕ) → In n k → p k ≡ true → least n p ≢ 0
+  least-some k i e z = go (leastFrom-is n 1 p)
+    where
+      -- by what a search finds
+      go : Least n 1 p (least n p) → ⊥
+      go (none-is y f) = false-T (f k (i .0) (omega (arith, i .1))) (true-T e)
+      go (one-is a b t f) = omega (arith, a, z)
 
 -- the least of 1..n with label l, or 0
 abbrev pub leastWith : ℕ → (ℕ → ℕ) → ℕ → ℕ
@@ -22,23 +47,13 @@ pub record LeastIs (n : ℕ) (lab : ℕ → ℕ) (l r : ℕ) : Type 0 where
 module _ (n : ℕ) (lab : ℕ → ℕ) (l : ℕ) where
   -- what is found is it
   pub label-found : leastWith n lab l ≢ 0 → LeastIs n lab l (leastWith n lab l)
-  label-found h = go (leastFrom-is n 1 (λ k. eqb (lab k) l))
-    where
-      go : Least n 1 (λ k. eqb (lab k) l) (leastWith n lab l) → LeastIs n lab l (leastWith n lab l)
-      go (none-is z f) = absurd (h z)
-      go (one-is a b t f) = record {
-        range = (a, omega arith);
-        label = eqb→eq _ _ (true-T t);
-        before = λ k i e. ⊎-elim (λ g. g) (λ g. absurd (false-T (f k (i .0) g) (true-T (eqb-same e)))) (le? (leastWith n lab l) k);
-      }
+  label-found h =
+      let r = least-found n (λ k. eqb (lab k) l) h in
+      record { range = r .0; label = eqb→eq _ _ (true-T (r .1)); before = λ k i e. r .2 k i (eqb-same e) }
 
   -- where there is one, one is found
   pub label-some : (k : ℕ) → In n k → lab k ≡ l → leastWith n lab l ≢ 0
-  label-some k i e z = go (leastFrom-is n 1 (λ k. eqb (lab k) l))
-    where
-      go : Least n 1 (λ k. eqb (lab k) l) (leastWith n lab l) → ⊥
-      go (none-is y f) = false-T (f k (i .0) (omega (arith, i .1))) (true-T (eqb-same e))
-      go (one-is a b t f) = omega (arith, a, z)
+  label-some k i e = least-some n (λ k. eqb (lab k) l) k i (eqb-same e)
 
   -- where there is none, 0 is found
   pub label-none : ((k : ℕ) → In n k → lab k ≢ l) → leastWith n lab l ≡ 0

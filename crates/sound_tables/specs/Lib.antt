@@ -30,3 +30,4 @@ pub mod Shown
 pub mod EdgeInstances
 pub mod WriteLaws
 pub mod FreeRecords
+pub mod Regroup

@@ -1,12 +1,12 @@
--- Stores as data (`Writes` of crate layout): lists show columns, what is not written stays, writes to other cells commute. Said once, for all
--- operators and for any fields.
+-- Stores as data (`Writes` of crate layout): lists show columns, what is not written stays, what stood there may be written back, writes to
+-- other cells commute. Said once, for all operators and for any fields.
 use mathlib.Core.Path.{_≡_, refl, sym, ap, _∙_}
 use mathlib.Core.Logic.{_≢_, _⊎_, inl, inr, ⊎-elim}
 use mathlib.Core.Bool.{Bool, true, false, _&&_, false≢true}
 use mathlib.Core.List.{List, [], _∷_}
 use Prim.Native.Nat.{ℕ, _≤_}
-use Rattle.laws.specs.Bools.{pick, ask, and-T, true-T, T-true}
-use Rattle.laws.specs.Update.{upd, upd-off}
+use Rattle.laws.specs.Bools.{pick, split, ask, true-T, T-true, and-T}
+use Rattle.laws.specs.Update.{upd, upd-at, upd-off}
 use Rattle.layout.specs.declared.shape.Shape.{Shape}
 use Rattle.layout.specs.Fields.{Field, Columns, capOf, change, sameField, same-field, among}
 use Rattle.layout.specs.Writes.{Write, writes, changes}
@@ -43,6 +43,67 @@ frame [] c F n a = refl
 frame (w ∷ ws) c F n a =
     frame ws (change c (w .field) (w .item) (w .value)) F n (a .1) ∙ change-off c (w .field) (w .item) (w .value) F n (a .0)
 
+-- ---- whole fields that stay
+
+-- of two fields one is among Fs, the other is not
+pub among-off : (Fs : List Field) (G F : Field) → among Fs G ≡ true → among Fs F ≡ false → sameField G F ≡ false
+among-off Fs G F a b = ⊎-elim
+    (λ e. absurd (false≢true (sym b ∙ ap (among Fs) (sym (same-field G F e)) ∙ a))) (λ e. e) (ask (sameField G F))
+
+-- all writes are to the fields Fs
+abbrev pub within : List Field → List Write → Bool
+within Fs [] = true
+within Fs (w ∷ ws) = among Fs (w .field) && within Fs ws
+
+-- then the other fields stay
+pub unwritten : (Fs : List Field) (ws : List Write) → within Fs ws ≡ true → (c : Columns) (F : Field)
+    → among Fs F ≡ false → (n : ℕ) → changes ws c F n ≡ c F n
+unwritten Fs [] o c F h n = refl
+unwritten Fs (w ∷ ws) o c F h n =
+    let t = and-T (among Fs (w .field)) (within Fs ws) (true-T o) in
+    unwritten Fs ws (T-true (t .1)) _ F h n
+    ∙ change-off c (w .field) (w .item) (w .value) F n (inl (among-off Fs (w .field) F (T-true (t .0)) h))
+
+-- column f in place of that of field F
+abbrev pub withColumn : Columns → Field → (ℕ → ℕ) → Columns
+withColumn c F f G = pick (sameField F G) f (c G)
+
+-- the other columns stay
+pub column-off : (c : Columns) (G : Field) (f : ℕ → ℕ) (F : Field) → sameField G F ≡ false → (n : ℕ)
+    → withColumn c G f F n ≡ c F n
+column-off c G f F e n = rw e
+
+-- and so does a field that is none of Fs, where G is one
+pub column-other : (Fs : List Field) (G : Field) → among Fs G ≡ true → (c : Columns) (f : ℕ → ℕ) (F : Field)
+    → among Fs F ≡ false → (n : ℕ) → withColumn c G f F n ≡ c F n
+column-other Fs G a c f F h n = column-off c G f F (among-off Fs G F a h) n
+
+-- ---- there and back
+
+-- the words that are written stand in c
+abbrev pub Stand : Columns → List Write → Type 0
+Stand c [] = Unit {0}
+Stand c (w ∷ ws) = (c (w .field) (w .item) ≡ w .value) × Stand c ws
+
+-- what stands in c, written into columns that differ from c in those cells at most, gives c
+pub write-back : (ws : List Write) (c d : Columns) → Stand c ws → ((F : Field) (n : ℕ) → Apart ws F n → d F n ≡ c F n)
+    → (F : Field) (n : ℕ) → changes ws d F n ≡ c F n
+write-back [] c d s h = λ F n. h F n tt
+write-back (w ∷ ws) c d s h = write-back ws c (change d (w .field) (w .item) (w .value)) (s .1) one
+  where
+    -- one write on, the cells where they may differ are those of the other writes
+    one : (F : Field) (n : ℕ) → Apart ws F n → change d (w .field) (w .item) (w .value) F n ≡ c F n
+    one F n a =
+        let off : (sameField (w .field) F ≡ false) ⊎ (n ≢ w .item) → change d (w .field) (w .item) (w .value) F n ≡ c F n
+        = λ q. change-off d (w .field) (w .item) (w .value) F n q ∙ h F n (q, a) in
+        ⊎-elim
+        (λ e. split n (w .item)
+        (λ q. rw e (upd-at (d F) (w .value) q ∙ sym (s .0) ∙ ap (λ G. c G (w .item)) (same-field (w .field) F e) ∙ ap (c F) (sym q)))
+        (λ q. off (inr q)))
+        (λ e. off (inl e)) (ask (sameField (w .field) F))
+
+-- ---- order
+
 -- a change looks at its own entry alone
 change-near : (c d : Columns) (G : Field) (k v : ℕ) (F : Field) (n : ℕ) → c F n ≡ d F n → change c G k v F n ≡ change d G k v F n
 unfolding upd
@@ -64,25 +125,3 @@ commute ws vs c h F n = ⊎-elim
     (λ a. frame ws (changes vs c) F n a ∙ near vs c (changes ws c) F n (sym (frame ws c F n a)))
     (λ a. near ws (changes vs c) c F n (frame vs c F n a) ∙ sym (frame vs (changes ws c) F n a))
     (h F n)
-
--- ---- fields that no write names
-
--- every write is to one of the fields Fs
-abbrev pub within : List Field → List Write → Bool
-within Fs [] = true
-within Fs (w ∷ ws) = among Fs (w .field) && within Fs ws
-
--- a field that is none of Fs differs from each of them
-pub not-among : (Fs : List Field) (G F : Field) → among Fs G ≡ true → among Fs F ≡ false → sameField G F ≡ false
-not-among Fs G F g f = ⊎-elim
-    (λ e. absurd (false≢true (sym f ∙ ap (among Fs) (sym (same-field G F e)) ∙ g))) (λ e. e) (ask (sameField G F))
-
--- and stays as it is
-pub others-stay : (Fs : List Field) (ws : List Write) (c : Columns) (F : Field) → within Fs ws ≡ true → among Fs F ≡ false
-    → (n : ℕ) → changes ws c F n ≡ c F n
-others-stay Fs [] c F t f n = refl
-others-stay Fs (w ∷ ws) c F t f n =
-    let p = and-T (among Fs (w .field)) (within Fs ws) (true-T t) in
-    let q = not-among Fs (w .field) F (T-true {b = among Fs (w .field)} (p .0)) f in
-    others-stay Fs ws _ F (T-true {b = within Fs ws} (p .1)) f n
-    ∙ change-off c (w .field) (w .item) (w .value) F n (inl q)
