@@ -25,7 +25,8 @@ use Rattle.euler.specs.FaceOperators.{mfkrhLinks}
 use Rattle.euler.specs.Exec.{admitOf, useRefusals, useRefusal, useWord, condition, linksAfter, pointsAfter, killedVertex, inverse}
 use Rattle.runs.specs.Run.{admitRead, inverseBytes, carryRefusal, runRefusal, stepped, runFrom, entry, runOf, undoFrom, undoOf}
 use Rattle.takedown.specs.Inversion.{act, turnB, turned, invertBy, invertOf}
-use Rattle.evidence_cases.specs.Case.{Row, found, Hold}
+use Rattle.machine.specs.Machine.{doAll}
+use Rattle.evidence_cases.specs.Case.{Row, Hold}
 use Rattle.evidence_cases.specs.RowsRuns.{runRows}
 use Rattle.evidence_cases.specs.RowsTakedown.{takedownRows}
 use Rattle.evidence_cases.specs.RowsRefused.{refusedRows}
@@ -37,7 +38,7 @@ cases = runRows ++ (takedownRows ++ (refusedRows ++ sizeRows))
 
 -- what the definitions leave, step for step, is what the rows say
 pub cases-hold : Hold cases
-unfolding found clearOf runOf undoOf countOf invertOf invertBy turned turnB act readOperator writeOperator entry
+unfolding doAll clearOf runOf undoOf countOf invertOf invertBy turned turnB act readOperator writeOperator entry
     checkOf sizesFit tallyOf itemUsed brokenRule rule1 rule2 rule3 rule4 rule5 rule6 solidRange faceRange loopRange
     halfRange vertexRange solidNames faceNames loopNames halfNames loopEither halfLinks firstNames halfInLoop
     vertexEither halfAtVertex halfSides faceLinked allTo leastFrom sumTo meets linkedb rounds pass across mate within

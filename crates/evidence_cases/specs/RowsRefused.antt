@@ -1,11 +1,12 @@
--- Examples f and g of document 01: operators that are refused on the tables of b and c and change nothing, and the coordinates that are
--- just accepted. What f says of one operator is asked without a table too.
+-- Examples f and g of document 01: operators that are refused on the tables of b and c and change nothing, and the
+-- coordinates that are just accepted. What f says of one operator is asked without a table too.
 use Prim.Native.Nat.{ℕ}
 use mathlib.Core.List.{List, [], _∷_}
 use lib.IntN.{ℤ, pos, negsuc}
 use Rattle.script.specs.declared.Operator.{Operator}
 use Rattle.script.specs.Operator.{blankOf}
-use Rattle.evidence_cases.specs.Case.{Step, Row, Read, Write, ToRead, ToWrite, row, step, runs, undoes}
+use Rattle.machine.specs.Machine.{Read, Write, ToRead, ToWrite}
+use Rattle.evidence_cases.specs.Case.{Step, Row, row, step, runs, undoes}
 use Rattle.evidence_cases.specs.Tables.{lent, logC, tableB, tableC, tableCAt, undoneWith}
 use Rattle.evidence_cases.specs.RowsRuns.{scriptB, clearing, runningB, runningC}
 
@@ -29,7 +30,7 @@ destination = 238 ∷ 238 ∷ 238 ∷ 238 ∷ 238 ∷ 238 ∷ 238 ∷ 238 ∷ 23
 
 -- reading these bytes is refused
 abbrev pub unread : List ℕ → ℕ → Step
-unread s refusal = step (Read s) (ToRead (record { refusal = refusal; next = 0; op = blankOf 0 0 })) tableB
+unread s refusal = step (Read s 0) (ToRead (record { refusal = refusal; next = 0; op = blankOf 0 0 })) tableB
 
 -- writing this operator is refused
 abbrev pub unwritten : Operator → ℕ → Step
@@ -37,7 +38,7 @@ unwritten o refusal = step (Write o destination) (ToWrite (record { refusal = re
 
 -- the operator is read from its bytes, and written as these bytes
 abbrev pub readAs : ℤ → ℕ → ℕ → Step
-readAs c a b = step (Read (mevBytes a b)) (ToRead (record { refusal = 0; next = 11; op = mevTo c })) tableB
+readAs c a b = step (Read (mevBytes a b) 0) (ToRead (record { refusal = 0; next = 11; op = mevTo c })) tableB
 
 abbrev pub writtenAs : ℤ → ℕ → ℕ → Step
 writtenAs c a b = step (Write (mevTo c) destination) (ToWrite (record { refusal = 0; length = 11 }) (mevPut a b)) tableB
@@ -64,8 +65,8 @@ refusedRows =
     ∷ runs (mevBytes 159 141) 0 1 11 (tableCAt (negsuc 49999)) ∷ undoes 2 0 2 (undoneWith logC) ∷ [])
     -- f: coordinates 50,001 and −50,001
     ∷ row lent
-    (clearing ∷ runningB ∷ refusedOnB (mevBytes 162 141) 5 ∷ unread (mevBytes 162 141) 5 ∷ unwritten (mevTo (pos 50001)) 5
-    ∷ refusedOnB (mevBytes 161 141) 5 ∷ unread (mevBytes 161 141) 5 ∷ unwritten (mevTo (negsuc 50000)) 5 ∷ [])
+    (clearing ∷ runningB ∷ refusedOnB (mevBytes 162 141) 5 ∷ unread (mevBytes 162 141) 5
+    ∷ unwritten (mevTo (pos 50001)) 5 ∷ refusedOnB (mevBytes 161 141) 5 ∷ unread (mevBytes 161 141) 5 ∷ unwritten (mevTo (negsuc 50000)) 5 ∷ [])
     -- g: after b, mvsf again
     ∷ row lent (clearing ∷ runningB ∷ runs scriptB 7 0 0 tableB ∷ [])
     -- g: after c, kvsf 1

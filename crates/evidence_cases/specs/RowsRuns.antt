@@ -3,8 +3,9 @@ use Prim.Native.Nat.{ℕ}
 use mathlib.Core.List.{List, [], _∷_, _++_}
 use lib.IntN.{pos}
 use Rattle.runs.specs.Run.{state}
-use Rattle.evidence_cases.specs.Case.{Step, Row, row, clears, runs, undoes}
-use Rattle.evidence_cases.specs.Tables.{lent, linksB, linksC, pointsZero, pointsAt, logC, logD, empty, tableB, tableC, tableD, logB, undoneWith}
+use Rattle.evidence_cases.specs.Case.{Step, Row, row, clears, checks, runs, undoes}
+use Rattle.evidence_cases.specs.Tables.{lent, linksB, linksC, pointsZero, pointsAt, logB, logC, logD}
+use Rattle.evidence_cases.specs.Tables.{empty, tableB, tableC, tableD, undoneWith}
 
 -- ---- the scripts
 
@@ -41,6 +42,10 @@ runRows =
     ∷ row lent (clearing ∷ runningB ∷ undoes 0 0 0 tableB ∷ undoes 1 0 1 (undoneWith logB) ∷ [])
     -- c; all undone
     ∷ row lent (clearing ∷ runningB ∷ runningC ∷ undoes 2 0 2 (undoneWith logC) ∷ [])
+    -- the same, with calls between that write nothing
+    ∷ row lent
+    (clearing ∷ checks 0 0 empty ∷ runningB ∷ checks 0 0 tableB ∷ runningC ∷ checks 0 0 tableC
+    ∷ undoes 2 0 2 (undoneWith logC) ∷ checks 0 0 (undoneWith logC) ∷ [])
     -- d; all undone
     ∷ row lent (clearing ∷ runningB ∷ runningC ∷ runs scriptD 0 1 8 tableD ∷ undoes 3 0 3 (undoneWith logD) ∷ [])
     -- d, undone one by one; one more finds the log ended

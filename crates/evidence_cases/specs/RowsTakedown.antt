@@ -6,7 +6,8 @@ use lib.IntN.{pos}
 use lib.ListN.{replicate}
 use Rattle.table.specs.Count.{counts}
 use Rattle.runs.specs.Run.{State, state}
-use Rattle.evidence_cases.specs.Case.{Step, Row, Count, ToCount, row, step, clears, runs, undoes, inverts}
+use Rattle.machine.specs.Machine.{Count, ToCount}
+use Rattle.evidence_cases.specs.Case.{Step, Row, row, step, clears, runs, undoes, inverts}
 use Rattle.evidence_cases.specs.Tables.{linksEmpty, linksB, linksE, linksEmpty3, linksB3, linksE3, pointsZero, logE}
 use Rattle.evidence_cases.specs.RowsRuns.{scriptB}
 

@@ -8,7 +8,7 @@ ghost use Rattle.table.specs.Check.{checkOf};
 ghost use Rattle.table.specs.Clear.{cleared, clearOf};
 ghost use Rattle.table.specs.Count.{countOf};
 ghost use Rattle.runs.specs.Run.{state, leaves, runOf, restores, undoOf};
-ghost use Rattle.takedown.specs.Inversion.{inverts, invertOf};
+ghost use Rattle.takedown.specs.Inversion.{invertOf};
 ghost use Rattle.kernel.specs.Kernel.{KeepsFormula};
 use runs::answers::RunAnswer;
 use runs::answers::UndoAnswer;
@@ -111,7 +111,10 @@ pub extern "C" fn zoghvari_invert(
     log: &mut [u8],
     start: usize,
 ) -> InvertAnswer
-    ensures { λ r. ⌜ inverts r (now (links .exit)) (now (points .exit)) (now (log .exit)) ≡ invertOf (state (now (links .entry)) (now (points .entry)) (now (log .entry)) start) ⌝ }
+    ensures { λ r. ⌜
+        leaves r (now (links .exit)) (now (points .exit)) (now (log .exit))
+        ≡ invertOf (state (now (links .entry)) (now (points .entry)) (now (log .entry)) start)
+        ⌝ }
 {
     takedown_entry::invert::invert(links, points, log, start)
 }

@@ -1,4 +1,5 @@
 pub mod Refusals
 pub mod TakeDown
+pub mod SoundActs
 pub mod Mission
 pub mod Proved

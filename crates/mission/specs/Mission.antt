@@ -4,9 +4,12 @@
 --     checkOf  zoghvari_check       writeOperator        zoghvari_write       undoOf    zoghvari_undo
 --     countOf  zoghvari_count                                                 invertOf  zoghvari_invert
 -- A contract says: for every input the answer, and every word, coordinate and byte that the call leaves, are the
--- definition's. So what is said here of a definition is said of the call. In quotes: documents 00 and 01.
+-- definition's. So what is said here of a definition is said of the call, and what is said of a list of acts
+-- (`Act`, `doAll` of crate `machine`: one act for each entry point) is said of these calls one after the other.
+-- In quotes: documents 00 and 01.
 use mathlib.Core.Path.{_≡_}
 use mathlib.Core.Logic.{_≢_}
+use mathlib.Core.Bool.{true}
 use mathlib.Core.List.{List, [], _∷_}
 use Prim.Native.Nat.{ℕ, _≤_}
 use lib.IntN.{ℤ}
@@ -29,6 +32,8 @@ use Rattle.promises.specs.RunAll.{leftBy, runAll}
 use Rattle.promises.specs.Reading.{Taken}
 use Rattle.promises.specs.Carried.{Refusing, Carried, apart, undoneApart}
 use Rattle.promises.specs.Promises.{Restored}
+use Rattle.machine.specs.Machine.{Act, behind, onlyRuns}
+use Rattle.machine.specs.Acts.{ActsUndone}
 use Rattle.inversion.specs.Promise.{clearLinks, clearPoints, Asked, InversionExact, HolesOne, CountHoles}
 use Rattle.mission.specs.Refusals.{OneOf, Named}
 
@@ -122,6 +127,9 @@ pub record Demand2 : Type 0 where
       → Passes (runAll t ss .last .links) (runAll t ss .last .points)
   pub undo-sound : (t : State) (n : ℕ) → Passes (t .links) (t .points) → Passes (undoOf t n .links) (undoOf t n .points)
   pub invert-sound : (t : State) → Passes (t .links) (t .points) → Passes (invertOf t .links) (invertOf t .points)
+  -- and so under any list of calls, whichever they are
+  pub sound-acts : (t : State) (acts : List Act) → Passes (t .links) (t .points)
+      → Passes (behind t acts .links) (behind t acts .points)
 
 -- ---- DEMAND 3. "This is one statement about the whole list, not one per run."
 
@@ -131,6 +139,10 @@ pub record Demand3 : Type 0 where
   -- runs included: … Undoing as many operators as were done in all, by document 01's meaning of done, then gives the
   -- earlier table, to the byte." (`Restored`: also the log from the first start on, and undo's answer)
   pub undo-exact : (t : State) (ss : List (List ℕ)) → Passes (t .links) (t .points) → Restored t ss
+  -- "… each …, on the table, log and start the last one left, with no other writing call until the undo and no outside
+  -- hand on table or log": the same of any list of calls of which each is a run or writes neither table nor log
+  pub undo-acts : (t : State) (acts : List Act) → onlyRuns acts ≡ true → Passes (t .links) (t .points)
+      → ActsUndone t acts
   -- It rests on the inverses, which a run logs: on what an accepted operator left its inverse is accepted, gives back
   -- every word and coordinate, and has that operator for its own inverse
   pub inverse-exact : (t : Table) (o : Operator) → Passes (t .links) (t .points) → length (o .args) ≡ 8

@@ -10,11 +10,13 @@ use Rattle.promises.specs.Checked.{checked-valid}
 use Rattle.promises.specs.Reading.{taken}
 use Rattle.promises.specs.Carried.{step-refusal, run-carried, refused-apart, undo-apart}
 use Rattle.promises.specs.Promises.{undo-exact, runs-sound, undo-sound}
+use Rattle.machine.specs.Acts.{undo-acts}
 use Rattle.inversion.specs.Theorem.{inversion-exact, holes-one, count-holes}
 use Rattle.mission.specs.Refusals.{clear-numbered, check-numbered, count-numbered, read-numbered, write-numbered}
 use Rattle.mission.specs.Refusals.{run-numbered, undo-numbered, invert-numbered, rule-named}
 use Rattle.mission.specs.Refusals.{entry-numbered, clear-out, write-out, invert-out}
 use Rattle.mission.specs.TakeDown.{clear-own, invert-asked, invert-sound}
+use Rattle.mission.specs.SoundActs.{sound-acts}
 use Rattle.mission.specs.Mission.{RefusalsNumbered, Demand1, Demand2, Demand3, Mission}
 
 -- a refusal's number
@@ -60,12 +62,14 @@ demand-2 = record {
   runs-sound = runs-sound;
   undo-sound = undo-sound;
   invert-sound = invert-sound;
+  sound-acts = sound-acts;
 }
 
 -- undo, and the take-down
 pub demand-3 : Demand3
 demand-3 = record {
   undo-exact = undo-exact;
+  undo-acts = undo-acts;
   inverse-exact = λ t o h. inverse-exact t o (checked-valid (t .links) (t .points) h);
   inversion-exact = inversion-exact;
   invert-asked = invert-asked;

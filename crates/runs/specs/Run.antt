@@ -101,15 +101,19 @@ stepOf sh t s at =
 
 -- ---- run
 
--- what a run leaves: its answer, the table and the log
-pub record Ran : Type 0 where
-  pub answer : RunAnswer
+-- what a call leaves that writes to the log: its answer, the table and the log
+pub record Leaves (A : Type 0) : Type 0 where
+  pub answer : A
   pub links : List ℕ
   pub points : List ℤ
   pub log : List ℕ
 
-abbrev pub leaves : RunAnswer → List ℕ → List ℤ → List ℕ → Ran
+abbrev pub leaves : {A : Type 0} → A → List ℕ → List ℤ → List ℕ → Leaves A
 leaves a x p log = record { answer = a; links = x; points = p; log = log }
+
+-- what a run leaves
+abbrev pub Ran : Type 0
+Ran = Leaves RunAnswer
 
 -- stopped with a refusal, 0 for none, after `done` operators that took `used` bytes
 abbrev pub ran : ℕ → ℕ → ℕ → State → Ran

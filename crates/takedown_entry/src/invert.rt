@@ -3,9 +3,9 @@ ghost use mathlib.Core.Path.{_≡_};
 ghost use Prim.Native.Nat.{ℕ, _+_, _-_, _*_, _<_};
 ghost use lib.Dec.{ltb};
 ghost use Rattle.layout.specs.Small.{Small};
-ghost use Rattle.runs.specs.Run.{state};
+ghost use Rattle.runs.specs.Run.{state, leaves};
 ghost use Rattle.takedown.specs.Inversion as inversion;
-ghost use Rattle.takedown.specs.Inversion.{turns, begin, inverts, invertOf};
+ghost use Rattle.takedown.specs.Inversion.{turns, begin, invertOf};
 ghost use Rattle.takedown.specs.Swift.{swiftBy, entered};
 ghost use Rattle.takedown_acts.specs.Held.{held};
 ghost use Rattle.takedown_entry.specs.Entry.{Counted};
@@ -82,7 +82,7 @@ fn refused(refusal: u8, rule: u8, start: usize) -> InvertAnswer
 // A sound table taken down to nothing, each operator with its inverse in the log.
 pub fn invert(links: &mut [u16], points: &mut [i32], log: &mut [u8], start: usize) -> InvertAnswer
     ensures { λ r. ⌜
-        inverts r (now (links .exit)) (now (points .exit)) (now (log .exit))
+        leaves r (now (links .exit)) (now (points .exit)) (now (log .exit))
         ≡ invertOf (state (now (links .entry)) (now (points .entry)) (now (log .entry)) start) ⌝ }
 {
     if start > log.len() {

@@ -1,0 +1,142 @@
+-- The kernel as one machine: a table with its log, and the calls that can be made on it one after the other. There is
+-- one act for each entry point of crate `kernel`, and what it answers and leaves is what that entry point's contract
+-- cites; so a list of acts is a list of calls on memory on which there is no outside hand.
+use Prim.Native.Nat.{ℕ, _+_}
+use mathlib.Core.Bool.{Bool, true, false, not, _||_}
+use mathlib.Core.List.{List, [], _∷_, map}
+use lib.ListN.{length}
+use Rattle.laws.specs.Bools.{allb}
+use Rattle.codec.specs.Operands.{widest}
+use Rattle.script.specs.declared.Operator.{Operator}
+use Rattle.script.specs.declared.ReadAnswer.{ReadAnswer}
+use Rattle.script.specs.declared.WriteAnswer.{WriteAnswer}
+use Rattle.script.specs.Operator.{readOperator, writeOperator}
+use Rattle.table.specs.declared.check.CheckAnswer.{CheckAnswer}
+use Rattle.table.specs.declared.clear.ClearAnswer.{ClearAnswer}
+use Rattle.table.specs.declared.count.CountAnswer.{CountAnswer}
+use Rattle.table.specs.Check.{checkOf}
+use Rattle.table.specs.Clear.{Cleared, clearOf}
+use Rattle.table.specs.Count.{countOf}
+use Rattle.runs.specs.declared.answers.RunAnswer.{RunAnswer}
+use Rattle.runs.specs.declared.answers.UndoAnswer.{UndoAnswer}
+use Rattle.runs.specs.Run.{State, state, runOf, undoOf}
+use Rattle.takedown.specs.declared.answer.InvertAnswer.{InvertAnswer}
+use Rattle.takedown.specs.Inversion.{Inverted, invertOf}
+use Rattle.promises.specs.RunAll.{leftBy, undoneBy}
+
+-- ---- one act
+
+-- what is asked of the table at hand and its log: clearing with five capacities, the check, counting, a script run,
+-- undo by a number, the take-down; and without a table: the operator at a place of a script, one written into a
+-- destination
+pub data Act : Type 0 where
+  Clear : ℕ → ℕ → ℕ → ℕ → ℕ → Act
+  Check : Act
+  Count : Act
+  Read : List ℕ → ℕ → Act
+  Write : Operator → List ℕ → Act
+  Run : List ℕ → Act
+  Undo : ℕ → Act
+  Invert : Act
+
+-- the answer to each; writing leaves a destination as well
+pub data Answer : Type 0 where
+  ToClear : ClearAnswer → Answer
+  ToCheck : CheckAnswer → Answer
+  ToCount : CountAnswer → Answer
+  ToRead : ReadAnswer → Answer
+  ToWrite : WriteAnswer → List ℕ → Answer
+  ToRun : RunAnswer → Answer
+  ToUndo : UndoAnswer → Answer
+  ToInvert : InvertAnswer → Answer
+
+-- an answer, and the table with its log afterwards; the live log begins at the start answered
+pub record Left : Type 0 where
+  pub answer : Answer
+  pub after : State
+
+abbrev pub left : Answer → State → Left
+left a t = record { answer = a; after = t }
+
+-- what clearing leaves: it changes no byte of the log
+abbrev pub afterClear : State → Cleared → Left
+afterClear t c = left (ToClear (c .answer)) (state (c .links) (c .points) (t .log) (c .answer .start))
+
+-- what the take-down leaves
+abbrev pub afterInvert : Inverted → Left
+afterInvert i = left (ToInvert (i .answer)) (state (i .links) (i .points) (i .log) (i .answer .start))
+
+-- one act, on what was left before
+abbrev pub does : State → Act → Left
+does t (Clear s f l e v) = afterClear t (clearOf (t .links) (t .points) (length (t .log)) s f l e v)
+does t Check = left (ToCheck (checkOf (t .links) (t .points))) t
+does t Count = left (ToCount (countOf (t .links) (t .points))) t
+does t (Read s at) = left (ToRead (readOperator widest s at)) t
+does t (Write o out) = left (ToWrite (writeOperator o out .answer) (writeOperator o out .out)) t
+does t (Run s) = left (ToRun (runOf t s .answer)) (leftBy (runOf t s))
+does t (Undo n) = left (ToUndo (undoOf t n .answer)) (undoneBy t n)
+does t Invert = afterInvert (invertOf t)
+
+-- ---- acts one after the other
+
+-- what each act of a list leaves, each on what the one before left
+unfoldable pub doAll : State → List Act → List Left
+doAll t [] = []
+doAll t (a ∷ acts) = does t a ∷ doAll (does t a .after) acts
+
+-- what the last of them left; t where there is none
+unfoldable pub lastOf : State → List Left → State
+lastOf t [] = t
+lastOf t (l ∷ ls) = lastOf (l .after) ls
+
+-- the state behind a list of acts
+abbrev pub behind : State → List Act → State
+behind t acts = lastOf t (doAll t acts)
+
+-- the operators that an act answers done: those that it logged
+abbrev pub doneOf : Answer → ℕ
+doneOf (ToClear c) = 0
+doneOf (ToCheck c) = 0
+doneOf (ToCount c) = 0
+doneOf (ToRead r) = 0
+doneOf (ToWrite w out) = 0
+doneOf (ToRun r) = r .done
+doneOf (ToUndo u) = 0
+doneOf (ToInvert i) = i .done
+
+-- the sum of the done counts
+unfoldable pub doneIn : List Left → ℕ
+doneIn [] = 0
+doneIn (l ∷ ls) = doneOf (l .answer) + doneIn ls
+
+-- of a list of acts
+abbrev pub doneBy : State → List Act → ℕ
+doneBy t acts = doneIn (doAll t acts)
+
+-- ---- which acts write
+
+-- a call that may change table or log
+abbrev pub isWriting : Act → Bool
+isWriting (Clear s f l e v) = true
+isWriting Check = false
+isWriting Count = false
+isWriting (Read s at) = false
+isWriting (Write o out) = false
+isWriting (Run s) = true
+isWriting (Undo n) = true
+isWriting Invert = true
+
+-- a run
+abbrev pub isRun : Act → Bool
+isRun (Clear s f l e v) = false
+isRun Check = false
+isRun Count = false
+isRun (Read s at) = false
+isRun (Write o out) = false
+isRun (Run s) = true
+isRun (Undo n) = false
+isRun Invert = false
+
+-- "no other writing call": each act is a run or writes nothing
+abbrev pub onlyRuns : List Act → Bool
+onlyRuns acts = allb (map (λ a. isRun a || not (isWriting a)) acts)
