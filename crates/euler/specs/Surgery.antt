@@ -14,6 +14,7 @@ use Rattle.layout.specs.Layout.{loopFirst, loopIsolated, startOf, loopOf, nextO
 use Rattle.layout.specs.Mate.{mate}
 use Rattle.layout.specs.Fields.{Solid, Outer, Face, First, Isolated, Start, Loop, Next, Prev}
 use Rattle.layout.specs.Writes.{Write, write, writes}
+use Rattle.layout.specs.Small.{mostHalves}
 use Rattle.layout.specs.Points.{coordinate, setCoordinate}
 
 -- a number is there
@@ -22,7 +23,7 @@ some n = not (eqb n 0)
 
 -- operand i of a list as the number of an item; past 8,192, the most that any table has, it names none
 abbrev pub itemIn : List ℤ → ℕ → ℕ
-itemIn args i = pick (leb (natOf (getD args i (pos 0))) 8192) (natOf (getD args i (pos 0))) 0
+itemIn args i = pick (leb (natOf (getD args i (pos 0))) mostHalves) (natOf (getD args i (pos 0))) 0
 
 -- and of an operator
 abbrev pub itemOf : Operator → ℕ → ℕ

@@ -2,16 +2,16 @@
 use Prim.Native.Nat.{ℕ}
 use mathlib.Core.List.{List}
 use Rattle.laws.specs.Bools.{pick}
-use Rattle.laws.specs.Columns.{sweep}
 use Rattle.layout.specs.declared.shape.Shape.{Shape}
-use Rattle.layout.specs.Layout.{kind, setSolidUsed, setLoopFace}
+use Rattle.layout.specs.Fields.{Solid, sweepField}
+use Rattle.layout.specs.Layout.{setSolidUsed, setLoopFace}
 use Rattle.check_shells.specs.Shells.{oneRoot}
 use Rattle.euler.specs.Surgery.{putFace}
 use Rattle.euler.specs.Operators.{moveFaces}
 
 -- the solids of the faces 1 to n become g of the face and its old solid
 abbrev pub sweepFaces : Shape → ℕ → (ℕ → ℕ → ℕ) → List ℕ → List ℕ
-sweepFaces sh n g x = sweep (kind (sh .face0) 2) 0 n g x
+sweepFaces sh n g x = sweepField sh Solid n g x
 
 -- a face with the root of face f passes to solid s
 abbrev pub byRoot : Shape → List ℕ → ℕ → ℕ → ℕ → ℕ → ℕ

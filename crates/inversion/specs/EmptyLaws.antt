@@ -1,21 +1,24 @@
 -- Where no solid is in use, nothing is: the table is as clearing leaves it.
-use mathlib.Core.Path.{_≡_, refl, sym, ap, _∙_}
+use mathlib.Core.Path.{_≡_, refl, sym, ap, _∙_, subst}
 use mathlib.Core.List.{List, _∷_}
-use Prim.Native.Nat.{ℕ, zero, suc, _+_, _*_, _≤_}
+use Prim.Native.Nat.{ℕ, zero, suc, _-_, _*_, _≤_}
 use native.Mathlib.Omega.{arith}
+use lib.Dec.{lit≤}
 use lib.IntN.{ℤ, pos}
-use lib.ListN.{length, getD, replicate, length-replicate}
+use lib.ListN.{length, length-replicate}
 use Rattle.laws.specs.Bools.{split, eqb-same}
 use Rattle.laws.specs.Columns.{Chained}
 use Rattle.layout.specs.declared.shape.Shape.{Shape}
 use Rattle.layout.specs.Points.{coordinate}
+use Rattle.layout.specs.Layout.{linksLength}
 use Rattle.euler.specs.Surgery.{some}
 use Rattle.table.specs.Clear.{emptyLinks, emptyPoints}
-use Rattle.layout.specs.Fields.{Field, groups, capOf, Capacity, SolidUsed, Solid, Outer, Face, First, Isolated, Start, Loop, Next, Prev, VertexUsed}
+use Rattle.layout.specs.Fields.{Field, groupOf, groups, capOf, head, Capacity, SolidUsed, Solid, Outer, Face, First}
+use Rattle.layout.specs.Fields.{Isolated, Start, Loop, Next, Prev, VertexUsed}
 use Rattle.sound_tables.specs.Sound.{In, VertexSound, alone, joined}
 use Rattle.sound_tables.specs.Cells.{shows-own, shows-ext}
 use Rattle.sound_tables.specs.PointLists.{points-ext}
-use Rattle.sound_tables.specs.ClearSound.{past-head, zero-coordinate}
+use Rattle.sound_tables.specs.ClearSound.{word-0, zero-coordinate}
 use Rattle.sound_tables.specs.Good.{Good, own, good-shows}
 use Rattle.takedown.specs.Inversion.{solidAt}
 use Rattle.inversion.specs.Counts.{count-none}
@@ -55,23 +58,14 @@ module _ (sh : Shape) (x : List ℕ) (p : List ℤ) (g : Good sh x p) (z : solid
   -- ---- every word behind the capacities is 0
 
   -- in the empty table
-  new-0 : (i : ℕ) → 5 ≤ i → getD (emptyLinks (sh .solids) (sh .faces) (sh .loops) (sh .edges) (sh .vertices)) i 0 ≡ 0
-  new-0 i h = past-head (sh .solids) (sh .faces) (sh .loops) (sh .edges) (sh .vertices) (sh .solids + 2 * sh .faces + 3 * sh .loops + 8 * sh .edges + sh .vertices) i h
-
-  face-base : 5 ≤ sh .face0
-  face-base = omega (arith, g .fit .2 .2 .0)
-
-  loop-base : 5 ≤ sh .loop0
-  loop-base = omega (arith, g .fit .2 .2 .2 .0)
-
-  half-base : 5 ≤ sh .half0
-  half-base = omega (arith, g .fit .2 .2 .2 .2 .0)
-
-  vertex-base : 5 ≤ sh .vertex0
-  vertex-base = omega (arith, g .fit .2 .2 .2 .2 .2 .0)
+  new-0 : (F : Field) → 1 ≤ groupOf F → (n : ℕ) → own sh y F n ≡ 0
+  new-0 F h n =
+      subst
+      (λ (t : Shape). own t (emptyLinks (t .solids) (t .faces) (t .loops) (t .edges) (t .vertices)) F n ≡ 0)
+      (sym (g .shape)) (word-0 _ _ _ _ _ F h n)
 
   -- in the old one
-  same-word : (F : Field) (n : ℕ) → 1 ≤ n → n ≤ capOf sh F → own sh x F n ≡ own sh (emptyLinks (sh .solids) (sh .faces) (sh .loops) (sh .edges) (sh .vertices)) F n
+  same-word : (F : Field) (n : ℕ) → 1 ≤ n → n ≤ capOf sh F → own sh x F n ≡ own sh y F n
   same-word F zero l u = absurd (omega arith)
   same-word Capacity (suc zero) l u = sym (ap (λ (h : Shape). h .solids) (g .shape))
   same-word Capacity (suc (suc zero)) l u = sym (ap (λ (h : Shape). h .faces) (g .shape))
@@ -79,28 +73,57 @@ module _ (sh : Shape) (x : List ℕ) (p : List ℤ) (g : Good sh x p) (z : solid
   same-word Capacity (suc (suc (suc (suc zero)))) l u = sym (ap (λ (h : Shape). h .edges) (g .shape))
   same-word Capacity (suc (suc (suc (suc (suc zero))))) l u = sym (ap (λ (h : Shape). h .vertices) (g .shape))
   same-word Capacity (suc (suc (suc (suc (suc (suc n)))))) l u = absurd (omega arith)
-  same-word SolidUsed (suc n) l u = solid-0 (suc n) (l, u) ∙ sym (new-0 (5 + 1 * n + 0) (omega arith))
-  same-word Solid (suc n) l u = face-0 (suc n) (l, u) ∙ sym (new-0 (sh .face0 + 2 * n + 0) (omega (arith, face-base)))
-  same-word Outer (suc n) l u = g .sound .face-free (suc n) (l, u) (face-0 (suc n) (l, u)) ∙ sym (new-0 (sh .face0 + 2 * n + 1) (omega (arith, face-base)))
-  same-word Face (suc n) l u = loop-0 (suc n) (l, u) ∙ sym (new-0 (sh .loop0 + 3 * n + 0) (omega (arith, loop-base)))
-  same-word First (suc n) l u = g .sound .loop-free (suc n) (l, u) (loop-0 (suc n) (l, u)) .0 ∙ sym (new-0 (sh .loop0 + 3 * n + 1) (omega (arith, loop-base)))
-  same-word Isolated (suc n) l u = g .sound .loop-free (suc n) (l, u) (loop-0 (suc n) (l, u)) .1 ∙ sym (new-0 (sh .loop0 + 3 * n + 2) (omega (arith, loop-base)))
-  same-word Start (suc n) l u = half-0 (suc n) (l, u) ∙ sym (new-0 (sh .half0 + 4 * n + 0) (omega (arith, half-base)))
-  same-word Loop (suc n) l u = g .sound .half-free (suc n) (l, u) (half-0 (suc n) (l, u)) .loop ∙ sym (new-0 (sh .half0 + 4 * n + 1) (omega (arith, half-base)))
-  same-word Next (suc n) l u = g .sound .half-free (suc n) (l, u) (half-0 (suc n) (l, u)) .next ∙ sym (new-0 (sh .half0 + 4 * n + 2) (omega (arith, half-base)))
-  same-word Prev (suc n) l u = g .sound .half-free (suc n) (l, u) (half-0 (suc n) (l, u)) .prev ∙ sym (new-0 (sh .half0 + 4 * n + 3) (omega (arith, half-base)))
-  same-word VertexUsed (suc n) l u = vertex-0 (suc n) (l, u) ∙ sym (new-0 (sh .vertex0 + 1 * n + 0) (omega (arith, vertex-base)))
+  same-word SolidUsed (suc n) l u = solid-0 (suc n) (l, u) ∙ sym (new-0 SolidUsed (lit≤ tt) (suc n))
+  same-word Solid (suc n) l u = face-0 (suc n) (l, u) ∙ sym (new-0 Solid (lit≤ tt) (suc n))
+  same-word Outer (suc n) l u =
+      g .sound .face-free (suc n) (l, u) (face-0 (suc n) (l, u)) ∙ sym (new-0 Outer (lit≤ tt) (suc n))
+  same-word Face (suc n) l u = loop-0 (suc n) (l, u) ∙ sym (new-0 Face (lit≤ tt) (suc n))
+  same-word First (suc n) l u =
+      g .sound .loop-free (suc n) (l, u) (loop-0 (suc n) (l, u)) .0 ∙ sym (new-0 First (lit≤ tt) (suc n))
+  same-word Isolated (suc n) l u =
+      g .sound .loop-free (suc n) (l, u) (loop-0 (suc n) (l, u)) .1 ∙ sym (new-0 Isolated (lit≤ tt) (suc n))
+  same-word Start (suc n) l u = half-0 (suc n) (l, u) ∙ sym (new-0 Start (lit≤ tt) (suc n))
+  same-word Loop (suc n) l u =
+      g .sound .half-free (suc n) (l, u) (half-0 (suc n) (l, u)) .loop ∙ sym (new-0 Loop (lit≤ tt) (suc n))
+  same-word Next (suc n) l u =
+      g .sound .half-free (suc n) (l, u) (half-0 (suc n) (l, u)) .next ∙ sym (new-0 Next (lit≤ tt) (suc n))
+  same-word Prev (suc n) l u =
+      g .sound .half-free (suc n) (l, u) (half-0 (suc n) (l, u)) .prev ∙ sym (new-0 Prev (lit≤ tt) (suc n))
+  same-word VertexUsed (suc n) l u = vertex-0 (suc n) (l, u) ∙ sym (new-0 VertexUsed (lit≤ tt) (suc n))
 
   -- the empty table is as long
-  fits : Chained 0 (groups sh) (length (emptyLinks (sh .solids) (sh .faces) (sh .loops) (sh .edges) (sh .vertices)))
+  fits : Chained 0 (groups sh) (length y)
   fits =
       let c = g .fit in
-      let n = length-replicate {A = ℕ} (sh .solids + 2 * sh .faces + 3 * sh .loops + 8 * sh .edges + sh .vertices) 0 in
-      (c .0, c .1, (c .2 .0, c .2 .1, (c .2 .2 .0, c .2 .2 .1, (c .2 .2 .2 .0, c .2 .2 .2 .1, (c .2 .2 .2 .2 .0, c .2 .2 .2 .2 .1, (c .2 .2 .2 .2 .2 .0, c .2 .2 .2 .2 .2 .1, omega (arith, n)))))))
+      let r = linksLength (sh .solids) (sh .faces) (sh .loops) (sh .edges) (sh .vertices) - head in (
+        c .0,
+        c .1,
+        (
+          c .2 .0,
+          c .2 .1,
+          (
+            c .2 .2 .0,
+            c .2 .2 .1,
+            (
+              c .2 .2 .2 .0,
+              c .2 .2 .2 .1,
+              (
+                c .2 .2 .2 .2 .0,
+                c .2 .2 .2 .2 .1,
+                (
+                  c .2 .2 .2 .2 .2 .0,
+                  c .2 .2 .2 .2 .2 .1,
+                  omega (arith, length-replicate {A = ℕ} r 0),
+                ),
+              ),
+            ),
+          ),
+        ),
+      )
 
   empty-at : Empty sh x p
   empty-at = record {
-    links = shows-ext (good-shows g) (shows-own sh (emptyLinks (sh .solids) (sh .faces) (sh .loops) (sh .edges) (sh .vertices)) fits) same-word;
+    links = shows-ext (good-shows g) (shows-own sh y fits) same-word;
     points = points-ext (sh .vertices) p (emptyPoints (sh .vertices)) (g .points) (length-replicate (3 * sh .vertices) (pos 0))
         (λ v i j h. g .sound .point v i .zero (vertex-0 v i) j h ∙ sym (zero-coordinate (3 * sh .vertices) v j));
     no-solids = solids-is sh x ∙ words-none (sh .solids) _ solid-0;

@@ -7,9 +7,9 @@ use mathlib.Core.List.{List}
 use lib.ListN.{getD, set}
 use Rattle.laws.specs.Columns.{Kind, col, store}
 
--- a product with a width of at most 4 is small
-pub width-bound : (w x : ℕ) → w ≤ 4 → w * x ≤ 4 * x
-width-bound w x h = rw (mul-comm w x, mul-comm 4 x) (mul-le-mul-left x h)
+-- a product with a width that 32 bits hold is small
+pub width-bound : (w x : ℕ) → w ≤ 4294967295 → w * x ≤ 4294967295 * x
+width-bound w x h = rw (mul-comm w x, mul-comm 4294967295 x) (mul-le-mul-left x h)
 
 -- the place less one record, written with n - 1
 pub col-at : (κ : Kind) (j : ℕ) (x : List ℕ) (n : ℕ) → (n ≡ 0 → ⊥) → getD x (κ .base + κ .width * (n - 1) + j) 0 ≡ col κ j x n

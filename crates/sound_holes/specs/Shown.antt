@@ -8,12 +8,12 @@ use native.Mathlib.Omega.{arith}
 use lib.Dec.{eqb}
 use Rattle.laws.specs.Bools.{pick, split, eqb-other}
 use Rattle.laws.specs.Update.{upd, upd-ext, upd-at, upd-off, relabel}
-use Rattle.laws.specs.Columns.{sweep}
 use Rattle.layout.specs.declared.shape.Shape.{Shape}
-use Rattle.layout.specs.Layout.{kind, setSolidUsed, setLoopFace}
+use Rattle.layout.specs.Layout.{setSolidUsed, setLoopFace}
 use Rattle.euler.specs.Surgery.{putFace}
 use Rattle.euler.specs.Operators.{moveFaces}
-use Rattle.layout.specs.Fields.{Field, Capacity, SolidUsed, Solid, Outer, Face, First, Isolated, Start, Loop, Next, Prev, VertexUsed, Columns, change, capOf}
+use Rattle.layout.specs.Fields.{Field, Capacity, SolidUsed, Solid, Outer, Face, First, Isolated, Start, Loop, Next, Prev}
+use Rattle.layout.specs.Fields.{VertexUsed, Columns, change, capOf, sweepField}
 use Rattle.sound_tables.specs.Cells.{Shows, shows-put, shows-agree}
 use Rattle.sound_tables.specs.Shown.{sweepColumns, shows-sweep, sweep-at, sweep-other}
 use Rattle.sound_tables.specs.Sound.{In}
@@ -81,7 +81,8 @@ faceLinks sh x l f s₀ = setLoopFace sh (putFace sh x f s₀ l) l f
 
 -- and with the moved faces in solid s
 abbrev pub movedLinks : Shape → List ℕ → ℕ → ℕ → ℕ → ℕ → (ℕ → Bool) → List ℕ
-movedLinks sh x l f s₀ s moved = sweep (kind (sh .face0) 2) 0 (sh .faces) (λ g old. pick (moved g) s old) (setSolidUsed sh (faceLinks sh x l f s₀) s 1)
+movedLinks sh x l f s₀ s moved =
+    sweepField sh Solid (sh .faces) (λ g old. pick (moved g) s old) (setSolidUsed sh (faceLinks sh x l f s₀) s 1)
 
 module _ {sh : Shape} {x : List ℕ} {c : Columns} (t : Shows sh x c) (l f s₀ : ℕ) (il : In (sh .loops) l) (jf : In (sh .faces) f) where
   -- its columns
