@@ -3,10 +3,11 @@
 ghost use mathlib.Core.Path.{_≡_};
 ghost use Prim.Native.Nat.{_+_, _<_, _≤_};
 ghost use lib.ListN.{length, getD, set};
-ghost use Rattle.laws.specs.Columns.{col};
-ghost use Rattle.layout.specs.Layout.{kind, loopFirst, loopIsolated};
+ghost use Rattle.layout.specs.Column.{entryOf};
+ghost use Rattle.layout.specs.Layout.{loopFirst, loopIsolated};
 ghost use Rattle.check_orbits.specs.Labels.{blank, leastNaming, tally, copied};
 use layout::cells::cell;
+use layout::column::Column;
 use layout::columns::loop_first;
 use layout::columns::loop_isolated;
 use layout::shape::Shape;
@@ -31,14 +32,14 @@ fn bump(a: &mut [u16; 4097], i: usize)
     }
 }
 
-// For each label the least of the records 1 to n whose first word names it. The pass goes down, so that the least is stored last.
-pub fn least_naming(links: &[u16], base: u32, width: usize, n: usize, least: &mut [u16; 4097])
-    requires { ⌜ (width ≤ 4) × (n < 65536) × (now least ≡ blank) ⌝ }
-    ensures { λ _. ⌜ now (least .exit) ≡ leastNaming (col (kind base width) 0 (now (links .entry))) n blank ⌝ }
+// For each label the least record whose entry in the column names it. The pass goes down, so that the least is stored last.
+pub fn least_naming(links: &[u16], column: Column, least: &mut [u16; 4097])
+    requires { ⌜ (column .count < 65536) × (now least ≡ blank) ⌝ }
+    ensures { λ _. ⌜ now (least .exit) ≡ leastNaming (entryOf column (now (links .entry))) (column .count) blank ⌝ }
 {
-    let mut k = n;
+    let mut k = column.count;
     while k > 0 {
-        let v = cell(links, base, width, 0, k);
+        let v = cell(links, column.base, column.width, column.word, k);
         put_entry(least, v, k);
         k -= 1;
     }

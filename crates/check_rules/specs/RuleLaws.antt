@@ -1,5 +1,5 @@
 -- The code's way of testing each rule is the rule: scans joined by `&`, and linear passes for cycles and shells.
-use mathlib.Core.Path.{_≡_, refl, sym, ap, _∙_}
+use mathlib.Core.Path.{_≡_, refl, sym, ap, _∙_, subst}
 use mathlib.Core.Bool.{Bool, true, false, not, _&&_}
 use mathlib.Core.List.{List}
 use Prim.Native.Nat.{ℕ, zero, suc, _*_, _≤_}
@@ -10,6 +10,9 @@ use borrow.Author.Tests.{not-true, not-false}
 use Rattle.laws.specs.Bools.{true-T, T-true, and-T}
 use Rattle.laws.specs.Search.{allTo, all-ext}
 use Rattle.layout.specs.declared.shape.Shape.{Shape}
+use Rattle.layout.specs.declared.column.Column.{Column}
+use Rattle.layout.specs.Fields.{Field, capOf, column}
+use Rattle.layout.specs.Column.{entryOf, columnAt}
 use Rattle.layout.specs.Layout.{faceSolid, loopFirst, loopIsolated, startOf}
 use Rattle.check_orbits.specs.Labels.{blank, down, leastNaming, tally, copied}
 use Rattle.check_orbits.specs.LabelsLaws.{least-at, tally-at}
@@ -59,6 +62,11 @@ named-long f (suc n) a = named-long f n (set a (f (suc n)) (suc n)) ∙ length-s
 
 pub leaders-long : (f : ℕ → ℕ) (n : ℕ) (ls : List ℕ) → ls ≡ leastNaming f n blank → length ls ≡ 4097
 leaders-long f n ls e = ap length e ∙ named-long f n blank ∙ length-replicate {A = ℕ} 4097 0
+
+-- a pass down the column of a field, as the code hands it on
+pub named-by : (sh : Shape) (x : List ℕ) (F : Field) {c : Column} {ls : List ℕ} → c ≡ columnAt sh F
+    → ls ≡ leastNaming (entryOf c x) (c .count) blank → ls ≡ leastNaming (column sh F x) (capOf sh F) blank
+named-by sh x F {c} {ls} e h = subst (λ (k : Column). ls ≡ leastNaming (entryOf k x) (k .count) blank) e h
 
 module _ (sh : Shape) (x : List ℕ) (p : List ℤ) where
   pub rule1-is : (a b c d e : Bool) → a ≡ allTo (sh .solids) (itemTest SolidRange sh x p) → b ≡ allTo (sh .faces) (itemTest FaceRange sh x p)

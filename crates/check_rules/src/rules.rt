@@ -14,6 +14,8 @@ use check_orbits::labels::isolated_counts;
 use check_orbits::labels::least_naming;
 use check_orbits::labels::loop_firsts;
 use check_shells::faces::shells_whole;
+use layout::column::solids_of_faces;
+use layout::column::starts_of_halves;
 use layout::shape::Shape;
 
 // Marks, numbers and coordinates are in range; free records are zero; both halves of an edge are in use or neither.
@@ -34,7 +36,7 @@ fn rule_2(links: &[u16], points: &[i32], sh: Shape) -> bool
     ensures { λ r. ⌜ r ≡ rule2 sh (now (links .entry)) ⌝ }
 {
     let mut leaders = [0u16; 4097];
-    least_naming(links, sh.face0, 2, sh.faces as usize, &mut leaders);
+    least_naming(links, solids_of_faces(sh), &mut leaders);
     all_items(links, points, sh, Test::FaceNames, sh.faces as usize)
         & all_items(links, points, sh, Test::LoopNames, sh.loops as usize)
         & all_items(links, points, sh, Test::HalfNames, 2 * (sh.edges as usize))
@@ -81,7 +83,7 @@ fn rule_5(links: &[u16], points: &[i32], sh: Shape) -> bool
     let mut counts = [0u16; 4097];
     isolated_counts(links, sh, &mut counts);
     let mut starters = [0u16; 4097];
-    least_naming(links, sh.half0, 4, 2 * (sh.edges as usize), &mut starters);
+    least_naming(links, starts_of_halves(sh), &mut starters);
     all_labels(
         links,
         sh,
@@ -99,7 +101,7 @@ fn rule_6(links: &[u16], points: &[i32], sh: Shape) -> bool
     ensures { λ r. ⌜ r ≡ rule6 sh (now (links .entry)) ⌝ }
 {
     let mut leaders = [0u16; 4097];
-    least_naming(links, sh.face0, 2, sh.faces as usize, &mut leaders);
+    least_naming(links, solids_of_faces(sh), &mut leaders);
     all_items(links, points, sh, Test::HalfSides, 2 * (sh.edges as usize))
         & shells_whole(links, sh, &leaders)
 }

@@ -4,10 +4,10 @@ use Prim.Native.Nat.{ℕ}
 use mathlib.Core.List.{List, [], _∷_}
 use Rattle.layout.specs.declared.shape.Shape.{Shape}
 use Rattle.layout.specs.Layout.{prevOf}
-use Rattle.layout.specs.Fields.{Field, capOf}
+use Rattle.layout.specs.Fields.{Field, capOf, sweepField}
 use Rattle.layout.specs.Writes.{Write, write, writes}
 use Rattle.euler.specs.declared.records.Half.{Half}
-use Rattle.euler.specs.Surgery.{tie, edgeIn, edgeOut, insertAfter, relabelRun, renew, sweepField}
+use Rattle.euler.specs.Surgery.{tie, edgeIn, edgeOut, insertAfter, relabelRun, renew}
 
 -- What the operators do to the links. What a step reads of the links itself, as neighbours that it does not name, it
 -- reads as the steps before have left it.

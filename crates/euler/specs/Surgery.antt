@@ -17,6 +17,7 @@ use Rattle.layout.specs.Mate.{mate}
 use Rattle.layout.specs.Fields.{Field, Solid, Outer, Face, First, Isolated, Start, Loop, Next, Prev}
 use Rattle.layout.specs.Fields.{groupOf, wordOf, groupAt, bare}
 use Rattle.layout.specs.Writes.{Write, write, writes}
+use Rattle.layout.specs.Small.{mostHalves}
 use Rattle.layout.specs.Points.{coordinate, setCoordinate}
 
 -- a number is there
@@ -25,7 +26,7 @@ some n = not (eqb n 0)
 
 -- operand i of a list as the number of an item; past 8,192, the most that any table has, it names none
 abbrev pub itemIn : List ℤ → ℕ → ℕ
-itemIn args i = pick (leb (natOf (getD args i (pos 0))) 8192) (natOf (getD args i (pos 0))) 0
+itemIn args i = pick (leb (natOf (getD args i (pos 0))) mostHalves) (natOf (getD args i (pos 0))) 0
 
 -- and of an operator
 abbrev pub itemOf : Operator → ℕ → ℕ
@@ -147,10 +148,6 @@ edgeIn sh x k u l n p u′ l′ n′ p′ = writes sh (edgeWrites k u l n p u′
 
 unfoldable pub edgeOut : Shape → List ℕ → ℕ → ℕ → ℕ → ℕ → ℕ → List ℕ
 edgeOut sh x k p n p′ n′ = writes sh (noEdgeWrites k p n p′ n′) x
-
--- field F of the items 1 to n becomes g of the item and its old word
-abbrev pub sweepField : Shape → Field → ℕ → (ℕ → ℕ → ℕ) → List ℕ → List ℕ
-sweepField sh F n g x = sweep (bare (groupAt sh (groupOf F))) (wordOf F) n g x
 
 -- ---- walks
 

@@ -16,6 +16,7 @@ use Rattle.laws.specs.Bools.{pick, pick-ind}
 use Rattle.layout.specs.declared.shape.Shape.{Shape}
 use Rattle.layout.specs.Layout.{loopOf, nextOf, setLoop, setLoopFirst, setLoopIsolated}
 use Rattle.script.specs.declared.Operator.{Operator}
+use Rattle.layout.specs.Small.{mostHalves}
 use Rattle.layout.specs.Points.{pointWidth, coordinate, setCoordinate}
 use Rattle.layout.specs.PointsLaws.{coordinate-at, setCoordinate-at}
 use Rattle.euler.specs.Surgery.{itemIn, halfBy, relabel, seek, firstFrom, renew, withOperand, withPoint}
@@ -111,8 +112,8 @@ module _ (l : List ℤ) (i : ℕ) where
   pub item-negative : (n : ℕ) → getD l i (pos 0) ≡ negsuc n → 0 ≡ itemIn l i
   item-negative n e = rw e
 
-  pub item-is : (n : ℕ) → getD l i (pos 0) ≡ pos n → n ≤ 8192 → n ≡ itemIn l i
-  item-is n e h = rw (e, le-leb n 8192 h)
+  pub item-is : (n : ℕ) → getD l i (pos 0) ≡ pos n → n ≤ mostHalves → n ≡ itemIn l i
+  item-is n e h = rw (e, le-leb n mostHalves h)
 
-  pub item-past : (n : ℕ) → getD l i (pos 0) ≡ pos n → 8192 < n → 0 ≡ itemIn l i
-  item-past n e h = rw (e, lt-leb n 8192 h)
+  pub item-past : (n : ℕ) → getD l i (pos 0) ≡ pos n → mostHalves < n → 0 ≡ itemIn l i
+  item-past n e h = rw (e, lt-leb n mostHalves h)

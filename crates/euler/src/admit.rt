@@ -3,6 +3,7 @@ ghost use mathlib.Core.Path.{_≡_};
 ghost use Prim.Native.Nat.{ℕ, _≤_, _<_};
 ghost use lib.ListN.{getD};
 ghost use Rattle.euler.specs.Exec.{useWord, useRefusal, whenFree, whenUsed};
+ghost use Rattle.layout.specs.Small.{mostHalves};
 use layout::columns::face_solid;
 use layout::columns::loop_face;
 use layout::columns::solid_used;
@@ -12,7 +13,7 @@ use layout::shape::Shape;
 
 // The word that tells whether item n of an operand's kind is in use; a new edge by its second half.
 fn use_word(links: &[u16], sh: Shape, kind: usize, n: usize) -> usize
-    requires { ⌜ n ≤ 8192 ⌝ }
+    requires { ⌜ n ≤ mostHalves ⌝ }
     ensures { λ r. ⌜ r ≡ useWord sh (now (links .entry)) kind n ⌝ }
 {
     match kind {
@@ -50,7 +51,7 @@ fn when_used(kind: usize) -> u8
 
 // The refusal of operand n of a kind; an operand 0 names no item.
 pub fn use_refusal(links: &[u16], sh: Shape, kind: usize, n: usize) -> u8
-    requires { ⌜ n ≤ 8192 ⌝ }
+    requires { ⌜ n ≤ mostHalves ⌝ }
     ensures { λ r. ⌜ r ≡ useRefusal sh (now (links .entry)) kind n ⌝ }
 {
     if n == 0 {

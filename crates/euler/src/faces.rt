@@ -3,6 +3,7 @@ ghost use mathlib.Core.Path.{_≡_};
 ghost use Prim.Native.Nat.{ℕ, _<_, _≤_};
 ghost use Rattle.euler.specs.Queries.{isRing, loopsIn};
 use crate::scans::count_naming;
+use layout::column::faces_of_loops;
 use layout::columns::face_outer;
 use layout::columns::loop_face;
 use layout::shape::Shape;
@@ -22,5 +23,5 @@ pub fn loops_in(links: &[u16], sh: Shape, f: usize) -> usize
     requires { ⌜ sh .loops < 65536 ⌝ }
     ensures { λ r. ⌜ (r ≡ loopsIn sh (now (links .entry)) f) × (r < 65536) ⌝ }
 {
-    count_naming(links, sh.loop0, 3, sh.loops as usize, f)
+    count_naming(links, faces_of_loops(sh), f)
 }

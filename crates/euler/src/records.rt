@@ -5,6 +5,7 @@ ghost use Prim.Native.Nat.{ℕ, _+_, _*_, _<_, _≤_};
 ghost use Rattle.laws.specs.Bools.{pick};
 ghost use Rattle.euler.specs.Surgery.{itemIn, itemOf, halfBy, wayOf, corner, cornerVertex};
 ghost use Rattle.euler.specs.Surgery.{putFace, putLoop, putHalf};
+ghost use Rattle.layout.specs.Small.{mostHalves};
 use layout::columns::loop_isolated;
 use layout::columns::loop_of;
 use layout::columns::set_face_outer;
@@ -17,6 +18,7 @@ use layout::columns::set_next;
 use layout::columns::set_prev;
 use layout::columns::set_start;
 use layout::columns::start_of;
+use layout::fields::MOST_HALVES;
 use layout::shape::Shape;
 use script::Operator;
 use script::operand;
@@ -34,10 +36,10 @@ pub fn choose(test: bool, a: usize, b: usize) -> usize
 
 // Operand i as the number of an item; past 8,192 it names none.
 pub fn item_of(op: Operator, i: usize) -> usize
-    ensures { λ r. ⌜ (r ≡ itemOf op i) × (r ≤ 8192) ⌝ }
+    ensures { λ r. ⌜ (r ≡ itemOf op i) × (r ≤ mostHalves) ⌝ }
 {
     let n = operand(op, i);
-    if n <= 8192 {
+    if n <= MOST_HALVES {
         return n;
     }
     0
@@ -46,14 +48,14 @@ pub fn item_of(op: Operator, i: usize) -> usize
 // Operand i of those lent as the number of an item: an operator's struct is not copied for it.
 pub fn item_at(args: &[i32; 8], i: usize) -> usize
     requires { ⌜ i < 8 ⌝ }
-    ensures { λ r. ⌜ (r ≡ itemIn (now (args .entry)) i) × (r ≤ 8192) ⌝ }
+    ensures { λ r. ⌜ (r ≡ itemIn (now (args .entry)) i) × (r ≤ mostHalves) ⌝ }
 {
     let a = args[i];
     if a < 0 {
         return 0;
     }
     let n = a as usize;
-    if n <= 8192 {
+    if n <= MOST_HALVES {
         return n;
     }
     0

@@ -13,7 +13,7 @@ use Rattle.laws.specs.Bools.{pick, split, eqb-same, eqb-other}
 use Rattle.laws.specs.Columns.{Kind, sweep}
 use Rattle.laws.specs.Union.{SameRoots}
 use Rattle.layout.specs.declared.shape.Shape.{Shape}
-use Rattle.layout.specs.Layout.{kind, faceSolid, faceOuter, loopFace, setSolidUsed, setFaceSolid}
+use Rattle.layout.specs.Layout.{faceSolid, faceOuter, loopFace, setSolidUsed, setFaceSolid}
 use Rattle.check_shells.specs.Shells.{sideAs, oneRoot, facesLinkedAs, Shells}
 use Rattle.check_shells.specs.ShellsLaws.{one-root-short}
 use Rattle.euler.specs.Queries.{loopsIn, isRing}
@@ -47,7 +47,7 @@ sweep-same κ j (suc n) g x h =
 
 -- faces that pass to their own solid stay
 pub move-none : (sh : Shape) (x : List ℕ) (s t : ℕ) → s ≡ t → x ≡ moveFaces sh x s t
-move-none sh x s t e = sym (sweep-same (kind (sh .face0) 2) 0 (sh .faces) _ x (λ k v. own v))
+move-none sh x s t e = sym (sweep-same _ _ (sh .faces) _ x (λ k v. own v))
   where
     own : (v : ℕ) → pick (eqb v s) t v ≡ v
     own v = split v s (λ q. rw (eqb-same q) (sym (q ∙ e))) (λ q. rw (eqb-other q))

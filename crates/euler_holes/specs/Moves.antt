@@ -3,10 +3,10 @@ use Prim.Native.Nat.{ℕ}
 use mathlib.Core.List.{List}
 use Rattle.laws.specs.Bools.{pick}
 use Rattle.layout.specs.declared.shape.Shape.{Shape}
+use Rattle.layout.specs.Fields.{Solid, sweepField}
 use Rattle.layout.specs.Layout.{setSolidUsed, setLoopFace}
-use Rattle.layout.specs.Fields.{Solid}
 use Rattle.check_shells.specs.Shells.{oneRoot}
-use Rattle.euler.specs.Surgery.{putFace, sweepField}
+use Rattle.euler.specs.Surgery.{putFace}
 use Rattle.euler.specs.FaceOperators.{moveFaces}
 
 -- the solids of the faces 1 to n become g of the face and its old solid

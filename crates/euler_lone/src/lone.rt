@@ -12,6 +12,7 @@ use euler::records::put_loop;
 use euler::scans::count_naming;
 use euler::scans::least_naming_one;
 use euler_counts::counts::loops_kept;
+use layout::column::solids_of_faces;
 use layout::columns::face_outer;
 use layout::columns::face_solid;
 use layout::columns::loop_isolated;
@@ -44,7 +45,7 @@ pub fn face_in(links: &[u16], sh: Shape, s: usize) -> usize
     requires { ⌜ sh .faces < 65536 ⌝ }
     ensures { λ r. ⌜ (r ≡ faceIn sh (now (links .entry)) s) × (r < 65536) ⌝ }
 {
-    least_naming_one(links, sh.face0, 2, sh.faces as usize, s)
+    least_naming_one(links, solids_of_faces(sh), s)
 }
 
 // How many faces solid s has.
@@ -52,7 +53,7 @@ pub fn faces_in(links: &[u16], sh: Shape, s: usize) -> usize
     requires { ⌜ sh .faces < 65536 ⌝ }
     ensures { λ r. ⌜ (r ≡ facesIn sh (now (links .entry)) s) × (r < 65536) ⌝ }
 {
-    count_naming(links, sh.face0, 2, sh.faces as usize, s)
+    count_naming(links, solids_of_faces(sh), s)
 }
 
 // The least face of solid s behind face f; 0 where none follows.

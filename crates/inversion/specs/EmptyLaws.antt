@@ -2,7 +2,7 @@
 use mathlib.Core.Path.{_≡_, sym, ap, _∙_, subst}
 use mathlib.Core.Bool.{Bool, true, false, _||_}
 use mathlib.Core.List.{List, [], _∷_}
-use Prim.Native.Nat.{ℕ, zero, suc, _+_, _*_, _≤_, _<_}
+use Prim.Native.Nat.{ℕ, zero, suc, _-_, _*_, _≤_, _<_}
 use native.Mathlib.Omega.{arith}
 use lib.IntN.{ℤ, pos}
 use lib.ListN.{length, length-replicate}
@@ -10,9 +10,10 @@ use Rattle.laws.specs.Bools.{split, eqb-same}
 use Rattle.laws.specs.Columns.{Chained}
 use Rattle.layout.specs.declared.shape.Shape.{Shape}
 use Rattle.layout.specs.Points.{pointsLength}
+use Rattle.layout.specs.Layout.{linksLength}
 use Rattle.euler.specs.Surgery.{some}
 use Rattle.table.specs.Clear.{emptyLinks, emptyPoints}
-use Rattle.layout.specs.Fields.{Field, groupOf, groups, groupAt, capOf, fieldAt, field-in, sameField, by-fields}
+use Rattle.layout.specs.Fields.{Field, groupOf, groups, groupAt, capOf, head, fieldAt, field-in, sameField, by-fields}
 use Rattle.layout.specs.Fields.{Capacity, SolidUsed, Solid, Face, Start, Loop, VertexUsed}
 use Rattle.sound_tables.specs.FreeRecords.{of-record, free-zero}
 use Rattle.sound_tables.specs.Sound.{In, VertexSound, alone, joined}
@@ -101,8 +102,31 @@ module _ (sh : Shape) (x : List ℕ) (p : List ℤ) (g : Good sh x p) (z : solid
   fits : Chained 0 (groups sh) (length (emptyOf sh))
   fits =
       let c = g .fit in
-      let n = length-replicate {A = ℕ} (sh .solids + 2 * sh .faces + 3 * sh .loops + 8 * sh .edges + sh .vertices) 0 in
-      (c .0, c .1, (c .2 .0, c .2 .1, (c .2 .2 .0, c .2 .2 .1, (c .2 .2 .2 .0, c .2 .2 .2 .1, (c .2 .2 .2 .2 .0, c .2 .2 .2 .2 .1, (c .2 .2 .2 .2 .2 .0, c .2 .2 .2 .2 .2 .1, omega (arith, n)))))))
+      let r = linksLength (sh .solids) (sh .faces) (sh .loops) (sh .edges) (sh .vertices) - head in (
+        c .0,
+        c .1,
+        (
+          c .2 .0,
+          c .2 .1,
+          (
+            c .2 .2 .0,
+            c .2 .2 .1,
+            (
+              c .2 .2 .2 .0,
+              c .2 .2 .2 .1,
+              (
+                c .2 .2 .2 .2 .0,
+                c .2 .2 .2 .2 .1,
+                (
+                  c .2 .2 .2 .2 .2 .0,
+                  c .2 .2 .2 .2 .2 .1,
+                  omega (arith, length-replicate {A = ℕ} r 0),
+                ),
+              ),
+            ),
+          ),
+        ),
+      )
 
   empty-at : Empty sh x p
   empty-at = record {

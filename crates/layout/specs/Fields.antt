@@ -6,31 +6,61 @@ use mathlib.Core.List.{List, [], _∷_}
 use Prim.Native.Nat.{ℕ, zero, suc, _*_, _<_}
 use native.Mathlib.Omega.{arith}
 use lib.Dec.{eqb, eqb→eq, lit≤}
-use lib.ListN.{getD}
+use lib.ListN.{length, getD}
 use Rattle.laws.specs.Bools.{pick, true-T, and-T, ask}
 use Rattle.laws.specs.Update.{upd}
-use Rattle.laws.specs.Columns.{Kind, col, store}
+use Rattle.laws.specs.Columns.{Kind, col, store, sweep}
 use Rattle.layout.specs.declared.shape.Shape.{Shape}
-use Rattle.layout.specs.Layout.{kind}
 
 -- the columns by their records: capacities; solid; face; loop; half-edge; vertex
 pub data Field : Type 0 where
   Capacity SolidUsed Solid Outer Face First Isolated Start Loop Next Prev VertexUsed : Field
 
+-- the six kinds of record, in their order in a table
+abbrev pub capacityKind : ℕ
+capacityKind = 0
+
+abbrev pub solidKind : ℕ
+solidKind = 1
+
+abbrev pub faceKind : ℕ
+faceKind = 2
+
+abbrev pub loopKind : ℕ
+loopKind = 3
+
+abbrev pub halfKind : ℕ
+halfKind = 4
+
+abbrev pub vertexKind : ℕ
+vertexKind = 5
+
+-- THE TABLE OF FIELDS: of each kind of record its words, in order. How wide a record is, and so where every record of a table stands,
+-- follows from it; `field-back` and `field-named` hold it to `groupOf` and `wordOf`, its other reading
+abbrev pub records : List (List Field)
+records =
+    (Capacity ∷ [])
+    ∷ (SolidUsed ∷ [])
+    ∷ (Solid ∷ Outer ∷ [])
+    ∷ (Face ∷ First ∷ Isolated ∷ [])
+    ∷ (Start ∷ Loop ∷ Next ∷ Prev ∷ [])
+    ∷ (VertexUsed ∷ [])
+    ∷ []
+
 -- which of the six kinds of record
 abbrev pub groupOf : Field → ℕ
-groupOf Capacity = 0
-groupOf SolidUsed = 1
-groupOf Solid = 2
-groupOf Outer = 2
-groupOf Face = 3
-groupOf First = 3
-groupOf Isolated = 3
-groupOf Start = 4
-groupOf Loop = 4
-groupOf Next = 4
-groupOf Prev = 4
-groupOf VertexUsed = 5
+groupOf Capacity = capacityKind
+groupOf SolidUsed = solidKind
+groupOf Solid = faceKind
+groupOf Outer = faceKind
+groupOf Face = loopKind
+groupOf First = loopKind
+groupOf Isolated = loopKind
+groupOf Start = halfKind
+groupOf Loop = halfKind
+groupOf Next = halfKind
+groupOf Prev = halfKind
+groupOf VertexUsed = vertexKind
 
 -- which word of the record
 abbrev pub wordOf : Field → ℕ
@@ -47,15 +77,27 @@ wordOf Next = 2
 wordOf Prev = 3
 wordOf VertexUsed = 0
 
+-- how many words a record of kind g has
+abbrev pub widthOf : ℕ → ℕ
+widthOf g = length (getD records g [])
+
+-- how many capacities a table begins with: one of each kind of item
+abbrev pub head : ℕ
+head = 5
+
+-- records of `width` words from `base` on; what a column reads does not depend on how many there are
+abbrev pub kind : ℕ → ℕ → Kind
+kind base width = record { base = base; width = width; count = 0 }
+
 -- the kinds of record, one after the other
 abbrev pub groups : Shape → List Kind
 groups sh =
-    record { base = 0; width = 1; count = 5 }
-    ∷ record { base = 5; width = 1; count = sh .solids }
-    ∷ record { base = sh .face0; width = 2; count = sh .faces }
-    ∷ record { base = sh .loop0; width = 3; count = sh .loops }
-    ∷ record { base = sh .half0; width = 4; count = 2 * sh .edges }
-    ∷ record { base = sh .vertex0; width = 1; count = sh .vertices }
+    record { base = 0; width = widthOf capacityKind; count = head }
+    ∷ record { base = head; width = widthOf solidKind; count = sh .solids }
+    ∷ record { base = sh .face0; width = widthOf faceKind; count = sh .faces }
+    ∷ record { base = sh .loop0; width = widthOf loopKind; count = sh .loops }
+    ∷ record { base = sh .half0; width = widthOf halfKind; count = 2 * sh .edges }
+    ∷ record { base = sh .vertex0; width = widthOf vertexKind; count = sh .vertices }
     ∷ []
 
 -- kind g; past the last there is none
@@ -85,6 +127,10 @@ column sh F = cell sh (groupOf F) (wordOf F)
 abbrev pub put : Shape → Field → List ℕ → ℕ → ℕ → List ℕ
 put sh F = putCell sh (groupOf F) (wordOf F)
 
+-- field F of the records 1 to n becomes g of the record's number and of what it was
+abbrev pub sweepField : Shape → Field → ℕ → (ℕ → ℕ → ℕ) → List ℕ → List ℕ
+sweepField sh F = sweep (bare (groupAt sh (groupOf F))) (wordOf F)
+
 -- ---- the columns as functions
 
 abbrev pub Columns : Type 0
@@ -102,13 +148,7 @@ change c F k v G = pick (sameField F G) (upd (c G) k v) (c G)
 
 -- the fields by kind and word
 abbrev pub fieldAt : ℕ → ℕ → Field
-fieldAt g w =
-    getD
-    (getD
-    ((Capacity ∷ []) ∷ (SolidUsed ∷ []) ∷ (Solid ∷ Outer ∷ []) ∷ (Face ∷ First ∷ Isolated ∷ []) ∷ (Start ∷ Loop ∷ Next ∷ Prev ∷ [])
-    ∷ (VertexUsed ∷ []) ∷ [])
-    g [])
-    w Capacity
+fieldAt g w = getD (getD records g []) w Capacity
 
 -- the field at its own kind and word
 pub field-back : (F : Field) → fieldAt (groupOf F) (wordOf F) ≡ F

@@ -1,14 +1,34 @@
--- The table of document 01 as plain lists: links and points. A record's word is a column of `laws`; its place is said here and nowhere else.
+-- The table of document 01 as plain lists: links and points. What each field of `Fields` is called, and where the records begin.
 use Prim.Native.Nat.{ℕ, zero, suc, _+_, _*_}
 use mathlib.Core.List.{List}
-use lib.IntN.{ℤ, pos}
-use lib.ListN.{getD, set}
-use Rattle.laws.specs.Columns.{Kind, col, store}
+use lib.ListN.{getD}
 use Rattle.layout.specs.declared.shape.Shape.{Shape}
+use Rattle.layout.specs.Fields.{SolidUsed, Solid, Outer, Face, First, Isolated}
+use Rattle.layout.specs.Fields.{Start, Loop, Next, Prev, VertexUsed, column, put}
+use Rattle.layout.specs.Fields.{solidKind, faceKind, loopKind, halfKind, vertexKind, widthOf, head}
+pub use Rattle.layout.specs.Fields.{kind}
 
--- records of `width` words from `base` on; what a column reads does not depend on how many there are
-abbrev pub kind : ℕ → ℕ → Kind
-kind base width = record { base = base; width = width; count = 0 }
+-- ---- where the records begin
+
+-- n records of w words
+abbrev pub words : ℕ → ℕ → ℕ
+words zero n = 0
+words (suc zero) n = n
+words (suc (suc w)) n = suc (suc w) * n
+
+-- the faces begin behind the solids, which stand behind the capacities
+abbrev faceStart : ℕ → ℕ
+faceStart s = head + words (widthOf solidKind) s
+
+abbrev loopStart : ℕ → ℕ → ℕ
+loopStart s f = faceStart s + words (widthOf faceKind) f
+
+abbrev halfStart : ℕ → ℕ → ℕ → ℕ
+halfStart s f l = loopStart s f + words (widthOf loopKind) l
+
+-- an edge is two half-edges
+abbrev vertexStart : ℕ → ℕ → ℕ → ℕ → ℕ
+vertexStart s f l e = halfStart s f l + words (2 * widthOf halfKind) e
 
 -- the shape of a table of capacities S, F, L, E, V: where the records of each kind begin
 abbrev pub shapeFrom : ℕ → ℕ → ℕ → ℕ → ℕ → Shape
@@ -19,92 +39,102 @@ shapeFrom s f l e v =
       loops = l;
       edges = e;
       vertices = v;
-      face0 = 5 + s;
-      loop0 = 5 + s + 2 * f;
-      half0 = 5 + s + 2 * f + 3 * l;
-      vertex0 = 5 + s + 2 * f + 3 * l + 8 * e;
+      face0 = faceStart s;
+      loop0 = loopStart s f;
+      half0 = halfStart s f l;
+      vertex0 = vertexStart s f l e;
     }
+
+-- how many words the links of a table of this shape have
+abbrev pub lengthOf : Shape → ℕ
+lengthOf sh = sh .vertex0 + words (widthOf vertexKind) (sh .vertices)
+
+-- and of these capacities
+abbrev pub linksLength : ℕ → ℕ → ℕ → ℕ → ℕ → ℕ
+linksLength s f l e v = lengthOf (shapeFrom s f l e v)
 
 -- the shape that the first five words say
 abbrev pub shapeOf : List ℕ → Shape
 shapeOf x = shapeFrom (getD x 0 0) (getD x 1 0) (getD x 2 0) (getD x 3 0) (getD x 4 0)
 
+-- ---- the fields by name: what each is of record n, and the store to it
+
 -- 1 where solid n is in use
 abbrev pub solidUsed : Shape → List ℕ → ℕ → ℕ
-solidUsed sh = col (kind 5 1) 0
+solidUsed sh = column sh SolidUsed
 
 abbrev pub setSolidUsed : Shape → List ℕ → ℕ → ℕ → List ℕ
-setSolidUsed sh = store (kind 5 1) 0
+setSolidUsed sh = put sh SolidUsed
 
 -- the solid of face n; 0 where the face is free
 abbrev pub faceSolid : Shape → List ℕ → ℕ → ℕ
-faceSolid sh = col (kind (sh .face0) 2) 0
+faceSolid sh = column sh Solid
 
 abbrev pub setFaceSolid : Shape → List ℕ → ℕ → ℕ → List ℕ
-setFaceSolid sh = store (kind (sh .face0) 2) 0
+setFaceSolid sh = put sh Solid
 
 -- the outer loop of face n
 abbrev pub faceOuter : Shape → List ℕ → ℕ → ℕ
-faceOuter sh = col (kind (sh .face0) 2) 1
+faceOuter sh = column sh Outer
 
 abbrev pub setFaceOuter : Shape → List ℕ → ℕ → ℕ → List ℕ
-setFaceOuter sh = store (kind (sh .face0) 2) 1
+setFaceOuter sh = put sh Outer
 
 -- the face of loop n; 0 where the loop is free
 abbrev pub loopFace : Shape → List ℕ → ℕ → ℕ
-loopFace sh = col (kind (sh .loop0) 3) 0
+loopFace sh = column sh Face
 
 abbrev pub setLoopFace : Shape → List ℕ → ℕ → ℕ → List ℕ
-setLoopFace sh = store (kind (sh .loop0) 3) 0
+setLoopFace sh = put sh Face
 
 -- the first half-edge of loop n; 0 where it is isolated
 abbrev pub loopFirst : Shape → List ℕ → ℕ → ℕ
-loopFirst sh = col (kind (sh .loop0) 3) 1
+loopFirst sh = column sh First
 
 abbrev pub setLoopFirst : Shape → List ℕ → ℕ → ℕ → List ℕ
-setLoopFirst sh = store (kind (sh .loop0) 3) 1
+setLoopFirst sh = put sh First
 
 -- the isolated vertex of loop n (document 01: lone vertex); 0 where it has half-edges
 abbrev pub loopIsolated : Shape → List ℕ → ℕ → ℕ
-loopIsolated sh = col (kind (sh .loop0) 3) 2
+loopIsolated sh = column sh Isolated
 
 abbrev pub setLoopIsolated : Shape → List ℕ → ℕ → ℕ → List ℕ
-setLoopIsolated sh = store (kind (sh .loop0) 3) 2
+setLoopIsolated sh = put sh Isolated
 
 -- the start vertex of half-edge n; 0 where it is free
 abbrev pub startOf : Shape → List ℕ → ℕ → ℕ
-startOf sh = col (kind (sh .half0) 4) 0
+startOf sh = column sh Start
 
 abbrev pub setStart : Shape → List ℕ → ℕ → ℕ → List ℕ
-setStart sh = store (kind (sh .half0) 4) 0
+setStart sh = put sh Start
 
 -- the loop of half-edge n
 abbrev pub loopOf : Shape → List ℕ → ℕ → ℕ
-loopOf sh = col (kind (sh .half0) 4) 1
+loopOf sh = column sh Loop
 
 abbrev pub setLoop : Shape → List ℕ → ℕ → ℕ → List ℕ
-setLoop sh = store (kind (sh .half0) 4) 1
+setLoop sh = put sh Loop
 
 -- the half-edge after n in its loop
 abbrev pub nextOf : Shape → List ℕ → ℕ → ℕ
-nextOf sh = col (kind (sh .half0) 4) 2
+nextOf sh = column sh Next
 
 abbrev pub setNext : Shape → List ℕ → ℕ → ℕ → List ℕ
-setNext sh = store (kind (sh .half0) 4) 2
+setNext sh = put sh Next
 
 -- the half-edge before n in its loop
 abbrev pub prevOf : Shape → List ℕ → ℕ → ℕ
-prevOf sh = col (kind (sh .half0) 4) 3
+prevOf sh = column sh Prev
 
 abbrev pub setPrev : Shape → List ℕ → ℕ → ℕ → List ℕ
-setPrev sh = store (kind (sh .half0) 4) 3
+setPrev sh = put sh Prev
 
 -- 1 where vertex n is in use
 abbrev pub vertexUsed : Shape → List ℕ → ℕ → ℕ
-vertexUsed sh = col (kind (sh .vertex0) 1) 0
+vertexUsed sh = column sh VertexUsed
 
 abbrev pub setVertexUsed : Shape → List ℕ → ℕ → ℕ → List ℕ
-setVertexUsed sh = store (kind (sh .vertex0) 1) 0
+setVertexUsed sh = put sh VertexUsed
 
 -- the face that half-edge k lies in
 abbrev pub side : Shape → List ℕ → ℕ → ℕ

@@ -1,3 +1,4 @@
+pub mod Column
 pub mod Fields
 pub mod Layout
 pub mod LayoutLaws

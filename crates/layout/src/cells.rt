@@ -3,7 +3,7 @@ ghost use mathlib.Core.Path.{_≡_};
 ghost use Prim.Native.Nat.{ℕ, _+_, _*_, _≤_, _<_};
 ghost use lib.ListN.{length, getD, set};
 ghost use Rattle.laws.specs.Columns.{col, store};
-ghost use Rattle.layout.specs.Layout.{kind};
+ghost use Rattle.layout.specs.Fields.{kind};
 
 fn wide(x: u16) -> usize
     ensures { λ r. ⌜ (r ≡ x) × (r < 65536) ⌝ }
@@ -32,23 +32,27 @@ pub fn put(links: &mut [u16], i: usize, v: usize)
 }
 
 // Word j of record n of the records of `width` words from `base` on.
-pub fn cell(links: &[u16], base: u32, width: usize, j: usize, n: usize) -> usize
-    requires { ⌜ (width ≤ 4) × (j < 4) × (n ≤ 65536) ⌝ }
+pub fn cell(links: &[u16], base: u32, width: u32, j: u32, n: usize) -> usize
+    requires { ⌜ n ≤ 65536 ⌝ }
     ensures { λ r. ⌜ (r ≡ col (kind base width) j (now (links .entry)) n) × (r < 65536) ⌝ }
 {
     if n == 0 {
         return 0;
     }
-    word(links, base as usize + width * (n - 1) + j)
+    word(links, base as usize + width as usize * (n - 1) + j as usize)
 }
 
 // Word j of record n set to v.
-pub fn put_cell(links: &mut [u16], base: u32, width: usize, j: usize, n: usize, v: usize)
-    requires { ⌜ (width ≤ 4) × (j < 4) × (n ≤ 65536) × (v < 65536) ⌝ }
+pub fn put_cell(links: &mut [u16], base: u32, width: u32, j: u32, n: usize, v: usize)
+    requires { ⌜ (n ≤ 65536) × (v < 65536) ⌝ }
     ensures { λ _. ⌜ now (links .exit) ≡ store (kind base width) j (now (links .entry)) n v ⌝ }
 {
     if n == 0 {
         return;
     }
-    put(links, base as usize + width * (n - 1) + j, v);
+    put(
+        links,
+        base as usize + width as usize * (n - 1) + j as usize,
+        v,
+    );
 }

@@ -15,6 +15,7 @@ use Rattle.codec.specs.Operands.{coordinate, pattern, rows}
 use Rattle.codec.specs.OperandLaws.{NoneOf, pattern-none}
 use Rattle.layout.specs.declared.shape.Shape.{Shape}
 use Rattle.layout.specs.Layout.{faceSolid, faceOuter, loopFace, startOf, loopOf, nextOf, prevOf, side}
+use Rattle.layout.specs.Fields.{Outer, Start, VertexUsed}
 use Rattle.layout.specs.Mate.{mate}
 use Rattle.euler.specs.Surgery.{itemOf, tie, insertAfter}
 use Rattle.euler.specs.Queries.{faceIn}
@@ -27,7 +28,7 @@ use Rattle.sound_tables.specs.Sound.{In}
 use Rattle.sound_tables.specs.Accepted.{accepted, limitOf}
 use Rattle.sound_tables.specs.Good.{Good}
 use Rattle.euler_counts.specs.Counts.{movedLoops, movedLoop}
-use Rattle.sound_counts.specs.Stays.{InOrder, in-order, Stays, half-stays, vertex-stays, solid-stays, face-stays}
+use Rattle.sound_counts.specs.Stays.{InOrder, in-order, Stays, store-stays, free-stays, solid-stays}
 use Rattle.sound_counts.specs.Stays.{other-stays, put-half-stays, put-face-stays, put-loop-stays, tie-stays}
 use Rattle.sound_counts.specs.Stays.{between-stays, edge-in-stays, edge-out-stays, relabel-stays, renew-stays}
 use Rattle.sound_counts.specs.Stays.{sweep-stays}
@@ -49,25 +50,28 @@ module _ {sh : Shape} (b : InOrder sh) {l : ℕ} (i : In (sh .loops) l) (x : Lis
   mvsf-stays : (s f m v : ℕ) → s ≤ sh .solids → f ≤ sh .faces → l ≢ m → Stays sh l x (mvsfLinks sh x s f m v)
   unfolding mvsfLinks
   mvsf-stays s f m v hs hf d =
-      vertex-stays b i v 1 (put-loop-stays b i m f 0 v d (put-face-stays b i f s m hf (solid-stays b i s 1 hs start)))
+      free-stays b i VertexUsed v 1 refl
+      (put-loop-stays b i m f 0 v d (put-face-stays b i f s m hf (solid-stays b i s 1 hs start)))
 
   -- 2: its loop m is killed
   kvsf-stays : (s f m v : ℕ) → s ≤ sh .solids → f ≤ sh .faces → l ≢ m → Stays sh l x (kvsfLinks sh x s f m v)
   unfolding kvsfLinks
   kvsf-stays s f m v hs hf d =
-      vertex-stays b i v 0 (put-loop-stays b i m 0 0 0 d (put-face-stays b i f 0 0 hf (solid-stays b i s 0 hs start)))
+      free-stays b i VertexUsed v 0 refl
+      (put-loop-stays b i m 0 0 0 d (put-face-stays b i f 0 0 hf (solid-stays b i s 0 hs start)))
 
   -- 3: no loop changes its face
   mev-stays : (m h k v : ℕ) → Stays sh l x (mevLinks sh x m h k v)
   unfolding mevLinks
   mev-stays m h k v =
-      vertex-stays b i v 1 (renew-stays b i m _ k 0 (edge-in-stays b i k _ _ _ _ _ _ _ _ start))
+      free-stays b i VertexUsed v 1 refl (renew-stays b i m _ k 0 (edge-in-stays b i k _ _ _ _ _ _ _ _ start))
 
   -- 4: no loop changes its face
   kev-stays : (k : ℕ) → Stays sh l x (kevLinks sh x k)
   unfolding kevLinks
   kev-stays k =
-      vertex-stays b i (startOf sh x (mate k)) 0 (renew-stays b i _ _ _ _ (edge-out-stays b i k _ _ _ _ start))
+      free-stays b i VertexUsed (startOf sh x (mate k)) 0 refl
+      (renew-stays b i _ _ _ _ (edge-out-stays b i k _ _ _ _ start))
 
   -- 5: the new loop m2 gets the new face f
   mef-stays : (m h1 h2 a f m2 w : ℕ) → f ≤ sh .faces → l ≢ m2 → Stays sh l x (mefLinks sh x m h1 h2 a f m2 w)
@@ -128,10 +132,10 @@ module _ {sh : Shape} (b : InOrder sh) {l : ℕ} (i : In (sh .loops) l) (x : Lis
   unfolding semvLinks
   semv-stays k n v =
       let y = insertAfter sh x k n v (loopOf sh x k) in
-      vertex-stays b i v 1
+      free-stays b i VertexUsed v 1 refl
       (renew-stays b i _ _ (mate k) 0
       (renew-stays b i _ _ k 0
-      (half-stays b i 0 (mate k) v
+      (free-stays b i Start (mate k) v refl
       (after-stays (prevOf sh y (mate k)) (mate n) (startOf sh x (mate k)) (loopOf sh x (mate k))
       (after-stays k n v (loopOf sh x k) start)))))
 
@@ -140,12 +144,12 @@ module _ {sh : Shape} (b : InOrder sh) {l : ℕ} (i : In (sh .loops) l) (x : Lis
   unfolding jekvLinks
   jekv-stays k n =
       let y = tie sh x k (nextOf sh x n) in
-      vertex-stays b i (startOf sh x n) 0
+      free-stays b i VertexUsed (startOf sh x n) 0 refl
       (renew-stays b i _ _ (mate k) 0
       (renew-stays b i _ _ k 0
       (put-half-stays b i (mate n) 0 0 0 0
       (put-half-stays b i n 0 0 0 0
-      (half-stays b i 0 (mate k) (startOf sh x (mate n))
+      (free-stays b i Start (mate k) (startOf sh x (mate n)) refl
       (tie-stays b i (prevOf sh y (mate n)) (mate k) (tie-stays b i k (nextOf sh x n) start)))))))
 
   -- 13: the ring m goes to f, or stays and becomes outer
@@ -153,7 +157,7 @@ module _ {sh : Shape} (b : InOrder sh) {l : ℕ} (i : In (sh .loops) l) (x : Lis
   unfolding rmovLinks
   rmov-stays m f hf d =
       pick-ind (λ s. Stays sh l x (does sh s x)) (eqb f (loopFace sh x m)) _ _
-      (face-stays b i 1 f m (omega arith) hf start) (other-stays b i m f d start)
+      (store-stays b i Outer f m (inl hf) (inl refl) start) (other-stays b i m f d start)
 
 -- ---- an accepted operator
 

@@ -7,11 +7,10 @@ use Prim.Native.Nat.{ℕ, zero, suc, _≤_}
 use native.Mathlib.Omega.{arith}
 use Rattle.laws.specs.Bools.{pick, split, eqb-other}
 use Rattle.laws.specs.Update.{upd-at, upd-off, relabel}
-use Rattle.laws.specs.Columns.{sweep}
 use Rattle.layout.specs.declared.shape.Shape.{Shape}
-use Rattle.layout.specs.Layout.{kind, setSolidUsed}
+use Rattle.layout.specs.Layout.{setSolidUsed}
 use Rattle.euler.specs.FaceOperators.{moveFaces}
-use Rattle.layout.specs.Fields.{SolidUsed, Solid, Columns, by-fields}
+use Rattle.layout.specs.Fields.{SolidUsed, Solid, Columns, sweepField, by-fields}
 use Rattle.layout.specs.Writes.{write, writes, changes}
 use Rattle.sound_tables.specs.Cells.{Shows, shows-agree}
 use Rattle.sound_tables.specs.WriteLaws.{shows-writes, among-off, unwritten, withColumn, column-other}
@@ -55,7 +54,8 @@ faceLinks sh x l f s₀ = writes sh (faceWrites l f s₀) x
 
 -- and with the moved faces in solid s
 abbrev pub movedLinks : Shape → List ℕ → ℕ → ℕ → ℕ → ℕ → (ℕ → Bool) → List ℕ
-movedLinks sh x l f s₀ s moved = sweep (kind (sh .face0) 2) 0 (sh .faces) (λ g old. pick (moved g) s old) (setSolidUsed sh (faceLinks sh x l f s₀) s 1)
+movedLinks sh x l f s₀ s moved =
+    sweepField sh Solid (sh .faces) (λ g old. pick (moved g) s old) (setSolidUsed sh (faceLinks sh x l f s₀) s 1)
 
 module _ {sh : Shape} {x : List ℕ} {c : Columns} (t : Shows sh x c) (l f s₀ : ℕ) (il : In (sh .loops) l) (jf : In (sh .faces) f) where
   -- where nothing moves it shows the columns of `cut`: the mark of s₀ is set already

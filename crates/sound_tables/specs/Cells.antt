@@ -17,7 +17,7 @@ use Rattle.layout.specs.Fields.{column, put, Columns, change, field-same, field
 -- ---- kinds in a chain
 
 -- where a kind ends
-abbrev end : Kind → ℕ
+abbrev pub end : Kind → ℕ
 end κ = κ .base + κ .width * κ .count
 
 -- kind i of a list; past the last there is none
@@ -41,7 +41,7 @@ chain-in (κ ∷ κs) from to zero c h = omega (arith, c .0, chain-up κs (from 
 chain-in (κ ∷ κs) from to (suc i) c h = let r = chain-in κs (from + κ .width * κ .count) to i (c .2) (omega arith) in (omega (arith, r .0), r .1)
 
 -- and ends before the next ones begin
-chain-apart : (κs : List Kind) (from to i j : ℕ) → Chained from κs to → j < length κs → i < j → end (nth κs i) ≤ nth κs j .base
+pub chain-apart : (κs : List Kind) (from to i j : ℕ) → Chained from κs to → j < length κs → i < j → end (nth κs i) ≤ nth κs j .base
 chain-apart [] from to i j c h l = absurd (omega arith)
 chain-apart (κ ∷ κs) from to i zero c h l = absurd (omega arith)
 chain-apart (κ ∷ κs) from to zero (suc j) c h l = omega (arith, c .0, chain-in κs (from + κ .width * κ .count) to j (c .2) (omega arith) .0)

@@ -3,7 +3,7 @@
 use mathlib.Core.Path.{_≡_, refl}
 use mathlib.Core.Logic.{⊎-elim}
 use mathlib.Core.List.{List, _∷_}
-use Prim.Native.Nat.{ℕ, zero, suc, _+_, _*_, _≤_, _<_}
+use Prim.Native.Nat.{ℕ, zero, suc, _+_, _-_, _*_, _≤_, _<_}
 use native.Mathlib.Omega.{arith}
 use lib.Dec.{lit≤}
 use lib.IntN.{ℤ, pos}
@@ -11,13 +11,13 @@ use lib.ListN.{length, getD, replicate, length-replicate}
 use Rattle.laws.specs.Bools.{ask}
 use Rattle.laws.specs.Cycles.{Cycles}
 use Rattle.layout.specs.declared.shape.Shape.{Shape}
-use Rattle.layout.specs.Layout.{shapeFrom}
+use Rattle.layout.specs.Layout.{linksLength, shapeFrom}
 use Rattle.layout.specs.Points.{pointWidth, pointsLength, coordinate}
 use Rattle.table.specs.Sizes.{sizesFit}
 use Rattle.table.specs.SizesLaws.{Sizes, sizes-are}
 use Rattle.table.specs.Clear.{emptyLinks, emptyPoints, clearOf}
 use Rattle.table.specs.Valid.{Valid}
-use Rattle.layout.specs.Fields.{Field, groupOf, wordOf, groupAt, field-in}
+use Rattle.layout.specs.Fields.{Field, groupOf, wordOf, groupAt, head, field-in}
 use Rattle.layout.specs.Fields.{SolidUsed, Solid, Outer, Face, First, Isolated}
 use Rattle.layout.specs.Fields.{Start, Loop, Next, Prev, VertexUsed}
 use Rattle.sound_tables.specs.Sound.{HalfUsed, FaceUsed, Sound}
@@ -69,7 +69,7 @@ module _ (s f l e v : ℕ) where
   pub word-0 : (F : Field) → 1 ≤ groupOf F → (n : ℕ) → own sh x F n ≡ 0
   word-0 F h zero = refl
   word-0 F h (suc n) =
-      past-head s f l e v (s + 2 * f + 3 * l + 8 * e + v)
+      past-head s f l e v (linksLength s f l e v - head)
       (groupAt sh (groupOf F) .base + groupAt sh (groupOf F) .width * n + wordOf F)
       (omega (arith, base-5 (groupOf F) h (field-in sh F .1)))
 
@@ -130,7 +130,7 @@ module _ (s f l e v : ℕ) where
   empty-good z = record {
     shape = refl;
     capacities = sizes-capacities z;
-    fit = omega (arith, length-replicate {A = ℕ} (s + 2 * f + 3 * l + 8 * e + v) 0);
+    fit = omega (arith, length-replicate {A = ℕ} (linksLength s f l e v - head) 0);
     points = length-replicate (pointsLength v) (pos 0);
     sound = empty-sound;
   }

@@ -10,10 +10,9 @@ use Rattle.laws.specs.Update.{upd-same, upd-off}
 use Rattle.laws.specs.Columns.{sweep}
 use Rattle.laws.specs.Cycles.{Cycles}
 use Rattle.layout.specs.declared.shape.Shape.{Shape}
-use Rattle.layout.specs.Layout.{kind}
 use Rattle.layout.specs.Mate.{mate}
 use Rattle.euler.specs.Surgery.{edgeWrites, noEdgeWrites, edgeIn, edgeOut, seek, firstFrom, renew}
-use Rattle.layout.specs.Fields.{Field, Solid, First, Isolated, Loop, Next, Columns, change, sameField}
+use Rattle.layout.specs.Fields.{Field, Solid, First, Isolated, Loop, Next, sweepField, Columns, change, sameField}
 use Rattle.layout.specs.Writes.{changes}
 use Rattle.sound_tables.specs.Cells.{Shows, shows-put}
 use Rattle.sound_tables.specs.WriteLaws.{shows-writes}
@@ -81,7 +80,8 @@ sweepColumns c zero g = c
 sweepColumns c (suc n) g = change (sweepColumns c n g) Solid (suc n) (g (suc n) (sweepColumns c n g Solid (suc n)))
 
 -- and the list that shows them
-pub shows-sweep : {sh : Shape} {x : List ℕ} {c : Columns} → Shows sh x c → (n : ℕ) (g : ℕ → ℕ → ℕ) → n ≤ sh .faces → Shows sh (sweep (kind (sh .face0) 2) 0 n g x) (sweepColumns c n g)
+pub shows-sweep : {sh : Shape} {x : List ℕ} {c : Columns} → Shows sh x c → (n : ℕ) (g : ℕ → ℕ → ℕ) → n ≤ sh .faces
+    → Shows sh (sweepField sh Solid n g x) (sweepColumns c n g)
 unfolding sweep sweepColumns
 shows-sweep s zero g h = s
 shows-sweep s (suc n) g h =

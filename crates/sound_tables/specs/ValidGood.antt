@@ -8,8 +8,8 @@ use lib.IntN.{ℤ}
 use lib.ListN.{length}
 use Rattle.laws.specs.Bools.{true-T, T-true, T-and, eqb-same}
 use Rattle.laws.specs.Every.{T-every}
-use Rattle.layout.specs.Layout.{shapeFrom, shapeOf}
-use Rattle.table.specs.Sizes.{capacity, linksLength, sizeTests, sizesFit}
+use Rattle.layout.specs.Layout.{linksLength, shapeFrom, shapeOf}
+use Rattle.table.specs.Sizes.{capacity, sizeTests, sizesFit}
 use Rattle.table.specs.SizesLaws.{Sizes, sizes-are}
 use Rattle.table.specs.Valid.{Valid, valid-parts, parts-valid}
 use Rattle.check_rules.specs.RulesSay.{says-rule1, says-rule2, says-rule3}

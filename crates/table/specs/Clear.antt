@@ -1,16 +1,18 @@
 -- Clearing: the table with nothing in use.
-use Prim.Native.Nat.{ℕ, _+_, _*_}
+use Prim.Native.Nat.{ℕ, _-_, _*_}
 use mathlib.Core.List.{List, _∷_}
 use lib.IntN.{ℤ, pos}
 use lib.ListN.{length, set, replicate}
 use Rattle.laws.specs.Bools.{pick}
 use Rattle.layout.specs.Points.{pointsLength}
+use Rattle.layout.specs.Fields.{head}
+use Rattle.layout.specs.Layout.{linksLength}
 use Rattle.table.specs.declared.clear.ClearAnswer.{ClearAnswer}
 use Rattle.table.specs.Sizes.{sizesFit}
 
--- the links of an empty table: the five capacities, then zeros
+-- the links of an empty table: the five capacities, then zeros to the end
 abbrev pub emptyLinks : ℕ → ℕ → ℕ → ℕ → ℕ → List ℕ
-emptyLinks s f l e v = s ∷ f ∷ l ∷ e ∷ v ∷ replicate (s + 2 * f + 3 * l + 8 * e + v) 0
+emptyLinks s f l e v = s ∷ f ∷ l ∷ e ∷ v ∷ replicate (linksLength s f l e v - head) 0
 
 -- its points
 abbrev pub emptyPoints : ℕ → List ℤ

@@ -1,15 +1,17 @@
 -- Zeroing a list, for any type of element and any zero, and the ways out of clearing.
-use mathlib.Core.Path.{_≡_, sym, _∙_}
+use mathlib.Core.Path.{_≡_, sym, ap, _∙_}
 use mathlib.Core.Bool.{Bool, true, false, not}
 use mathlib.Core.List.{List}
-use Prim.Native.Nat.{ℕ, suc, _+_, _*_, _≤_, _<_}
+use Prim.Native.Nat.{ℕ, suc, _+_, _-_, _≤_, _<_}
 use native.Mathlib.Omega.{arith}
 use lib.IntN.{ℤ, pos}
 use lib.ListN.{length, getD, set, replicate, length-replicate, getD-replicate}
 use lib.Seq.{getD-set-same, getD-set-other, ext-getD}
 use borrow.Author.Tests.{not-true, not-false}
 use Rattle.laws.specs.Bools.{split}
-use Rattle.table.specs.Sizes.{linksLength, sizesFit}
+use Rattle.layout.specs.Fields.{head}
+use Rattle.layout.specs.Layout.{linksLength}
+use Rattle.table.specs.Sizes.{sizesFit}
 use Rattle.table.specs.SizesLaws.{sizes-are}
 use Rattle.table.specs.Clear.{emptyLinks, withCapacities, cleared, clearOf}
 
@@ -36,8 +38,8 @@ module _ {A : Type 0} (z : A) where
 -- zeros with the capacities in front are the empty links
 pub capacities-first : (s f l e v : ℕ) → withCapacities (replicate (linksLength s f l e v) 0) s f l e v ≡ emptyLinks s f l e v
 capacities-first s f l e v =
-    let n : linksLength s f l e v ≡ suc (suc (suc (suc (suc (s + 2 * f + 3 * l + 8 * e + v))))) = omega arith in
-    rw n
+    let n : linksLength s f l e v ≡ suc (suc (suc (suc (suc (linksLength s f l e v - head))))) = omega arith in
+    ap (λ k. withCapacities (replicate k 0) s f l e v) n
 
 module _ (x : List ℕ) (p : List ℤ) (log s f l e v : ℕ) (b : Bool) (h : b ≡ sizesFit (length x) (length p) s f l e v) where
   pub clear-refused : not b ≡ true → cleared 1 log x p ≡ clearOf x p log s f l e v

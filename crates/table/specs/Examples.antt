@@ -9,10 +9,11 @@ use Rattle.laws.specs.Search.{allTo, leastFrom}
 use Rattle.laws.specs.Sums.{sumTo}
 use Rattle.laws.specs.Walks.{meets}
 use Rattle.laws.specs.Closure.{across, pass, rounds, linkedb}
+use Rattle.layout.specs.Layout.{linksLength}
 use Rattle.layout.specs.Mate.{mate}
 use Rattle.table.specs.declared.count.CountAnswer.{CountAnswer}
 use Rattle.check_items.specs.Rules.{solidRange, faceRange, loopRange, halfRange, vertexRange, rule1, solidNames, faceNames, loopNames, halfNames, rule2, loopEither, rule3, halfLinks, firstNames, halfInLoop, rule4, vertexEither, halfAtVertex, rule5, halfSides, faceLinked, rule6, brokenRule}
-use Rattle.table.specs.Sizes.{linksLength, sizesFit}
+use Rattle.table.specs.Sizes.{sizesFit}
 use Rattle.table.specs.Check.{checkOf}
 use Rattle.table.specs.Count.{itemUsed, tallyOf, countOf}
 

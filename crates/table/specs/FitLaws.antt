@@ -12,14 +12,16 @@ use borrow.Author.Tests.{le-leb}
 use Rattle.laws.specs.Bools.{T-false, eqb-same}
 use Rattle.laws.specs.Every.{every, every-T}
 use Rattle.layout.specs.Points.{pointsLength}
-use Rattle.table.specs.Sizes.{capacity, linksLength, sizeTests, sizesFit, tableFits}
+use Rattle.layout.specs.Layout.{linksLength}
+use Rattle.layout.specs.Small.{mostItems}
+use Rattle.table.specs.Sizes.{capacity, sizeTests, sizesFit, tableFits}
 
 -- 0 is no capacity
 pub no-capacity : (n : ℕ) → n ≡ 0 → false ≡ capacity n
 no-capacity n e = rw e
 
 -- any other number is one where it is at most 4,096
-pub a-capacity : (n : ℕ) (r : Bool) → n ≢ 0 → r ≡ leb n 4096 → r ≡ capacity n
+pub a-capacity : (n : ℕ) (r : Bool) → n ≢ 0 → r ≡ leb n mostItems → r ≡ capacity n
 a-capacity n r f h = h ∙ rw (le-leb 1 n (omega arith))
 
 -- two tests that hold change nothing

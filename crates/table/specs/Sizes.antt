@@ -1,5 +1,5 @@
 -- The lengths of a table's two slices (document 01, "The table"; refusal 1 where they or a capacity are wrong).
-use Prim.Native.Nat.{ℕ, _+_, _*_}
+use Prim.Native.Nat.{ℕ, _*_}
 use mathlib.Core.Bool.{Bool, _&&_}
 use mathlib.Core.List.{List, [], _∷_}
 use lib.Dec.{eqb, leb}
@@ -7,14 +7,12 @@ use lib.IntN.{ℤ}
 use lib.ListN.{length, getD}
 use Rattle.laws.specs.Every.{every}
 use Rattle.layout.specs.Points.{pointsLength}
+use Rattle.layout.specs.Layout.{linksLength}
+use Rattle.layout.specs.Small.{mostItems}
 
 -- a capacity is 1 to 4,096
 abbrev pub capacity : ℕ → Bool
-capacity n = leb 1 n && leb n 4096
-
--- how many words the links of these capacities have
-abbrev pub linksLength : ℕ → ℕ → ℕ → ℕ → ℕ → ℕ
-linksLength s f l e v = 5 + s + 2 * f + 3 * l + 8 * e + v
+capacity n = leb 1 n && leb n mostItems
 
 -- each capacity is one, and m words and n coordinates are as many as the capacities say
 abbrev pub sizeTests : ℕ → ℕ → ℕ → ℕ → ℕ → ℕ → ℕ → List Bool

@@ -7,14 +7,14 @@ use lib.Dec.{T, leb, leb→le, eqb→eq}
 use lib.IntN.{ℤ}
 use Rattle.laws.specs.Bools.{true-T, and-T}
 use Rattle.laws.specs.Every.{every-T}
-use Rattle.layout.specs.Layout.{shapeOf}
+use Rattle.layout.specs.Layout.{linksLength, shapeOf}
 use Rattle.layout.specs.Points.{pointsLength}
-use Rattle.layout.specs.Small.{Small}
-use Rattle.table.specs.Sizes.{capacity, linksLength, sizeTests, sizesFit, tableFits}
+use Rattle.layout.specs.Small.{mostItems, Small}
+use Rattle.table.specs.Sizes.{capacity, sizeTests, sizesFit, tableFits}
 
 pub record Capacity (n : ℕ) : Type 0 where
   pub low : 1 ≤ n
-  pub high : n ≤ 4096
+  pub high : n ≤ mostItems
 
 pub record Sizes (m n s f l e v : ℕ) : Type 0 where
   pub solids : Capacity s
@@ -26,7 +26,7 @@ pub record Sizes (m n s f l e v : ℕ) : Type 0 where
   pub points : n ≡ pointsLength v
 
 capacity-is : (n : ℕ) → T (capacity n) → Capacity n
-capacity-is n t = let h = and-T (leb 1 n) (leb n 4096) t in record { low = leb→le 1 n (h .0); high = leb→le n 4096 (h .1) }
+capacity-is n t = let h = and-T (leb 1 n) (leb n mostItems) t in record { low = leb→le 1 n (h .0); high = leb→le n mostItems (h .1) }
 
 pub sizes-are : (m n s f l e v : ℕ) → sizesFit m n s f l e v ≡ true → Sizes m n s f l e v
 unfolding sizesFit

@@ -2,7 +2,7 @@
 ghost use mathlib.Core.Path.{_≡_};
 ghost use Prim.Native.Nat.{ℕ, _≤_};
 ghost use Rattle.table.specs.Count.{holesOf, tallyOf, countOf};
-ghost use Rattle.layout.specs.Small.{Small};
+ghost use Rattle.layout.specs.Small.{mostItems, Small};
 use crate::check::check;
 use crate::tally::Item;
 use crate::tally::used_to;
@@ -24,7 +24,7 @@ pub struct CountAnswer {
 
 // The holes by Euler's formula, v − e + f = 2 (s − h) + r.
 fn holes_of(s: usize, f: usize, e: usize, v: usize, r: usize) -> usize
-    requires { ⌜ (s ≤ 4096) × (f ≤ 4096) × (e ≤ 4096) × (v ≤ 4096) × (r ≤ 4096) ⌝ }
+    requires { ⌜ (s ≤ mostItems) × (f ≤ mostItems) × (e ≤ mostItems) × (v ≤ mostItems) × (r ≤ mostItems) ⌝ }
     ensures { λ h. ⌜ h ≡ holesOf s f e v r ⌝ }
 {
     let more = e + r + 2 * s;

@@ -3,7 +3,10 @@ ghost use mathlib.Core.Path.{_≡_};
 ghost use Prim.Native.Nat.{ℕ, _<_};
 ghost use Rattle.table.specs.Sizes.{capacity, sizesFit, tableFits};
 use layout::cells::word;
+use layout::fields::MOST_ITEMS;
 use layout::points::POINT_WIDTH;
+use layout::shape::links_length;
+use layout::shape::shape_from;
 
 fn is_capacity(n: usize) -> bool
     ensures { λ r. ⌜ r ≡ capacity n ⌝ }
@@ -11,7 +14,7 @@ fn is_capacity(n: usize) -> bool
     if n == 0 {
         return false;
     }
-    n <= 4096
+    n <= MOST_ITEMS
 }
 
 // So many words and coordinates are the links and points of a table of these capacities.
@@ -27,7 +30,7 @@ pub fn sizes_fit(
     requires { ⌜ (s < 65536) × (f < 65536) × (l < 65536) × (e < 65536) × (v < 65536) ⌝ }
     ensures { λ r. ⌜ r ≡ sizesFit words coordinates s f l e v ⌝ }
 {
-    let long = 5 + s + 2 * f + 3 * l + 8 * e + v;
+    let long = links_length(shape_from(s, f, l, e, v));
     if words != long {
         return false;
     }

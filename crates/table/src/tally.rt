@@ -2,6 +2,7 @@
 ghost use mathlib.Core.Path.{_≡_};
 ghost use Prim.Native.Nat.{ℕ, _≤_, _<_};
 ghost use Rattle.laws.specs.Sums.{bit, countTo};
+ghost use Rattle.layout.specs.Small.{mostItems};
 ghost use Rattle.table.specs.Count.{ringUsed, itemUsed, usedTo};
 use layout::columns::face_outer;
 use layout::columns::face_solid;
@@ -56,8 +57,8 @@ fn one_if(b: bool) -> usize
 
 // How many of the items 1 to n are in use.
 pub fn used_to(links: &[u16], sh: Shape, item: Item, n: usize) -> usize
-    requires { ⌜ n ≤ 4096 ⌝ }
-    ensures { λ r. ⌜ (r ≡ usedTo item sh (now (links .entry)) n) × (r ≤ 4096) ⌝ }
+    requires { ⌜ n ≤ mostItems ⌝ }
+    ensures { λ r. ⌜ (r ≡ usedTo item sh (now (links .entry)) n) × (r ≤ mostItems) ⌝ }
 {
     let mut total: usize = 0;
     let mut k: usize = 0;

@@ -4,6 +4,8 @@ ghost use Prim.Native.Nat.{ℕ, _<_, _≤_};
 ghost use Rattle.layout.specs.Small.{Small};
 ghost use Rattle.takedown.specs.Inversion.{freeFace, freeLoop, freeEdge, noneFree};
 use euler::scans::least_naming_one;
+use layout::column::faces_of_loops;
+use layout::column::solids_of_faces;
 use layout::columns::start_of;
 use layout::shape::Shape;
 
@@ -12,7 +14,7 @@ pub fn free_face(links: &[u16], sh: Shape) -> usize
     requires { ⌜ Small sh ⌝ }
     ensures { λ r. ⌜ (r ≡ freeFace sh (now (links .entry))) × (r < 65536) ⌝ }
 {
-    least_naming_one(links, sh.face0, 2, sh.faces as usize, 0)
+    least_naming_one(links, solids_of_faces(sh), 0)
 }
 
 // The least free loop.
@@ -20,7 +22,7 @@ pub fn free_loop(links: &[u16], sh: Shape) -> usize
     requires { ⌜ Small sh ⌝ }
     ensures { λ r. ⌜ (r ≡ freeLoop sh (now (links .entry))) × (r < 65536) ⌝ }
 {
-    least_naming_one(links, sh.loop0, 3, sh.loops as usize, 0)
+    least_naming_one(links, faces_of_loops(sh), 0)
 }
 
 // The least free edge.

@@ -2,8 +2,7 @@ use mathlib.Core.Path.{_≡_, ap}
 use Prim.Native.Nat.{_-_, _≤_}
 use native.Mathlib.Omega.{arith}
 use lib.ListN.{length}
-use Rattle.laws.specs.Columns.{col}
-use Rattle.layout.specs.Layout.{kind}
+use Rattle.layout.specs.Column.{entryOf}
 use Rattle.check_orbits.specs.Labels.{blank, leastNaming}
 use Rattle.check_orbits.specs.LabelsLaws.{least-turn, down-out, long-set, blank-long}
 use borrow.Author.Needs.{needs}
@@ -15,17 +14,18 @@ use Rattle.layout.proofs.cells.cell.Reads as cell-reads
 use Rattle.check_orbits.proofs.labels.put_entry.Reads as put-entry-reads
 
 abbrev Inv-loop : tie.InvT-loop
-Inv-loop links base width n least₀ k₀ least k =
-    (k ≤ n) × (length least ≡ 4097) × (leastNaming (col (kind base width) 0 links) k least ≡ leastNaming (col (kind base width) 0 links) n blank)
+Inv-loop links column least₀ k₀ least k =
+    (k ≤ column .count) × (length least ≡ 4097)
+    × (leastNaming (entryOf column links) k least ≡ leastNaming (entryOf column links) (column .count) blank)
 
 abbrev μ-loop : tie.MeasureT-loop
-μ-loop links base width n least₀ k₀ least k = k
+μ-loop links column least₀ k₀ least k = k
 
 loop-holds : tie.Need-loop-holds Inv-loop μ-loop
 loop-holds c =
     let a = c .before .args in
-    let e = c .before .pre .2 in
-    (omega arith, blank-long _ e, ap (leastNaming (col (kind (a .base) (a .width)) 0 (a .links .now)) (a .n)) e)
+    let e = c .before .pre .1 in
+    (omega arith, blank-long _ e, ap (leastNaming (entryOf (a .column) (a .links .now)) (a .column .count)) e)
 
 cell-requires : tie.Need-cell-requires Inv-loop μ-loop
 cell-requires c κs = search needs

@@ -12,10 +12,11 @@ use Rattle.euler.proofs.records.choose.Reads as choose-reads
 use Rattle.layout.proofs.cells.cell.Reads as cell-reads
 
 abbrev Inv-loop : tie.InvT-loop
-Inv-loop links base width n label count₀ i₀ count i = (i ≤ n) × (count ≡ countTo i (naming base width links label)) × (count ≤ i)
+Inv-loop links column label count₀ i₀ count i =
+    (i ≤ column .count) × (count ≡ countTo i (naming column links label)) × (count ≤ i)
 
 abbrev μ-loop : tie.MeasureT-loop
-μ-loop links base width n label count₀ i₀ count i = n - i
+μ-loop links column label count₀ i₀ count i = column .count - i
 
 loop-holds : tie.Need-loop-holds Inv-loop μ-loop
 unfolding sumTo
@@ -38,11 +39,13 @@ loop-less c = search needs
 
 loop-again : tie.Need-loop-again Inv-loop μ-loop
 loop-again c =
-    let turn = count-turn _ _ _ _ _ _ (c .before .before .before .loop .inv .1) _ _ (c .before .cell .ensures .0) (c .choose .ensures .0) in
+    let turn =
+    count-turn (c .before .before .before .before .before .before .args .column) _ _ _ _ (c .before .before .before .before .loop .inv .1) _ _ (c .before .cell .ensures .0)
+    (c .choose .ensures .0) in
     (omega arith, turn .0, turn .1)
 
 returns : tie.Need-returns Inv-loop μ-loop
-returns c = (count-end _ _ _ _ _ _ (c .before .loop .inv .1) _ (omega arith) (omega arith), omega arith)
+returns c = (count-end (c .before .before .before .before .args .column) _ _ _ _ (c .before .before .loop .inv .1) _ (omega arith) (omega arith), omega arith)
 
 pub count-naming-spec : {M : Type 1} → statement M
 count-naming-spec =

@@ -3,6 +3,8 @@ use mathlib.Core.Path.{_≡_}
 use native.Mathlib.Omega.{arith}
 use Prim.Native.Nat.{_+_, _-_, _≤_}
 use Rattle.laws.specs.Search.{leastFrom}
+use Rattle.layout.specs.Fields.{Solid}
+use Rattle.layout.specs.Column.{columnAt}
 use Rattle.euler.specs.Scans.{naming, least-here, least-on, least-past}
 use Rattle.euler_lone.specs.LoneLaws.{faceAfter, from-here}
 use Rattle.euler_lone.proofs.lone.face_after.Statement.{statement}
@@ -13,7 +15,7 @@ use Rattle.layout.proofs.columns.face_solid.Reads as face-solid-reads
 
 abbrev Inv-loop : tie.InvT-loop
 Inv-loop links sh s f n g₀ g =
-    (1 ≤ g) × (leastFrom (n + 1 - g) g (naming (sh .face0) 2 links s) ≡ faceAfter sh links s f)
+    (1 ≤ g) × (leastFrom (n + 1 - g) g (naming (columnAt sh Solid) links s) ≡ faceAfter sh links s f)
 
 abbrev μ-loop : tie.MeasureT-loop
 μ-loop links sh s f n g₀ g = n + 1 - g
@@ -32,7 +34,7 @@ face-solid-requires c κs = omega arith
 
 returns : tie.Need-returns Inv-loop μ-loop
 returns c =
-    least-here _ _ _ _ _ _ _ (c .before .before .before .loop .inv .1) (omega arith)
+    least-here (columnAt (c .before .before .before .before .before .before .args .sh) Solid) _ _ _ _ _ (c .before .before .before .loop .inv .1) (omega arith)
     _ (c .before .face-solid .ensures .0) (c .if1 .taken)
 
 add-g-2 : tie.Need-add-g-2 Inv-loop μ-loop
@@ -44,12 +46,12 @@ loop-less c = omega arith
 loop-again : tie.Need-loop-again Inv-loop μ-loop
 loop-again c = (
   omega arith,
-  least-on _ _ _ _ _ _ _ (c .before .before .before .loop .inv .1) (omega arith)
+  least-on (columnAt (c .before .before .before .before .before .before .args .sh) Solid) _ _ _ _ _ (c .before .before .before .loop .inv .1) (omega arith)
       _ (c .before .face-solid .ensures .0) (c .if1 .left),
 )
 
 returns-2 : tie.Need-returns-2 Inv-loop μ-loop
-returns-2 c = least-past _ _ _ _ _ _ _ (c .before .loop .inv .1) (omega arith)
+returns-2 c = least-past (columnAt (c .before .before .before .before .args .sh) Solid) _ _ _ _ _ (c .before .loop .inv .1) (omega arith)
 
 pub face-after-spec : {M : Type 1} → statement M
 face-after-spec =

@@ -17,13 +17,13 @@ sub-word : tie.Need-sub-word
 sub-word c = search needs
 
 mul-word : tie.Need-mul-word
-mul-word c = omega (arith, width-bound (c .before .before .args .width) (c .before .before .args .n - 1) (c .before .before .pre .0))
+mul-word c = omega (arith, width-bound (c .before .before .args .width) (c .before .before .args .n - 1) (omega arith))
 
 add-word : tie.Need-add-word
-add-word c = omega (arith, width-bound (c .before .before .args .width) (c .before .before .args .n - 1) (c .before .before .pre .0))
+add-word c = omega (arith, width-bound (c .before .before .args .width) (c .before .before .args .n - 1) (omega arith))
 
 add-word-2 : tie.Need-add-word-2
-add-word-2 c = omega (arith, width-bound (c .before .before .args .width) (c .before .before .args .n - 1) (c .before .before .pre .0))
+add-word-2 c = omega (arith, width-bound (c .before .before .args .width) (c .before .before .args .n - 1) (omega arith))
 
 word-requires : tie.Need-word-requires
 word-requires c κs = search needs

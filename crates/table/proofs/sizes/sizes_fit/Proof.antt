@@ -1,38 +1,26 @@
+use mathlib.Core.Path.{ap}
 use native.Mathlib.Omega.{arith}
+use Rattle.layout.specs.Layout.{lengthOf}
 use Rattle.table.specs.FitLaws.{links-other, points-other, lengths-fit}
 use borrow.Author.Needs.{needs}
 use Rattle.table.proofs.sizes.sizes_fit.Statement.{statement}
 use Rattle.table.proofs.sizes.sizes_fit.Tie as tie
 use Rattle.table.proofs.sizes.sizes_fit.Reads as reads
 use Rattle.table.proofs.sizes.sizes_fit.Lts as lts
+use Rattle.layout.proofs.shape.shape_from.Reads as shape-from-reads
+use Rattle.layout.proofs.shape.links_length.Reads as links-length-reads
 use Rattle.table.proofs.sizes.is_capacity.Reads as is-capacity-reads
 
-add-long : tie.Need-add-long
-add-long c = search needs
+shape-from-requires : tie.Need-shape-from-requires
+shape-from-requires c κs = search needs
 
-mul-long : tie.Need-mul-long
-mul-long c = search needs
-
-add-long-2 : tie.Need-add-long-2
-add-long-2 c = search needs
-
-mul-long-2 : tie.Need-mul-long-2
-mul-long-2 c = search needs
-
-add-long-3 : tie.Need-add-long-3
-add-long-3 c = search needs
-
-mul-long-3 : tie.Need-mul-long-3
-mul-long-3 c = search needs
-
-add-long-4 : tie.Need-add-long-4
-add-long-4 c = search needs
-
-add-long-5 : tie.Need-add-long-5
-add-long-5 c = search needs
+links-length-requires : tie.Need-links-length-requires
+links-length-requires c κs = search needs
 
 returns : tie.Need-returns
-returns c = links-other _ _ _ _ _ _ _ (omega arith)
+returns c =
+    links-other _ _ _ _ _ _ _
+    (omega (arith, c .before .links-length .ensures, ap lengthOf (c .before .before .shape-from .ensures)))
 
 mul-if2 : tie.Need-mul-if2
 mul-if2 c = search needs
@@ -57,7 +45,9 @@ is-capacity-requires-5 c κs = search needs
 
 returns-3 : tie.Need-returns-3
 returns-3 c =
-    lengths-fit _ _ _ _ _ _ _ _ _ _ _ _ (omega arith) (omega arith)
+    lengths-fit _ _ _ _ _ _ _ _ _ _ _ _
+    (omega (arith, c .before .before .before .before .before .before .before .links-length .ensures, ap lengthOf (c .before .before .before .before .before .before .before .before .shape-from .ensures)))
+    (omega arith)
     (c .before .before .before .before .is-capacity .ensures) (c .before .before .before .is-capacity2 .ensures)
     (c .before .before .is-capacity3 .ensures) (c .before .is-capacity4 .ensures) (c .is-capacity5 .ensures)
 
@@ -65,14 +55,8 @@ pub sizes-fit-spec : {M : Type 1} → statement M
 sizes-fit-spec =
     tie.close
     (tie.spec
-    add-long
-    mul-long
-    add-long-2
-    mul-long-2
-    add-long-3
-    mul-long-3
-    add-long-4
-    add-long-5
+    shape-from-requires
+    links-length-requires
     returns
     mul-if2
     returns-2
