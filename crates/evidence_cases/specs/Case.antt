@@ -4,9 +4,10 @@ use Prim.Native.Nat.{ℕ}
 use mathlib.Core.Path.{_≡_}
 use mathlib.Core.List.{List, map}
 use Rattle.table.specs.Check.{answer}
+use Rattle.table.specs.Count.{counts}
 use Rattle.runs.specs.Run.{State}
-use Rattle.machine.specs.Machine.{Act, Clear, Check, Run, Undo, Invert}
-use Rattle.machine.specs.Machine.{Answer, ToClear, ToCheck, ToRun, ToUndo, ToInvert, Left, left, doAll}
+use Rattle.machine.specs.Machine.{Act, Clear, Check, Count, Run, Undo, Invert}
+use Rattle.machine.specs.Machine.{Answer, ToClear, ToCheck, ToCount, ToRun, ToUndo, ToInvert, Left, left, doAll}
 
 -- ---- rows
 
@@ -39,6 +40,10 @@ clears s f l e v refusal t = step (Clear s f l e v) (ToClear (record { refusal =
 -- the check answers this refusal and rule
 abbrev pub checks : ℕ → ℕ → State → Step
 checks refusal rule t = step Check (ToCheck (answer refusal rule)) t
+
+-- the sound table t is counted: solids, faces, loops, edges, vertices, rings, holes
+abbrev pub counting : ℕ → ℕ → ℕ → ℕ → ℕ → ℕ → ℕ → State → Step
+counting s f l e v r h t = step Count (ToCount (counts 0 0 s f l e v r h)) t
 
 -- a script answers refusal, operators done, bytes used, and leaves t
 abbrev pub runs : List ℕ → ℕ → ℕ → ℕ → State → Step

@@ -66,7 +66,8 @@ refusedRows =
     -- f: coordinates 50,001 and −50,001
     ∷ row lent
     (clearing ∷ runningB ∷ refusedOnB (mevBytes 162 141) 5 ∷ unread (mevBytes 162 141) 5
-    ∷ unwritten (mevTo (pos 50001)) 5 ∷ refusedOnB (mevBytes 161 141) 5 ∷ unread (mevBytes 161 141) 5 ∷ unwritten (mevTo (negsuc 50000)) 5 ∷ [])
+    ∷ unwritten (mevTo (pos 50001)) 5 ∷ refusedOnB (mevBytes 161 141) 5 ∷ unread (mevBytes 161 141) 5
+    ∷ unwritten (mevTo (negsuc 50000)) 5 ∷ [])
     -- g: after b, mvsf again
     ∷ row lent (clearing ∷ runningB ∷ runs scriptB 7 0 0 tableB ∷ [])
     -- g: after c, kvsf 1

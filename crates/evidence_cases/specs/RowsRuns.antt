@@ -3,7 +3,7 @@ use Prim.Native.Nat.{ℕ}
 use mathlib.Core.List.{List, [], _∷_, _++_}
 use lib.IntN.{pos}
 use Rattle.runs.specs.Run.{state}
-use Rattle.evidence_cases.specs.Case.{Step, Row, row, clears, checks, runs, undoes}
+use Rattle.evidence_cases.specs.Case.{Step, Row, row, clears, checks, counting, runs, undoes}
 use Rattle.evidence_cases.specs.Tables.{lent, linksB, linksC, pointsZero, pointsAt, logB, logC, logD}
 use Rattle.evidence_cases.specs.Tables.{empty, tableB, tableC, tableD, undoneWith}
 
@@ -42,16 +42,19 @@ runRows =
     ∷ row lent (clearing ∷ runningB ∷ undoes 0 0 0 tableB ∷ undoes 1 0 1 (undoneWith logB) ∷ [])
     -- c; all undone
     ∷ row lent (clearing ∷ runningB ∷ runningC ∷ undoes 2 0 2 (undoneWith logC) ∷ [])
-    -- the same, with calls between that write nothing
-    ∷ row lent
-    (clearing ∷ checks 0 0 empty ∷ runningB ∷ checks 0 0 tableB ∷ runningC ∷ checks 0 0 tableC
-    ∷ undoes 2 0 2 (undoneWith logC) ∷ checks 0 0 (undoneWith logC) ∷ [])
     -- d; all undone
     ∷ row lent (clearing ∷ runningB ∷ runningC ∷ runs scriptD 0 1 8 tableD ∷ undoes 3 0 3 (undoneWith logD) ∷ [])
+    -- the same, with calls between that write nothing: each table checked and counted
+    ∷ row lent
+    (clearing ∷ checks 0 0 empty ∷ runningB ∷ checks 0 0 tableB ∷ counting 1 1 1 0 1 0 0 tableB
+    ∷ runningC ∷ checks 0 0 tableC ∷ counting 1 1 1 1 2 0 0 tableC
+    ∷ runs scriptD 0 1 8 tableD ∷ checks 0 0 tableD ∷ counting 1 2 2 2 2 0 0 tableD
+    ∷ undoes 3 0 3 (undoneWith logD) ∷ [])
     -- d, undone one by one; one more finds the log ended
     ∷ row lent
-    (clearing ∷ runningB ∷ runningC ∷ runs scriptD 0 1 8 tableD ∷ undoes 1 0 1 (state linksC (pointsAt (pos 100)) logD 4)
-    ∷ undoes 1 0 1 (state linksB pointsZero logD 6) ∷ undoes 1 0 1 (undoneWith logD) ∷ undoes 1 11 0 (undoneWith logD) ∷ [])
+    (clearing ∷ runningB ∷ runningC ∷ runs scriptD 0 1 8 tableD
+    ∷ undoes 1 0 1 (state linksC (pointsAt (pos 100)) logD 4) ∷ undoes 1 0 1 (state linksB pointsZero logD 6)
+    ∷ undoes 1 0 1 (undoneWith logD) ∷ undoes 1 11 0 (undoneWith logD) ∷ [])
     -- b, c and d as one script; all undone
     ∷ row lent (clearing ∷ runs (scriptB ++ (scriptC ++ scriptD)) 0 3 26 tableD ∷ undoes 3 0 3 (undoneWith logD) ∷ [])
     ∷ []

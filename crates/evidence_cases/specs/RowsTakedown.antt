@@ -4,11 +4,10 @@ use Prim.Native.Nat.{ℕ, _+_}
 use mathlib.Core.List.{List, [], _∷_, _++_}
 use lib.IntN.{pos}
 use lib.ListN.{replicate}
-use Rattle.table.specs.Count.{counts}
 use Rattle.runs.specs.Run.{State, state}
-use Rattle.machine.specs.Machine.{Count, ToCount}
-use Rattle.evidence_cases.specs.Case.{Step, Row, row, step, clears, runs, undoes, inverts}
-use Rattle.evidence_cases.specs.Tables.{linksEmpty, linksB, linksE, linksEmpty3, linksB3, linksE3, pointsZero, logE}
+use Rattle.evidence_cases.specs.Case.{Step, Row, row, clears, checks, counting, runs, undoes, inverts}
+use Rattle.evidence_cases.specs.Tables.{linksEmpty, linksB, linksE, linksEmpty3, linksB3, linksE3}
+use Rattle.evidence_cases.specs.Tables.{pointsZero, logE}
 use Rattle.evidence_cases.specs.RowsRuns.{scriptB}
 
 -- ---- the scripts
@@ -51,11 +50,11 @@ downAt x i = state x pointsZero (replicate 95 238 ++ (scriptUp ++ logE)) i
 
 -- ---- the steps that lead to them
 
--- l loops: cleared, b, then e, and its table counted: v 1, e 1, f 1, r 1, s 1, h 1; the links are x, y and z
+-- l loops: cleared, b, then e, its table checked and counted: v 1, e 1, f 1, r 1, s 1, h 1; the links are x, y and z
 abbrev pub making : ℕ → List ℕ → List ℕ → List ℕ → ℕ → List Step
 making l x y z n =
     clears 1 2 l 2 2 0 (clearedWith x n) ∷ runs scriptB 0 1 8 (afterB y n) ∷ runs scriptE 0 2 11 (afterE z n)
-    ∷ step Count (ToCount (counts 0 0 1 1 2 1 1 1 1)) (afterE z n) ∷ []
+    ∷ checks 0 0 (afterE z n) ∷ counting 1 1 2 1 1 1 1 (afterE z n) ∷ []
 
 -- with two loops, then these steps
 abbrev pub making2 : ℕ → List Step → Row

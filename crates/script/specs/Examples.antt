@@ -1,4 +1,5 @@
--- Example f of the scope, and its neighbours, as rows of one list under one theorem.
+-- Reading one operator, as rows of one list under one theorem: each code, both ends of each range, each way to be cut
+-- off. (Example f of document 01 is in crate evidence_cases.)
 use mathlib.Core.Path.{_≡_, refl}
 use Prim.Native.Nat.{ℕ}
 use mathlib.Core.Bool.{Bool, true, false, _&&_}
@@ -55,14 +56,10 @@ holds row =
 
 abbrev pub examples : List Row
 examples =
-    -- example f: code 0E
-    refuses (14 ∷ []) 4
-    -- example f: 81 00, not shortest
-    ∷ refuses (129 ∷ 0 ∷ []) 3
-    -- example f: coordinate 50,000
-    ∷ accepts (1 ∷ 1 ∷ 1 ∷ 1 ∷ 1 ∷ 160 ∷ 141 ∷ 6 ∷ 0 ∷ 0 ∷ [])
+    -- coordinate 50,000
+    accepts (1 ∷ 1 ∷ 1 ∷ 1 ∷ 1 ∷ 160 ∷ 141 ∷ 6 ∷ 0 ∷ 0 ∷ [])
     (operator 1 7 (pos 1 ∷ pos 1 ∷ pos 1 ∷ pos 1 ∷ pos 50000 ∷ pos 0 ∷ pos 0 ∷ pos 0 ∷ []))
-    -- example f: coordinate 50,001
+    -- coordinate 50,001
     ∷ refuses (1 ∷ 1 ∷ 1 ∷ 1 ∷ 1 ∷ 162 ∷ 141 ∷ 6 ∷ 0 ∷ 0 ∷ []) 5
     -- coordinate -50,000
     ∷ accepts (1 ∷ 1 ∷ 1 ∷ 1 ∷ 1 ∷ 0 ∷ 159 ∷ 141 ∷ 6 ∷ 1 ∷ [])
@@ -75,13 +72,13 @@ examples =
     -- kvsf s
     ∷ accepts (2 ∷ 1 ∷ [])
     (operator 2 1 (pos 1 ∷ pos 0 ∷ pos 0 ∷ pos 0 ∷ pos 0 ∷ pos 0 ∷ pos 0 ∷ pos 0 ∷ []))
-    -- mev l h e v w x y z, example c
+    -- mev l h e v w x y z
     ∷ accepts (3 ∷ 1 ∷ 0 ∷ 1 ∷ 2 ∷ 0 ∷ 200 ∷ 1 ∷ 0 ∷ 0 ∷ [])
     (operator 3 8 (pos 1 ∷ pos 0 ∷ pos 1 ∷ pos 2 ∷ pos 0 ∷ pos 100 ∷ pos 0 ∷ pos 0 ∷ []))
     -- kev k
     ∷ accepts (4 ∷ 1 ∷ [])
     (operator 4 1 (pos 1 ∷ pos 0 ∷ pos 0 ∷ pos 0 ∷ pos 0 ∷ pos 0 ∷ pos 0 ∷ pos 0 ∷ []))
-    -- mef l h1 h2 e f l2 w, example d
+    -- mef l h1 h2 e f l2 w
     ∷ accepts (5 ∷ 1 ∷ 1 ∷ 2 ∷ 2 ∷ 2 ∷ 2 ∷ 0 ∷ [])
     (operator 5 7 (pos 1 ∷ pos 1 ∷ pos 2 ∷ pos 2 ∷ pos 2 ∷ pos 2 ∷ pos 0 ∷ pos 0 ∷ []))
     -- kef k
