@@ -8,14 +8,12 @@ use lib.Dec.{eqb, leb, ltb}
 use lib.IntN.{ℤ, pos}
 use lib.ListN.{length, getD, set}
 use Rattle.laws.specs.Bools.{pick}
-use Rattle.laws.specs.Columns.{sweep}
 use Rattle.script.specs.declared.Operator.{Operator}
 use Rattle.script.specs.Operator.{natOf, blankOf, withNumber}
 use Rattle.layout.specs.declared.shape.Shape.{Shape}
 use Rattle.layout.specs.Layout.{loopFirst, loopIsolated, startOf, loopOf, nextOf, setLoopFirst, setLoopIsolated, setLoop}
 use Rattle.layout.specs.Mate.{mate}
-use Rattle.layout.specs.Fields.{Field, Solid, Outer, Face, First, Isolated, Start, Loop, Next, Prev}
-use Rattle.layout.specs.Fields.{groupOf, wordOf, groupAt, bare}
+use Rattle.layout.specs.Fields.{Solid, Outer, Face, First, Isolated, Start, Loop, Next, Prev}
 use Rattle.layout.specs.Writes.{Write, write, writes}
 use Rattle.layout.specs.Small.{mostHalves}
 use Rattle.layout.specs.Points.{coordinate, setCoordinate}
