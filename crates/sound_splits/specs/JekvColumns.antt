@@ -123,7 +123,7 @@ module _ {sh : Shape} {p : List ℤ} {d : Columns} (a : Sound sh p d) {k n : ℕ
   start-n : c Start n ≡ 0
   start-n = let e = n≢b in simp (upd-same, upd-off)
 
-  -- so is its mate
+  -- nor does its mate
   start-b0 : c Start (mate n) ≡ 0
   start-b0 = simp upd-same
 

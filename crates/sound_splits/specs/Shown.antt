@@ -10,7 +10,7 @@ use Rattle.laws.specs.Cycles.{Cycles}
 use Rattle.layout.specs.declared.shape.Shape.{Shape}
 use Rattle.layout.specs.Layout.{nextOf, setVertexUsed}
 use Rattle.layout.specs.Mate.{mate}
-use Rattle.euler.specs.Surgery.{renew, insertAfter, tied}
+use Rattle.euler.specs.Surgery.{lower, renew, insertAfter, tied}
 use Rattle.euler.specs.EdgeOperators.{semvLinks, jekvLinks}
 use Rattle.sound_tables.specs.EdgeIn.{next-prev, prev-in}
 use Rattle.layout.specs.Fields.{First, Start, Loop, Next, Prev, VertexUsed, Columns}
@@ -23,7 +23,7 @@ use Rattle.sound_tables.specs.WriteLaws.{shows-writes}
 use Rattle.sound_tables.specs.Shown.{shows-first}
 use Rattle.sound_splits.specs.CycleMoves.{swapFor, swap-at, swap-off}
 use Rattle.sound_splits.specs.Firsts.{closing}
-use Rattle.sound_splits.specs.Relation.{Tidy, Place, aft, loop-old, used-old}
+use Rattle.sound_splits.specs.Relation.{Tidy, Place, aft, Split, loop-old, used-old}
 use Rattle.sound_splits.specs.SplitRules.{split-rules, join-rules}
 use Rattle.sound_splits.specs.SemvColumns.{afterWrites, withAfter, semvColumns, first-next, first-prev, next-in}
 use Rattle.sound_splits.specs.SemvColumns.{semv-split}
@@ -90,10 +90,13 @@ semv-shows {sh} {x} {c = c} {k} {n} {v} s a o =
     (h1 .loop-in) (h2 .loop-in) (o .v-in) (rules .loops)
     (used-old r k (o .k-used)) (used-old r (mate k) (o .m-used)) (loop-old r k (o .k-used))
     (loop-old r (mate k) (o .m-used)) (in-use _ (r .tidy-d))
-    (λ i j z. lower-new (c First (c Loop k)) n (mate n) i (o .n-in .0)
-    (λ f g. first-low a (c Loop k) i (h1 .loop-in .0) j (sym (r .loop i f g) ∙ z)))
-    (λ i j z. lower-new (c First (c Loop (mate k))) n (mate n) i (o .n-in .0)
-    (λ f g. first-low a (c Loop (mate k)) i (h2 .loop-in .0) j (sym (r .loop i f g) ∙ z))))
+    (low r (c Loop k) (h1 .loop-in .0)) (low r (c Loop (mate k)) (h2 .loop-in .0)))
+  where
+    -- no half-edge of a loop is below its old first and the new half-edges
+    low : {d : Columns} → Split sh c d k n v → (l : ℕ) → 1 ≤ l → (i : ℕ) → In (2 * sh .edges) i → d Loop i ≡ l
+        → lower (c First l) (lower n (mate n)) ≤ i
+    low r l h i j z = lower-new (c First l) n (mate n) i (o .n-in .0)
+        (λ f g. first-low a l i h j (sym (r .loop i f g) ∙ z))
 
 -- ---- jekv
 
@@ -132,11 +135,13 @@ jekv-shows {sh} {x} {d = d} {k} {n} s a o =
     (join-rules r (a .rules) .loops)
     (w .k-used) (w .m-used) (sym (loop-old r k (w .k-used))) (sym (loop-old r (mate k) (w .m-used)))
     (in-use _ (r .tidy-c))
-    (λ i j z. let u = in-use _ (r .tidy-c) i (d Loop k) (h1 .loop-in .0) j z in
-    first-low a (d Loop k) i (h1 .loop-in .0) j (loop-old r i u ∙ z) .1)
-    (λ i j z. let u = in-use _ (r .tidy-c) i (d Loop (mate k)) (h2 .loop-in .0) j z in
-    first-low a (d Loop (mate k)) i (h2 .loop-in .0) j (loop-old r i u ∙ z) .1))
+    (low r (d Loop k) (h1 .loop-in .0)) (low r (d Loop (mate k)) (h2 .loop-in .0)))
   where
+    -- no half-edge of a loop is below its old first
+    low : {c : Columns} {v : ℕ} → Split sh c d k n v → (l : ℕ) → 1 ≤ l → (i : ℕ) → In (2 * sh .edges) i → c Loop i ≡ l
+        → d First l ≤ i
+    low r l h i j z = first-low a l i h j (loop-old r i (in-use _ (r .tidy-c) i l h j z) ∙ z) .1
+
     -- what comes before n's mate once k is joined
     before : HalfUsed sh d n → HalfUsed sh d (mate n) → upd (d Prev) (d Next n) k (mate n) ≡ swapFor n k
         (d Prev (mate n))
