@@ -251,13 +251,29 @@ module _ {sh : Shape} {c d : Columns} {q : Spot} (k : Cut sh c d q) where
   pub used-b : HalfUsed sh d (q .b)
   used-b = (k .site .b-in .0, k .site .b-in .1, λ z. k .site .v-some (sym (k .start-b) ∙ z))
 
+  -- a half-edge of c starts where it did
+  pub start-c : (i : ℕ) → HalfUsed sh c i → d Start i ≡ c Start i
+  start-c i w = k .start-else i (off-a (k .site) i w) (off-b (k .site) i w)
+
   -- the others are in use in both or in none
   pub used-to : (i : ℕ) → HalfUsed sh c i → HalfUsed sh d i
-  used-to i w = (w .0, w .1, λ z. w .2 (sym (k .start-else i (off-a (k .site) i w) (off-b (k .site) i w)) ∙ z))
+  used-to i w = (w .0, w .1, λ z. w .2 (sym (start-c i w) ∙ z))
 
   -- and back
   pub used-from : (i : ℕ) → HalfUsed sh d i → i ≢ q .a → i ≢ q .b → HalfUsed sh c i
   used-from i w e g = (w .0, w .1, λ z. w .2 (k .start-else i e g ∙ z))
+
+  -- it was of l if it is of m
+  pub loop-goes : (i : ℕ) → HalfUsed sh c i → d Loop i ≡ q .m → c Loop i ≡ q .l
+  loop-goes i w = k .loop-new i (w .1) (off-b (k .site) i w)
+
+  -- else its loop is as it was
+  pub loop-stays : (i : ℕ) → HalfUsed sh c i → d Loop i ≢ q .m → d Loop i ≡ c Loop i
+  loop-stays i w = k .loop-else i (w .1) (off-a (k .site) i w)
+
+  -- and so is the face of l
+  pub face-l : d Face (q .l) ≡ c Face (q .l)
+  face-l = k .face-else (q .l) (l-m (k .site))
 
   -- those of d are a, b and those of c
   pub or-used : (i : ℕ) → Or (q .b) (Or (q .a) (HalfUsed sh c)) i → HalfUsed sh d i
