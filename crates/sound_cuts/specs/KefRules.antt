@@ -16,8 +16,8 @@ use Rattle.sound_tables.specs.EdgeIn.{Rules}
 use Rattle.sound_tables.specs.Sound.{halves, HalfUsed}
 use Rattle.sound_cuts.specs.Seats.{seat-out, xchg-back}
 use Rattle.sound_cuts.specs.Relation.{Spot, seat, spur, off-a, off-b, l-m, ba, Cut, used-a, used-b, used-to}
-use Rattle.sound_cuts.specs.Relation.{used-from, or-used, used-or, around, start-c, loop-stays, loop-goes}
-use Rattle.sound_cuts.specs.Spur.{With, vertexSeat, seat-place, vertex-place, a-new, b-new, Q-in, Q-a, next-spur}
+use Rattle.sound_cuts.specs.Relation.{used-from, With, or-used, used-or, around, start-c, loop-stays, loop-goes}
+use Rattle.sound_cuts.specs.Spur.{vertexSeat, seat-place, vertex-place, a-new, b-new, Q-in, Q-a, next-spur}
 use Rattle.sound_cuts.specs.Spur.{next-mate}
 
 module _ {sh : Shape} {c d : Columns} {q : Spot} (k : Cut sh c d q)

@@ -19,8 +19,8 @@ use Rattle.sound_tables.specs.Sound.{halves, HalfUsed, Sound}
 use Rattle.sound_tables.specs.Names.{lone-alone}
 use Rattle.sound_cuts.specs.Seats.{seat-in}
 use Rattle.sound_cuts.specs.Relation.{Spot, seat, spur, restOf, a-b, off-a, off-b, first-corner, l-m, ba, Cut}
-use Rattle.sound_cuts.specs.Relation.{Marked, or-used, used-or, loop-stays, loop-goes}
-use Rattle.sound_cuts.specs.Spur.{With, vertexSeat, vertex-place, a-new, b-new, Q-in, Q-a, spurLoop, loop-c}
+use Rattle.sound_cuts.specs.Relation.{Marked, With, or-used, used-or, loop-stays, loop-goes}
+use Rattle.sound_cuts.specs.Spur.{vertexSeat, vertex-place, a-new, b-new, Q-in, Q-a, spurLoop, loop-c}
 use Rattle.sound_cuts.specs.Spur.{loop-Q, spur-cycles, next-spur}
 use Rattle.sound_cuts.specs.Spur.{next-mate, start-with}
 use Rattle.sound_cuts.specs.MefSolids.{unnamed}
