@@ -22,7 +22,7 @@ use Rattle.sound_tables.specs.Sound.{In, Sound}
 use Rattle.sound_tables.specs.Labels.{many-one}
 use Rattle.sound_tables.specs.OneOperand.{one-accepted}
 use Rattle.sound_tables.specs.Good.{own, Capacities}
-use Rattle.sound_cuts.specs.Relation.{Spot, l-m, ba, Cut}
+use Rattle.sound_cuts.specs.Relation.{Spot, ba, Cut, face-l}
 use Rattle.sound_cuts.specs.MefSolids.{old-used}
 use Rattle.sound_cuts.specs.KefShown.{mendList}
 use Rattle.sound_cuts.specs.MefOperands.{kefOf}
@@ -67,8 +67,8 @@ module _ {sh : Shape} {p : List ℤ} {c d : Columns} {q : Spot} (k : Cut sh c d 
   face-m = v .at Face (q .m) (k .site .m-in .1) ∙ k .face-new
 
   -- the face of l
-  face-l : own sh y Face (q .l) ≡ c Face (q .l)
-  face-l = v .at Face (q .l) (k .site .l-in .1) ∙ k .face-else (q .l) (l-m (k .site))
+  l-face : own sh y Face (q .l) ≡ c Face (q .l)
+  l-face = v .at Face (q .l) (k .site .l-in .1) ∙ face-l k
 
   -- what it does
   pub kef-links : linksAfter sh y (kefOf (q .b)) ≡ mendList k s t v
@@ -94,7 +94,7 @@ module _ {sh : Shape} {p : List ℤ} {c d : Columns} {q : Spot} (k : Cut sh c d 
   -- the test passes
   test : kefTest sh y (q .b) ≡ true
   unfolding kefTest
-  test = rw (ba (k .site), loop-a, loop-b, face-m, face-l)
+  test = rw (ba (k .site), loop-a, loop-b, face-m, l-face)
       (T-true (T-every (eqb (countTo (sh .loops) (λ n. eqb (own sh y Face n) (q .f))) 1
       ∷ not (eqb (c Face (q .l)) (q .f)) ∷ []) (
         true-T (eqb-same (many-one (sh .loops) (own sh y Face) (q .f) (q .m) (k .site .m-in) face-m only-m)),

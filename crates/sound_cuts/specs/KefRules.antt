@@ -16,8 +16,8 @@ use Rattle.sound_tables.specs.EdgeIn.{Rules}
 use Rattle.sound_tables.specs.Sound.{halves, HalfUsed}
 use Rattle.sound_cuts.specs.Seats.{seat-out, xchg-back}
 use Rattle.sound_cuts.specs.Relation.{Spot, seat, spur, off-a, off-b, l-m, ba, Cut, used-a, used-b, used-to}
-use Rattle.sound_cuts.specs.Relation.{used-from, or-used, used-or, around}
-use Rattle.sound_cuts.specs.Spur.{With, vertexSeat, seat-place, vertex-place, a-new, b-new, Q-in, Q-a, next-spur}
+use Rattle.sound_cuts.specs.Relation.{used-from, With, or-used, used-or, around, start-c, loop-stays, loop-goes}
+use Rattle.sound_cuts.specs.Spur.{vertexSeat, seat-place, vertex-place, a-new, b-new, Q-in, Q-a, next-spur}
 use Rattle.sound_cuts.specs.Spur.{next-mate}
 
 module _ {sh : Shape} {c d : Columns} {q : Spot} (k : Cut sh c d q)
@@ -65,10 +65,8 @@ module _ {sh : Shape} {c d : Columns} {q : Spot} (k : Cut sh c d q)
       -- with c's names
       label : (i : ℕ) → HalfUsed sh c i → c Loop i ≡ relabel (d Loop) (d Loop (q .Q)) (d Loop (q .a)) i
       label i x = split (d Loop i) (q .m)
-          (λ e. k .loop-new i (x .1) (off-b (k .site) i x) e
-          ∙ sym (relabel-at (d Loop) _ _ (e ∙ sym loop-Q) ∙ k .loop-a))
-          (λ e. sym (k .loop-else i (x .1) (off-a (k .site) i x) e)
-          ∙ sym (relabel-off (d Loop) _ _ (λ z. e (z ∙ loop-Q))))
+          (λ e. loop-goes k i x e ∙ sym (relabel-at (d Loop) _ _ (e ∙ sym loop-Q) ∙ k .loop-a))
+          (λ e. sym (loop-stays k i x e) ∙ sym (relabel-off (d Loop) _ _ (λ z. e (z ∙ loop-Q))))
 
   -- ---- vertices
 
@@ -80,7 +78,7 @@ module _ {sh : Shape} {c d : Columns} {q : Spot} (k : Cut sh c d q)
       (λ i x. refl))
       (b-new (k .site)) (inl at-b))
       (a-new (k .site)) at-a)
-      (λ i x. x) (λ i x. x) (λ i x. refl) (λ i x. sym (k .start-else i (off-a (k .site) i x) (off-b (k .site) i x)))
+      (λ i x. x) (λ i x. x) (λ i x. refl) (λ i x. sym (start-c k i x))
     where
       -- the mate of Q is a or of c
       at-b : Or (q .a) (HalfUsed sh c) (mate (q .Q))

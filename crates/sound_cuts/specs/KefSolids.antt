@@ -15,7 +15,7 @@ use Rattle.sound_tables.specs.Faces.{Share}
 use Rattle.sound_tables.specs.Solids.{Solids}
 use Rattle.sound_tables.specs.Sound.{In, HalfUsed, FaceUsed, side, Sound}
 use Rattle.sound_cuts.specs.KefRules.{mend-rules}
-use Rattle.sound_cuts.specs.Relation.{Spot, off-a, off-b, l-m, ba, Cut, used-to, each}
+use Rattle.sound_cuts.specs.Relation.{Spot, l-m, ba, Cut, used-to, each, face-l, loop-stays, loop-goes}
 
 -- m is the only loop of f
 abbrev pub Only : Shape → Columns → Spot → Type 0
@@ -29,12 +29,12 @@ module _ {sh : Shape} {p : List ℤ} {c d : Columns} {q : Spot} (k : Cut sh c d 
 
   -- it is another
   pub f0-f : c Face (q .l) ≢ q .f
-  f0-f e = only (q .l) (k .site .l-in) (l-m (k .site)) (k .face-else (q .l) (l-m (k .site)) ∙ e)
+  f0-f e = only (q .l) (k .site .l-in) (l-m (k .site)) (face-l k ∙ e)
 
   -- and in use
   pub old-used : FaceUsed sh c (c Face (q .l))
   old-used =
-      let e = k .face-else (q .l) (l-m (k .site)) in
+      let e = face-l k in
       let r = t .loop (q .l) (k .site .l-in) (λ z. k .site .l-used (sym e ∙ z)) in
       let i : In (sh .faces) f0 = subst (In (sh .faces)) e (r .face-in) in
       (i .0, i .1, λ z. r .face-used (ap (d Solid) e ∙ k .solid-else f0 f0-f ∙ z))
@@ -50,11 +50,10 @@ module _ {sh : Shape} {p : List ℤ} {c d : Columns} {q : Spot} (k : Cut sh c d 
   -- a side becomes what φ says
   side-φ : (i : ℕ) → HalfUsed sh c i → side c i ≡ φ (side d i)
   side-φ i x = split (d Loop i) (q .m)
-      (λ e. ap (c Face) (k .loop-new i (x .1) (off-b (k .site) i x) e)
-      ∙ sym (upd-at (λ g. g) f0 (ap (d Face) e ∙ k .face-new)))
+      (λ e. ap (c Face) (loop-goes k i x e) ∙ sym (upd-at (λ g. g) f0 (ap (d Face) e ∙ k .face-new)))
       (λ e. let r = t .half i (x .0, x .1) (used-to k i x .2) in
       let z : side d i ≢ q .f = only (d Loop i) (r .loop-in) e in
-      ap (c Face) (sym (k .loop-else i (x .1) (off-a (k .site) i x) e)) ∙ sym (k .face-else (d Loop i) e)
+      ap (c Face) (sym (loop-stays k i x e)) ∙ sym (k .face-else (d Loop i) e)
       ∙ sym (upd-off (λ g. g) f0 z))
 
   -- what φ gives is in use, in the same solid
@@ -70,7 +69,7 @@ module _ {sh : Shape} {p : List ℤ} {c d : Columns} {q : Spot} (k : Cut sh c d 
 
   -- both sides of the edge become the face of l
   φ-a : φ (side d (q .a)) ≡ f0
-  φ-a = ap φ (ap (d Face) (k .loop-a) ∙ k .face-else (q .l) (l-m (k .site))) ∙ upd-off (λ g. g) f0 f0-f
+  φ-a = ap φ (ap (d Face) (k .loop-a) ∙ face-l k) ∙ upd-off (λ g. g) f0 f0-f
 
   -- the same of b
   φ-b : φ (side d (q .b)) ≡ f0

@@ -19,7 +19,7 @@ use Rattle.sound_tables.specs.Sound.{VertexSound, alone, joined, Sound}
 use Rattle.sound_tables.specs.Labels.{label-some, label-none}
 use Rattle.sound_cuts.specs.Relation.{Spot, seat, off-a, off-b, Lone, first-corner, ba, Cut, solid-used}
 use Rattle.sound_cuts.specs.Relation.{vertex-used, used-a, used-b, used-to, same-name, around, met-u, met-v, Met}
-use Rattle.sound_cuts.specs.Relation.{isolated-or}
+use Rattle.sound_cuts.specs.Relation.{isolated-or, start-c, loop-stays, loop-goes}
 use Rattle.sound_cuts.specs.KefRules.{mend-rules}
 use Rattle.sound_cuts.specs.KefSolids.{Only, old-used, mend-solids}
 
@@ -52,14 +52,14 @@ module _ {sh : Shape} {p : List ℤ} {c d : Columns} {q : Spot} (k : Cut sh c d 
   half : (i : ℕ) → HalfUsed sh c i → HalfSound sh c i
   half i x =
       let r = t .half i (x .0, x .1) (used-to k i x .2) in
-      let e : d Start i ≡ c Start i = k .start-else i (off-a (k .site) i x) (off-b (k .site) i x) in
+      let e : d Start i ≡ c Start i = start-c k i x in
       let si : In (sh .vertices) (c Start i) = subst (In (sh .vertices)) e (r .start-in) in
       let su : c VertexUsed (c Start i) ≢ 0 =
       λ z. r .start-used (ap (d VertexUsed) e ∙ vertex-used k (c Start i) ∙ z) in
       split (d Loop i) (q .m)
-      (λ g. let y = k .loop-new i (x .1) (off-b (k .site) i x) g in
+      (λ g. let y = loop-goes k i x g in
       record { start-in = si; start-used = su; loop-in = rw y (k .site .l-in); loop-used = rw y (k .site .l-used) })
-      (λ g. let y = k .loop-else i (x .1) (off-a (k .site) i x) g in record {
+      (λ g. let y = loop-stays k i x g in record {
         start-in = si;
         start-used = su;
         loop-in = subst (In (sh .loops)) y (r .loop-in);
@@ -79,13 +79,13 @@ module _ {sh : Shape} {p : List ℤ} {c d : Columns} {q : Spot} (k : Cut sh c d 
         (λ g. off-b (k .site) i x (lonely (t .rules .loops) (used-b k) (k .next-b ∙ o .1 .after) i (used-to k i x)
         (g ∙ sym (k .loop-b))))
         (λ g. off-a (k .site) i x (lonely (t .rules .loops) (used-a k) (k .next-a ∙ o .0 .after) i (used-to k i x)
-        (k .loop-else i (x .1) (off-a (k .site) i x) g ∙ e ∙ sym (k .loop-a)))))
+        (loop-stays k i x g ∙ e ∙ sym (k .loop-a)))))
 
     -- and none but the two starts at their vertex
     unstarted : (i : ℕ) → HalfUsed sh c i → c Start i ≢ q .u
     unstarted i x e = ⊎-elim (off-a (k .site) i x) (off-b (k .site) i x) (carry (λ j. (j ≡ q .a) ⊎ (j ≡ q .b)) step
         (t .rules .verts .one (q .a) i (used-a k) (used-to k i x)
-        (k .start-a ∙ sym e ∙ sym (k .start-else i (off-a (k .site) i x) (off-b (k .site) i x)))) .0 (inl refl))
+        (k .start-a ∙ sym e ∙ sym (start-c k i x))) .0 (inl refl))
       where
         -- around the vertex b comes after a
         after-a : d Next (mate (q .a)) ≡ q .b

@@ -19,8 +19,8 @@ use Rattle.sound_tables.specs.Sound.{halves, HalfUsed, Sound}
 use Rattle.sound_tables.specs.Names.{lone-alone}
 use Rattle.sound_cuts.specs.Seats.{seat-in}
 use Rattle.sound_cuts.specs.Relation.{Spot, seat, spur, restOf, a-b, off-a, off-b, first-corner, l-m, ba, Cut}
-use Rattle.sound_cuts.specs.Relation.{Marked, or-used, used-or}
-use Rattle.sound_cuts.specs.Spur.{With, vertexSeat, vertex-place, a-new, b-new, Q-in, Q-a, spurLoop, loop-c}
+use Rattle.sound_cuts.specs.Relation.{Marked, With, or-used, used-or, loop-stays, loop-goes}
+use Rattle.sound_cuts.specs.Spur.{vertexSeat, vertex-place, a-new, b-new, Q-in, Q-a, spurLoop, loop-c}
 use Rattle.sound_cuts.specs.Spur.{loop-Q, spur-cycles, next-spur}
 use Rattle.sound_cuts.specs.Spur.{next-mate, start-with}
 use Rattle.sound_cuts.specs.MefSolids.{unnamed}
@@ -57,7 +57,7 @@ module _ {sh : Shape} {p : List ℤ} {c d : Columns} {q : Spot} (k : Cut sh c d 
 
   -- the loop of another is as it was
   far : (i : ℕ) → HalfUsed sh c i → c Loop i ≢ q .l → d Loop i ≡ c Loop i
-  far i x e = k .loop-else i (x .1) (off-a (k .site) i x) (λ z. e (k .loop-new i (x .1) (off-b (k .site) i x) z))
+  far i x e = loop-stays k i x (λ z. e (loop-goes k i x z))
 
   -- the spur's loop is parted
   parted : Cycles n (With sh c q) (xchg (spur c q) (q .a) (q .Q)) (d Loop)

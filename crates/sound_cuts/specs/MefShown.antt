@@ -21,7 +21,7 @@ use Rattle.sound_tables.specs.FirstLow.{lower-new, first-low}
 use Rattle.sound_tables.specs.Shown.{shows-first}
 use Rattle.sound_cuts.specs.FieldLaws.{halfFields, patch, patch-other, outside, settled}
 use Rattle.sound_tables.specs.WriteLaws.{among-off, unwritten}
-use Rattle.sound_cuts.specs.Relation.{Spot, cutFields, l-m, Cut, used-a, used-b, around}
+use Rattle.sound_cuts.specs.Relation.{Spot, cutFields, l-m, Cut, used-a, used-b, around, face-l}
 use Rattle.sound_cuts.specs.MefPlace.{edgeAt}
 use Rattle.sound_cuts.specs.Round.{names-new, roundColumns, shows-round, round-other, round-in, round-off}
 
@@ -125,7 +125,7 @@ module _ {sh : Shape} {p : List ℤ} {c d : Columns} {q : Spot} (k : Cut sh c d 
   solid-read : faceSolid sh x (loopFace sh x (q .l)) ≡ c Solid (c Face (q .l))
   solid-read =
       let e = s .at Face (q .l) (k .site .l-in .1) in
-      let g = k .face-else (q .l) (l-m (k .site)) in
+      let g = face-l k in
       let r = t .loop (q .l) (k .site .l-in) (λ z. k .site .l-used (sym g ∙ z)) in
       rw e (s .at Solid (c Face (q .l)) (subst (λ y. y ≤ sh .faces) g (r .face-in .1)))
 
@@ -163,7 +163,7 @@ module _ {sh : Shape} {p : List ℤ} {c d : Columns} {q : Spot} (k : Cut sh c d 
   last : (F : Field) (i : ℕ) → changes firsts e3 F i ≡ d F i
   last F i =
       let l-used = t .loop (q .l) (k .site .l-in)
-      (λ z. k .site .l-used (sym (k .face-else (q .l) (l-m (k .site))) ∙ z)) in
+      (λ z. k .site .l-used (sym (face-l k) ∙ z)) in
       let m-used = t .loop (q .m) (k .site .m-in) (λ z. omega (arith, k .site .f-in .0, sym (k .face-new) ∙ z)) in
       let solid = settled Solid records H (d Solid) i (k .solid-new, tt) (λ e. sym (k .solid-else i e)) in
       let outer = settled Outer records H (d Outer) i (k .outer-new, tt) (λ e. sym (k .outer-else i e)) in

@@ -14,7 +14,7 @@ use Rattle.sound_tables.specs.Faces.{Share}
 use Rattle.sound_tables.specs.Solids.{Solids}
 use Rattle.sound_tables.specs.Sound.{HalfUsed, FaceUsed, side, Sound}
 use Rattle.sound_tables.specs.Names.{loop-unnamed}
-use Rattle.sound_cuts.specs.Relation.{Spot, off-a, off-b, l-m, ba, Cut, used-a, used-to, each}
+use Rattle.sound_cuts.specs.Relation.{Spot, ba, Cut, used-a, used-to, each, face-l, loop-stays, loop-goes}
 
 module _ {sh : Shape} {p : List ℤ} {c d : Columns} {q : Spot} (k : Cut sh c d q) (s : Sound sh p c) where
   -- the face of l
@@ -39,7 +39,7 @@ module _ {sh : Shape} {p : List ℤ} {c d : Columns} {q : Spot} (k : Cut sh c d 
 
   -- the sides of the new edge
   pub side-a : side d (q .a) ≡ c Face (q .l)
-  side-a = ap (d Face) (k .loop-a) ∙ k .face-else (q .l) (l-m (k .site))
+  side-a = ap (d Face) (k .loop-a) ∙ face-l k
 
   -- the side of b is the new face
   pub side-b : side d (q .b) ≡ q .f
@@ -52,8 +52,8 @@ module _ {sh : Shape} {p : List ℤ} {c d : Columns} {q : Spot} (k : Cut sh c d 
   -- another side is as it was, or goes from the old face to the new one
   sides : (i : ℕ) → HalfUsed sh c i → (side d i ≡ side c i) ⊎ ((side c i ≡ f0) × (side d i ≡ q .f))
   sides i x = split (d Loop i) (q .m)
-      (λ e. inr (ap (c Face) (k .loop-new i (x .1) (off-b (k .site) i x) e), ap (d Face) e ∙ k .face-new))
-      (λ e. inl (ap (d Face) (k .loop-else i (x .1) (off-a (k .site) i x) e) ∙ k .face-else (c Loop i) (unnamed i x)))
+      (λ e. inr (ap (c Face) (loop-goes k i x e), ap (d Face) e ∙ k .face-new))
+      (λ e. inl (ap (d Face) (loop-stays k i x e) ∙ k .face-else (c Loop i) (unnamed i x)))
 
   -- the old face stays in its solid
   solid-old : d Solid f0 ≡ c Solid f0

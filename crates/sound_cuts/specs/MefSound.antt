@@ -13,8 +13,8 @@ use Rattle.layout.specs.Fields.{Solid, Outer, Face, Isolated, Start, Loop, Vert
 use Rattle.sound_tables.specs.Sound.{In, HalfUsed, FaceSound, LoopSound, HalfSound, HalfFree, VertexSound, alone}
 use Rattle.sound_tables.specs.Sound.{joined, Sound, half-by}
 use Rattle.sound_tables.specs.Labels.{label-some}
-use Rattle.sound_cuts.specs.Relation.{Spot, off-a, off-b, l-m, Cut, Marked, solid-used, vertex-used, same-name}
-use Rattle.sound_cuts.specs.Relation.{each, around, Met, met-u, met-v, isolated-or}
+use Rattle.sound_cuts.specs.Relation.{Spot, Cut, Marked, solid-used, vertex-used, same-name}
+use Rattle.sound_cuts.specs.Relation.{each, around, Met, met-u, met-v, isolated-or, face-l, start-c, loop-stays}
 use Rattle.sound_cuts.specs.MefRules.{cut-rules}
 use Rattle.sound_cuts.specs.MefSolids.{old-used, not-new, new-used, unnamed, cut-solids}
 
@@ -67,9 +67,9 @@ module _ {sh : Shape} {p : List ℤ} {c d : Columns} {q : Spot} (k : Cut sh c d 
   -- the old loop has a
   loop-split : LoopSound sh d (q .l)
   loop-split = record {
-    face-in = rw (k .face-else (q .l) (l-m (k .site))) (old-used k s .0, old-used k s .1);
+    face-in = rw (face-l k) (old-used k s .0, old-used k s .1);
     face-used =
-        rw (k .face-else (q .l) (l-m (k .site)), k .solid-else (c Face (q .l)) (not-new k s _ (old-used k s .2)))
+        rw (face-l k, k .solid-else (c Face (q .l)) (not-new k s _ (old-used k s .2)))
         (old-used k s .2);
     first = w .first-l;
     either =
@@ -129,14 +129,14 @@ module _ {sh : Shape} {p : List ℤ} {c d : Columns} {q : Spot} (k : Cut sh c d 
   half : (i : ℕ) → HalfUsed sh d i → HalfSound sh d i
   half = each k (HalfSound sh d)
       (half-at (q .a) (q .u) (q .l) (k .start-a) (k .loop-a) (end-used (q .u) (k .site .u-some) (met-u k))
-      (k .site .l-in) (λ z. k .site .l-used (sym (k .face-else (q .l) (l-m (k .site))) ∙ z)))
+      (k .site .l-in) (λ z. k .site .l-used (sym (face-l k) ∙ z)))
       (half-at (q .b) (q .v) (q .m) (k .start-b) (k .loop-b) (end-used (q .v) (k .site .v-some) (met-v k))
       (k .site .m-in) new-loop-used)
       (λ i x. let r = s .half i (x .0, x .1) (x .2) in split (d Loop i) (q .m)
-      (λ e. half-at i (c Start i) (q .m) (k .start-else i (off-a (k .site) i x) (off-b (k .site) i x)) e
+      (λ e. half-at i (c Start i) (q .m) (start-c k i x) e
       (r .start-in, r .start-used) (k .site .m-in) new-loop-used)
-      (λ e. half-at i (c Start i) (c Loop i) (k .start-else i (off-a (k .site) i x) (off-b (k .site) i x))
-      (k .loop-else i (x .1) (off-a (k .site) i x) e) (r .start-in, r .start-used) (r .loop-in)
+      (λ e. half-at i (c Start i) (c Loop i) (start-c k i x)
+      (loop-stays k i x e) (r .start-in, r .start-used) (r .loop-in)
       (λ z. r .loop-used (sym (k .face-else (c Loop i) (unnamed k s i x)) ∙ z))))
     where
       -- the new loop is in use
@@ -199,7 +199,7 @@ module _ {sh : Shape} {p : List ℤ} {c d : Columns} {q : Spot} (k : Cut sh c d 
         (λ e. old-face g i e (s .face g i (λ z. h (k .solid-else g e ∙ z))));
     loop-free = λ m i h.
         let g : m ≢ q .m = λ z. omega (arith, k .site .f-in .0, sym (k .face-new) ∙ ap (d Face) (sym z) ∙ h) in
-        let e : m ≢ q .l = λ z. k .site .l-used (sym (k .face-else (q .l) (l-m (k .site))) ∙ ap (d Face) (sym z) ∙ h) in
+        let e : m ≢ q .l = λ z. k .site .l-used (sym (face-l k) ∙ ap (d Face) (sym z) ∙ h) in
         let r = s .loop-free m i (sym (k .face-else m g) ∙ h) in
         (k .first-else m e g ∙ r .0, k .isolated-else m e g ∙ r .1);
     loop = λ m i h. split m (q .m) (λ e. subst (LoopSound sh d) (sym e) loop-new)

@@ -234,6 +234,10 @@ pub record Marked (sh : Shape) (c d : Columns) (q : Spot) : Type 0 where
 
 -- ---- which half-edges are in use
 
+-- those in use with the edge: b, a and those of c
+abbrev pub With : Shape → Columns → Spot → ℕ → Type 0
+With sh c q = Or (q .b) (Or (q .a) (HalfUsed sh c))
+
 module _ {sh : Shape} {c d : Columns} {q : Spot} (k : Cut sh c d q) where
   -- the same solids are in use
   pub solid-used : (n : ℕ) → d SolidUsed n ≡ c SolidUsed n
@@ -243,29 +247,45 @@ module _ {sh : Shape} {c d : Columns} {q : Spot} (k : Cut sh c d q) where
   pub vertex-used : (n : ℕ) → d VertexUsed n ≡ c VertexUsed n
   vertex-used = k .others VertexUsed refl
 
-  -- in d they are in use
+  -- a is in use in d
   pub used-a : HalfUsed sh d (q .a)
   used-a = (k .site .a-in .0, k .site .a-in .1, λ z. k .site .u-some (sym (k .start-a) ∙ z))
 
-  -- and b
+  -- so is b
   pub used-b : HalfUsed sh d (q .b)
   used-b = (k .site .b-in .0, k .site .b-in .1, λ z. k .site .v-some (sym (k .start-b) ∙ z))
 
-  -- the others are in use in both or in none
+  -- a half-edge of c starts where it did
+  pub start-c : (i : ℕ) → HalfUsed sh c i → d Start i ≡ c Start i
+  start-c i w = k .start-else i (off-a (k .site) i w) (off-b (k .site) i w)
+
+  -- and is in use in d
   pub used-to : (i : ℕ) → HalfUsed sh c i → HalfUsed sh d i
-  used-to i w = (w .0, w .1, λ z. w .2 (sym (k .start-else i (off-a (k .site) i w) (off-b (k .site) i w)) ∙ z))
+  used-to i w = (w .0, w .1, λ z. w .2 (sym (start-c i w) ∙ z))
 
   -- and back
   pub used-from : (i : ℕ) → HalfUsed sh d i → i ≢ q .a → i ≢ q .b → HalfUsed sh c i
   used-from i w e g = (w .0, w .1, λ z. w .2 (k .start-else i e g ∙ z))
 
+  -- a half-edge of c that is of m in d was of l
+  pub loop-goes : (i : ℕ) → HalfUsed sh c i → d Loop i ≡ q .m → c Loop i ≡ q .l
+  loop-goes i w = k .loop-new i (w .1) (off-b (k .site) i w)
+
+  -- else its loop is as it was
+  pub loop-stays : (i : ℕ) → HalfUsed sh c i → d Loop i ≢ q .m → d Loop i ≡ c Loop i
+  loop-stays i w = k .loop-else i (w .1) (off-a (k .site) i w)
+
+  -- the face of l is as it was
+  pub face-l : d Face (q .l) ≡ c Face (q .l)
+  face-l = k .face-else (q .l) (l-m (k .site))
+
   -- those of d are a, b and those of c
-  pub or-used : (i : ℕ) → Or (q .b) (Or (q .a) (HalfUsed sh c)) i → HalfUsed sh d i
+  pub or-used : (i : ℕ) → With sh c q i → HalfUsed sh d i
   or-used i = ⊎-elim (λ e. subst (HalfUsed sh d) (sym e) used-b)
       (⊎-elim (λ e. subst (HalfUsed sh d) (sym e) used-a) (used-to i))
 
   -- and back
-  pub used-or : (i : ℕ) → HalfUsed sh d i → Or (q .b) (Or (q .a) (HalfUsed sh c)) i
+  pub used-or : (i : ℕ) → HalfUsed sh d i → With sh c q i
   used-or i w = split i (q .b) (λ e. inl e) (λ e. split i (q .a) (λ g. inr (inl g))
       (λ g. inr (inr (used-from i w g e))))
 

@@ -17,12 +17,8 @@ use Rattle.layout.specs.Fields.{Start, Loop, Next, Columns}
 use Rattle.sound_tables.specs.Sound.{HalfUsed, Sound}
 use Rattle.sound_tables.specs.Names.{lone-unnamed}
 use Rattle.sound_cuts.specs.Relation.{Spot, AtA, AtB, seat, spur, restOf, Site, a-b, off-a, off-b, first-corner}
-use Rattle.sound_cuts.specs.Relation.{ba, Cut}
+use Rattle.sound_cuts.specs.Relation.{ba, Cut, With}
 use Rattle.sound_cuts.specs.Seats.{seat-in, turned}
-
--- those in use with the edge: b, a and those of c
-abbrev pub With : Shape → Columns → Spot → ℕ → Type 0
-With sh c q = Or (q .b) (Or (q .a) (HalfUsed sh c))
 
 -- the loops with the spur
 abbrev pub spurLoop : Columns → Spot → ℕ → ℕ
