@@ -10,10 +10,10 @@ use Rattle.layout.specs.Fields.{Isolated, Start, Loop, Next, Columns}
 use Rattle.sound_tables.specs.Sound.{In, HalfUsed}
 use Rattle.sound_tables.specs.WithDummies.{upTo-low, upTo-high, extended, Dummy, Member, dummy-of, dummy-loop}
 use Rattle.sound_tables.specs.WithDummies.{dummy-start}
-use Rattle.sound_bridges.specs.Relation.{Spot, Corner}
+use Rattle.sound_bridges.specs.Relation.{Corner, HasCorner}
 
 -- member y comes before it and z after it: the dummy, or the two half-edges
-pub record Seat (sh : Shape) (c : Columns) (s : Spot) : Type 0 where
+pub record Seat (sh : Shape) (c : Columns) (s : Corner) : Type 0 where
   pub y : ℕ
   pub z : ℕ
   pub member : Member sh c y
@@ -24,12 +24,12 @@ pub record Seat (sh : Shape) (c : Columns) (s : Spot) : Type 0 where
   pub which : ((y ≡ 2 * sh .edges + s .l) × (z ≡ 2 * sh .edges + s .l) × (s .P ≡ s .b) × (s .N ≡ s .k))
       ⊎ ((y ≡ s .P) × (z ≡ s .N) × HalfUsed sh c (s .P) × HalfUsed sh c (s .N) × (c Isolated (s .l) ≡ 0))
 
-module _ {sh : Shape} {c : Columns} {s : Spot} (i : In (sh .loops) (s .l)) (x : s .u ≢ 0)
+module _ {sh : Shape} {c : Columns} {s : Corner} (i : In (sh .loops) (s .l)) (x : s .u ≢ 0)
     (keeps : (i : ℕ) → HalfUsed sh c i → c Loop (c Next i) ≡ c Loop i) where
-  open Spot s using (l, P, N)
+  open Corner s using (l, P, N)
 
   -- of each corner
-  pub seat : Corner sh c s → Seat sh c s
+  pub seat : HasCorner sh c s → Seat sh c s
   seat = ⊎-elim
       (λ r. let w = dummy-of sh c l i (λ e. x (sym (r .isolated) ∙ e)) in record {
         y = 2 * sh .edges + l;
@@ -63,8 +63,8 @@ low sh m h e = omega (arith, h, m .0, e)
 pub not-dummy : (sh : Shape) {l i : ℕ} → i - 2 * sh .edges ≢ l → i ≢ 2 * sh .edges + l
 not-dummy sh h e = h (omega (arith, e))
 
-module _ {sh : Shape} {c : Columns} {s : Spot} (t : Seat sh c s) where
-  open Spot s using (l, P, N, k, b)
+module _ {sh : Shape} {c : Columns} {s : Corner} (t : Seat sh c s) where
+  open Corner s using (l, P, N, k, b)
 
   -- a half-edge there is P or N
   pub seat-P : {i : ℕ} → In (sh .loops) l → HalfUsed sh c i → i ≡ t .y → i ≡ P
@@ -127,7 +127,7 @@ module _ (sh : Shape) (c : Columns) where
       (λ w. g i w (sym (upTo-high n (c Start) (λ j. c Isolated (j - n)) i (w .0)) ∙ e)) q
 
   -- a corner is a member of its loop and of its vertex
-  pub corner-members : {s : Spot} → In (sh .loops) (s .l) → s .u ≢ 0 → Corner sh c s
+  pub corner-members : {s : Corner} → In (sh .loops) (s .l) → s .u ≢ 0 → HasCorner sh c s
       → LoopMember sh c (s .l) × VertexMember sh c (s .u)
   corner-members {s} i x = ⊎-elim
       (λ r.

@@ -24,13 +24,14 @@ use Rattle.sound_tables.specs.Names.{not-isolated, lone-used, free-zero, free-h
 use Rattle.sound_tables.specs.Good.{own, Good, good-shows}
 use Rattle.sound_tables.specs.CornerTest.{CornerAt, cornerLeft}
 use Rattle.sound_tables.specs.Undone.{Kept, Undone}
-use Rattle.sound_bridges.specs.Relation.{Spot, Corner, foundAt, spot1, spot2, Bridge, Ends, Bridged, off-k, off-a}
+use Rattle.sound_bridges.specs.Relation.{Corner, HasCorner, foundAt, corner1, corner2, Bridge, Ends, Bridged}
+use Rattle.sound_bridges.specs.Relation.{off-k, off-a}
 use Rattle.sound_bridges.specs.Unique.{Alike, down-same, up-same}
 use Rattle.sound_bridges.specs.MekrColumns.{mekrList, mekrColumns, up-bridged}
 use Rattle.sound_bridges.specs.MekrShown.{mekr-sound, mekr-shows, mekr-good}
 use Rattle.sound_bridges.specs.KemrColumns.{spanBridge, kemrList, kemrColumns, Span, walk, down-bridged}
 use Rattle.sound_bridges.specs.KemrShown.{kemr-sound, kemr-shows, kemr-good}
-use Rattle.sound_bridges.specs.MekrAccepted.{mekrOf, spotOf, bridgeOf, mekrBridge, MekrFacts, mekr-said}
+use Rattle.sound_bridges.specs.MekrAccepted.{mekrOf, cornerOf, bridgeOf, mekrBridge, MekrFacts, mekr-said}
 use Rattle.sound_bridges.specs.MekrAccepted.{mekr-accepted, mekr-links, mekr-points}
 use Rattle.sound_bridges.specs.KemrAccepted.{kemrOf, kemr-facts, kemr-accepted, kemr-links, kemr-points}
 use Rattle.sound_bridges.specs.KemrAccepted.{kemr-inverse, mekr-inverse}
@@ -40,7 +41,7 @@ use Rattle.sound_bridges.specs.KemrAccepted.{kemr-inverse, mekr-inverse}
 module _ {sh : Shape} {p : List ℤ} {c : Columns} (a : Sound sh p c) {l h : ℕ} (i : In (sh .loops) l)
     (q : CornerAt sh c l h) where
   -- a corner as the operator reads it
-  corner-of : (k b : ℕ) → Corner sh c (spotOf c l h k b)
+  corner-of : (k b : ℕ) → HasCorner sh c (cornerOf c l h k b)
   corner-of k b = ⊎-elim
       (λ r. rw (eqb-same (r .0)) (inl (record { before = refl; after = refl; isolated = refl })))
       (λ r. let z : h ≢ 0 = λ e. omega (arith, r .0 .0, e) in rw (eqb-other z) (inr (record {
@@ -161,7 +162,7 @@ module _ {sh : Shape} {x : List ℕ} {p : List ℤ} (g : Good sh x p) {l h1 l2 h
 
   -- each corner is found where it was said
   found-at : {m h k′ : ℕ} (b′ : ℕ) → CornerAt sh c m h → ((i : ℕ) → HalfUsed sh c i → i ≢ k′)
-      → foundAt (spotOf c m h k′ b′) ≡ h
+      → foundAt (cornerOf c m h k′ b′) ≡ h
   found-at {h = h} {k′ = k′} b′ q off = ⊎-elim
       (λ v. rw (eqb-same (v .0), eqb-same {m = k′} refl) (sym (v .0)))
       (λ v. let z : h ≢ 0 = λ j. omega (arith, v .0 .0, j) in rw (eqb-other z, eqb-other (off h (v .0)))) q
@@ -178,7 +179,7 @@ module _ {sh : Shape} {x : List ℕ} {p : List ℤ} (g : Good sh x p) {l h1 l2 h
             ∙ shows-ext (kemr-shows gy span) (good-shows g) mekr-back);
         points = rw (el, ep, ei) (kemr-points sh y (g .capacities) span p);
         again = rw (el, ep, ei) (kemr-inverse sh y (g .capacities) span p
-            ∙ ap (λ Z. mekrOf (Z .l) (foundAt (spot1 Z)) (Z .l2) (foundAt (spot2 Z)) (edgeOf (Z .k)) (wayOf (Z .k)))
+            ∙ ap (λ Z. mekrOf (Z .l) (foundAt (corner1 Z)) (Z .l2) (foundAt (corner2 Z)) (edgeOf (Z .k)) (wayOf (Z .k)))
             read-up
             ∙ (λ t. mekrOf l (found-at (mate k) (r .at-1) (off-k b) t) l2 (found-at k (r .at-2) (off-a b) t)
             ((ap edgeOf (sym hk) ∙ edge-by e w (r .edge-in .0)) t)
@@ -228,7 +229,8 @@ module _ {sh : Shape} {x : List ℕ} {p : List ℤ} (g : Good sh x p) {k l2 : �
   kemr-kept = rw (kemr-links sh x (g .capacities) o, kemr-points sh x (g .capacities) o p) gₖ
 
   -- a corner is one of the list afterwards
-  corner-at : {s : Spot} → Corner sh cₖ s → ((i : ℕ) → HalfUsed sh cₖ i → i ≢ s .k) → In (sh .loops) (s .l) → s .u ≢ 0
+  corner-at : {s : Corner} → HasCorner sh cₖ s → ((i : ℕ) → HalfUsed sh cₖ i → i ≢ s .k) → In (sh .loops) (s .l)
+      → s .u ≢ 0
       → CornerAt sh (own sh yₖ) (s .l) (foundAt s)
   corner-at {s} q off i z = ⊎-elim
       (λ v. rw (eqb-same (v .after)) (inl (refl, λ t. z (sym (v .isolated) ∙ sym (sₖ .at Isolated (s .l) (i .1)) ∙ t))))
@@ -236,19 +238,19 @@ module _ {sh : Shape} {x : List ℕ} {p : List ℤ} (g : Good sh x p) {k l2 : �
       (inr ((w .0, w .1, λ t. w .2 (sym (sₖ .at Start (s .N) (w .1)) ∙ t)), sₖ .at Loop (s .N) (w .1) ∙ v .loop))) q
 
   -- and is read there as it was
-  read-back : {s : Spot} → Corner sh cₖ s → ((i : ℕ) → HalfUsed sh cₖ i → i ≢ s .k) → In (sh .loops) (s .l)
-      → spotOf (own sh yₖ) (s .l) (foundAt s) (s .k) (s .b) ≡ s
+  read-back : {s : Corner} → HasCorner sh cₖ s → ((i : ℕ) → HalfUsed sh cₖ i → i ≢ s .k) → In (sh .loops) (s .l)
+      → cornerOf (own sh yₖ) (s .l) (foundAt s) (s .k) (s .b) ≡ s
   read-back {s} q off i = ⊎-elim
-      (λ v. rw (eqb-same (v .after)) (spot-is (sₖ .at Isolated (s .l) (i .1) ∙ v .isolated) (sym (v .before))
+      (λ v. rw (eqb-same (v .after)) (corner-is (sₖ .at Isolated (s .l) (i .1) ∙ v .isolated) (sym (v .before))
       (sym (v .after))))
       (λ v. let w = v .after in let z : s .N ≢ 0 = λ t. omega (arith, w .0, t) in
       rw (eqb-other (off (s .N) w), eqb-other z)
-      (spot-is (sₖ .at Start (s .N) (w .1) ∙ v .start) (sₖ .at Prev (s .N) (w .1) ∙ v .prev) refl)) q
+      (corner-is (sₖ .at Start (s .N) (w .1) ∙ v .start) (sₖ .at Prev (s .N) (w .1) ∙ v .prev) refl)) q
     where
       -- the same corner, with its numbers said otherwise
-      spot-is : {u P N : ℕ} → u ≡ s .u → P ≡ s .P → N ≡ s .N
-          → _≡_ {A = Spot} (record { l = s .l; u = u; P = P; N = N; k = s .k; b = s .b }) s
-      spot-is e f h = λ t. record { l = s .l; u = e t; P = f t; N = h t; k = s .k; b = s .b }
+      corner-is : {u P N : ℕ} → u ≡ s .u → P ≡ s .P → N ≡ s .N
+          → _≡_ {A = Corner} (record { l = s .l; u = u; P = P; N = N; k = s .k; b = s .b }) s
+      corner-is e f h = λ t. record { l = s .l; u = e t; P = f t; N = h t; k = s .k; b = s .b }
 
   -- mekr is accepted there
   facts : MekrFacts sh (own sh yₖ) (dₖ Loop k) h₁ l2 h₂ (edgeOf k) (wayOf k)

@@ -27,7 +27,7 @@ use Rattle.sound_tables.specs.Names.{not-isolated}
 use Rattle.sound_tables.specs.Walking.{Steps, runColumns, run-met, run-off, run-other}
 use Rattle.sound_tables.specs.Good.{own}
 use Rattle.sound_tables.specs.CornerTest.{cornerLeft}
-use Rattle.sound_bridges.specs.Relation.{Corner, Bridge, Numbers, numbers, spot1, spot2, touched, Bridged}
+use Rattle.sound_bridges.specs.Relation.{HasCorner, Bridge, Derived, derived, corner1, corner2, touched, Bridged}
 use Rattle.sound_bridges.specs.Runs.{Met, met?, run-to, met-in, not-k, not-a, met-next, met-prev, met-last}
 use Rattle.sound_bridges.specs.Runs.{met-first}
 
@@ -97,8 +97,8 @@ module _ {sh : Shape} {p : List ℤ} {d : Columns} (A : Sound sh p d) {k l2 : �
   abbrev B : Bridge
   B = spanBridge d k l2
 
-  open Numbers (numbers sh B) using (n, a)
-  open Bridge B using (l, u1, P1, N1, u2, P2, N2)
+  open Derived (derived sh B) using (n, a)
+  open Bridge B using (l, P1, N1, P2, N2)
   open Span o using (half, one, ring-in, free)
   open Sound A using (rules)
   open Rules (A .rules) using (undone, loops, verts)
@@ -274,7 +274,7 @@ module _ {sh : Shape} {p : List ℤ} {d : Columns} (A : Sound sh p d) {k l2 : �
   isolated-l2 = upd-off _ _ (λ e. two (sym e)) ∙ upd-same _ l2 _
 
   -- the corner of the loop
-  corner-1 : Corner sh c (spot1 B)
+  corner-1 : HasCorner sh c (corner1 B)
   corner-1 = split N1 k
       (λ e. inl (record
       { before = ap (d Prev) (sym e) ∙ undone a ua; after = e; isolated = isolated-l ∙ rw (eqb-same e) }))
@@ -291,7 +291,7 @@ module _ {sh : Shape} {p : List ℤ} {d : Columns} (A : Sound sh p d) {k l2 : �
       }))
 
   -- the corner of the ring
-  corner-2 : Corner sh c (spot2 B)
+  corner-2 : HasCorner sh c (corner2 B)
   corner-2 = split N2 a
       (λ e. inl (record
       { before = ap (d Prev) (sym e) ∙ undone k half; after = e; isolated = isolated-l2 ∙ rw (eqb-same e) }))

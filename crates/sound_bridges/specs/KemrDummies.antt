@@ -17,7 +17,7 @@ use Rattle.sound_tables.specs.Dummies.{added, add-rules}
 use Rattle.sound_tables.specs.Sound.{HalfUsed, Sound}
 use Rattle.sound_tables.specs.WithDummies.{upTo-low, extended, Dummy, Member, sound-corners}
 use Rattle.sound_bridges.specs.PassedOver.{Rules⁺}
-use Rattle.sound_bridges.specs.Relation.{after-in, Bridge, Ends, Numbers, numbers, Bridged, ka, low-1, low-2, D21}
+use Rattle.sound_bridges.specs.Relation.{after-in, Bridge, Ends, Derived, derived, Bridged, ka, low-1, low-2, D21}
 use Rattle.sound_bridges.specs.Relation.{D12, new-k, new-a, half-was, dummy-other}
 
 -- the columns with the loop's dummy after the mate
@@ -33,7 +33,7 @@ abbrev pub Wide : Shape → Columns → Bridge → ℕ → Type 0
 Wide sh d B = Or (2 * sh .edges + B .l2) (Or (2 * sh .edges + B .l) (Member sh d))
 
 module _ {sh : Shape} {c d : Columns} {B : Bridge} (b : Bridged sh c d B) where
-  open Numbers (numbers sh B) using (n, a, D1, D2)
+  open Derived (derived sh B) using (n, a, D1, D2)
   open Bridge B using (k, l, l2, N1, N2)
   open Ends (b .ends) using (half-in, mate-in, loop-in, ring-in, at-1, at-2)
 

@@ -26,12 +26,12 @@ use Rattle.sound_bridges.specs.KemrDummies.{oneIn, bothIn, Wide, high-1,
 use Rattle.sound_bridges.specs.KemrDummies.{went-a, went-k, goes-k, goes-a, goes-D1, goes-D2, goes-o, names-k}
 use Rattle.sound_bridges.specs.KemrDummies.{names-a, names-D1, names-D2, names-o, wide-rules, each}
 use Rattle.sound_bridges.specs.Runs.{till-same}
-use Rattle.sound_bridges.specs.Relation.{Spot, real-before, Bridge, Ends, Numbers, numbers, spot1, spot2, Bridged}
-use Rattle.sound_bridges.specs.Relation.{ka, off-k, off-a, mem-k, mem-a, low-1, low-2, D21, D12, new-k, new-a}
-use Rattle.sound_bridges.specs.Relation.{half-stays, half-back, dummy-stays, dummy-was}
+use Rattle.sound_bridges.specs.Relation.{Corner, real-before, Bridge, Ends, Derived, derived, corner1, corner2}
+use Rattle.sound_bridges.specs.Relation.{Bridged, ka, off-k, off-a, mem-k, mem-a, low-1, low-2, D21, D12, new-k}
+use Rattle.sound_bridges.specs.Relation.{new-a, half-stays, half-back, dummy-stays, dummy-was}
 
 module _ {sh : Shape} {pt : List ℤ} {c d : Columns} {B : Bridge} (A : Sound sh pt d) (b : Bridged sh c d B) where
-  open Numbers (numbers sh B) using (n, a, D1, D2)
+  open Derived (derived sh B) using (n, a, D1, D2)
   open Bridge B using (k, l, l2, P1, N1, P2, N2)
   open Ends (b .ends) using (half-in, mate-in, loop-in, ring-in, two, at-1, at-2, in-1, in-2, keeps)
   open Bridged b using (start-k, start-a, start-o, loop-2, loop-o, next-k, next-a, next-1, next-2, next-o, prev-k)
@@ -76,7 +76,7 @@ module _ {sh : Shape} {pt : List ℤ} {c d : Columns} {B : Bridge} (A : Sound sh
       (λ z. ia (inj perm v (new-a b) (z ∙ sym next-a))) (λ z. ik (inj perm v (new-k b) (z ∙ sym next-k))))
       ∙ A .rules .undone i v)))
 
-  module _ (t1 : Seat sh c (spot1 B)) (t2 : Seat sh c (spot2 B)) where
+  module _ (t1 : Seat sh c (corner1 B)) (t2 : Seat sh c (corner2 B)) where
     -- what comes before the corner of the loop
     abbrev p : ℕ
     p = t1 .y
@@ -180,7 +180,7 @@ module _ {sh : Shape} {pt : List ℤ} {c d : Columns} {B : Bridge} (A : Sound sh
         ∙ upTo-high n (d Next) (λ j. j) i (w .0)))
       where
         -- the label after a corner
-        lab-z : {s : Spot} (t : Seat sh c s) → t .z ≡ s .N → HalfUsed sh c (s .N) → lab (t .z) ≡ s .l
+        lab-z : {s : Corner} (t : Seat sh c s) → t .z ≡ s .N → HalfUsed sh c (s .N) → lab (t .z) ≡ s .l
         lab-z t e w = lab-m (t .z) (inl (subst (HalfUsed sh c) (sym e) w)) ∙ t .loop-z
 
     -- the new loop has a new label

@@ -23,8 +23,8 @@ use Rattle.sound_tables.specs.Walking.{runColumns, shows-relabel}
 use Rattle.sound_tables.specs.FirstLow.{first-low}
 use Rattle.sound_tables.specs.Shown.{withFirst, shows-no-edge, shows-first, shows-isolated}
 use Rattle.sound_tables.specs.Good.{own, Good, good-shows, good-after}
-use Rattle.sound_bridges.specs.Relation.{Spot, Corner, foundAt, Bridge, Numbers, numbers, spot1, spot2, Ends}
-use Rattle.sound_bridges.specs.Relation.{Bridged, off-k, off-a, new-a}
+use Rattle.sound_bridges.specs.Relation.{Corner, HasCorner, foundAt, Bridge, Derived, derived, corner1, corner2}
+use Rattle.sound_bridges.specs.Relation.{Ends, Bridged, off-k, off-a, new-a}
 use Rattle.sound_bridges.specs.KemrSound.{down-sound}
 use Rattle.sound_bridges.specs.KemrRules.{down-rules}
 use Rattle.sound_bridges.specs.KemrColumns.{spanBridge, partedList, kemrList, cutColumns, kemrColumns, Span, walk}
@@ -43,7 +43,7 @@ module _ {sh : Shape} {x : List ℕ} {p : List ℤ} (g : Good sh x p) {k l2 : �
   abbrev B : Bridge
   B = spanBridge (own sh x) k l2
 
-  open Numbers (numbers sh B) using (n, a)
+  open Derived (derived sh B) using (n, a)
   open Bridge B using (l)
 
   -- the columns before the two loops have their firsts
@@ -95,9 +95,9 @@ module _ {sh : Shape} {x : List ℕ} {p : List ℤ} (g : Good sh x p) {k l2 : �
       first-low (g .sound) l i (loop-in .0) j was .1
 
   -- a loop with the corner at N gets its first, or is isolated at u
-  renewed : {y : List ℕ} {e : Columns} (s : Spot) → Shows sh y e
+  renewed : {y : List ℕ} {e : Columns} (s : Corner) → Shows sh y e
       → Cycles (2 * sh .edges) (HalfUsed sh c) (e Next) (e Loop)
-      → ((i : ℕ) → e Loop i ≡ c Loop i) → Corner sh c s → In (sh .loops) (s .l) → In (sh .vertices) (s .u)
+      → ((i : ℕ) → e Loop i ≡ c Loop i) → HasCorner sh c s → In (sh .loops) (s .l) → In (sh .vertices) (s .u)
       → ((i : ℕ) → HalfUsed sh c i → i ≢ s .k) → (s .l ≡ l2) ⊎ (s .l ≡ l)
       → Shows sh (renew sh y (s .l) (own sh x First (own sh x Loop k)) (foundAt s) (s .u))
       (withFirst e (s .l) (firstOf sh e (s .l)) (pick (eqb (s .N) (s .k)) (s .u) 0))
@@ -115,8 +115,8 @@ module _ {sh : Shape} {x : List ℕ} {p : List ℤ} (g : Good sh x p) {k l2 : �
   pub kemr-shows : Shows sh (kemrList sh x k l2) (kemrColumns sh (own sh x) k l2 (walk (g .sound) o .0))
   kemr-shows =
       let cy = kemr-sound .rules .loops in
-      let s2 = renewed (spot2 B) cut-shows cy (λ i. refl) at-2 ring-in in-2 (off-a b) (inl refl) in
-      renewed (spot1 B) s2 cy (λ i. refl) at-1 loop-in in-1 (off-k b) (inr refl)
+      let s2 = renewed (corner2 B) cut-shows cy (λ i. refl) at-2 ring-in in-2 (off-a b) (inl refl) in
+      renewed (corner1 B) s2 cy (λ i. refl) at-1 loop-in in-1 (off-k b) (inr refl)
 
   -- the table is good afterwards
   pub kemr-good : Good sh (kemrList sh x k l2) p

@@ -1,5 +1,5 @@
--- kemr on the columns: c is sound where d is, and where c has the rules with dummies (`KemrRules`) and the firsts of its
--- two loops.
+-- kemr on the columns: c is sound where d is, and where c has the rules with dummies (`KemrRules`) and the firsts of
+-- its two loops.
 use mathlib.Core.Path.{_≡_, refl, sym, ap, _∙_, subst}
 use mathlib.Core.Logic.{_≢_, inl, inr, ⊎-elim}
 use mathlib.Core.List.{List}
@@ -24,18 +24,18 @@ use Rattle.sound_tables.specs.WithDummies.{extended, Member, Corners, sound-cor
 use Rattle.sound_tables.specs.WithDummies.{corners-vertex}
 use Rattle.sound_bridges.specs.CornerMembers.{LoopMember, VertexMember, half-loop, lone-loop, of-loop}
 use Rattle.sound_bridges.specs.CornerMembers.{half-vertex, lone-vertex, of-vertex, corner-members}
-use Rattle.sound_bridges.specs.Relation.{Spot, Bridge, Numbers, numbers, Ends, Corner, Bridged, corner-before}
-use Rattle.sound_bridges.specs.Relation.{corner-after, off-k, off-a, half-stays, half-back, dummy-other}
-use Rattle.sound_bridges.specs.Relation.{dummy-was, side-same, side-k, side-a, same-name}
+use Rattle.sound_bridges.specs.Relation.{Corner, Bridge, Derived, derived, Ends, HasCorner, Bridged}
+use Rattle.sound_bridges.specs.Relation.{corner-before, corner-after, off-k, off-a, half-stays, half-back}
+use Rattle.sound_bridges.specs.Relation.{dummy-other, dummy-was, side-same, side-k, side-a, same-name}
 
 module _ {sh : Shape} {p : List ℤ} {c d : Columns} {B : Bridge} (a : Sound sh p d) (b : Bridged sh c d B)
     (rules⁺ : Rules (2 * sh .edges + sh .loops) (mate⁺ (sh .edges)) (Member sh c) (extended sh c))
     (first-1 : c First (B .l) ≡ firstOf sh c (B .l)) (first-2 : c First (B .l2) ≡ firstOf sh c (B .l2)) where
-  open Numbers (numbers sh B) using (n)
+  open Derived (derived sh B) using (n)
   open Bridge B using (k, l, l2, u1, u2)
   open Ends (b .ends) using (loop-in, ring-in, two, one-face, at-1, at-2, in-1, in-2, used-1, used-2, zero-k, zero-a)
   open Bridged b using (start-k, start-a, start-o, loop-k, loop-a, loop-2, loop-o, next-o, prev-o, face-2, face-o)
-  open Bridged b using (first-o, isolated-1, isolated-2, isolated-o, others)
+  open Bridged b using (first-o, isolated-o, others)
 
   -- ---- members of loops and vertices
 
@@ -91,7 +91,8 @@ module _ {sh : Shape} {p : List ℤ} {c d : Columns} {B : Bridge} (a : Sound sh 
   solid-back f x z = x (others Solid refl f ∙ z)
 
   -- at a corner of the two
-  corner-used : {s : Spot} → Corner sh c s → In (sh .vertices) (s .u) → c VertexUsed (s .u) ≢ 0 → c Isolated (s .l) ≢ 0
+  corner-used : {s : Corner} → HasCorner sh c s → In (sh .vertices) (s .u) → c VertexUsed (s .u) ≢ 0
+      → c Isolated (s .l) ≢ 0
       → In (sh .vertices) (c Isolated (s .l)) × (c VertexUsed (c Isolated (s .l)) ≢ 0)
   corner-used q i x h =
       ⊎-elim (λ r.

@@ -27,7 +27,7 @@ use Rattle.sound_tables.specs.Accepted.{use-new, new-use, use-none, in-range, N
 use Rattle.sound_tables.specs.Accepted.{unused-range, unused-use, in-range-or-none}
 use Rattle.sound_tables.specs.Good.{own, Capacities}
 use Rattle.sound_tables.specs.CornerTest.{CornerAt, corner-most, test-corner, corner-test, corner-use}
-use Rattle.sound_bridges.specs.Relation.{Spot, Bridge}
+use Rattle.sound_bridges.specs.Relation.{Corner, Bridge}
 use Rattle.sound_bridges.specs.MekrColumns.{mekrList}
 
 -- mekr l h1 l2 h2 e w
@@ -36,8 +36,8 @@ mekrOf l h1 l2 h2 e w =
     record { code = 8; count = 6; args = pos l ∷ pos h1 ∷ pos l2 ∷ pos h2 ∷ pos e ∷ pos w ∷ pos 0 ∷ pos 0 ∷ [] }
 
 -- the corner before half-edge h of loop l, the isolated one where h is 0; the edge leaves by k and comes by b
-abbrev pub spotOf : Columns → (l h k b : ℕ) → Spot
-spotOf c l h k b = record {
+abbrev pub cornerOf : Columns → (l h k b : ℕ) → Corner
+cornerOf c l h k b = record {
   l = l;
   u = pick (eqb h 0) (c Isolated l) (c Start h);
   P = pick (eqb h 0) b (c Prev h);
@@ -47,7 +47,7 @@ spotOf c l h k b = record {
 }
 
 -- the bridge k from one corner to another
-abbrev pub bridgeOf : ℕ → Spot → Spot → Bridge
+abbrev pub bridgeOf : ℕ → Corner → Corner → Bridge
 bridgeOf k s s2 = record {
   k = k;
   l = s .l;
@@ -62,7 +62,7 @@ bridgeOf k s s2 = record {
 
 -- the bridge that mekr makes of half-edge k
 abbrev pub mekrBridge : Columns → (k l h1 l2 h2 : ℕ) → Bridge
-mekrBridge c k l h1 l2 h2 = bridgeOf k (spotOf c l h1 k (mate k)) (spotOf c l2 h2 (mate k) k)
+mekrBridge c k l h1 l2 h2 = bridgeOf k (cornerOf c l h1 k (mate k)) (cornerOf c l2 h2 (mate k) k)
 
 -- a small number is read as it stands
 pub read : {m : ℕ} → m ≤ 8192 → leb m 8192 ≡ true

@@ -18,7 +18,7 @@ use Rattle.sound_tables.specs.Sound.{HalfUsed, firstOf}
 use Rattle.sound_tables.specs.Shown.{withFirst}
 use Rattle.sound_tables.specs.WriteLaws.{among-off, unwritten, withColumn, column-off}
 use Rattle.sound_tables.specs.Good.{own}
-use Rattle.sound_bridges.specs.Relation.{corner-away, Bridge, Numbers, numbers, touched, Ends, Bridged}
+use Rattle.sound_bridges.specs.Relation.{corner-away, Bridge, Derived, derived, touched, Ends, Bridged}
 
 -- ---- the list
 
@@ -51,7 +51,7 @@ abbrev pub mekrColumns : Shape → Columns → Bridge → Columns
 mekrColumns sh c B = withFirst (bridgeColumns c B) (B .l) (firstOf sh (bridgeColumns c B) (B .l)) 0
 
 module _ {sh : Shape} {c : Columns} {B : Bridge} (o : Ends sh c B) where
-  open Numbers (numbers sh B) using (a)
+  open Derived (derived sh B) using (a)
   open Bridge B using (k, l, l2, u1, P1, N1, u2, P2, N2)
   open Ends o using (half-in, ring-in, two, at-1, at-2, zero-k, zero-a, keeps)
 

@@ -20,12 +20,12 @@ use Rattle.sound_tables.specs.WithDummies.{upTo-low, upTo-high, extended, Dummy
 use Rattle.sound_bridges.specs.PassedOver.{pass, passed, pass-off, pass-one, pass-two, Left, pass-rules, Rules⁺}
 use Rattle.sound_bridges.specs.PassedOver.{Undoes, undoes, table-rules}
 use Rattle.sound_bridges.specs.CornerMembers.{Seat, seat, not-dummy, seat-P, off-P, far-y, dummy-seat}
-use Rattle.sound_bridges.specs.Relation.{Spot, corner-ahead, after-in, Bridge, Ends, Numbers, numbers, spot1}
-use Rattle.sound_bridges.specs.Relation.{spot2, Bridged, ka, off-k, off-a, mem-k, mem-a, low-1, low-2, D21, new-k}
-use Rattle.sound_bridges.specs.Relation.{new-a, half-stays, half-was, dummy-stays, dummy-other, dummy-was}
+use Rattle.sound_bridges.specs.Relation.{Corner, corner-ahead, after-in, Bridge, Ends, Derived, derived, corner1}
+use Rattle.sound_bridges.specs.Relation.{corner2, Bridged, ka, off-k, off-a, mem-k, mem-a, low-1, low-2, D21}
+use Rattle.sound_bridges.specs.Relation.{new-k, new-a, half-stays, half-was, dummy-stays, dummy-other, dummy-was}
 
 module _ {sh : Shape} {pt : List ℤ} {c d : Columns} {B : Bridge} (A : Sound sh pt c) (b : Bridged sh c d B) where
-  open Numbers (numbers sh B) using (n, a, D1, D2)
+  open Derived (derived sh B) using (n, a, D1, D2)
   open Bridge B using (k, l, l2, P1, P2)
   open Ends (b .ends) using (half-in, mate-in, loop-in, ring-in, two, at-1, at-2, in-1, in-2, keeps)
   open Bridged b using (start-k, start-a, start-o, loop-k, loop-a, loop-2, loop-o, next-k, next-a, next-1, next-2)
@@ -55,7 +55,7 @@ module _ {sh : Shape} {pt : List ℤ} {c d : Columns} {B : Bridge} (A : Sound sh
       undoes sh d (next-o i (off-k b i w) (off-a b i w) e f) (v .1) (prev-o (c Next i) (off-k b _ v) (off-a b _ v)
       (corner-ahead at-1 perm w (off-k b _ v) e) (corner-ahead at-2 perm w (off-a b _ v) f) ∙ A .rules .undone i w))))
 
-  module _ (t1 : Seat sh c (spot1 B)) (t2 : Seat sh c (spot2 B)) where
+  module _ (t1 : Seat sh c (corner1 B)) (t2 : Seat sh c (corner2 B)) where
     -- what comes before the corner of the loop
     abbrev p : ℕ
     p = t1 .y
@@ -119,7 +119,7 @@ module _ {sh : Shape} {pt : List ℤ} {c d : Columns} {B : Bridge} (A : Sound sh
         (⊎-elim (λ w. absurd (omega (arith, h, w .1))) (λ w. w)))
 
     -- the dummy of a corner's loop is there or not
-    there : {s : Spot} → In (sh .loops) (s .l) → Seat sh c s → U (n + s .l) ⊎ (¬ U (n + s .l))
+    there : {s : Corner} → In (sh .loops) (s .l) → Seat sh c s → U (n + s .l) ⊎ (¬ U (n + s .l))
     there i t = ⊎-elim (λ r. inl (inr (inr (subst (Member sh c) (r .0) (t .member)))))
         (λ r. inr (λ w. high-member (omega (arith, i .0)) w .2 (ap (c Isolated) (omega arith) ∙ r .4))) (t .which)
 

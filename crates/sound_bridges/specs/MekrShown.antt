@@ -23,7 +23,7 @@ use Rattle.sound_tables.specs.Walking.{Steps, runColumns, shows-relabel, run-me
 use Rattle.sound_tables.specs.FirstLow.{lower-one, lower-other, lower-new, first-low}
 use Rattle.sound_tables.specs.Shown.{shows-edge, shows-first}
 use Rattle.sound_tables.specs.Good.{own, Good, good-shows, good-after}
-use Rattle.sound_bridges.specs.Relation.{corner-away, before-in, after-in, Bridge, Numbers, numbers, Ends}
+use Rattle.sound_bridges.specs.Relation.{corner-away, before-in, after-in, Bridge, Derived, derived, Ends}
 use Rattle.sound_bridges.specs.Relation.{Bridged, off-k, off-a, new-k, new-a, half-stays}
 use Rattle.sound_bridges.specs.MekrSound.{up-sound}
 use Rattle.sound_bridges.specs.MekrRules.{up-rules}
@@ -32,7 +32,7 @@ use Rattle.sound_bridges.specs.MekrColumns.{mekrColumns, up-bridged, up-
 use Rattle.sound_bridges.specs.Runs.{Met, met?, run-to, met-in, met-next, met-first}
 
 module _ {sh : Shape} {x : List ℕ} {p : List ℤ} (g : Good sh x p) {B : Bridge} (o : Ends sh (own sh x) B) where
-  open Numbers (numbers sh B) using (n, a)
+  open Derived (derived sh B) using (n, a)
   open Bridge B using (k, l, l2, u1, P1, N1, u2, P2, N2)
   open Ends o using (half-in, mate-in, loop-in, ring-in, two, at-1, at-2, in-2, keeps)
 

@@ -23,16 +23,16 @@ use Rattle.sound_tables.specs.WithDummies.{extended, Dummy, Member, Corners, so
 use Rattle.sound_tables.specs.WithDummies.{corners-vertex}
 use Rattle.sound_bridges.specs.CornerMembers.{LoopMember, VertexMember, half-loop, lone-loop, of-loop}
 use Rattle.sound_bridges.specs.CornerMembers.{half-vertex, lone-vertex, of-vertex}
-use Rattle.sound_bridges.specs.Relation.{Spot, Bridge, Numbers, numbers, Ends, Corner, Bridged, corner-before}
-use Rattle.sound_bridges.specs.Relation.{corner-after, off-k, off-a, new-k, new-a, half-stays, half-was}
-use Rattle.sound_bridges.specs.Relation.{free-loop, dummy-stays, side-same, side-k, side-a, same-name}
+use Rattle.sound_bridges.specs.Relation.{Corner, Bridge, Derived, derived, Ends, HasCorner, Bridged}
+use Rattle.sound_bridges.specs.Relation.{corner-before, corner-after, off-k, off-a, new-k, new-a, half-stays}
+use Rattle.sound_bridges.specs.Relation.{half-was, free-loop, dummy-stays, side-same, side-k, side-a, same-name}
 
 module _ {sh : Shape} {p : List ℤ} {c d : Columns} {B : Bridge} (a : Sound sh p c) (b : Bridged sh c d B)
     (rules⁺ : Rules (2 * sh .edges + sh .loops) (mate⁺ (sh .edges)) (Member sh d) (extended sh d))
     (first-1 : d First (B .l) ≡ firstOf sh d (B .l)) (first-2 : d First (B .l2) ≡ 0) where
-  open Numbers (numbers sh B) using (n)
+  open Derived (derived sh B) using (n)
   open Bridge B using (k, l, l2, u1, u2)
-  open Ends (b .ends) using (half-in, mate-in, loop-in, two, ring, at-1, at-2, in-1, in-2, used-1, used-2)
+  open Ends (b .ends) using (mate-in, loop-in, two, ring, at-1, at-2, in-1, in-2, used-1, used-2)
   open Bridged b using (start-k, start-a, start-o, loop-k, loop-a, loop-2, loop-o, next-o, prev-o, face-2, face-o)
   open Bridged b using (first-o, isolated-1, isolated-2, isolated-o, others)
 
@@ -46,7 +46,7 @@ module _ {sh : Shape} {p : List ℤ} {c d : Columns} {B : Bridge} (a : Sound sh 
       (λ z. lone-loop sh d i (dummy-stays b i z (λ y. x (sym f ∙ y)) w) f))
 
   -- a dummy of an isolated corner is at its vertex
-  at-lone : {s : Spot} → Corner sh c s → (i : ℕ) → i - n ≡ s .l → Dummy sh c i → c Isolated (i - n) ≡ s .u
+  at-lone : {s : Corner} → HasCorner sh c s → (i : ℕ) → i - n ≡ s .l → Dummy sh c i → c Isolated (i - n) ≡ s .u
   at-lone q i z w = ⊎-elim (λ r. ap (c Isolated) z ∙ r .isolated)
       (λ r. absurd (w .2 (ap (c Isolated) z ∙ r .isolated))) q
 

@@ -21,12 +21,12 @@ unfoldable pub skip : ℕ → (ℕ → ℕ) → ℕ → ℕ
 skip D f i = pick (eqb (f i) D) (f D) (f i)
 
 -- one that goes to D
-pub skip-at : (D : ℕ) (f : ℕ → ℕ) {i : ℕ} → f i ≡ D → skip D f i ≡ f D
+skip-at : (D : ℕ) (f : ℕ → ℕ) {i : ℕ} → f i ≡ D → skip D f i ≡ f D
 unfolding skip
 skip-at D f e = rw (eqb-same e)
 
 -- one that does not
-pub skip-off : (D : ℕ) (f : ℕ → ℕ) {i : ℕ} → f i ≢ D → skip D f i ≡ f i
+skip-off : (D : ℕ) (f : ℕ → ℕ) {i : ℕ} → f i ≢ D → skip D f i ≡ f i
 unfolding skip
 skip-off D f n = rw (eqb-other n)
 
@@ -71,7 +71,7 @@ module _ {n : ℕ} {mate : ℕ → ℕ} {U : ℕ → Type 0} {h : Halves} (r : R
       (λ e. skip-off D (h .prev) (λ q. e (sym (next-prev r i (v .0)) ∙ ap (h .next) q)) ∙ sym (upd-off _ _ e)))
 
   -- the rules once it is passed over
-  pub tidy-rules : U D ⊎ (¬ U D) → Rules n mate (Tidy (h .next) D U) (skipped h D)
+  tidy-rules : U D ⊎ (¬ U D) → Rules n mate (Tidy (h .next) D U) (skipped h D)
   tidy-rules = ⊎-elim (λ u. split (h .next D) D (λ e. tidy-alone u e) (λ e. tidy-out u e)) tidy-none
 
 -- ---- two dummies

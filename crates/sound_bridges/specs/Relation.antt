@@ -1,6 +1,6 @@
 -- Two tables that differ by a bridge. In c a face has two loops, l and l2, the second a ring; in d it has the one loop
 -- l, with an edge, k and its mate, between a corner of each. mekr leads from c to d and kemr from d to c. What is said
--- of the two tables together stands here once: the numbers of a bridge (`Bridge`), a corner (`Spot`), what c must be
+-- of the two tables together stands here once: the numbers of a bridge (`Bridge`), a corner (`Corner`), what c must be
 -- like (`Ends`), and what differs (`Bridged`).
 use mathlib.Core.Path.{_≡_, sym, ap, _∙_, subst}
 use mathlib.Core.Logic.{_≢_, _⊎_, ⊎-elim}
@@ -24,7 +24,7 @@ use Rattle.sound_tables.specs.WithDummies.{Dummy, Member}
 
 -- a corner by its numbers: of loop l, at vertex u, between the half-edges P and N. An edge goes in there: its half k
 -- leaves u, its half b comes to u
-pub record Spot : Type 0 where
+pub record Corner : Type 0 where
   pub l : ℕ
   pub u : ℕ
   pub P : ℕ
@@ -33,13 +33,13 @@ pub record Spot : Type 0 where
   pub b : ℕ
 
 -- the corner of an isolated loop: the edge alone stands before and after it
-pub record Lone (c : Columns) (s : Spot) : Type 0 where
+pub record Lone (c : Columns) (s : Corner) : Type 0 where
   pub before : s .P ≡ s .b
   pub after : s .N ≡ s .k
   pub isolated : c Isolated (s .l) ≡ s .u
 
 -- a corner between two half-edges of the loop
-pub record Real (sh : Shape) (c : Columns) (s : Spot) : Type 0 where
+pub record Real (sh : Shape) (c : Columns) (s : Corner) : Type 0 where
   pub before : HalfUsed sh c (s .P)
   pub after : HalfUsed sh c (s .N)
   pub next : c Next (s .P) ≡ s .N
@@ -49,15 +49,15 @@ pub record Real (sh : Shape) (c : Columns) (s : Spot) : Type 0 where
   pub isolated : c Isolated (s .l) ≡ 0
 
 -- one or the other
-abbrev pub Corner : Shape → Columns → Spot → Type 0
-Corner sh c s = Lone c s ⊎ Real sh c s
+abbrev pub HasCorner : Shape → Columns → Corner → Type 0
+HasCorner sh c s = Lone c s ⊎ Real sh c s
 
 -- the half-edge at which an operator finds it without the edge: the one after it, 0 where it is isolated
-abbrev pub foundAt : Spot → ℕ
+abbrev pub foundAt : Corner → ℕ
 foundAt s = pick (eqb (s .N) (s .k)) 0 (s .N)
 
-module _ {sh : Shape} {c : Columns} {s : Spot} (q : Corner sh c s) where
-  open Spot s using (l, P, N, k, b)
+module _ {sh : Shape} {c : Columns} {s : Corner} (q : HasCorner sh c s) where
+  open Corner s using (l, P, N, k, b)
 
   -- what comes before it is the edge itself or in use
   pub corner-before : {i : ℕ} → i ≢ b → c Start i ≡ 0 → i ≢ P
@@ -109,23 +109,23 @@ pub record Bridge : Type 0 where
   pub N2 : ℕ
 
 -- its corner in l
-abbrev pub spot1 : Bridge → Spot
-spot1 B = record { l = B .l; u = B .u1; P = B .P1; N = B .N1; k = B .k; b = mate (B .k) }
+abbrev pub corner1 : Bridge → Corner
+corner1 B = record { l = B .l; u = B .u1; P = B .P1; N = B .N1; k = B .k; b = mate (B .k) }
 
 -- its corner in l2
-abbrev pub spot2 : Bridge → Spot
-spot2 B = record { l = B .l2; u = B .u2; P = B .P2; N = B .N2; k = mate (B .k); b = B .k }
+abbrev pub corner2 : Bridge → Corner
+corner2 B = record { l = B .l2; u = B .u2; P = B .P2; N = B .N2; k = mate (B .k); b = B .k }
 
 -- numbers that go with it: how many half-edges there are at most, k's mate, the dummies of l and of l2
-pub record Numbers : Type 0 where
+pub record Derived : Type 0 where
   pub n : ℕ
   pub a : ℕ
   pub D1 : ℕ
   pub D2 : ℕ
 
 -- of a bridge
-abbrev pub numbers : Shape → Bridge → Numbers
-numbers sh B = record { n = 2 * sh .edges; a = mate (B .k); D1 = 2 * sh .edges + B .l; D2 = 2 * sh .edges + B .l2 }
+abbrev pub derived : Shape → Bridge → Derived
+derived sh B = record { n = 2 * sh .edges; a = mate (B .k); D1 = 2 * sh .edges + B .l; D2 = 2 * sh .edges + B .l2 }
 
 -- the fields that a bridge changes
 abbrev pub touched : List Field
@@ -144,8 +144,8 @@ module _ (sh : Shape) (c : Columns) (B : Bridge) where
     pub used : c Face l ≢ 0
     pub one-face : c Face l2 ≡ c Face l
     pub ring : c Outer (c Face l2) ≢ l2
-    pub at-1 : Corner sh c (spot1 B)
-    pub at-2 : Corner sh c (spot2 B)
+    pub at-1 : HasCorner sh c (corner1 B)
+    pub at-2 : HasCorner sh c (corner2 B)
     pub in-1 : In (sh .vertices) u1
     pub in-2 : In (sh .vertices) u2
     pub used-1 : c VertexUsed u1 ≢ 0

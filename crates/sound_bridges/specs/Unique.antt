@@ -15,8 +15,8 @@ use Rattle.layout.specs.Mate.{mate}
 use Rattle.layout.specs.Fields.{Field, Face, First, Isolated, Start, Loop, Next, Prev, Columns, capOf, by-fields}
 use Rattle.sound_tables.specs.Sound.{In, HalfUsed, Sound}
 use Rattle.sound_tables.specs.Names.{lone-unnamed}
-use Rattle.sound_bridges.specs.Relation.{Spot, Corner, real-before, real-after, Bridge, Ends, Bridged, touched}
-use Rattle.sound_bridges.specs.Relation.{off-k, off-a}
+use Rattle.sound_bridges.specs.Relation.{Corner, HasCorner, real-before, real-after, Bridge, Ends, Bridged}
+use Rattle.sound_bridges.specs.Relation.{touched, off-k, off-a}
 
 -- two tables agree in field F up to its capacity
 abbrev pub AlikeIn : Shape → Columns → Columns → Field → Type 0
@@ -39,7 +39,7 @@ first-same {sh} {c = c} {c′} s s′ f g m x y = split (c Face m) 0
     ∙ sym (s′ .loop m (x, y) (λ t. z (f m x y ∙ t)) .first))
 
 -- one corner in two tables
-module _ {sh : Shape} {c c′ : Columns} {s : Spot} (q : Corner sh c s) (q′ : Corner sh c′ s) where
+module _ {sh : Shape} {c c′ : Columns} {s : Corner} (q : HasCorner sh c s) (q′ : HasCorner sh c′ s) where
   -- what comes before it goes to the same, unless it is the edge
   next-there : {i : ℕ} → i ≡ s .P → i ≢ s .b → c Next i ≡ c′ Next i
   next-there z n = rw z (real-before q (λ t. n (z ∙ t)) .next ∙ sym (real-before q′ (λ t. n (z ∙ t)) .next))
