@@ -28,9 +28,6 @@ pub words-none : (n : ℕ) (f : ℕ → ℕ) → ((k : ℕ) → In n k → f k �
 words-none n f h = count-none n (λ k. some (f k)) (λ k a b. rw (eqb-same (h k (a, b))))
 
 module _ (sh : Shape) (x : List ℕ) (p : List ℤ) (g : Good sh x p) (z : solidAt sh x ≡ 0) where
-  abbrev y : List ℕ
-  y = emptyLinks (sh .solids) (sh .faces) (sh .loops) (sh .edges) (sh .vertices)
-
   -- ---- nothing is in use
 
   solid-0 : (n : ℕ) → In (sh .solids) n → own sh x SolidUsed n ≡ 0
