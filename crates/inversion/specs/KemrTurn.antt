@@ -35,14 +35,6 @@ use Rattle.inversion.specs.Runs.{run-at, at-run}
 use Rattle.inversion.specs.OfSolid.{least-there}
 
 module _ {sh : Shape} {x : List ℕ} {p : List ℤ} (g : Good sh x p) {k l2 : ℕ} (o : Span sh (own sh x) k l2) where
-  -- the list afterwards
-  abbrev y : List ℕ
-  y = kemrList sh x k l2
-
-  -- its columns
-  c : Columns
-  c = kemrColumns sh (own sh x) k l2 (walk (g .sound) o .0)
-
   pub v : Shows sh (kemrList sh x k l2) (kemrColumns sh (own sh x) k l2 (walk (g .sound) o .0))
   v = kemr-shows g o
 

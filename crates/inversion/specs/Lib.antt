@@ -37,7 +37,6 @@ pub mod SwiftTurns
 pub mod SwiftAcross
 pub mod SwiftBare
 pub mod SwiftSame
-pub mod Ahead
 pub mod Grown
 pub mod HoleSteps
 pub mod HolesAll

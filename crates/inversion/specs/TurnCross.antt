@@ -44,10 +44,6 @@ module _ {sh : Shape} {x : List ℕ} {p : List ℤ} (g : Good sh x p) (ready : R
   abbrev k : ℕ
   k = crossedHalf sh x (solidAt sh x)
 
-  -- the new ring
-  abbrev l2 : ℕ
-  l2 = freeLoop sh x
-
   -- what the search says
   pub found : Of g sn (crossedHalf sh x (solidAt sh x)) × (crossed sh x (crossedHalf sh x (solidAt sh x)) ≡ true)
   found =

@@ -62,9 +62,6 @@ module _ {sh : Shape} {x : List ℕ} {p : List ℤ} (g : Good sh x p) {k l f f�
       let v = mfkrh-shows (g .sound) (g .capacities) r outcome (good-shows g) m in
       rw (eqb-same {m = s} refl) at v
 
-  abbrev x₁ : List ℕ
-  x₁ = linksAfter sh x (mfkrh l f)
-
   -- ---- its columns
 
   pub mark₁ : (n : ℕ) → In (sh .solids) n → own sh (linksAfter sh x (mfkrh l f)) SolidUsed n ≡ own sh x SolidUsed n

@@ -1,5 +1,5 @@
--- The test of two linked faces says what it should: on a sound table it passes just if a chain of half-edges in use links them, also once
--- a loop lies in another face.
+-- The test of two linked faces says what it should: on a sound table it passes just if a chain of half-edges in use
+-- links them, also once a loop lies in another face.
 use mathlib.Core.Path.{_≡_, refl, subst}
 use mathlib.Core.Bool.{true, false}
 use mathlib.Core.List.{List}
@@ -37,18 +37,33 @@ module _ {sh : Shape} {x : List ℕ} {p : List ℤ} (a : Sound sh p (own sh x)) 
 
   -- what passes is linked
   linked-chain : (f g : ℕ) → linkedBy sh x s f g ≡ true → Chain sh c s f g
-  linked-chain f g t = map-linked (λ i. i) (λ i j e. link (edge-half sh c (a .rules .mate-in) s (e .0) i j (e .1 .0, e .1 .1) (λ z. T-not (eqb (c Start (2 * e .0)) 0) (joins-T sh x s (e .0) (e .1 .2) .0) (true-T (eqb-same z))) (e .2) (e .3))) (linked-T sh x s f g (true-T t) .2)
+  linked-chain f g t = map-linked (λ i. i)
+      (λ i j e. link (edge-half sh c (a .rules .mate-in) s (e .0) i j (e .1 .0, e .1 .1)
+      (λ z. T-not (eqb (c Start (2 * e .0)) 0) (joins-T sh x s (e .0) (e .1 .2) .0) (true-T (eqb-same z))) (e .2)
+      (e .3))) (linked-T sh x s f g (true-T t) .2)
 
   -- and what is linked passes
-  chain-linked : ((k : ℕ) → HalfUsed sh c k → In (sh .faces) (s k)) → (f g : ℕ) → In (sh .faces) f → In (sh .faces) g → Chain sh c s f g → linkedBy sh x s f g ≡ true
-  chain-linked sides f g i j h = T-true (T-linked sh x s f g (T-within (sh .faces) f (i .0) (i .1)) (T-within (sh .faces) g (j .0) (j .1)) (map-linked (λ k. k) (half-edge sh c (a .rules .mate-in) s joined) h))
+  chain-linked : ((k : ℕ) → HalfUsed sh c k → In (sh .faces) (s k)) → (f g : ℕ) → In (sh .faces) f → In (sh .faces) g
+      → Chain sh c s f g → linkedBy sh x s f g ≡ true
+  chain-linked sides f g i j h = T-true (T-linked sh x s f g (T-within (sh .faces) f (i .0) (i .1))
+      (T-within (sh .faces) g (j .0) (j .1)) (map-linked (λ k. k) (half-edge sh c (a .rules .mate-in) s joined) h))
     where
       -- an edge in use joins the faces of its halves
-      joined : (e : ℕ) → In (sh .edges) e → HalfUsed sh c (2 * e - 1) → HalfUsed sh c (2 * e) → Joins sh x s (sh .edges) (s (2 * e - 1)) (s (2 * e))
+      joined : (e : ℕ) → In (sh .edges) e → HalfUsed sh c (2 * e - 1) → HalfUsed sh c (2 * e)
+          → Joins sh x s (sh .edges) (s (2 * e - 1)) (s (2 * e))
       joined e i u w =
           let here = sides (2 * e - 1) u in
-          let there = sides (2 * e) w in
-          (e, (i .0, i .1, T-joins sh x s e (not-T (eqb (c Start (2 * e)) 0) (λ z. w .2 (eqb→eq (c Start (2 * e)) 0 z))) (here .0, here .1, there .0, there .1)), refl, refl)
+          let there = sides (2 * e) w in (
+            e,
+            (
+              i .0,
+              i .1,
+              T-joins sh x s e (not-T (eqb (c Start (2 * e)) 0)
+                  (λ z. w .2 (eqb→eq (c Start (2 * e)) 0 z))) (here .0, here .1, there .0, there .1),
+            ),
+            refl,
+            refl,
+          )
 
 -- ---- once loop l lies in face f
 
@@ -57,7 +72,8 @@ module _ {sh : Shape} {x : List ℕ} {p : List ℤ} (a : Sound sh p (own sh x)) 
   side-face : (k : ℕ) → HalfUsed sh (own sh x) k → In (sh .faces) (sideIn (own sh x) l f k)
   side-face k u =
       let b = a .solids .side-in k u in
-      split (own sh x Loop k) l (λ e. rw (upd-at (own sh x Face) f e) jf) (λ n. rw (upd-off (own sh x Face) f n) (b .0, b .1))
+      split (own sh x Loop k) l (λ e. rw (upd-at (own sh x Face) f e) jf)
+      (λ n. rw (upd-off (own sh x Face) f n) (b .0, b .1))
 
   -- chains lead from faces to faces
   chain-face : {g h : ℕ} → Chain sh (own sh x) (sideIn (own sh x) l f) g h → In (sh .faces) g → In (sh .faces) h
@@ -72,11 +88,13 @@ module _ {sh : Shape} {x : List ℕ} {p : List ℤ} (a : Sound sh p (own sh x)) 
   after-chain g h t = linked-chain a (sideIn (own sh x) l f) g h t
 
   -- and what is linked passes
-  pub chain-after : (g h : ℕ) → In (sh .faces) g → Chain sh (own sh x) (sideIn (own sh x) l f) g h → linkedAfter sh x l f g h ≡ true
+  pub chain-after : (g h : ℕ) → In (sh .faces) g → Chain sh (own sh x) (sideIn (own sh x) l f) g h
+      → linkedAfter sh x l f g h ≡ true
   unfolding linkedAfter upd
   chain-after g h i c = chain-linked a (sideIn (own sh x) l f) side-face g h i (chain-face c i) c
 
   -- a number of no face is linked to nothing
   pub after-none : (g : ℕ) → linkedAfter sh x l f g 0 ≡ false
   unfolding linkedAfter
-  after-none g = T-false (λ t. let w = within-T (sh .faces) 0 (linked-T sh x (sideAs sh x l f) g 0 t .1) in omega (arith, w .0))
+  after-none g =
+      T-false (λ t. let w = within-T (sh .faces) 0 (linked-T sh x (sideAs sh x l f) g 0 t .1) in omega (arith, w .0))

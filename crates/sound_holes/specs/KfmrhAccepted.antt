@@ -32,20 +32,23 @@ kfmrhOf f1 f2 = twoOf 9 f1 f2
 
 -- mfkrh l f s
 abbrev pub mfkrhOf : ℕ → ℕ → ℕ → Operator
-mfkrhOf l f s = record { code = 10; count = 3; args = pos l ∷ pos f ∷ pos s ∷ pos 0 ∷ pos 0 ∷ pos 0 ∷ pos 0 ∷ pos 0 ∷ [] }
+mfkrhOf l f s =
+    record { code = 10; count = 3; args = pos l ∷ pos f ∷ pos s ∷ pos 0 ∷ pos 0 ∷ pos 0 ∷ pos 0 ∷ pos 0 ∷ [] }
 
 -- the third operand of the mfkrh whose new face leaves solid s₀ for s: 0 where these are one
 abbrev pub solidOperand : ℕ → ℕ → ℕ
 solidOperand s₀ s = pick (eqb s₀ s) 0 s
 
 -- the two faces that an accepted kfmrh names
-pub kfmrh-two : {sh : Shape} {p : List ℤ} (x : List ℕ) {o : Operator} → Sound sh p (own sh x) → (k : TwoOperands sh x o 9 4 4)
+pub kfmrh-two : {sh : Shape} {p : List ℤ} (x : List ℕ) {o : Operator} → Sound sh p (own sh x)
+    → (k : TwoOperands sh x o 9 4 4)
     → TwoFaces sh (own sh x) (k .m) (k .n) (own sh x Outer (k .n)) (own sh x Solid (k .m)) (own sh x Solid (k .n))
 unfolding kfmrhTest useWord condition
 kfmrh-two {sh} x a k =
     let c = own sh x in
     let test : kfmrhTest sh x (k .m) (k .n) ≡ true = rw (k .m-small, k .n-small) at (k .holds) in
-    let t = every-T (not (eqb (k .m) (k .n)) ∷ eqb (countTo (sh .loops) (λ m. eqb (c Face m) (k .n))) 1 ∷ []) (true-T test) in
+    let t = every-T (not (eqb (k .m) (k .n)) ∷ eqb (countTo (sh .loops) (λ m. eqb (c Face m) (k .n))) 1 ∷ [])
+    (true-T test) in
     let used : c Solid (k .n) ≢ 0 = use-old sh x 4 (k .n) (omega (arith, k .n-in .0)) refl (k .n-use) in
     let b = a .face (k .n) (k .n-in) used in
     record {
@@ -57,10 +60,12 @@ kfmrh-two {sh} x a k =
       second-used = used;
       other = λ e. T-not (eqb (k .m) (k .n)) (t .0) (true-T (eqb-same e));
       outer = refl;
-      only = λ m i e. one-many (sh .loops) (c Face) (k .n) (eqb→eq _ _ (t .1 .0)) (c Outer (k .n)) m (b .outer-in) (b .outer-face) i e;
+      only = λ m i e. one-many (sh .loops) (c Face) (k .n) (eqb→eq _ _ (t .1 .0)) (c Outer (k .n)) m (b .outer-in)
+          (b .outer-face) i e;
     }
 
-module _ {sh : Shape} {x : List ℕ} {p : List ℤ} (a : Sound sh p (own sh x)) (caps : Capacities sh) {f1 f2 l s1 s2 : ℕ} (r : TwoFaces sh (own sh x) f1 f2 l s1 s2) where
+module _ {sh : Shape} {x : List ℕ} {p : List ℤ} (a : Sound sh p (own sh x)) (caps : Capacities sh) {f1 f2 l s1 s2 : ℕ}
+    (r : TwoFaces sh (own sh x) f1 f2 l s1 s2) where
   -- f1 is read as it stands
   n1 : f1 ≤ 8192
   n1 = omega (arith, r .first-in .1, caps .faces)
@@ -80,8 +85,11 @@ module _ {sh : Shape} {x : List ℕ} {p : List ℤ} (a : Sound sh p (own sh x)) 
   -- it is accepted
   pub kfmrh-accepted : refusalOf sh x (kfmrhOf f1 f2) ≡ 0
   unfolding pattern rows useWord condition
-  kfmrh-accepted = two-accepted sh x 9 4 4 refl refl refl refl (omega (arith, caps .faces)) refl refl (omega (arith, caps .faces)) refl f1 f2 (r .first-in) (r .second-in)
-      (λ z. r .first-used (sym (r .first-solid) ∙ z)) (old-use sh x 4 f2 (omega (arith, r .second-in .0)) refl (λ z. r .second-used (sym (r .second-solid) ∙ z))) (rw (le-leb f1 8192 n1, le-leb f2 8192 n2) two-tested)
+  kfmrh-accepted = two-accepted sh x 9 4 4 refl refl refl refl (omega (arith, caps .faces)) refl refl
+      (omega (arith, caps .faces)) refl f1 f2 (r .first-in) (r .second-in)
+      (λ z. r .first-used (sym (r .first-solid) ∙ z))
+      (old-use sh x 4 f2 (omega (arith, r .second-in .0)) refl (λ z. r .second-used (sym (r .second-solid) ∙ z)))
+      (rw (le-leb f1 8192 n1, le-leb f2 8192 n2) two-tested)
 
   -- what it does
   pub kfmrh-links : linksAfter sh x (kfmrhOf f1 f2) ≡ joinedLinks sh x f1 f2 l s1 s2

@@ -23,7 +23,8 @@ use Rattle.sound_holes.specs.KfmrhSound.{ringWrites, markWrites, joined}
 swept : {sh : Shape} {x y : List ℕ} {c : Columns} (g : ℕ → ℕ → ℕ) → g 0 0 ≡ 0 → Shows sh x c
     → Shows sh y (sweepColumns c (sh .faces) g) → Shows sh y (withColumn c Solid (λ n. g n (c Solid n)))
 swept {sh} {c = c} g z s t = shows-agree t (by-fields (Solid ∷ []) _ (solid, tt) (λ F h n u.
-    sweep-other c (sh .faces) g F (among-off (Solid ∷ []) Solid F refl h) n ∙ sym (column-other (Solid ∷ []) Solid refl c _ F h n)))
+    sweep-other c (sh .faces) g F (among-off (Solid ∷ []) Solid F refl h) n
+    ∙ sym (column-other (Solid ∷ []) Solid refl c _ F h n)))
   where
     -- there is no face 0
     solid : (n : ℕ) → n ≤ sh .faces → sweepColumns c (sh .faces) g Solid n ≡ g n (c Solid n)
@@ -44,7 +45,8 @@ unfolding relabel
 shows-joined {sh} s f1 f2 l s1 s2 i2 il j1 j2 =
     let t = shows-writes (ringWrites f1 f2 l) s (il, (i2, (i2, tt))) in
     let d : 0 ≢ s2 = λ e. omega (arith, j2 .0, e) in
-    shows-writes (markWrites s1 s2) (swept _ (rw (eqb-other d)) t (shows-sweep t (sh .faces) _ (omega arith))) (j2, (j1, tt))
+    shows-writes (markWrites s1 s2) (swept _ (rw (eqb-other d)) t (shows-sweep t (sh .faces) _ (omega arith)))
+    (j2, (j1, tt))
 
 -- ---- mfkrh
 
@@ -57,7 +59,8 @@ abbrev pub movedLinks : Shape → List ℕ → ℕ → ℕ → ℕ → ℕ → (
 movedLinks sh x l f s₀ s moved =
     sweepField sh Solid (sh .faces) (λ g old. pick (moved g) s old) (setSolidUsed sh (faceLinks sh x l f s₀) s 1)
 
-module _ {sh : Shape} {x : List ℕ} {c : Columns} (t : Shows sh x c) (l f s₀ : ℕ) (il : In (sh .loops) l) (jf : In (sh .faces) f) where
+module _ {sh : Shape} {x : List ℕ} {c : Columns} (t : Shows sh x c) (l f s₀ : ℕ) (il : In (sh .loops) l)
+    (jf : In (sh .faces) f) where
   -- where nothing moves it shows the columns of `cut`: the mark of s₀ is set already
   pub shows-face : c SolidUsed s₀ ≡ 1 → Shows sh (faceLinks sh x l f s₀) (cut c l f s₀ s₀ (λ g. false))
   shows-face m = shows-agree (shows-writes (faceWrites l f s₀) t (jf, (jf, (il, tt))))
@@ -69,11 +72,13 @@ module _ {sh : Shape} {x : List ℕ} {c : Columns} (t : Shows sh x c) (l f s₀ 
     where
       -- the mark, written again
       mark : (n : ℕ) → n ≤ sh .solids → c SolidUsed n ≡ cut c l f s₀ s₀ (λ g. false) SolidUsed n
-      mark n h = split n s₀ (λ e. ap (c SolidUsed) e ∙ m ∙ sym (upd-at (c SolidUsed) 1 e)) (λ d. sym (upd-off (c SolidUsed) 1 d))
+      mark n h = split n s₀ (λ e. ap (c SolidUsed) e ∙ m ∙ sym (upd-at (c SolidUsed) 1 e))
+          (λ d. sym (upd-off (c SolidUsed) 1 d))
 
   -- where faces move, the sweep shows them
   pub shows-moved : (s : ℕ) → In (sh .solids) s → (moved : ℕ → Bool) → moved 0 ≡ false
       → Shows sh (movedLinks sh x l f s₀ s moved) (cut c l f s₀ s moved)
   shows-moved s js moved none =
-      let q = shows-writes (write SolidUsed s 1 ∷ []) (shows-writes (faceWrites l f s₀) t (jf, (jf, (il, tt)))) (js, tt) in
+      let q = shows-writes (write SolidUsed s 1 ∷ []) (shows-writes (faceWrites l f s₀) t (jf, (jf, (il, tt))))
+      (js, tt) in
       swept (λ g old. pick (moved g) s old) (rw none) q (shows-sweep q (sh .faces) _ (omega arith))

@@ -1,4 +1,5 @@
--- mvsf and kvsf as operators: what it says that one is accepted, and what it does to the list, points and inverse included.
+-- mvsf and kvsf as operators: what it says that one is accepted, and what it does to the list, points and inverse
+-- included.
 use mathlib.Core.Path.{_≡_, refl, sym, ap, _∙_}
 use mathlib.Core.Logic.{_≢_, ⊎-elim}
 use mathlib.Core.Bool.{true, not}
@@ -26,7 +27,9 @@ use Rattle.layout.specs.Fields.{Field, SolidUsed, Solid, Outer, Face, First, Is
 use Rattle.sound_tables.specs.Sound.{In, Sound}
 use Rattle.sound_tables.specs.Labels.{label-found, label-some, label-only, many-one, one-many}
 use Rattle.sound_tables.specs.PointLists.{three, all-three}
-use Rattle.sound_tables.specs.Accepted.{by-place, eight, accepted-back, ranges-cons, item-cons, use-new, new-use, in-range, Number, number, coordinate-range, unused-range, unused-use, three-range, three-use}
+use Rattle.sound_tables.specs.Accepted.{by-place, eight, accepted-back, ranges-cons, item-cons, use-new, new-use}
+use Rattle.sound_tables.specs.Accepted.{in-range, Number, number, coordinate-range, unused-range, unused-use}
+use Rattle.sound_tables.specs.Accepted.{three-range, three-use}
 use Rattle.sound_tables.specs.Good.{own, Capacities}
 use Rattle.sound_lone.specs.Placed.{placed, placedLinks}
 use Rattle.sound_lone.specs.MvsfSound.{Free, free-detached}
@@ -57,16 +60,21 @@ pub record MvsfFacts (sh : Shape) (c : Columns) (o : Operator) : Type 0 where
   pub range : (i : ℕ) → i < 3 → T (rangeTest (three x y z i))
 
 -- all from the refusal 0
-pub mvsf-facts : (sh : Shape) (x : List ℕ) (o : Operator) → Capacities sh → length (o .args) ≡ 8 → o .code ≡ 1 → refusalOf sh x o ≡ 0 → MvsfFacts sh (own sh x) o
+pub mvsf-facts : (sh : Shape) (x : List ℕ) (o : Operator) → Capacities sh → length (o .args) ≡ 8 → o .code ≡ 1
+    → refusalOf sh x o ≡ 0 → MvsfFacts sh (own sh x) o
 unfolding pattern rows useWord
 mvsf-facts sh x o caps len e h =
     let a = by-place sh x o 1 len refl e h in
     let r = a .range in
     let u = a .used in
-    let n0 : Number (sh .solids) (getD (o .args) 0 (pos 0)) = number (limits sh) 2 _ refl refl (omega (arith, caps .solids)) (r 0 (lit≤ tt)) in
-    let n1 : Number (sh .faces) (getD (o .args) 1 (pos 0)) = number (limits sh) 5 _ refl refl (omega (arith, caps .faces)) (r 1 (lit≤ tt)) in
-    let n2 : Number (sh .loops) (getD (o .args) 2 (pos 0)) = number (limits sh) 7 _ refl refl (omega (arith, caps .loops)) (r 2 (lit≤ tt)) in
-    let n3 : Number (sh .vertices) (getD (o .args) 3 (pos 0)) = number (limits sh) 11 _ refl refl (omega (arith, caps .vertices)) (r 3 (lit≤ tt)) in
+    let n0 : Number (sh .solids) (getD (o .args) 0 (pos 0)) = number (limits sh) 2 _ refl refl
+    (omega (arith, caps .solids)) (r 0 (lit≤ tt)) in
+    let n1 : Number (sh .faces) (getD (o .args) 1 (pos 0)) = number (limits sh) 5 _ refl refl
+    (omega (arith, caps .faces)) (r 1 (lit≤ tt)) in
+    let n2 : Number (sh .loops) (getD (o .args) 2 (pos 0)) = number (limits sh) 7 _ refl refl
+    (omega (arith, caps .loops)) (r 2 (lit≤ tt)) in
+    let n3 : Number (sh .vertices) (getD (o .args) 3 (pos 0)) = number (limits sh) 11 _ refl refl
+    (omega (arith, caps .vertices)) (r 3 (lit≤ tt)) in
     let c4 = coordinate-range (limits sh) (getD (o .args) 4 (pos 0)) (r 4 (lit≤ tt)) in
     let c5 = coordinate-range (limits sh) (getD (o .args) 5 (pos 0)) (r 5 (lit≤ tt)) in
     let c6 = coordinate-range (limits sh) (getD (o .args) 6 (pos 0)) (r 6 (lit≤ tt)) in
@@ -78,7 +86,13 @@ mvsf-facts sh x o caps len e h =
       x = getD (o .args) 4 (pos 0);
       y = getD (o .args) 5 (pos 0);
       z = getD (o .args) 6 (pos 0);
-      is = λ t. record { code = e t; count = a .count t; args = (eight (o .args) len ∙ (λ i. n0 .is i ∷ n1 .is i ∷ n2 .is i ∷ n3 .is i ∷ getD (o .args) 4 (pos 0) ∷ getD (o .args) 5 (pos 0) ∷ getD (o .args) 6 (pos 0) ∷ a .rest 7 (lit≤ tt) refl i ∷ [])) t };
+      is = λ t. record {
+        code = e t;
+        count = a .count t;
+        args =
+            (eight (o .args) len ∙ (λ i. n0 .is i ∷ n1 .is i ∷ n2 .is i ∷ n3 .is i ∷ getD (o .args) 4 (pos 0)
+            ∷ getD (o .args) 5 (pos 0) ∷ getD (o .args) 6 (pos 0) ∷ a .rest 7 (lit≤ tt) refl i ∷ [])) t;
+      };
       free = record {
         solid-in = n0 .range;
         face-in = n1 .range;
@@ -114,8 +128,10 @@ made-one {c = c} {s = s} {f} {l} {v} a r e = record {
 }
 
 -- kvsf's test finds one
-pub tested-one : {sh : Shape} {p : List ℤ} (x : List ℕ) → Sound sh p (own sh x) → (s : ℕ) → In (sh .solids) s → own sh x SolidUsed s ≢ 0 → kvsfTest sh x s ≡ true
-    → OneLoop sh (own sh x) s (faceIn sh x s) (own sh x Outer (faceIn sh x s)) (own sh x Isolated (own sh x Outer (faceIn sh x s)))
+pub tested-one : {sh : Shape} {p : List ℤ} (x : List ℕ) → Sound sh p (own sh x) → (s : ℕ) → In (sh .solids) s
+    → own sh x SolidUsed s ≢ 0 → kvsfTest sh x s ≡ true
+    → OneLoop sh (own sh x) s (faceIn sh x s) (own sh x Outer (faceIn sh x s))
+    (own sh x Isolated (own sh x Outer (faceIn sh x s)))
 unfolding kvsfTest
 tested-one {sh} x a s i h t =
     let c = own sh x in
@@ -125,8 +141,10 @@ tested-one {sh} x a s i h t =
     let F = a .face f (b .range) (λ z. omega (arith, i .0, sym (b .label) ∙ z)) in
     let l = c Outer f in
     let L = a .loop l (F .outer-in) (λ z. omega (arith, b .range .0, sym (F .outer-face) ∙ z)) in
-    let k = every-T (eqb (countTo (sh .faces) (λ g. eqb (c Solid g) s)) 1 ∷ eqb (countTo (sh .loops) (λ m. eqb (c Face m) f)) 1 ∷ not (eqb (c Isolated l) 0) ∷ []) (true-T t) in
-    let e = ⊎-elim (λ q. absurd (T-not (eqb (c Isolated l) 0) (k .1 .1 .0) (true-T (eqb-same (q .1))))) (λ q. q) (L .either) in
+    let k = every-T (eqb (countTo (sh .faces) (λ g. eqb (c Solid g) s)) 1
+    ∷ eqb (countTo (sh .loops) (λ m. eqb (c Face m) f)) 1 ∷ not (eqb (c Isolated l) 0) ∷ []) (true-T t) in
+    let e = ⊎-elim (λ q. absurd (T-not (eqb (c Isolated l) 0) (k .1 .1 .0) (true-T (eqb-same (q .1))))) (λ q. q)
+    (L .either) in
     record {
       solid-in = i;
       face-in = b .range;
@@ -161,16 +179,26 @@ module _ {sh : Shape} {x : List ℕ} {s f l v : ℕ} (o : OneLoop sh (own sh x) 
   -- kvsf's test passes
   one-tested : kvsfTest sh x s ≡ true
   unfolding kvsfTest
-  one-tested = T-true (T-every (eqb (countTo (sh .faces) (λ g. eqb (own sh x Solid g) s)) 1 ∷ eqb (countTo (sh .loops) (λ m. eqb (own sh x Face m) (faceIn sh x s))) 1 ∷ not (eqb (own sh x Isolated (own sh x Outer (faceIn sh x s))) 0) ∷ []) (
-    true-T (eqb-same (many-one (sh .faces) (own sh x Solid) s f (o .face-in) (o .solid) (o .only-face))),
-    (
-      true-T (eqb-same (ap (λ g. countTo (sh .loops) (λ m. eqb (own sh x Face m) g)) one-face ∙ many-one (sh .loops) (own sh x Face) f l (o .loop-in) (o .face) (o .only-loop))),
-      (
-        not-T (eqb (own sh x Isolated (own sh x Outer (faceIn sh x s))) 0) (λ t. omega (arith, o .vertex-in .0, one-isolated, eqb→eq (own sh x Isolated (own sh x Outer (faceIn sh x s))) 0 t)),
-        tt,
-      ),
-    ),
-  ))
+  one-tested =
+      T-true (T-every (eqb (countTo (sh .faces) (λ g. eqb (own sh x Solid g) s)) 1
+      ∷ eqb (countTo (sh .loops) (λ m. eqb (own sh x Face m) (faceIn sh x s))) 1
+      ∷ not (eqb (own sh x Isolated (own sh x Outer (faceIn sh x s))) 0) ∷ []) (
+        true-T (eqb-same (many-one (sh .faces) (own sh x Solid) s f (o .face-in) (o .solid) (o .only-face))),
+        (
+          true-T (eqb-same (ap (λ g. countTo (sh .loops) (λ m. eqb (own sh x Face m) g)) one-face
+              ∙ many-one (sh .loops) (own sh x Face) f l (o .loop-in) (o .face) (o .only-loop))),
+          (
+            not-T (eqb (own sh x Isolated (own sh x Outer (faceIn sh x s))) 0)
+                (λ t. omega (
+                  arith,
+                  o .vertex-in .0,
+                  one-isolated,
+                  eqb→eq (own sh x Isolated (own sh x Outer (faceIn sh x s))) 0 t,
+                )),
+            tt,
+          ),
+        ),
+      ))
 
   -- what kvsf does
   pub kvsf-links : linksAfter sh x (kvsfOf s) ≡ placedLinks sh x s f l v 0 0 0 0 0
@@ -183,18 +211,21 @@ module _ {sh : Shape} {x : List ℕ} {s f l v : ℕ} (o : OneLoop sh (own sh x) 
   kvsf-points p = rw (s-small, one-isolated)
 
   -- and is undone by mvsf
-  pub kvsf-inverse : (p : List ℤ) → inverse sh x p (kvsfOf s) ≡ mvsfOf s f l v (coordinate p v 0) (coordinate p v 1) (coordinate p v 2)
+  pub kvsf-inverse : (p : List ℤ) → inverse sh x p (kvsfOf s) ≡ mvsfOf s f l v (coordinate p v 0) (coordinate p v 1)
+      (coordinate p v 2)
   unfolding inverse killedVertex
   kvsf-inverse p = rw (s-small, one-isolated, one-outer, one-face)
 
   -- it is accepted
   pub kvsf-accepted : own sh x SolidUsed s ≢ 0 → refusalOf sh x (kvsfOf s) ≡ 0
   unfolding pattern rows useWord condition
-  kvsf-accepted h = one-accepted sh x 2 1 refl refl refl refl (omega (arith, caps .solids)) refl s (o .solid-in) h (rw s-small one-tested)
+  kvsf-accepted h = one-accepted sh x 2 1 refl refl refl refl (omega (arith, caps .solids)) refl s (o .solid-in) h
+      (rw s-small one-tested)
 
 -- ---- mvsf on free numbers
 
-module _ (sh : Shape) (x : List ℕ) (s f l v : ℕ) (a b c : ℤ) (caps : Capacities sh) (r : Free sh (own sh x) s f l v) where
+module _ (sh : Shape) (x : List ℕ) (s f l v : ℕ) (a b c : ℤ) (caps : Capacities sh)
+    (r : Free sh (own sh x) s f l v) where
   -- s is read as it stands
   sn : s ≤ 8192
   sn = omega (arith, r .solid-in .1, caps .solids)
@@ -233,10 +264,14 @@ module _ (sh : Shape) (x : List ℕ) (s f l v : ℕ) (a b c : ℤ) (caps : Capac
     code = refl;
     count = refl;
     range =
-        ranges-cons (limits sh) 2 _ (pos s) (pos f ∷ pos l ∷ pos v ∷ a ∷ b ∷ c ∷ pos 0 ∷ []) (in-range (limits sh) 2 s refl refl (r .solid-in))
-        (ranges-cons (limits sh) 5 _ (pos f) (pos l ∷ pos v ∷ a ∷ b ∷ c ∷ pos 0 ∷ []) (in-range (limits sh) 5 f refl refl (r .face-in))
-        (ranges-cons (limits sh) 7 _ (pos l) (pos v ∷ a ∷ b ∷ c ∷ pos 0 ∷ []) (in-range (limits sh) 7 l refl refl (r .loop-in))
-        (ranges-cons (limits sh) 11 _ (pos v) (a ∷ b ∷ c ∷ pos 0 ∷ []) (in-range (limits sh) 11 v refl refl (r .vertex-in))
+        ranges-cons (limits sh) 2 _ (pos s) (pos f ∷ pos l ∷ pos v ∷ a ∷ b ∷ c ∷ pos 0 ∷ [])
+        (in-range (limits sh) 2 s refl refl (r .solid-in))
+        (ranges-cons (limits sh) 5 _ (pos f) (pos l ∷ pos v ∷ a ∷ b ∷ c ∷ pos 0 ∷ [])
+        (in-range (limits sh) 5 f refl refl (r .face-in))
+        (ranges-cons (limits sh) 7 _ (pos l) (pos v ∷ a ∷ b ∷ c ∷ pos 0 ∷ [])
+        (in-range (limits sh) 7 l refl refl (r .loop-in))
+        (ranges-cons (limits sh) 11 _ (pos v) (a ∷ b ∷ c ∷ pos 0 ∷ [])
+        (in-range (limits sh) 11 v refl refl (r .vertex-in))
         (three-range (limits sh) _ (pos 0 ∷ []) a b c ha hb hc (unused-range (limits sh) 1)))));
     used =
         let o = mvsfOf s f l v a b c in

@@ -1,5 +1,5 @@
--- The pair mvsf and kvsf: a good table stays good, and each undoes the other to the word. Both are `placed` on the columns; going there and
--- back is `place-back`, one lemma for both ways.
+-- The pair mvsf and kvsf: a good table stays good, and each undoes the other to the word. Both are `placed` on the
+-- columns; going there and back is `place-back`, one lemma for both ways.
 use mathlib.Core.Path.{_≡_, refl, sym, _∙_, subst}
 use mathlib.Core.Logic.{_≢_}
 use mathlib.Core.List.{List}
@@ -25,7 +25,9 @@ use Rattle.sound_tables.specs.OneOperand.{one-operand}
 use Rattle.sound_lone.specs.Placed.{placedWrites, placed, placedLinks, shows-placed}
 use Rattle.sound_lone.specs.MvsfSound.{Free, mvsf-sound}
 use Rattle.sound_lone.specs.KvsfSound.{OneLoop, one-used, kvsf-sound}
-use Rattle.sound_lone.specs.Accepted.{mvsfOf, kvsfOf, mvsf-facts, made-one, tested-one, kvsf-links, kvsf-points, kvsf-inverse, kvsf-accepted, mvsf-links, mvsf-points, mvsf-inverse, mvsf-accepted}
+use Rattle.sound_lone.specs.Accepted.{mvsfOf, kvsfOf, mvsf-facts, made-one, tested-one, kvsf-links, kvsf-points}
+use Rattle.sound_lone.specs.Accepted.{kvsf-inverse, kvsf-accepted, mvsf-links, mvsf-points, mvsf-inverse}
+use Rattle.sound_lone.specs.Accepted.{mvsf-accepted}
 
 -- ---- there and back
 
@@ -37,8 +39,8 @@ place-back c s f l v m s′ l′ f′ v′ m₀ s₀ l₀ f₀ v₀ e = write-ba
 
 -- ---- mvsf
 
-module _ {sh : Shape} {x : List ℕ} {p : List ℤ} (g : Good sh x p) {s f l v : ℕ} (r : Free sh (own sh x) s f l v) (a b z : ℤ)
-    (range : (i : ℕ) → i < 3 → T (rangeTest (three a b z i))) where
+module _ {sh : Shape} {x : List ℕ} {p : List ℤ} (g : Good sh x p) {s f l v : ℕ} (r : Free sh (own sh x) s f l v)
+    (a b z : ℤ) (range : (i : ℕ) → i < 3 → T (rangeTest (three a b z i))) where
   -- the columns afterwards
   abbrev d : Columns
   d = placed (own sh x) s f l v 1 s l f v
@@ -58,8 +60,10 @@ module _ {sh : Shape} {x : List ℕ} {p : List ℤ} (g : Good sh x p) {s f l v :
   -- list and points are good
   y-good : Good sh y q
   y-good = good-after g y-shows (λ n. refl) (put-length p v a b z) (mvsf-sound (g .sound) r
-      (points-new sh p (own sh x) d v (g .points) (r .vertex-in) (g .sound .point) (λ w n. upd-off (own sh x VertexUsed) 1 n)
-      a b z (range 0 (omega arith)) (range 1 (omega arith)) (range 2 (omega arith)) (upd-same (own sh x VertexUsed) v 1)))
+      (points-new sh p (own sh x) d v (g .points) (r .vertex-in) (g .sound .point)
+      (λ w n. upd-off (own sh x VertexUsed) 1 n)
+      a b z (range 0 (omega arith)) (range 1 (omega arith)) (range 2 (omega arith))
+      (upd-same (own sh x VertexUsed) v 1)))
 
   -- there is the solid that kvsf kills
   y-one : OneLoop sh (own sh y) s f l v
@@ -76,12 +80,13 @@ module _ {sh : Shape} {x : List ℕ} {p : List ℤ} (g : Good sh x p) {s f l v :
       let o = g .sound .face-free f (r .face-in) (r .face) in
       let stood : Stand (own sh x) (placedWrites s f l v 0 0 0 0 0)
       = (r .solid, (r .face, (o, (r .loop, (k .0, (k .1, (r .vertex, tt))))))) in
-      shows-ext (shows-placed y-shows s f l v 0 0 0 0 0 (r .solid-in) (r .face-in) (r .loop-in) (r .vertex-in)) (good-shows g)
-      (λ F n i j. place-back (own sh x) s f l v 1 s l f v 0 0 0 0 0 stood F n)
+      shows-ext (shows-placed y-shows s f l v 0 0 0 0 0 (r .solid-in) (r .face-in) (r .loop-in) (r .vertex-in))
+      (good-shows g) (λ F n i j. place-back (own sh x) s f l v 1 s l f v 0 0 0 0 0 stood F n)
 
   -- and its point cleared, the first points
   point-back : putPoint q v (pos 0) (pos 0) (pos 0) ≡ p
-  point-back = put-cleared (sh .vertices) p v a b z (g .points) (r .vertex-in) (g .sound .point v (r .vertex-in) .zero (r .vertex))
+  point-back = put-cleared (sh .vertices) p v a b z (g .points) (r .vertex-in)
+      (g .sound .point v (r .vertex-in) .zero (r .vertex))
 
   -- the point is read back
   point-at : (i : ℕ) → i < 3 → coordinate q v i ≡ three a b z i
@@ -91,9 +96,10 @@ module _ {sh : Shape} {x : List ℕ} {p : List ℤ} (g : Good sh x p) {s f l v :
   pub mvsf-exact : Kept sh x p (mvsfOf s f l v a b z) × Undone sh x p (mvsfOf s f l v a b z)
   mvsf-exact =
       let caps = g .capacities in
-      exact (mvsf-links sh x s f l v a b z caps r) (mvsf-points sh x s f l v a b z caps r p) (mvsf-inverse sh x s f l v a b z caps r p)
-      y-good (kvsf-accepted y-one caps y-used) (kvsf-links y-one caps ∙ mvsf-back) (kvsf-points y-one caps q ∙ point-back)
-      (kvsf-inverse y-one caps q
+      exact (mvsf-links sh x s f l v a b z caps r) (mvsf-points sh x s f l v a b z caps r p)
+      (mvsf-inverse sh x s f l v a b z caps r p)
+      y-good (kvsf-accepted y-one caps y-used) (kvsf-links y-one caps ∙ mvsf-back)
+      (kvsf-points y-one caps q ∙ point-back) (kvsf-inverse y-one caps q
       ∙ (λ t. mvsfOf s f l v (point-at 0 (omega arith) t) (point-at 1 (omega arith) t) (point-at 2 (omega arith) t)))
 
 -- ---- kvsf
@@ -119,7 +125,8 @@ module _ {sh : Shape} {x : List ℕ} {p : List ℤ} (g : Good sh x p) {s f l v :
   -- list and points are good
   ky-good : Good sh ky kq
   ky-good = good-after g ky-shows (λ n. refl) (put-length p v (pos 0) (pos 0) (pos 0)) (kvsf-sound (g .sound) o
-      (points-cleared sh p (own sh x) kd v (g .points) (o .vertex-in) (g .sound .point) (λ w n. upd-off (own sh x VertexUsed) 0 n)))
+      (points-cleared sh p (own sh x) kd v (g .points) (o .vertex-in) (g .sound .point)
+      (λ w n. upd-off (own sh x VertexUsed) 0 n)))
 
   -- the four numbers are free
   ky-free : Free sh (own sh ky) s f l v
@@ -148,8 +155,8 @@ module _ {sh : Shape} {x : List ℕ} {p : List ℤ} (g : Good sh x p) {s f l v :
   -- made again, it leaves the first list
   kvsf-back : placedLinks sh ky s f l v 1 s l f v ≡ x
   kvsf-back =
-      shows-ext (shows-placed ky-shows s f l v 1 s l f v (o .solid-in) (o .face-in) (o .loop-in) (o .vertex-in)) (good-shows g)
-      (λ F n i j. place-back (own sh x) s f l v 0 0 0 0 0 1 s l f v
+      shows-ext (shows-placed ky-shows s f l v 1 s l f v (o .solid-in) (o .face-in) (o .loop-in) (o .vertex-in))
+      (good-shows g) (λ F n i j. place-back (own sh x) s f l v 0 0 0 0 0 1 s l f v
       (s-mark, (o .solid, (o .outer, (o .face, (o .first, (o .isolated, (v-mark, tt))))))) F n)
 
   -- a good table stays good, and mvsf gives everything back
@@ -163,21 +170,21 @@ module _ {sh : Shape} {x : List ℕ} {p : List ℤ} (g : Good sh x p) {s f l v :
       exact (kvsf-links o caps) (kvsf-points o caps p) (kvsf-inverse o caps p) ky-good
       (mvsf-accepted sh ky s f l v a b z caps ky-free (r 0 (omega arith)) (r 1 (omega arith)) (r 2 (omega arith)))
       (mvsf-links sh ky s f l v a b z caps ky-free ∙ kvsf-back)
-      (mvsf-points sh ky s f l v a b z caps ky-free kq ∙ put-back (sh .vertices) p v (pos 0) (pos 0) (pos 0) (g .points) (o .vertex-in))
-      (mvsf-inverse sh ky s f l v a b z caps ky-free kq)
+      (mvsf-points sh ky s f l v a b z caps ky-free kq ∙ put-back (sh .vertices) p v (pos 0) (pos 0) (pos 0)
+      (g .points) (o .vertex-in)) (mvsf-inverse sh ky s f l v a b z caps ky-free kq)
 
 -- ---- as operators
 
 -- both for mvsf
-pub mvsf-holds : (sh : Shape) (x : List ℕ) (p : List ℤ) (o : Operator) → Good sh x p → length (o .args) ≡ 8 → o .code ≡ 1
-    → refusalOf sh x o ≡ 0 → Kept sh x p o × Undone sh x p o
+pub mvsf-holds : (sh : Shape) (x : List ℕ) (p : List ℤ) (o : Operator) → Good sh x p → length (o .args) ≡ 8
+    → o .code ≡ 1 → refusalOf sh x o ≡ 0 → Kept sh x p o × Undone sh x p o
 mvsf-holds sh x p o g len e h =
     let k = mvsf-facts sh x o (g .capacities) len e h in
     subst (λ q. Kept sh x p q × Undone sh x p q) (sym (k .is)) (mvsf-exact g (k .free) (k .x) (k .y) (k .z) (k .range))
 
 -- both for kvsf
-pub kvsf-holds : (sh : Shape) (x : List ℕ) (p : List ℤ) (o : Operator) → Good sh x p → length (o .args) ≡ 8 → o .code ≡ 2
-    → refusalOf sh x o ≡ 0 → Kept sh x p o × Undone sh x p o
+pub kvsf-holds : (sh : Shape) (x : List ℕ) (p : List ℤ) (o : Operator) → Good sh x p → length (o .args) ≡ 8
+    → o .code ≡ 2 → refusalOf sh x o ≡ 0 → Kept sh x p o × Undone sh x p o
 unfolding pattern rows useWord condition
 kvsf-holds sh x p o g len e h =
     let k = one-operand sh x 2 1 refl refl refl refl (omega (arith, g .capacities .solids)) refl o len e h in

@@ -31,7 +31,8 @@ one-isolated : {sh : Shape} {c : Columns} {s f l v : ℕ} → OneLoop sh c s f l
 one-isolated o z = omega (arith, o .vertex-in .0, sym (o .isolated) ∙ z)
 
 -- so the vertex is in use
-pub one-used : {sh : Shape} {p : List ℤ} {c : Columns} → Sound sh p c → {s f l v : ℕ} → OneLoop sh c s f l v → c VertexUsed v ≢ 0
+pub one-used : {sh : Shape} {p : List ℤ} {c : Columns} → Sound sh p c → {s f l v : ℕ} → OneLoop sh c s f l v
+    → c VertexUsed v ≢ 0
 one-used {c = c} a {l = l} o z = lone-used a l (o .loop-in) (one-isolated o) .2 (ap (c VertexUsed) (o .isolated) ∙ z)
 
 module _ {sh : Shape} {p : List ℤ} {c : Columns} (a : Sound sh p c) {s f l v : ℕ} (o : OneLoop sh c s f l v) where

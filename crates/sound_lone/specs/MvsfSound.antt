@@ -30,8 +30,10 @@ module _ {sh : Shape} {p : List ℤ} {c : Columns} (a : Sound sh p c) {s f l v :
     face-in = r .face-in;
     loop-in = r .loop-in;
     vertex-in = r .vertex-in;
-    no-face = λ g i n e. a .face g i (λ z. omega (arith, r .solid-in .0, sym e ∙ z)) .solid-used (ap (c SolidUsed) e ∙ r .solid);
-    no-loop = λ m i n e. a .loop m i (λ z. omega (arith, r .face-in .0, sym e ∙ z)) .face-used (ap (c Solid) e ∙ r .face);
+    no-face = λ g i n e. a .face g i (λ z. omega (arith, r .solid-in .0, sym e ∙ z)) .solid-used
+        (ap (c SolidUsed) e ∙ r .solid);
+    no-loop = λ m i n e. a .loop m i (λ z. omega (arith, r .face-in .0, sym e ∙ z)) .face-used
+        (ap (c Solid) e ∙ r .face);
     no-lone = λ m i n. isolated-unnamed a v (r .vertex-in) (r .vertex) m i;
     no-half = loop-unnamed a l (r .loop-in) (r .loop);
     no-start = start-unnamed a v (r .vertex-in) (r .vertex);

@@ -1,5 +1,6 @@
--- A solid s with one face f, whose one loop l is isolated at vertex v: four numbers that name each other and nothing else. mvsf fills this
--- place of a table, kvsf empties it. Both write the same seven words, and both leave a sound table: one proof, with a Bool for the way.
+-- A solid s with one face f, whose one loop l is isolated at vertex v: four numbers that name each other and nothing
+-- else. mvsf fills this place of a table, kvsf empties it. Both write the same seven words, and both leave a sound
+-- table: one proof, with a Bool for the way.
 use mathlib.Core.Path.{_≡_, refl, sym, ap, _∙_}
 use mathlib.Core.Logic.{_≢_, inl, inr}
 use mathlib.Core.Bool.{Bool, true, false}
@@ -175,7 +176,8 @@ module _ {sh : Shape} {p : List ℤ} {c : Columns} (a : Sound sh p c) {s f l v :
   -- and all else that is known of it stays
   old-vertex : (b : Bool) (w : ℕ) → In (sh .vertices) w → w ≢ v → VertexSound sh c w → VertexSound sh (d b) w
   old-vertex b w i n (alone m j e u k) =
-      alone m j (upd-off _ _ (λ x. o .lone-own w i n (ap (c Isolated) (sym x) ∙ e)) ∙ e) (λ m′ j′ e′. u m′ j′ (was b w m′ i n e′)) k
+      alone m j (upd-off _ _ (λ x. o .lone-own w i n (ap (c Isolated) (sym x) ∙ e)) ∙ e)
+      (λ m′ j′ e′. u m′ j′ (was b w m′ i n e′)) k
   old-vertex b w i n (joined u k j e) = joined (λ m j′ e′. u m j′ (was b w m i n e′)) k j e
 
   -- ---- rule 6
@@ -191,7 +193,8 @@ module _ {sh : Shape} {p : List ℤ} {c : Columns} (a : Sound sh p c) {s f l v :
   -- another face does not lie in the solid of the place
   apart : (b : Bool) (g h : ℕ) → FaceUsed sh (d b) g → g ≡ f → FaceUsed sh (d b) h → h ≢ f → d b Solid g ≢ d b Solid h
   apart true g h u x w n e =
-      o .no-face h (w .0, w .1) n (sym (upd-off (c Solid) s n) ∙ sym e ∙ ap (upd (c Solid) f s) x ∙ upd-same (c Solid) f s)
+      o .no-face h (w .0, w .1) n
+      (sym (upd-off (c Solid) s n) ∙ sym e ∙ ap (upd (c Solid) f s) x ∙ upd-same (c Solid) f s)
   apart false g h u x w n e = u .2 (ap (upd (c Solid) f 0) x ∙ upd-same (c Solid) f 0)
 
   -- another face was in use
@@ -213,8 +216,15 @@ module _ {sh : Shape} {p : List ℤ} {c : Columns} (a : Sound sh p c) {s f l v :
     one = λ g h u w e. split g f
         (λ x. split h f (λ y. same (x ∙ sym y)) (λ y. absurd (apart b g h u x w y e)))
         (λ x. split h f (λ y. absurd (apart b h g w y u x (sym e))) (λ y. map-linked (λ i. i)
-        (λ i j t. link (t .0, t .1, side-same b (t .0) (t .1) ∙ t .2, side-same b (mate (t .0)) (a .rules .mate-in (t .0) (t .1)) ∙ t .3))
-        (a .solids .one g h (used-old b g u x) (used-old b h w y) (sym (upd-off (c Solid) _ x) ∙ e ∙ upd-off (c Solid) _ y))));
+        (λ i j t.
+        link (
+          t .0,
+          t .1,
+          side-same b (t .0) (t .1) ∙ t .2,
+          side-same b (mate (t .0)) (a .rules .mate-in (t .0) (t .1)) ∙ t .3,
+        ))
+        (a .solids .one g h (used-old b g u x) (used-old b h w y)
+        (sym (upd-off (c Solid) _ x) ∙ e ∙ upd-off (c Solid) _ y))));
   }
 
   -- the table is sound afterwards, either way
@@ -228,7 +238,8 @@ module _ {sh : Shape} {p : List ℤ} {c : Columns} (a : Sound sh p c) {s f l v :
         (λ x. upd-off _ _ x ∙ a .face-free g i (sym (upd-off (c Solid) _ x) ∙ h));
     face = λ g i h. split g f (λ e. rw e (own-face b (rw e at h))) (λ x. old-face b g i x h);
     loop-free = λ m i h. split m l (λ e. rw e (loop-free b (rw e at h)))
-        (λ x. let r = a .loop-free m i (sym (upd-off (c Face) _ x) ∙ h) in (upd-off _ _ x ∙ r .0, upd-off _ _ x ∙ r .1));
+        (λ x. let r = a .loop-free m i (sym (upd-off (c Face) _ x) ∙ h) in
+        (upd-off _ _ x ∙ r .0, upd-off _ _ x ∙ r .1));
     loop = λ m i h. split m l (λ e. rw e (own-loop b (rw e at h))) (λ x. old-loop b m i x h);
     half-free = λ k i h. let r = a .half-free k i h in record { loop = r .loop; next = r .next; prev = r .prev };
     half = half-sound b;

@@ -59,8 +59,13 @@ module _ (sh : Shape) (x : List ℕ) (l f : ℕ) where
 
   -- and what is shared passes
   of-shared : (k : ℕ) → Shared sh c l f k → sharesOutside sh x l f k ≡ true
-  of-shared k s = T-true (T-every (tests k)
-      (not-T (eqb (c Start k) 0) (λ t. s .used .2 (eqb→eq (c Start k) 0 t)), (true-T (eqb-same (s .here)), (not-T (eqb (c Loop k) l) (λ t. s .outside (eqb→eq (c Loop k) l t)), (true-T (eqb-same (s .there)), tt)))))
+  of-shared k s = T-true (T-every (tests k) (
+    not-T (eqb (c Start k) 0) (λ t. s .used .2 (eqb→eq (c Start k) 0 t)),
+    (
+      true-T (eqb-same (s .here)),
+      (not-T (eqb (c Loop k) l) (λ t. s .outside (eqb→eq (c Loop k) l t)), (true-T (eqb-same (s .there)), tt)),
+    ),
+  ))
 
   -- the face is l's own, or lies across an edge outside l
   abbrev Reached : Type 0
@@ -88,7 +93,10 @@ module _ (sh : Shape) (x : List ℕ) (l f : ℕ) where
   unfolding rmovTest
   of-reached h r = rw (eqb-other h) (⊎-elim (λ e. rw (eqb-same {m = f} {n = c Face l} e)) (λ q.
       let u = q .2 .used in
-      rw (eqb-other (q .0), eqb-other (least-some (2 * sh .edges) (sharesOutside sh x l f) (q .1) (u .0, u .1) (of-shared (q .1) (q .2))))) r)
+      rw (
+        eqb-other (q .0),
+        eqb-other (least-some (2 * sh .edges) (sharesOutside sh x l f) (q .1) (u .0, u .1) (of-shared (q .1) (q .2))),
+      )) r)
 
   -- l is read as it stands
   ln : Capacities sh → Ring sh c l f → l ≤ 8192
@@ -101,8 +109,10 @@ module _ (sh : Shape) (x : List ℕ) (l f : ℕ) where
   -- it is accepted
   rmov-accepted : Capacities sh → Ring sh c l f → Reached → refusalOf sh x (rmovOf l f) ≡ 0
   unfolding pattern rows useWord condition
-  rmov-accepted caps r q = two-accepted sh x 13 6 4 refl refl refl refl (omega (arith, caps .loops)) refl refl (omega (arith, caps .faces)) refl l f (r .loop-in) (r .face-in) (r .loop-used)
-      (old-use sh x 4 f (omega (arith, r .face-in .0)) refl (r .face-used)) (rw (le-leb l 8192 (ln caps r), le-leb f 8192 (fn caps r)) (of-reached (r .ring) q))
+  rmov-accepted caps r q = two-accepted sh x 13 6 4 refl refl refl refl (omega (arith, caps .loops)) refl refl
+      (omega (arith, caps .faces)) refl l f (r .loop-in) (r .face-in) (r .loop-used)
+      (old-use sh x 4 f (omega (arith, r .face-in .0)) refl (r .face-used))
+      (rw (le-leb l 8192 (ln caps r), le-leb f 8192 (fn caps r)) (of-reached (r .ring) q))
 
   -- what it does where the face is l's own
   swap-links : Capacities sh → Ring sh c l f → f ≡ c Face l → linksAfter sh x (rmovOf l f) ≡ setFaceOuter sh x f l
@@ -120,18 +130,21 @@ module _ (sh : Shape) (x : List ℕ) (l f : ℕ) where
   rmov-points p = refl
 
   -- the inverse where the face is l's own
-  swap-inverse : Capacities sh → Ring sh c l f → (p : List ℤ) → f ≡ c Face l → inverse sh x p (rmovOf l f) ≡ rmovOf (c Outer f) f
+  swap-inverse : Capacities sh → Ring sh c l f → (p : List ℤ) → f ≡ c Face l → inverse sh x p (rmovOf l f)
+      ≡ rmovOf (c Outer f) f
   unfolding inverse
   swap-inverse caps r p e = rw (le-leb l 8192 (ln caps r), le-leb f 8192 (fn caps r), eqb-same e)
 
   -- and where it is another
-  move-inverse : Capacities sh → Ring sh c l f → (p : List ℤ) → f ≢ c Face l → inverse sh x p (rmovOf l f) ≡ rmovOf l (c Face l)
+  move-inverse : Capacities sh → Ring sh c l f → (p : List ℤ) → f ≢ c Face l → inverse sh x p (rmovOf l f) ≡ rmovOf l
+      (c Face l)
   unfolding inverse
   move-inverse caps r p n = rw (le-leb l 8192 (ln caps r), le-leb f 8192 (fn caps r), eqb-other n)
 
 -- ---- the ring becomes the outer loop
 
-module _ {sh : Shape} {x : List ℕ} {p : List ℤ} (g : Good sh x p) {l f : ℕ} (r : Ring sh (own sh x) l f) (e : f ≡ own sh x Face l) where
+module _ {sh : Shape} {x : List ℕ} {p : List ℤ} (g : Good sh x p) {l f : ℕ} (r : Ring sh (own sh x) l f)
+    (e : f ≡ own sh x Face l) where
   -- the list afterwards
   abbrev y : List ℕ
   y = setFaceOuter sh x f l
@@ -190,7 +203,8 @@ module _ {sh : Shape} {x : List ℕ} {p : List ℤ} (g : Good sh x p) {l f : ℕ
 
 -- ---- the ring goes to another face
 
-module _ {sh : Shape} {x : List ℕ} {p : List ℤ} (g : Good sh x p) {l f k : ℕ} (r : Ring sh (own sh x) l f) (n : f ≢ own sh x Face l) (s : Shared sh (own sh x) l f k) where
+module _ {sh : Shape} {x : List ℕ} {p : List ℤ} (g : Good sh x p) {l f k : ℕ} (r : Ring sh (own sh x) l f)
+    (n : f ≢ own sh x Face l) (s : Shared sh (own sh x) l f k) where
   -- the list afterwards
   abbrev ym : List ℕ
   ym = setLoopFace sh x l f
@@ -222,14 +236,16 @@ module _ {sh : Shape} {x : List ℕ} {p : List ℤ} (g : Good sh x p) {l f k : �
     loop-used = λ z. omega (arith, r .face-in .0, sym ym-face ∙ z);
     face-in = old-loop .0;
     face-used = λ z. old-loop .1 (sym (ym-shows .at Solid f₀ (old-loop .0 .1)) ∙ z);
-    ring = λ q. n (sym (g .sound .face f (r .face-in) (r .face-used) .outer-face) ∙ ap (own sh x Face) (sym (ym-shows .at Outer f (r .face-in .1)) ∙ ap (own sh ym Outer) (sym ym-face) ∙ q));
+    ring = λ q. n (sym (g .sound .face f (r .face-in) (r .face-used) .outer-face)
+        ∙ ap (own sh x Face) (sym (ym-shows .at Outer f (r .face-in .1)) ∙ ap (own sh ym Outer) (sym ym-face) ∙ q));
   }
 
   -- a half-edge outside the ring lies where it lay
   side-stays : (i : ℕ) → HalfUsed sh (own sh x) i → own sh x Loop i ≢ l → side (own sh ym) i ≡ side (own sh x) i
   side-stays i u q =
       let j = g .sound .half i (u .0, u .1) (u .2) .loop-in in
-      ap (own sh ym Face) (ym-shows .at Loop i (u .1)) ∙ ym-shows .at Face (own sh x Loop i) (j .1) ∙ upd-off (own sh x Face) f q
+      ap (own sh ym Face) (ym-shows .at Loop i (u .1)) ∙ ym-shows .at Face (own sh x Loop i) (j .1)
+      ∙ upd-off (own sh x Face) f q
 
   -- the mate of the shared half-edge is shared the other way
   ym-shared : Shared sh (own sh ym) l f₀ (mate k)
@@ -264,12 +280,13 @@ module _ {sh : Shape} {x : List ℕ} {p : List ℤ} (g : Good sh x p) {l f k : �
 -- ---- as an operator
 
 -- a good table stays good, and the inverse gives everything back
-pub rmov-holds : (sh : Shape) (x : List ℕ) (p : List ℤ) (o : Operator) → Good sh x p → length (o .args) ≡ 8 → o .code ≡ 13
-    → refusalOf sh x o ≡ 0 → Kept sh x p o × Undone sh x p o
+pub rmov-holds : (sh : Shape) (x : List ℕ) (p : List ℤ) (o : Operator) → Good sh x p → length (o .args) ≡ 8
+    → o .code ≡ 13 → refusalOf sh x o ≡ 0 → Kept sh x p o × Undone sh x p o
 unfolding pattern rows useWord condition
 rmov-holds sh x p o g len e h =
     let caps = g .capacities in
-    let k = two-operands sh x 13 6 4 refl refl refl refl (omega (arith, caps .loops)) refl refl (omega (arith, caps .faces)) refl o len e h in
+    let k = two-operands sh x 13 6 4 refl refl refl refl (omega (arith, caps .loops)) refl refl
+    (omega (arith, caps .faces)) refl o len e h in
     let q = reached-of sh x (k .m) (k .n) (rw (k .m-small, k .n-small) at (k .holds)) in
     let r : Ring sh (own sh x) (k .m) (k .n) = record {
       loop-in = k .m-in;
@@ -278,4 +295,5 @@ rmov-holds sh x p o g len e h =
       face-used = use-old sh x 4 (k .n) (omega (arith, k .n-in .0)) refl (k .n-use);
       ring = q .0;
     } in
-    subst (λ o. Kept sh x p o × Undone sh x p o) (sym (k .is)) (⊎-elim (swap-exact g r) (λ a. move-exact g r (a .0) (a .2)) (q .1))
+    subst (λ o. Kept sh x p o × Undone sh x p o) (sym (k .is))
+    (⊎-elim (swap-exact g r) (λ a. move-exact g r (a .0) (a .2)) (q .1))

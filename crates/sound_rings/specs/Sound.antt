@@ -42,11 +42,13 @@ pub swap-sound : {sh : Shape} {p : List ℤ} {c : Columns} → Sound sh p c → 
 swap-sound {sh} {c = c} a {l} {f} r e = regroup-sound a (record {
   mark = a .solid-mark;
   solid = a .solid;
-  face-free = λ g i h. split g f (λ q. absurd (r .face-used (ap (c Solid) (sym q) ∙ h))) (λ n. upd-off (c Outer) l n ∙ a .face-free g i h);
+  face-free = λ g i h. split g f (λ q. absurd (r .face-used (ap (c Solid) (sym q) ∙ h)))
+      (λ n. upd-off (c Outer) l n ∙ a .face-free g i h);
   face = λ g u.
       let b = a .face g (u .0, u .1) (u .2) in
       let o : In (sh .loops) (change c Outer f l Outer g) × (c Face (change c Outer f l Outer g) ≡ g) = split g f
-      (λ q. rw (upd-at (c Outer) l q) (r .loop-in, sym e ∙ sym q)) (λ n. rw (upd-off (c Outer) l n) (b .outer-in, b .outer-face)) in
+      (λ q. rw (upd-at (c Outer) l q) (r .loop-in, sym e ∙ sym q))
+      (λ n. rw (upd-off (c Outer) l n) (b .outer-in, b .outer-face)) in
       record { solid-in = b .solid-in; solid-used = b .solid-used; outer-in = o .0; outer-face = o .1 };
   loop-free = λ m i z. z;
   loop = λ m i h. let b = a .loop m i h in (b .face-in .0, b .face-in .1, b .face-used);
@@ -56,7 +58,8 @@ swap-sound {sh} {c = c} a {l} {f} r e = regroup-sound a (record {
 
 -- ---- the ring goes to another face
 
-module _ {sh : Shape} {p : List ℤ} {c : Columns} (a : Sound sh p c) {l f k : ℕ} (r : Ring sh c l f) (n : f ≢ c Face l) (s : Shared sh c l f k) where
+module _ {sh : Shape} {p : List ℤ} {c : Columns} (a : Sound sh p c) {l f k : ℕ} (r : Ring sh c l f) (n : f ≢ c Face l)
+    (s : Shared sh c l f k) where
   -- the columns afterwards
   abbrev d : Columns
   d = change c Face l f
@@ -75,7 +78,8 @@ module _ {sh : Shape} {p : List ℤ} {c : Columns} (a : Sound sh p c) {l f k : �
 
   -- so each side has the solid that it had
   solid-same : (i : ℕ) → c Solid (side d i) ≡ c Solid (side c i)
-  solid-same i = ⊎-elim (λ e. ap (c Solid) e) (λ e. ap (c Solid) (e .1) ∙ one-solid ∙ ap (c Solid) (sym (e .0))) (side-is i)
+  solid-same i = ⊎-elim (λ e. ap (c Solid) e) (λ e. ap (c Solid) (e .1) ∙ one-solid ∙ ap (c Solid) (sym (e .0)))
+      (side-is i)
 
   -- the shared edge is there as before
   pub mate-outside : c Loop (mate k) ≢ l
@@ -83,20 +87,24 @@ module _ {sh : Shape} {p : List ℤ} {c : Columns} (a : Sound sh p c) {l f k : �
 
   -- so the two faces are linked
   still-linked : L (c Face l) f
-  still-linked = link (k, s .used, upd-off (c Face) f (s .outside) ∙ s .here, upd-off (c Face) f mate-outside ∙ s .there)
+  still-linked =
+      link (k, s .used, upd-off (c Face) f (s .outside) ∙ s .here, upd-off (c Face) f mate-outside ∙ s .there)
 
   -- the new side of a half-edge is linked to the old one
   near : (i : ℕ) → L (side c i) (side d i)
-  near i = ⊎-elim (λ e. same (sym e)) (λ e. subst (λ g. L g (side d i)) (sym (e .0)) (subst (L (c Face l)) (sym (e .1)) still-linked)) (side-is i)
+  near i = ⊎-elim (λ e. same (sym e))
+      (λ e. subst (λ g. L g (side d i)) (sym (e .0)) (subst (L (c Face l)) (sym (e .1)) still-linked)) (side-is i)
 
   -- rule 6
   moved-solids : Solids (HalfUsed sh d) (FaceUsed sh d) (side d) mate (d Solid)
   moved-solids = record {
-    side-in = λ i u. ⊎-elim (λ e. subst (FaceUsed sh c) (sym e) (a .solids .side-in i u)) (λ e. subst (FaceUsed sh c) (sym (e .1)) (r .face-in .0, r .face-in .1, r .face-used)) (side-is i);
+    side-in = λ i u. ⊎-elim (λ e. subst (FaceUsed sh c) (sym e) (a .solids .side-in i u))
+        (λ e. subst (FaceUsed sh c) (sym (e .1)) (r .face-in .0, r .face-in .1, r .face-used)) (side-is i);
     edge = λ i u. solid-same (mate i) ∙ a .solids .edge i u ∙ sym (solid-same i);
     one = λ g h u v e. map-linked (λ i. i) (λ g h t.
         subst (λ g. L g h) (t .2) (subst (L (side c (t .0))) (t .3)
-        (via (side d (t .0)) (near (t .0)) (via (side d (mate (t .0))) (link (t .0, t .1, refl, refl)) (back (near (mate (t .0)))))))) (a .solids .one g h u v e);
+        (via (side d (t .0)) (near (t .0)) (via (side d (mate (t .0))) (link (t .0, t .1, refl, refl))
+        (back (near (mate (t .0)))))))) (a .solids .one g h u v e);
   }
 
   -- only one loop has changed its face, and the sides with it

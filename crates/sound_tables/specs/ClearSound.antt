@@ -45,13 +45,15 @@ zero-coordinate n zero i = refl
 zero-coordinate n (suc v) i = same-at (pos 0) n (0 + pointWidth * v + i)
 
 module _ (s f l e v : ℕ) where
-  -- the empty table, its points and its shape
+  -- the empty table
   abbrev x : List ℕ
   x = emptyLinks s f l e v
 
+  -- its points
   abbrev p : List ℤ
   p = emptyPoints v
 
+  -- and its shape
   abbrev sh : Shape
   sh = shapeFrom s f l e v
 

@@ -32,7 +32,8 @@ module _ (sh : Shape) (x : List ℕ) (l h : ℕ) where
   pub test-corner : h ≤ 2 * sh .edges → useRefusal sh x 10 h ≡ 0 → T (corner sh x l h) → CornerAt sh (own sh x) l h
   unfolding corner useWord
   test-corner m u t = ⊎-elim
-      (λ s. let r = and-T (eqb h 0) (not (eqb (own sh x Isolated l) 0)) s in inl (eqb→eq h 0 (r .0), λ z. T-not (eqb (own sh x Isolated l) 0) (r .1) (true-T (eqb-same z))))
+      (λ s. let r = and-T (eqb h 0) (not (eqb (own sh x Isolated l) 0)) s in
+      inl (eqb→eq h 0 (r .0), λ z. T-not (eqb (own sh x Isolated l) 0) (r .1) (true-T (eqb-same z))))
       (λ s.
       let r = and-T (not (eqb h 0)) (eqb (own sh x Loop h) l) s in
       let n : h ≢ 0 = λ z. T-not (eqb h 0) (r .0) (true-T (eqb-same z)) in
@@ -42,9 +43,11 @@ module _ (sh : Shape) (x : List ℕ) (l h : ℕ) where
   -- it passes
   pub corner-test : CornerAt sh (own sh x) l h → corner sh x l h ≡ true
   unfolding corner
-  corner-test = ⊎-elim (λ r. rw (eqb-same (r .0), eqb-other (r .1))) (λ r. let n : h ≢ 0 = λ z. omega (arith, r .0 .0, z) in rw (eqb-other n, eqb-same (r .1)))
+  corner-test = ⊎-elim (λ r. rw (eqb-same (r .0), eqb-other (r .1)))
+      (λ r. let n : h ≢ 0 = λ z. omega (arith, r .0 .0, z) in rw (eqb-other n, eqb-same (r .1)))
 
   -- and h names none or one in use
   pub corner-use : CornerAt sh (own sh x) l h → useRefusal sh x 10 h ≡ 0
   unfolding useWord
-  corner-use = ⊎-elim (λ r. rw (r .0) (zero-use sh x 10)) (λ r. old-use sh x 10 h (λ z. omega (arith, r .0 .0, z)) refl (r .0 .2))
+  corner-use = ⊎-elim (λ r. rw (r .0) (zero-use sh x 10))
+      (λ r. old-use sh x 10 h (λ z. omega (arith, r .0 .0, z)) refl (r .0 .2))

@@ -1,5 +1,5 @@
--- An edge goes in, k after p and its mate a after q, on the four columns of the half-edges: loops join (mekr) or part (mef), and the
--- vertices get two more. `Rules` is what rules 4 and 5 say.
+-- An edge goes in, k after p and its mate a after q, on the four columns of the half-edges: loops join (mekr) or part
+-- (mef), and the vertices get two more. `Rules` is what rules 4 and 5 say.
 use mathlib.Core.Path.{_≡_, refl, sym, ap, _∙_, subst}
 use mathlib.Core.Logic.{_≢_, inl, inr, ⊎-elim}
 use Prim.Native.Nat.{ℕ, _≤_}
@@ -50,21 +50,29 @@ module _ {n : ℕ} {mate : ℕ → ℕ} {U : ℕ → Type 0} {h : Halves} (r : R
 
 -- ---- the stores as moves: about any function, and four places that differ
 
-module _ (f : ℕ → ℕ) (k a p q : ℕ) (ka : k ≢ a) (ak : a ≢ k) (kp : k ≢ p) (pk : p ≢ k) (kq : k ≢ q) (qk : q ≢ k) (ap′ : a ≢ p) (pa : p ≢ a) (aq : a ≢ q) (qa : q ≢ a) (pq : p ≢ q) (qp : q ≢ p) where
+module _ (f : ℕ → ℕ) (k a p q : ℕ) (ka : k ≢ a) (ak : a ≢ k) (kp : k ≢ p) (pk : p ≢ k) (kq : k ≢ q) (qk : q ≢ k)
+    (ap′ : a ≢ p) (pa : p ≢ a) (aq : a ≢ q) (qa : q ≢ a) (pq : p ≢ q) (qp : q ≢ p) where
+  -- a statement about each number: the four, another
   five : (P : ℕ → Type 0) → P k → P a → P p → P q → ((i : ℕ) → i ≢ k → i ≢ a → i ≢ p → i ≢ q → P i) → (i : ℕ) → P i
-  five P pk pa pp1 pp2 po i = split i k (λ e. subst P (sym e) pk) λ f1. split i a (λ e. subst P (sym e) pa) λ f2. split i p (λ e. subst P (sym e) pp1) λ f3. split i q (λ e. subst P (sym e) pp2) λ f4. po i f1 f2 f3 f4
+  five P pk pa pp1 pp2 po i = split i k (λ e. subst P (sym e) pk) λ f1. split i a (λ e. subst P (sym e) pa) λ f2.
+      split i p (λ e. subst P (sym e) pp1) λ f3. split i q (λ e. subst P (sym e) pp2) λ f4. po i f1 f2 f3 f4
 
   -- the four stores are: k goes in after p, a after k, then k and q exchange
   join-moves : (i : ℕ) → upd (upd (upd (upd f p k) k (f q)) q a) a (f p) i ≡ xchg (ins (ins f k p) a k) k q i
-  join-moves = five _ (simp (upd-same, upd-off)) (simp (upd-same, upd-off)) (simp (upd-same, upd-off)) (simp (upd-same, upd-off)) (λ i e1 e2 e3 e4. simp upd-off)
+  join-moves = five _ (simp (upd-same, upd-off)) (simp (upd-same, upd-off)) (simp (upd-same, upd-off))
+      (simp (upd-same, upd-off)) (λ i e1 e2 e3 e4. simp upd-off)
 
   -- the labels: k and a get p's, then q's cycle gets it
-  join-labels : f p ≢ f q → (i : ℕ) → upd (upd (relabel f (f q) (f p)) k (f p)) a (f p) i ≡ relabel (upd (upd f k (f p)) a (upd f k (f p) k)) (upd (upd f k (f p)) a (upd f k (f p) k) q) (upd (upd f k (f p)) a (upd f k (f p) k) k) i
+  join-labels : f p ≢ f q → (i : ℕ) → upd (upd (relabel f (f q) (f p)) k (f p)) a (f p) i
+      ≡ relabel (upd (upd f k (f p)) a (upd f k (f p) k)) (upd (upd f k (f p)) a (upd f k (f p) k) q)
+      (upd (upd f k (f p)) a (upd f k (f p) k) k) i
   unfolding relabel
-  join-labels two = five _ (simp (upd-same, upd-off, relabel, eqb-other two)) (simp (upd-same, upd-off, relabel, eqb-other two)) (simp (upd-same, upd-off, relabel)) (simp (upd-same, upd-off, relabel))
-      (λ i e1 e2 e3 e4. simp (upd-same, upd-off, relabel))
+  join-labels two = five _ (simp (upd-same, upd-off, relabel, eqb-other two))
+      (simp (upd-same, upd-off, relabel, eqb-other two)) (simp (upd-same, upd-off, relabel))
+      (simp (upd-same, upd-off, relabel)) (λ i e1 e2 e3 e4. simp (upd-same, upd-off, relabel))
 
--- An edge (k, a) is put in, k after p and a after q: mekr where p and q lie in two loops, mef where they lie in one. The new loop column is given.
+-- An edge (k, a) is put in, k after p and a after q: mekr where p and q lie in two loops, mef where they lie in one.
+-- The new loop column is given.
 abbrev pub joined : Halves → ℕ → ℕ → ℕ → ℕ → (ℕ → ℕ) → Halves
 joined h k a p q lab = record {
   start = upd (upd (h .start) k (h .start (h .next p))) a (h .start (h .next q));
@@ -78,62 +86,82 @@ abbrev pub merged : Halves → ℕ → ℕ → ℕ → ℕ → ℕ → ℕ
 merged h k a p q = upd (upd (relabel (h .loop) (h .loop q) (h .loop p)) k (h .loop p)) a (h .loop p)
 
 module _ {n : ℕ} {mate : ℕ → ℕ} {U : ℕ → Type 0} {h : Halves} (r : Rules n mate U h) (mm : (i : ℕ) → mate (mate i) ≡ i)
-    (k a p q : ℕ) (k-a : mate k ≡ a) (ka : k ≢ a) (fk : ¬ U k) (fa : ¬ U a) (k1 : 1 ≤ k) (kn : k ≤ n) (a1 : 1 ≤ a) (an : a ≤ n)
-    (up : U p) (uq : U q) (pq : p ≢ q) where
+    (k a p q : ℕ) (k-a : mate k ≡ a) (ka : k ≢ a) (fk : ¬ U k) (fa : ¬ U a) (k1 : 1 ≤ k) (kn : k ≤ n) (a1 : 1 ≤ a)
+    (an : a ≤ n) (up : U p) (uq : U q) (pq : p ≢ q) where
+  -- one of U is not one outside
   off : {x i : ℕ} → ¬ U x → U i → i ≢ x
   off g u e = g (subst U e u)
 
+  -- the same, the other way round
   ffo : {x i : ℕ} → ¬ U x → U i → x ≢ i
   ffo g u e = g (subst U (sym e) u)
 
+  -- the mate of a is k
   a-k : mate a ≡ k
   a-k = ap mate (sym k-a) ∙ mm k
 
+  -- mates of different ones differ
   mate-inj : {i j : ℕ} → mate i ≡ mate j → i ≡ j
   mate-inj {i} {j} e = sym (mm i) ∙ ap mate e ∙ mm j
 
   -- any two of k, a, and two different ones of U differ
   with4 : {A : Type 0} (x y : ℕ) → U x → U y → x ≢ y
       → (k ≢ a → a ≢ k → k ≢ x → x ≢ k → k ≢ y → y ≢ k → a ≢ x → x ≢ a → a ≢ y → y ≢ a → x ≢ y → y ≢ x → A) → A
-  with4 x y ux uy xy c = c ka (λ e. ka (sym e)) (ffo fk ux) (off fk ux) (ffo fk uy) (off fk uy) (ffo fa ux) (off fa ux) (ffo fa uy) (off fa uy) xy (λ e. xy (sym e))
+  with4 x y ux uy xy c = c ka (λ e. ka (sym e)) (ffo fk ux) (off fk ux) (ffo fk uy) (off fk uy) (ffo fa ux) (off fa ux)
+      (ffo fa uy) (off fa uy) xy (λ e. xy (sym e))
 
+  -- next with k and a put in after p
   abbrev f2 : ℕ → ℕ
   f2 = ins (ins (h .next) k p) a k
 
   -- k and a go in one after the other after p; then k and q exchange
-  spur : Cycles n (Or a (Or k U)) (ins (ins (h .next) k p) a k) (upd (upd (h .loop) k (h .loop p)) a (upd (h .loop) k (h .loop p) k))
+  spur : Cycles n (Or a (Or k U)) (ins (ins (h .next) k p) a k)
+      (upd (upd (h .loop) k (h .loop p)) a (upd (h .loop) k (h .loop p) k))
   spur = ins-cycles (ins-cycles (r .loops) k p fk k1 kn up) a k (⊎-elim (λ e. ka (sym e)) fa) a1 an (inl refl)
 
-  moves : (i : ℕ) → upd (upd (upd (upd (h .next) p k) k (h .next q)) q a) a (h .next p) i ≡ xchg (ins (ins (h .next) k p) a k) k q i
-  moves i = with4 p q up uq pq λ c1 c2 c3 c4 c5 c6 c7 c8 c9 c10 c11 c12. join-moves (h .next) k a p q c1 c2 c3 c4 c5 c6 c7 c8 c9 c10 c11 c12 i
+  -- the stores to next are these moves
+  moves : (i : ℕ) → upd (upd (upd (upd (h .next) p k) k (h .next q)) q a) a (h .next p) i
+      ≡ xchg (ins (ins (h .next) k p) a k) k q i
+  moves i = with4 p q up uq pq
+      λ c1 c2 c3 c4 c5 c6 c7 c8 c9 c10 c11 c12. join-moves (h .next) k a p q c1 c2 c3 c4 c5 c6 c7 c8 c9 c10 c11 c12 i
 
   -- mekr: the loop of q takes the label of p
-  pub merged-loops : h .loop p ≢ h .loop q → Cycles n (Or a (Or k U)) (joined h k a p q (merged h k a p q) .next) (merged h k a p q)
+  pub merged-loops : h .loop p ≢ h .loop q → Cycles n (Or a (Or k U)) (joined h k a p q (merged h k a p q) .next)
+      (merged h k a p q)
   merged-loops two = with4 p q up uq pq λ c1 c2 c3 c4 c5 c6 c7 c8 c9 c10 c11 c12. agree
-      (merge-cycles spur k q (inr (inl refl)) (inr (inr uq)) (simp (upd-same, upd-off) two)) (λ i u. u) (λ i u. u) (λ i u. moves i)
-      (λ i u. join-labels (h .loop) k a p q c1 c2 c3 c4 c5 c6 c7 c8 c9 c10 c11 c12 two i)
+      (merge-cycles spur k q (inr (inl refl)) (inr (inr uq)) (simp (upd-same, upd-off) two)) (λ i u. u) (λ i u. u)
+      (λ i u. moves i) (λ i u. join-labels (h .loop) k a p q c1 c2 c3 c4 c5 c6 c7 c8 c9 c10 c11 c12 two i)
 
+  -- it leaves the others but p
   step-o : (i : ℕ) → U i → i ≢ p → f2 i ≡ h .next i
   step-o i u e = let x1 = off fk u in let x2 = off fa u in simp upd-off
 
+  -- and goes from p to k
   step-p : f2 p ≡ k
   step-p = let x1 = off fk up in let x2 = off fa up in simp (upd-same, upd-off)
 
+  -- a run to q before k is one to q before p
   run-old : {i : ℕ} → U i → Till f2 k q i → Till (h .next) p q i
   run-old u (stop e) = stop e
-  run-old u (go {z} e1 e2 t) = split z p (λ e. absurd (not-k (subst (Till f2 k q) (ap f2 e ∙ step-p) t))) λ e. go e e2 (subst (Till (h .next) p q) (step-o z u e) (run-old (subst U (sym (step-o z u e)) (r .loops .perm .f-in z u)) t))
+  run-old u (go {z} e1 e2 t) = split z p (λ e. absurd (not-k (subst (Till f2 k q) (ap f2 e ∙ step-p) t))) λ e. go e e2
+      (subst (Till (h .next) p q) (step-o z u e) (run-old (subst U (sym (step-o z u e)) (r .loops .perm .f-in z u)) t))
     where
+      -- k is not on it
       not-k : Till f2 k q k → ⊥
       not-k (stop e) = off fk uq (sym e)
       not-k (go g g′ s) = g refl
 
+  -- and one to k before q is one to p before q
   rest-old : {i : ℕ} → U i → Till f2 q k i → Till (h .next) q p i
   rest-old u (stop e) = absurd (off fk u e)
-  rest-old u (go {z} e1 e2 t) = split z p (λ e. stop e) λ e. go e1 e (subst (Till (h .next) q p) (step-o z u e) (rest-old (subst U (sym (step-o z u e)) (r .loops .perm .f-in z u)) t))
+  rest-old u (go {z} e1 e2 t) = split z p (λ e. stop e) λ e. go e1 e
+      (subst (Till (h .next) q p) (step-o z u e) (rest-old (subst U (sym (step-o z u e)) (r .loops .perm .f-in z u)) t))
 
   -- mef: those of the loop from which q is met before p is left, and a, get the label d
-  pub halved-loops : h .loop p ≡ h .loop q → (d : ℕ) → ((i : ℕ) → U i → h .loop i ≢ d) → (lab : ℕ → ℕ) → lab k ≡ h .loop p → lab a ≡ d
-      → ((i : ℕ) → U i → Till (h .next) p q i → lab i ≡ d) → ((i : ℕ) → U i → Till (h .next) q p i → lab i ≡ h .loop i) → ((i : ℕ) → U i → h .loop i ≢ h .loop p → lab i ≡ h .loop i)
+  pub halved-loops : h .loop p ≡ h .loop q → (d : ℕ) → ((i : ℕ) → U i → h .loop i ≢ d) → (lab : ℕ → ℕ)
+      → lab k ≡ h .loop p → lab a ≡ d
+      → ((i : ℕ) → U i → Till (h .next) p q i → lab i ≡ d) → ((i : ℕ) → U i → Till (h .next) q p i → lab i ≡ h .loop i)
+      → ((i : ℕ) → U i → h .loop i ≢ h .loop p → lab i ≡ h .loop i)
       → Cycles n (Or a (Or k U)) (joined h k a p q lab .next) lab
   halved-loops one d fresh lab lk la run rest far = with4 p q up uq pq λ c1 c2 c3 c4 c5 c6 c7 c8 c9 c10 c11 c12.
       let L : ℕ → ℕ = upd (upd (h .loop) k (h .loop p)) a (upd (h .loop) k (h .loop p) k) in
@@ -142,29 +170,41 @@ module _ {n : ℕ} {mate : ℕ → ℕ} {U : ℕ → Type 0} {h : Halves} (r : R
       let Lo : (i : ℕ) → U i → L i ≡ h .loop i = λ i u. upd-off _ _ (off fa u) ∙ upd-off _ _ (off fk u) in
       let fk2 : f2 k ≡ a = upd-same _ k a in
       let w = forwards (spur .perm) (spur .one a q (inl refl) (inr (inr uq)) (La ∙ one ∙ sym (Lo q uq))) in
-      let run-a : Till f2 k q a = subst (Till f2 k q) fk2 (till-fx f2 k q c5 (w .0 .0) (subst (λ z. iter f2 (w .0 .0) z ≡ q) (sym fk2) (w .0 .1))) in
+      let run-a : Till f2 k q a = subst (Till f2 k q) fk2
+      (till-fx f2 k q c5 (w .0 .0) (subst (λ z. iter f2 (w .0 .0) z ≡ q) (sym fk2) (w .0 .1))) in
       agree (halve-cycles spur k q d lab (inr (inl refl)) (inr (inr uq)) c5 (Lk ∙ one ∙ sym (Lo q uq))
-      (λ i. ⊎-elim (λ e z. fresh p up (sym La ∙ ap L (sym e) ∙ z)) (⊎-elim (λ e z. fresh p up (sym Lk ∙ ap L (sym e) ∙ z)) (λ u z. fresh i u (sym (Lo i u) ∙ z))))
-      (λ i. ⊎-elim (λ e t. ap lab e ∙ la) (⊎-elim (λ e t. absurd (not-both f2 k q c5 (subst (Till f2 k q) e t) (stop refl))) (λ u t. run i u (run-old u t))))
-      (λ i. ⊎-elim (λ e t. absurd (not-both f2 k q c5 run-a (subst (Till f2 q k) e t))) (⊎-elim (λ e t. ap lab e ∙ lk ∙ sym Lk ∙ ap L (sym e)) (λ u t. rest i u (rest-old u t) ∙ sym (Lo i u))))
-      (λ i. ⊎-elim (λ e z. absurd (z (ap L e ∙ La ∙ sym Lk))) (⊎-elim (λ e z. absurd (z (ap L e))) (λ u z. far i u (λ q. z (Lo i u ∙ q ∙ sym Lk)) ∙ sym (Lo i u)))))
+      (λ i. ⊎-elim (λ e z. fresh p up (sym La ∙ ap L (sym e) ∙ z))
+      (⊎-elim (λ e z. fresh p up (sym Lk ∙ ap L (sym e) ∙ z)) (λ u z. fresh i u (sym (Lo i u) ∙ z))))
+      (λ i. ⊎-elim (λ e t. ap lab e ∙ la)
+      (⊎-elim (λ e t. absurd (not-both f2 k q c5 (subst (Till f2 k q) e t) (stop refl)))
+      (λ u t. run i u (run-old u t))))
+      (λ i. ⊎-elim (λ e t. absurd (not-both f2 k q c5 run-a (subst (Till f2 q k) e t)))
+      (⊎-elim (λ e t. ap lab e ∙ lk ∙ sym Lk ∙ ap L (sym e)) (λ u t. rest i u (rest-old u t) ∙ sym (Lo i u))))
+      (λ i. ⊎-elim (λ e z. absurd (z (ap L e ∙ La ∙ sym Lk)))
+      (⊎-elim (λ e z. absurd (z (ap L e))) (λ u z. far i u (λ q. z (Lo i u ∙ q ∙ sym Lk)) ∙ sym (Lo i u)))))
       (λ i u. u) (λ i u. u) (λ i u. moves i) (λ i u. refl)
 
+  -- the mate of p is in use
   mp : U (mate p)
   mp = r .mate-in p up
 
+  -- and that of q
   mq : U (mate q)
   mq = r .mate-in q uq
 
+  -- they differ
   mpq : mate p ≢ mate q
   mpq e = pq (mate-inj e)
 
   -- under next of the mate, k goes in after the mate of p, and a after the mate of q
-  sigma-moves : (i : ℕ) → joined h k a p q (h .loop) .next (mate i) ≡ ins (ins (λ j. h .next (mate j)) k (mate p)) a (mate q) i
-  sigma-moves i = with4 p q up uq pq λ c1 c2 c3 c4 c5 c6 c7 c8 c9 c10 c11 c12. with4 (mate p) (mate q) mp mq mpq λ d1 d2 d3 d4 d5 d6 d7 d8 d9 d10 d11 d12.
-      five (h .next) k a (mate p) (mate q) d1 d2 d3 d4 d5 d6 d7 d8 d9 d10 d11 d12 (λ i. joined h k a p q (h .loop) .next (mate i) ≡ ins (ins (λ j. h .next (mate j)) k (mate p)) a (mate q) i)
-      (rw k-a (simp (upd-same, upd-off, mm))) (rw a-k (simp (upd-same, upd-off, mm))) (simp (mm, upd-same, upd-off)) (simp (mm, upd-same, upd-off))
-      (λ i e1 e2 e3 e4.
+  sigma-moves : (i : ℕ) → joined h k a p q (h .loop) .next (mate i) ≡ ins (ins (λ j. h .next (mate j)) k (mate p)) a
+      (mate q) i
+  sigma-moves i = with4 p q up uq pq λ c1 c2 c3 c4 c5 c6 c7 c8 c9 c10 c11 c12. with4 (mate p) (mate q) mp mq mpq
+      λ d1 d2 d3 d4 d5 d6 d7 d8 d9 d10 d11 d12.
+      five (h .next) k a (mate p) (mate q) d1 d2 d3 d4 d5 d6 d7 d8 d9 d10 d11 d12
+      (λ i. joined h k a p q (h .loop) .next (mate i) ≡ ins (ins (λ j. h .next (mate j)) k (mate p)) a (mate q) i)
+      (rw k-a (simp (upd-same, upd-off, mm))) (rw a-k (simp (upd-same, upd-off, mm))) (simp (mm, upd-same, upd-off))
+      (simp (mm, upd-same, upd-off)) (λ i e1 e2 e3 e4.
       let f1 : mate i ≢ k = λ e. e2 (sym (mm i) ∙ ap mate e ∙ k-a) in
       let f2 : mate i ≢ a = λ e. e1 (sym (mm i) ∙ ap mate e ∙ a-k) in
       let f3 : mate i ≢ p = λ e. e3 (sym (mm i) ∙ ap mate e) in
@@ -172,24 +212,31 @@ module _ {n : ℕ} {mate : ℕ → ℕ} {U : ℕ → Type 0} {h : Halves} (r : R
       simp upd-off)
       i
 
-  joined-verts : Cycles n (Or a (Or k U)) (λ i. joined h k a p q (h .loop) .next (mate i)) (joined h k a p q (h .loop) .start)
+  -- so the vertices get k and a
+  joined-verts : Cycles n (Or a (Or k U)) (λ i. joined h k a p q (h .loop) .next (mate i))
+      (joined h k a p q (h .loop) .start)
   joined-verts = with4 (mate p) (mate q) mp mq mpq λ d1 d2 d3 d4 d5 d6 d7 d8 d9 d10 d11 d12. agree
       (ins-cycles (ins-cycles (r .verts) k (mate p) fk k1 kn mp) a (mate q) (⊎-elim d2 fa) a1 an (inr mq))
       (λ i u. u) (λ i u. u)
       (λ i u. sigma-moves i)
       (λ i u. rw (start-mate r mm p up, start-mate r mm q uq, upd-off (h .start) {k = k} (h .start (mate p)) d6))
 
+  -- what follows p is in use
   np : U (h .next p)
   np = r .loops .perm .f-in p up
 
+  -- and what follows q
   nq : U (h .next q)
   nq = r .loops .perm .f-in q uq
 
+  -- previous undoes next
   joined-undone : (i : ℕ) → Or a (Or k U) i → joined h k a p q (h .loop) .prev (joined h k a p q (h .loop) .next i) ≡ i
-  joined-undone i = with4 p q up uq pq λ c1 c2 c3 c4 c5 c6 c7 c8 c9 c10 c11 c12. with4 (h .next p) (h .next q) np nq (λ e. pq (inj (r .loops .perm) up uq e)) λ d1 d2 d3 d4 d5 d6 d7 d8 d9 d10 d11 d12.
-      five (h .next) k a p q c1 c2 c3 c4 c5 c6 c7 c8 c9 c10 c11 c12 (λ i. Or a (Or k U) i → joined h k a p q (h .loop) .prev (joined h k a p q (h .loop) .next i) ≡ i)
-      (λ u. simp (upd-same, upd-off)) (λ u. simp (upd-same, upd-off)) (λ u. simp (upd-same, upd-off)) (λ u. simp (upd-same, upd-off))
-      (λ i e1 e2 e3 e4. ⊎-elim (λ e. absurd (e2 e)) (⊎-elim (λ e. absurd (e1 e)) λ u.
+  joined-undone i = with4 p q up uq pq λ c1 c2 c3 c4 c5 c6 c7 c8 c9 c10 c11 c12. with4 (h .next p) (h .next q) np nq
+      (λ e. pq (inj (r .loops .perm) up uq e)) λ d1 d2 d3 d4 d5 d6 d7 d8 d9 d10 d11 d12.
+      five (h .next) k a p q c1 c2 c3 c4 c5 c6 c7 c8 c9 c10 c11 c12
+      (λ i. Or a (Or k U) i → joined h k a p q (h .loop) .prev (joined h k a p q (h .loop) .next i) ≡ i)
+      (λ u. simp (upd-same, upd-off)) (λ u. simp (upd-same, upd-off)) (λ u. simp (upd-same, upd-off))
+      (λ u. simp (upd-same, upd-off)) (λ i e1 e2 e3 e4. ⊎-elim (λ e. absurd (e2 e)) (⊎-elim (λ e. absurd (e1 e)) λ u.
       let v = r .loops .perm .f-in i u in
       let f1 : h .next i ≢ k = off fk v in
       let f2 : h .next i ≢ a = off fa v in
@@ -199,9 +246,11 @@ module _ {n : ℕ} {mate : ℕ → ℕ} {U : ℕ → Type 0} {h : Halves} (r : R
       i
 
   -- the rules once the edge is in, whatever becomes of the loops
-  pub joined-rules : (lab : ℕ → ℕ) → Cycles n (Or a (Or k U)) (joined h k a p q lab .next) lab → Rules n mate (Or a (Or k U)) (joined h k a p q lab)
+  pub joined-rules : (lab : ℕ → ℕ) → Cycles n (Or a (Or k U)) (joined h k a p q lab .next) lab
+      → Rules n mate (Or a (Or k U)) (joined h k a p q lab)
   joined-rules lab c = record {
-    mate-in = λ i. ⊎-elim (λ e. inr (inl (ap mate e ∙ a-k))) (⊎-elim (λ e. inl (ap mate e ∙ k-a)) (λ u. inr (inr (r .mate-in i u))));
+    mate-in = λ i. ⊎-elim (λ e. inr (inl (ap mate e ∙ a-k)))
+        (⊎-elim (λ e. inl (ap mate e ∙ k-a)) (λ u. inr (inr (r .mate-in i u))));
     loops = c;
     verts = joined-verts;
     undone = joined-undone;

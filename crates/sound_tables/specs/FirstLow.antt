@@ -1,4 +1,5 @@
--- Where the search for a loop's first begins: no half-edge below a sound table's first names the loop, nor below the lesser of it and a new half-edge.
+-- Where the search for a loop's first begins: no half-edge below a sound table's first names the loop, nor below the
+-- lesser of it and a new half-edge.
 use mathlib.Core.Path.{_≡_, sym, _∙_, subst}
 use mathlib.Core.Logic.{_≢_, ⊎-elim}
 use mathlib.Core.List.{List}
@@ -34,15 +35,18 @@ lower-new f k m i h old = split i k
     (λ g. let o = old d g in lower-one f (lower k m) i (o .0) (o .1)))
 
 -- the least that names a loop is there and not above any that does
-pub least-low : (sh : Shape) (c : Columns) (l i : ℕ) → In (2 * sh .edges) i → c Loop i ≡ l → (firstOf sh c l ≢ 0) × (firstOf sh c l ≤ i)
+pub least-low : (sh : Shape) (c : Columns) (l i : ℕ) → In (2 * sh .edges) i → c Loop i ≡ l
+    → (firstOf sh c l ≢ 0) × (firstOf sh c l ≤ i)
 least-low sh c l i j e =
     let h = label-some (2 * sh .edges) (c Loop) l i j e in
     (h, label-found (2 * sh .edges) (c Loop) l h .before i j e)
 
 -- so is a sound table's first
-pub first-low : {sh : Shape} {p : List ℤ} {c : Columns} → Sound sh p c → (l i : ℕ) → 1 ≤ l → In (2 * sh .edges) i → c Loop i ≡ l → (c First l ≢ 0) × (c First l ≤ i)
+pub first-low : {sh : Shape} {p : List ℤ} {c : Columns} → Sound sh p c → (l i : ℕ) → 1 ≤ l → In (2 * sh .edges) i
+    → c Loop i ≡ l → (c First l ≢ 0) × (c First l ≤ i)
 first-low {sh} {p} {c} a l i h j e =
     let u : c Start i ≢ 0 = λ z. omega (arith, h, sym e ∙ a .half-free i j z .loop) in
     let s = a .half i j u in
-    let q : c First l ≡ firstOf sh c l = subst (λ m. c First m ≡ firstOf sh c m) e (a .loop (c Loop i) (s .loop-in) (s .loop-used) .first) in
+    let q : c First l ≡ firstOf sh c l = subst (λ m. c First m ≡ firstOf sh c m) e
+    (a .loop (c Loop i) (s .loop-in) (s .loop-used) .first) in
     rw q (least-low sh c l i j e)

@@ -1,4 +1,5 @@
--- Fixed points with labels of their own beside a labelled permutation: the dummies of all isolated loops come in at once, and go.
+-- Fixed points with labels of their own beside a labelled permutation: the dummies of all isolated loops come in at
+-- once, and go.
 use mathlib.Core.Path.{_≡_, refl, sym, ap, _∙_, subst}
 use mathlib.Core.Logic.{_≢_, _⊎_, inl, inr, ⊎-elim}
 use Prim.Native.Nat.{ℕ, _≤_, _<_}
@@ -33,38 +34,62 @@ module _ {n m : ℕ} {U D : ℕ → Type 0} {f lab f′ lab′ : ℕ → ℕ} (x
       high = λ i. ⊎-elim (λ u. omega (arith, c .perm .high i u, x .n≤m)) (λ d. x .below i d);
       f-in = λ i. ⊎-elim (λ u. inl (rw (x .f-u i u) (c .perm .f-in i u))) (λ d. inr (rw (x .f-d i d) d));
       inv = λ i. back-of i (le? i n);
-      undo = λ i. ⊎-elim (λ u. rw (x .f-u i u) (low-inv (f i) (c .perm .high _ (c .perm .f-in i u)) (le? (f i) n) ∙ c .perm .undo i u)) (λ d. rw (x .f-d i d) (high-inv i (x .above i d) (le? i n)));
+      undo = λ i. ⊎-elim (λ u. rw (x .f-u i u)
+          (low-inv (f i) (c .perm .high _ (c .perm .f-in i u)) (le? (f i) n) ∙ c .perm .undo i u))
+          (λ d. rw (x .f-d i d) (high-inv i (x .above i d) (le? i n)));
     };
-    keeps = λ i. ⊎-elim (λ u. rw (x .f-u i u) (x .lab-u _ (c .perm .f-in i u) ∙ c .keeps i u ∙ sym (x .lab-u i u))) (λ d. ap lab′ (x .f-d i d));
+    keeps = λ i. ⊎-elim (λ u. rw (x .f-u i u) (x .lab-u _ (c .perm .f-in i u) ∙ c .keeps i u ∙ sym (x .lab-u i u)))
+        (λ d. ap lab′ (x .f-d i d));
     one = λ i j u v e. ⊎-elim
-        (λ p. ⊎-elim (λ q. map-linked (λ k. k) (λ a b s. link (inl (s .0), x .f-u a (s .0) ∙ s .1)) (c .one i j p q (sym (x .lab-u i p) ∙ e ∙ x .lab-u j q))) (λ q. absurd (o .1 i j p q e)) v)
+        (λ p. ⊎-elim (λ q. map-linked (λ k. k) (λ a b s. link (inl (s .0), x .f-u a (s .0) ∙ s .1))
+        (c .one i j p q (sym (x .lab-u i p) ∙ e ∙ x .lab-u j q))) (λ q. absurd (o .1 i j p q e)) v)
         (λ p. ⊎-elim (λ q. absurd (o .1 j i q p (sym e))) (λ q. same (o .0 i j p q e)) v) u;
   }
     where
+      -- the way back: below n the old one
       back-of : (i : ℕ) → (i ≤ n) ⊎ (n < i) → ℕ
       back-of i (inl h) = c .perm .inv i
       back-of i (inr h) = i
 
+      -- below n it is the old one
       low-inv : (i : ℕ) → i ≤ n → (h : (i ≤ n) ⊎ (n < i)) → back-of i h ≡ c .perm .inv i
       low-inv i l (inl h) = refl
       low-inv i l (inr h) = absurd (omega arith)
 
+      -- above n the number itself
       high-inv : (i : ℕ) → n < i → (h : (i ≤ n) ⊎ (n < i)) → back-of i h ≡ i
       high-inv i l (inl h) = absurd (omega arith)
       high-inv i l (inr h) = refl
 
   -- and back: the permutation of U, and what the dummies' labels say
-  pub fewer : Cycles m (With U D) f′ lab′ → ((i : ℕ) → U i → i ≤ n) → ((i : ℕ) → U i → U (f i)) → Cycles n U f lab × Own U D lab′
+  pub fewer : Cycles m (With U D) f′ lab′ → ((i : ℕ) → U i → i ≤ n) → ((i : ℕ) → U i → U (f i))
+      → Cycles n U f lab × Own U D lab′
   fewer c low fi = (
     record {
-      perm = record { low = λ i u. c .perm .low i (inl u); high = low; f-in = fi; inv = c .perm .inv; undo = λ i u. ap (c .perm .inv) (sym (x .f-u i u)) ∙ c .perm .undo i (inl u) };
+      perm = record {
+        low = λ i u. c .perm .low i (inl u);
+        high = low;
+        f-in = fi;
+        inv = c .perm .inv;
+        undo =
+            λ i u. ap (c .perm .inv) (sym (x .f-u i u)) ∙ c .perm .undo i (inl u);
+      };
       keeps = λ i u. sym (x .lab-u _ (fi i u)) ∙ ap lab′ (sym (x .f-u i u)) ∙ c .keeps i (inl u) ∙ x .lab-u i u;
       one = λ i j u v e. map-within U
-          (λ a b s. (λ w. subst U (sym (x .f-u a w) ∙ s .1) (fi a w), λ w. ⊎-elim (λ z. z) (λ z. subst U (sym (s .1) ∙ x .f-d a z) w) (s .0)))
-          (λ a b s w. link (w, sym (x .f-u a w) ∙ s .1)) (c .one i j (inl u) (inl v) (x .lab-u i u ∙ e ∙ sym (x .lab-u j v))) u;
+          (λ a b s. (
+            λ w. subst U (sym (x .f-u a w) ∙ s .1) (fi a w),
+            λ w. ⊎-elim (λ z. z) (λ z. subst U (sym (s .1) ∙ x .f-d a z) w) (s .0),
+          ))
+          (λ a b s w. link (w, sym (x .f-u a w) ∙ s .1))
+          (c .one i j (inl u) (inl v) (x .lab-u i u ∙ e ∙ sym (x .lab-u j v))) u;
     },
-    (λ i j p q e. alone c (inr q) (x .f-d j q) i (inr p) e, λ i j u q e. absurd (clash i j u q (alone c (inr q) (x .f-d j q) i (inl u) e))),
+    (
+      λ i j p q e. alone c (inr q) (x .f-d j q) i (inr p) e,
+      λ i j u q e.
+          absurd (clash i j u q (alone c (inr q) (x .f-d j q) i (inl u) e)),
+    ),
   )
     where
+      -- one of U is not one of D
       clash : (i j : ℕ) → U i → D j → i ≡ j → ⊥
       clash i j u d e = omega (arith, low i u, x .above j d)

@@ -38,10 +38,17 @@ pub good-shows : {sh : Shape} {x : List ℕ} {p : List ℤ} → Good sh x p → 
 good-shows {sh} {x} g = shows-own sh x (g .fit)
 
 -- a table that shows sound columns, with the capacities and the number of coordinates of a good one, is good
-pub good-after : {sh : Shape} {x y : List ℕ} {p q : List ℤ} {d : Columns} → Good sh x p → Shows sh y d → ((n : ℕ) → d Capacity n ≡ own sh x Capacity n) → length q ≡ length p → Sound sh q d → Good sh y q
+pub good-after : {sh : Shape} {x y : List ℕ} {p q : List ℤ} {d : Columns} → Good sh x p → Shows sh y d
+    → ((n : ℕ) → d Capacity n ≡ own sh x Capacity n) → length q ≡ length p → Sound sh q d → Good sh y q
 good-after {sh} {x} {y} {p} {q} {d} g s e l a = record {
   shape =
-      rw (s .at Capacity 1 (lit≤ tt) ∙ e 1, s .at Capacity 2 (lit≤ tt) ∙ e 2, s .at Capacity 3 (lit≤ tt) ∙ e 3, s .at Capacity 4 (lit≤ tt) ∙ e 4, s .at Capacity 5 (lit≤ tt) ∙ e 5)
+      rw (
+        s .at Capacity 1 (lit≤ tt) ∙ e 1,
+        s .at Capacity 2 (lit≤ tt) ∙ e 2,
+        s .at Capacity 3 (lit≤ tt) ∙ e 3,
+        s .at Capacity 4 (lit≤ tt) ∙ e 4,
+        s .at Capacity 5 (lit≤ tt) ∙ e 5,
+      )
       (g .shape);
   capacities = g .capacities;
   fit = s .fit;

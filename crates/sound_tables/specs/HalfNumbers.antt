@@ -1,4 +1,5 @@
--- Half-edges by edge and way: each half-edge is the half of its edge that its way names, and two halves of one edge are the same or mates.
+-- Half-edges by edge and way: each half-edge is the half of its edge that its way names, and two halves of one edge are
+-- the same or mates.
 use mathlib.Core.Path.{_≡_, _∙_}
 use mathlib.Core.Logic.{_≢_, _⊎_, inl, inr}
 use Prim.Native.Nat.{ℕ, _-_, _*_, _%_, _≤_}
@@ -41,7 +42,8 @@ second-half k = split (k % 2) 1 (λ q. inr (omega (arith, q, mate-odd k q))) (λ
 
 -- mates are of one edge
 pub mate-edge : (k : ℕ) → 1 ≤ k → edgeOf (mate k) ≡ edgeOf k
-mate-edge k h = split (k % 2) 1 (λ q. rw (mate-odd k q) (omega (arith, q))) (λ q. rw (mate-even k q) (omega (arith, q, h)))
+mate-edge k h = split (k % 2) 1 (λ q. rw (mate-odd k q) (omega (arith, q)))
+    (λ q. rw (mate-even k q) (omega (arith, q, h)))
 
 -- two halves of one edge are the same or mates
 pub same-edge : (n k : ℕ) → 1 ≤ n → 1 ≤ k → edgeOf n ≡ edgeOf k → (n ≡ k) ⊎ (n ≡ mate k)

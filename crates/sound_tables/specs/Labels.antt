@@ -1,5 +1,5 @@
--- The least number that passes a test, above all the test of a label: where there is one, and what is known of it. (A loop's first half-edge, a
--- vertex's starter, a solid's least face.) And how many there are.
+-- The least number that passes a test, above all the test of a label: where there is one, and what is known of it. (A
+-- loop's first half-edge, a vertex's starter, a solid's least face.) And how many there are.
 use mathlib.Core.Path.{_≡_, refl, ap, _∙_}
 use mathlib.Core.Logic.{_≢_, ⊎-elim}
 use mathlib.Core.Bool.{Bool, true}
@@ -13,11 +13,13 @@ use Rattle.sound_tables.specs.Sound.{In}
 
 module _ (n : ℕ) (p : ℕ → Bool) where
   -- what is found passes the test, and is not above any that does
-  pub least-found : least n p ≢ 0 → In n (least n p) × (p (least n p) ≡ true) × ((k : ℕ) → In n k → p k ≡ true → least n p ≤ k)
+  pub least-found : least n p ≢ 0 → In n (least n p) × (p (least n p) ≡ true)
+      × ((k : ℕ) → In n k → p k ≡ true → least n p ≤ k)
   least-found h = go (leastFrom-is n 1 p)
     where
       -- by what a search finds
-      go : Least n 1 p (least n p) → In n (least n p) × (p (least n p) ≡ true) × ((k : ℕ) → In n k → p k ≡ true → least n p ≤ k)
+      go : Least n 1 p (least n p) → In n (least n p) × (p (least n p) ≡ true)
+          × ((k : ℕ) → In n k → p k ≡ true → least n p ≤ k)
       go (none-is z f) = absurd (h z)
       go (one-is a b t f) = (
         (a, omega arith),
@@ -65,7 +67,8 @@ module _ (n : ℕ) (lab : ℕ → ℕ) (l : ℕ) where
 
   -- one with the label is found, if it is the only one
   pub label-only : (r : ℕ) → In n r → lab r ≡ l → ((k : ℕ) → In n k → lab k ≡ l → k ≡ r) → leastWith n lab l ≡ r
-  label-only r i e u = least-unique n _ r (i .0) (i .1) (eqb-same e) (λ j a b. eqb-other (λ q. omega (arith, b, u j (a, omega (arith, b, i .1)) q)))
+  label-only r i e u = least-unique n _ r (i .0) (i .1) (eqb-same e)
+      (λ j a b. eqb-other (λ q. omega (arith, b, u j (a, omega (arith, b, i .1)) q)))
 
   -- how many of 1..n have label l
   abbrev pub manyWith : ℕ
@@ -77,12 +80,21 @@ module _ (n : ℕ) (lab : ℕ → ℕ) (l : ℕ) where
 
   -- and back
   pub none-many : manyWith ≡ 0 → (k : ℕ) → In n k → lab k ≢ l
-  none-many z k i e = omega (arith, z, sum-zero n, sum-lt n (λ j. 0) (λ j. bit (eqb (lab j) l)) k (i .0) (i .1) (omega (arith, ap bit (eqb-same e))) (λ j a b. omega arith))
+  none-many z k i e =
+      omega (
+        arith,
+        z,
+        sum-zero n,
+        sum-lt n (λ j. 0) (λ j. bit (eqb (lab j) l)) k (i .0) (i .1)
+            (omega (arith, ap bit (eqb-same e))) (λ j a b. omega arith),
+      )
 
   -- one alone
   pub many-one : (r : ℕ) → In n r → lab r ≡ l → ((k : ℕ) → In n k → lab k ≡ l → k ≡ r) → manyWith ≡ 1
   many-one r i e u =
-      sum-ext n _ (λ k. bit (eqb k r)) (λ k a b. ap bit (same-T {a = eqb (lab k) l} {b = eqb k r} (λ t. true-T (eqb-same (u k (a, b) (eqb→eq _ _ t)))) (λ t. true-T (eqb-same (ap lab (eqb→eq _ _ t) ∙ e)))))
+      sum-ext n _ (λ k. bit (eqb k r))
+      (λ k a b. ap bit (same-T {a = eqb (lab k) l} {b = eqb k r}
+      (λ t. true-T (eqb-same (u k (a, b) (eqb→eq _ _ t)))) (λ t. true-T (eqb-same (ap lab (eqb→eq _ _ t) ∙ e)))))
       ∙ count-one n (λ k. eqb k r) r (i .0) (i .1) (eqb-same {m = r} refl) (λ k f. eqb-other f)
 
   -- and back
@@ -101,11 +113,14 @@ module _ (n : ℕ) (lab : ℕ → ℕ) (l : ℕ) where
       others : ℕ → ℕ
       others m = pick (eqb m r) 0 (bit (eqb (lab m) l))
 
+      -- k is one of them
       here : k ≢ r → others k ≡ 1
       here x = rw (eqb-other x, eqb-same q)
 
+      -- r is not
       gone : others r ≡ 0
       gone = rw (eqb-same {m = r} refl)
 
+      -- so they are one fewer
       drop-r : manyWith + others r ≡ sumTo n others + bit (eqb (lab r) l)
       drop-r = sum-change n (λ m. bit (eqb (lab m) l)) others r (i .0) (i .1) (λ m f. rw (eqb-other f))

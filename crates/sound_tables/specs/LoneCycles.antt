@@ -7,7 +7,8 @@ use Rattle.laws.specs.Cycles.{Cycles, birth, death}
 use Rattle.laws.specs.Moves.{Or, But}
 
 -- the same cycles under labels that tell the same apart
-pub same-cycles : {n : ℕ} {U : ℕ → Type 0} {f lab lab′ : ℕ → ℕ} → Cycles n U f lab → ((i j : ℕ) → U i → U j → lab i ≡ lab j → lab′ i ≡ lab′ j)
+pub same-cycles : {n : ℕ} {U : ℕ → Type 0} {f lab lab′ : ℕ → ℕ} → Cycles n U f lab
+    → ((i j : ℕ) → U i → U j → lab i ≡ lab j → lab′ i ≡ lab′ j)
     → ((i j : ℕ) → U i → U j → lab′ i ≡ lab′ j → lab i ≡ lab j) → Cycles n U f lab′
 same-cycles {f = f} c to from = record {
   perm = c .perm;
@@ -17,7 +18,8 @@ same-cycles {f = f} c to from = record {
 
 module _ {n : ℕ} {U : ℕ → Type 0} {f lab : ℕ → ℕ} (c : Cycles n U f lab) (x : ℕ) where
   -- x comes, alone with the new label o
-  pub birth-cycles : (o : ℕ) → ¬ U x → 1 ≤ x → x ≤ n → ((i : ℕ) → U i → lab i ≢ o) → Cycles n (Or x U) (upd f x x) (upd lab x o)
+  pub birth-cycles : (o : ℕ) → ¬ U x → 1 ≤ x → x ≤ n → ((i : ℕ) → U i → lab i ≢ o) → Cycles n (Or x U) (upd f x x)
+      (upd lab x o)
   birth-cycles o fresh low high new = birth c (record {
     fresh = fresh;
     x-low = low;
@@ -33,4 +35,15 @@ module _ {n : ℕ} {U : ℕ → Type 0} {f lab : ℕ → ℕ} (c : Cycles n U f 
 
   -- x, which is alone, goes
   pub death-cycles : U x → f x ≡ x → Cycles n (But x U) f lab
-  death-cycles u e = death c (record { x-in = u; f-x = e; old = λ i w d. (w, d); in-old = λ i w. w .0; not-x = λ w. w .1 refl; f-o = λ i d. refl; lab-o = λ i d. refl })
+  death-cycles u e =
+      death c
+      (record {
+        x-in = u;
+        f-x = e;
+        old = λ i w d. (w, d);
+        in-old = λ i w. w .0;
+        not-x = λ w. w .1 refl;
+        f-o =
+            λ i d. refl;
+        lab-o = λ i d. refl;
+      })

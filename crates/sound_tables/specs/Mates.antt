@@ -25,7 +25,9 @@ mate⁺-high c k h = rw (T-false {b = leb k (2 * c)} (λ t. omega (arith, leb→
 -- and its own inverse everywhere
 pub mate⁺-mate⁺ : (c k : ℕ) → mate⁺ c (mate⁺ c k) ≡ k
 mate⁺-mate⁺ c k = ⊎-elim
-    (λ h. rw (mate⁺-low c k h) (mate⁺-low c (mate k) (split k 0 (λ z. rw z (rw (mate-even 0 (omega arith)) (omega arith))) (λ p. mate-range k c (omega arith) h .1)) ∙ mate-mate k))
+    (λ h. rw (mate⁺-low c k h)
+    (mate⁺-low c (mate k) (split k 0 (λ z. rw z (rw (mate-even 0 (omega arith)) (omega arith)))
+    (λ p. mate-range k c (omega arith) h .1)) ∙ mate-mate k))
     (λ h. rw (mate⁺-high c k h) (mate⁺-high c k h)) (le? k (2 * c))
 
 -- a half-edge is not its own mate

@@ -1,5 +1,5 @@
--- Faces and solids put together anew: the marks of the solids, the solid and outer loop of each face and the face of each loop change,
--- nothing else does. What has to be shown of such a change, and that it is enough.
+-- Faces and solids put together anew: the marks of the solids, the solid and outer loop of each face and the face of
+-- each loop change, nothing else does. What has to be shown of such a change, and that it is enough.
 use mathlib.Core.Path.{_≡_, refl}
 use mathlib.Core.Logic.{_≢_, ⊎-elim}
 use mathlib.Core.Bool.{false}
@@ -18,8 +18,8 @@ use Rattle.sound_tables.specs.Sound.{In, HalfUsed, FaceUsed, FaceSound, 
 abbrev pub grouping : List Field
 grouping = SolidUsed ∷ Solid ∷ Outer ∷ Face ∷ []
 
--- d is c with faces and solids put together anew: marks and solids belong together, outer loops name their faces, the loops in use are
--- those that were
+-- d is c with faces and solids put together anew: marks and solids belong together, outer loops name their faces, the
+-- loops in use are those that were
 pub record Regroup (sh : Shape) (c d : Columns) : Type 0 where
   pub mark : (n : ℕ) → In (sh .solids) n → d SolidUsed n ≤ 1
   pub solid : (n : ℕ) → In (sh .solids) n → d SolidUsed n ≢ 0 → (f : ℕ) × In (sh .faces) f × (d Solid f ≡ n)
@@ -51,7 +51,13 @@ module _ {sh : Shape} {p : List ℤ} {c d : Columns} (a : Sound sh p c) (r : Reg
     face-free = r .face-free;
     face = λ f i h.
         let q = r .face f (i .0, i .1, h) in
-        record { solid-in = q .solid-in; solid-used = q .solid-used; outer-in = q .outer-in; outer-face = q .outer-face };
+        record {
+          solid-in = q .solid-in;
+          solid-used = q .solid-used;
+          outer-in = q .outer-in;
+          outer-face =
+              q .outer-face;
+        };
     loop-free = λ l i h. split (c Face l) 0 (λ z. a .loop-free l i z) (λ z. absurd (still-used l i z h));
     loop = λ l i h.
         let u : c Face l ≢ 0 = λ z. h (r .loop-free l i z) in

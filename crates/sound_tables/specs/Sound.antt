@@ -1,5 +1,6 @@
--- A sound table in plain words, over its columns. `Sound` is what the six rules say, with nothing said twice: next, previous and start are
--- two labelled permutations (`Rules`), first is a function of the loop column, and rule 6 is `Solids`.
+-- A sound table in plain words, over its columns. `Sound` is what the six rules say, with nothing said twice: next,
+-- previous and start are two labelled permutations (`Rules`), first is a function of the loop column, and rule 6 is
+-- `Solids`.
 use mathlib.Core.Path.{_≡_, sym, ap, _∙_}
 use mathlib.Core.Logic.{_≢_, _⊎_, inl, inr, ⊎-elim}
 use mathlib.Core.List.{List}
@@ -50,7 +51,8 @@ module _ (sh : Shape) (c : Columns) where
 
   -- a loop has a first half-edge or an isolated vertex, which is in use
   abbrev pub FirstOrIsolated : ℕ → Type 0
-  FirstOrIsolated l = ((c First l ≢ 0) × (c Isolated l ≡ 0)) ⊎ ((c First l ≡ 0) × In (sh .vertices) (c Isolated l) × (c VertexUsed (c Isolated l) ≢ 0))
+  FirstOrIsolated l = ((c First l ≢ 0) × (c Isolated l ≡ 0))
+      ⊎ ((c First l ≡ 0) × In (sh .vertices) (c Isolated l) × (c VertexUsed (c Isolated l) ≢ 0))
 
   -- a loop in use: its face is in use
   pub record LoopSound (l : ℕ) : Type 0 where
@@ -76,7 +78,8 @@ module _ (sh : Shape) (c : Columns) where
   pub data VertexSound (v : ℕ) : Type 0 where
     alone : (l : ℕ) → In (sh .loops) l → c Isolated l ≡ v → ((m : ℕ) → In (sh .loops) m → c Isolated m ≡ v → m ≡ l)
         → ((k : ℕ) → In (2 * sh .edges) k → c Start k ≢ v) → VertexSound v
-    joined : ((m : ℕ) → In (sh .loops) m → c Isolated m ≢ v) → (k : ℕ) → In (2 * sh .edges) k → c Start k ≡ v → VertexSound v
+    joined : ((m : ℕ) → In (sh .loops) m → c Isolated m ≢ v) → (k : ℕ) → In (2 * sh .edges) k → c Start k ≡ v
+        → VertexSound v
 
 -- a point: in range, and zero where its vertex is free
 pub record PointSound (p : List ℤ) (c : Columns) (v : ℕ) : Type 0 where
@@ -100,17 +103,22 @@ pub record Sound (sh : Shape) (p : List ℤ) (c : Columns) : Type 0 where
   pub solids : Solids (HalfUsed sh c) (FaceUsed sh c) (side c) mate (c Solid)
 
 -- a half-edge is sound by its start and its loop
-pub half-by : {sh : Shape} {c : Columns} {k : ℕ} (v l : ℕ) → c Start k ≡ v → c Loop k ≡ l → In (sh .vertices) v → c VertexUsed v ≢ 0 → In (sh .loops) l → c Face l ≢ 0 → HalfSound sh c k
-half-by v l ev el iv uv il ul = record { start-in = rw ev iv; start-used = rw ev uv; loop-in = rw el il; loop-used = rw el ul }
+pub half-by : {sh : Shape} {c : Columns} {k : ℕ} (v l : ℕ) → c Start k ≡ v → c Loop k ≡ l → In (sh .vertices) v
+    → c VertexUsed v ≢ 0 → In (sh .loops) l → c Face l ≢ 0 → HalfSound sh c k
+half-by v l ev el iv uv il ul =
+    record { start-in = rw ev iv; start-used = rw ev uv; loop-in = rw el il; loop-used = rw el ul }
 
 -- a vertex depends on the isolated vertices and on the starts alone
-pub vertex-same : {sh : Shape} {c d : Columns} → ((l : ℕ) → In (sh .loops) l → d Isolated l ≡ c Isolated l) → ((k : ℕ) → In (2 * sh .edges) k → d Start k ≡ c Start k) → {v : ℕ} → VertexSound sh c v → VertexSound sh d v
-vertex-same e s (alone l i a b n) = alone l i (e l i ∙ a) (λ m j q. b m j (sym (e m j) ∙ q)) (λ k j q. n k j (sym (s k j) ∙ q))
+pub vertex-same : {sh : Shape} {c d : Columns} → ((l : ℕ) → In (sh .loops) l → d Isolated l ≡ c Isolated l)
+    → ((k : ℕ) → In (2 * sh .edges) k → d Start k ≡ c Start k) → {v : ℕ} → VertexSound sh c v → VertexSound sh d v
+vertex-same e s (alone l i a b n) = alone l i (e l i ∙ a) (λ m j q. b m j (sym (e m j) ∙ q))
+    (λ k j q. n k j (sym (s k j) ∙ q))
 vertex-same e s (joined n k i a) = joined (λ m j q. n m j (sym (e m j) ∙ q)) k i (s k i ∙ a)
 
 -- ---- what is said of columns is said of columns that agree up to the capacities
 
 module _ (sh : Shape) (p : List ℤ) {c d : Columns} (e : (F : Field) (n : ℕ) → n ≤ capOf sh F → d F n ≡ c F n) where
+  -- a face
   face-agree : (f : ℕ) → In (sh .faces) f → FaceSound sh c f → FaceSound sh d f
   face-agree f i r = record {
     solid-in = rw (e Solid f (i .1)) (r .solid-in);
@@ -119,6 +127,7 @@ module _ (sh : Shape) (p : List ℤ) {c d : Columns} (e : (F : Field) (n : ℕ) 
     outer-face = rw (e Outer f (i .1), e Face (c Outer f) (r .outer-in .1)) (r .outer-face);
   }
 
+  -- a loop
   loop-agree : (l : ℕ) → In (sh .loops) l → LoopSound sh c l → LoopSound sh d l
   loop-agree l i r = record {
     face-in = rw (e Face l (i .1)) (r .face-in);
@@ -128,6 +137,7 @@ module _ (sh : Shape) (p : List ℤ) {c d : Columns} (e : (F : Field) (n : ℕ) 
         (λ h. inr (rw (e First l (i .1), e Isolated l (i .1), e VertexUsed (c Isolated l) (h .1 .1)) h)) (r .either);
   }
 
+  -- a half-edge
   half-agree : (k : ℕ) → In (2 * sh .edges) k → HalfSound sh c k → HalfSound sh d k
   half-agree k i r = record {
     start-in = rw (e Start k (i .1)) (r .start-in);
@@ -136,9 +146,11 @@ module _ (sh : Shape) (p : List ℤ) {c d : Columns} (e : (F : Field) (n : ℕ) 
     loop-used = rw (e Loop k (i .1), e Face (c Loop k) (r .loop-in .1)) (r .loop-used);
   }
 
+  -- the half-edges in use are the same
   half-to : (k : ℕ) → HalfUsed sh c k → HalfUsed sh d k
   half-to k u = (u .0, u .1, rw (e Start k (u .1)) (u .2))
 
+  -- and back
   half-from : (k : ℕ) → HalfUsed sh d k → HalfUsed sh c k
   half-from k u = (u .0, u .1, λ z. u .2 (e Start k (u .1) ∙ z))
 
@@ -147,30 +159,54 @@ module _ (sh : Shape) (p : List ℤ) {c d : Columns} (e : (F : Field) (n : ℕ) 
     side-same : (k : ℕ) → HalfUsed sh c k → side d k ≡ side c k
     side-same k u = rw (e Loop k (u .1), e Face (c Loop k) (s .half k (u .0, u .1) (u .2) .loop-in .1))
 
+    -- rule 6
     solids-agree : Solids (HalfUsed sh d) (FaceUsed sh d) (side d) mate (d Solid)
     solids-agree = record {
       side-in = λ k u. let v = half-from k u in let f = s .solids .side-in k v in
           rw (side-same k v, e Solid (side c k) (f .1)) f;
       edge = λ k u. let v = half-from k u in let w = s .rules .mate-in k v in
-          rw (side-same k v, side-same (mate k) w, e Solid (side c k) (s .solids .side-in k v .1), e Solid (side c (mate k)) (s .solids .side-in (mate k) w .1)) (s .solids .edge k v);
+          rw (
+            side-same k v,
+            side-same (mate k) w,
+            e Solid (side c k) (s .solids .side-in k v .1),
+            e Solid (side c (mate k)) (s .solids .side-in (mate k) w .1),
+          ) (s .solids .edge k v);
       one = λ f g a b q. map-linked (λ i. i)
-          (λ i j t. link (t .0, half-to (t .0) (t .1), side-same (t .0) (t .1) ∙ t .2, side-same (mate (t .0)) (s .rules .mate-in (t .0) (t .1)) ∙ t .3))
-          (s .solids .one f g (a .0, a .1, λ z. a .2 (e Solid f (a .1) ∙ z)) (b .0, b .1, λ z. b .2 (e Solid g (b .1) ∙ z)) (sym (e Solid f (a .1)) ∙ q ∙ e Solid g (b .1)));
+          (λ i j t.
+          link (
+            t .0,
+            half-to (t .0) (t .1),
+            side-same (t .0) (t .1) ∙ t .2,
+            side-same (mate (t .0)) (s .rules .mate-in (t .0) (t .1)) ∙ t .3,
+          ))
+          (s .solids .one f g (a .0, a .1, λ z. a .2 (e Solid f (a .1) ∙ z))
+          (b .0, b .1, λ z. b .2 (e Solid g (b .1) ∙ z)) (sym (e Solid f (a .1)) ∙ q ∙ e Solid g (b .1)));
     }
 
+    -- all of it
     pub sound-agree : Sound sh p d
     sound-agree = record {
       solid-mark = λ n i. rw (e SolidUsed n (i .1)) (s .solid-mark n i);
-      solid = λ n i h. let r = s .solid n i (λ z. h (e SolidUsed n (i .1) ∙ z)) in (r .0, r .1, e Solid (r .0) (r .1 .1) ∙ r .2);
+      solid = λ n i h. let r = s .solid n i (λ z. h (e SolidUsed n (i .1) ∙ z)) in
+          (r .0, r .1, e Solid (r .0) (r .1 .1) ∙ r .2);
       face-free = λ f i h. e Outer f (i .1) ∙ s .face-free f i (sym (e Solid f (i .1)) ∙ h);
       face = λ f i h. face-agree f i (s .face f i (λ z. h (e Solid f (i .1) ∙ z)));
-      loop-free = λ l i h. let r = s .loop-free l i (sym (e Face l (i .1)) ∙ h) in (e First l (i .1) ∙ r .0, e Isolated l (i .1) ∙ r .1);
+      loop-free = λ l i h. let r = s .loop-free l i (sym (e Face l (i .1)) ∙ h) in
+          (e First l (i .1) ∙ r .0, e Isolated l (i .1) ∙ r .1);
       loop = λ l i h. loop-agree l i (s .loop l i (λ z. h (e Face l (i .1) ∙ z)));
-      half-free = λ k i h. let r = s .half-free k i (sym (e Start k (i .1)) ∙ h) in record { loop = e Loop k (i .1) ∙ r .loop; next = e Next k (i .1) ∙ r .next; prev = e Prev k (i .1) ∙ r .prev };
+      half-free = λ k i h. let r = s .half-free k i (sym (e Start k (i .1)) ∙ h) in
+          record {
+            loop = e Loop k (i .1) ∙ r .loop;
+            next = e Next k (i .1) ∙ r .next;
+            prev = e Prev k (i .1) ∙ r .prev;
+          };
       half = λ k i h. half-agree k i (s .half k i (λ z. h (e Start k (i .1) ∙ z)));
       vertex-mark = λ v i. rw (e VertexUsed v (i .1)) (s .vertex-mark v i);
-      vertex = λ v i h. vertex-same (λ l j. e Isolated l (j .1)) (λ k j. e Start k (j .1)) (s .vertex v i (λ z. h (e VertexUsed v (i .1) ∙ z)));
-      point = λ v i. record { range = s .point v i .range; zero = λ h. s .point v i .zero (sym (e VertexUsed v (i .1)) ∙ h) };
-      rules = agree-rules (s .rules) half-to half-from (λ k u. e Start k (u .1)) (λ k u. e Loop k (u .1)) (λ k u. e Next k (u .1)) (λ k u. e Prev k (u .1));
+      vertex = λ v i h. vertex-same (λ l j. e Isolated l (j .1)) (λ k j. e Start k (j .1))
+          (s .vertex v i (λ z. h (e VertexUsed v (i .1) ∙ z)));
+      point = λ v i.
+          record { range = s .point v i .range; zero = λ h. s .point v i .zero (sym (e VertexUsed v (i .1)) ∙ h) };
+      rules = agree-rules (s .rules) half-to half-from (λ k u. e Start k (u .1)) (λ k u. e Loop k (u .1))
+          (λ k u. e Next k (u .1)) (λ k u. e Prev k (u .1));
       solids = solids-agree;
     }

@@ -1,4 +1,5 @@
--- What a theorem about an operator says: the table stays good, and the operator's inverse, run on what it left, gives everything back.
+-- What a theorem about an operator says: the table stays good, and the operator's inverse, run on what it left, gives
+-- everything back.
 use mathlib.Core.Path.{_≡_}
 use mathlib.Core.List.{List}
 use Prim.Native.Nat.{ℕ}
@@ -35,7 +36,8 @@ exact el ep ei g accepted links points again = (
 )
 
 -- the same said of `exec`
-pub undone-exec : (sh : Shape) (t : Table) (o : Operator) → refusalOf sh (t .links) o ≡ 0 → Undone sh (t .links) (t .points) o
+pub undone-exec : (sh : Shape) (t : Table) (o : Operator) → refusalOf sh (t .links) o ≡ 0
+    → Undone sh (t .links) (t .points) o
     → exec sh (exec sh o t .inverse) (exec sh o t .table) ≡ record { refusal = 0; inverse = o; table = t }
 unfolding exec
 undone-exec sh t o h u = rw (h, u .accepted, u .links, u .points, u .again)

@@ -43,11 +43,28 @@ valid-good x p v =
     record {
       shape = refl;
       capacities = sizes-capacities z;
-      fit = (omega arith, omega arith, (omega arith, omega arith, (omega arith, omega arith, (omega arith, omega arith, (omega arith, omega arith, (omega arith, omega arith, omega (arith, z .links)))))));
+      fit = (
+        omega arith,
+        omega arith,
+        (
+          omega arith,
+          omega arith,
+          (
+            omega arith,
+            omega arith,
+            (
+              omega arith,
+              omega arith,
+              (omega arith, omega arith, (omega arith, omega arith, omega (arith, z .links))),
+            ),
+          ),
+        ),
+      );
       points = z .points;
       sound = rules-sound r1 r2 r3 r4 r5 r6;
     }
 
+-- a capacity in range passes its test
 capacity-fits : (n : ℕ) → (1 ≤ n) × (n ≤ 4096) → T (capacity n)
 capacity-fits n i = T-and (leb 1 n) (leb n 4096) (le→leb 1 n (i .0)) (le→leb n 4096 (i .1))
 
@@ -60,10 +77,23 @@ good-valid x p g =
     let r1 = to-rule1 (g .sound) in
     let r2 = to-rule2 (g .sound) in
     let r4 = to-rule4 (g .sound) in
-    let m : length x ≡ linksLength (sh .solids) (sh .faces) (sh .loops) (sh .edges) (sh .vertices) = omega (arith, g .fit) in
+    let m : length x ≡ linksLength (sh .solids) (sh .faces) (sh .loops) (sh .edges) (sh .vertices) =
+    omega (arith, g .fit) in
     parts-valid x p (record {
-      fits = T-true (T-every (sizeTests (length x) (length p) (sh .solids) (sh .faces) (sh .loops) (sh .edges) (sh .vertices))
-          (capacity-fits _ (k .solids), (capacity-fits _ (k .faces), (capacity-fits _ (k .loops), (capacity-fits _ (k .edges), (capacity-fits _ (k .vertices), (true-T (eqb-same m), (true-T (eqb-same (g .points)), tt))))))));
+      fits = T-true
+          (T-every (sizeTests (length x) (length p) (sh .solids) (sh .faces) (sh .loops) (sh .edges) (sh .vertices)) (
+            capacity-fits _ (k .solids),
+            (
+              capacity-fits _ (k .faces),
+              (
+                capacity-fits _ (k .loops),
+                (
+                  capacity-fits _ (k .edges),
+                  (capacity-fits _ (k .vertices), (true-T (eqb-same m), (true-T (eqb-same (g .points)), tt))),
+                ),
+              ),
+            ),
+          ));
       first = T-true (says-rule1 sh x p .back r1);
       second = T-true (says-rule2 sh x .back r2);
       third = T-true (says-rule3 sh x .back (to-rule3 (g .sound)));

@@ -1,5 +1,6 @@
--- The walks of the operators, seen through the columns: a run given another loop, and the least half-edge of a loop. On a permutation the fuel of 2E
--- steps is enough for a run, and what is found for a loop is the least half-edge that names it.
+-- The walks of the operators, seen through the columns: a run given another loop, and the least half-edge of a loop. On
+-- a permutation the fuel of 2E steps is enough for a run, and what is found for a loop is the least half-edge that
+-- names it.
 use mathlib.Core.Path.{_≡_, refl, sym, ap, _∙_, subst}
 use mathlib.Core.Logic.{_≢_, _⊎_, inl, inr, ⊎-elim}
 use mathlib.Core.Bool.{false}
@@ -32,8 +33,10 @@ unfolding iter
 first-hit f zero x y e = (0, omega arith, record { at = e; first = λ t l. absurd (omega arith) })
 first-hit f (suc m) x y e = split x y
     (λ q. (0, omega arith, record { at = q; first = λ t l. absurd (omega arith) }))
-    (λ q. let r = first-hit f m (f x) y e in (suc (r .0), omega (arith, r .1), record { at = r .2 .at; first = later q (r .2) }))
+    (λ q. let r = first-hit f m (f x) y e in
+    (suc (r .0), omega (arith, r .1), record { at = r .2 .at; first = later q (r .2) }))
   where
+    -- it was not met before
     later : {d : ℕ} → x ≢ y → Steps f (f x) y d → (t : ℕ) → t < suc d → iter f t x ≢ y
     later q s zero l = q
     later q s (suc t) l = s .first t (omega arith)
@@ -51,8 +54,10 @@ runColumns c k zero l = c
 runColumns c k (suc d) l = runColumns (change c Loop k l) (c Next k) d l
 
 -- the walk stores at each of them
-pub shows-relabel : (sh : Shape) (n d : ℕ) (x : List ℕ) (c : Columns) (k stop l : ℕ) → Shows sh x c → d ≤ n → Steps (c Next) k stop d
-    → ((t : ℕ) → t < d → In (2 * sh .edges) (iter (c Next) t k)) → Shows sh (relabel sh n x k stop l) (runColumns c k d l)
+pub shows-relabel : (sh : Shape) (n d : ℕ) (x : List ℕ) (c : Columns) (k stop l : ℕ) → Shows sh x c → d ≤ n
+    → Steps (c Next) k stop d
+    → ((t : ℕ) → t < d → In (2 * sh .edges) (iter (c Next) t k)) → Shows sh (relabel sh n x k stop l)
+    (runColumns c k d l)
 unfolding relabel runColumns iter
 shows-relabel sh zero zero x c k stop l s h w i = s
 shows-relabel sh (suc n) zero x c k stop l s h w i = rw (eqb-same (w .at)) s
@@ -62,13 +67,15 @@ shows-relabel sh (suc n) (suc d) x c k stop l s h w i =
     let r = i 0 (omega arith) in
     let s′ = shows-put s Loop k l (r .0) (r .1) in
     rw (eqb-other (o .0), s′ .at Next k (r .1))
-    (shows-relabel sh n d _ (change c Loop k l) (c Next k) stop l s′ (omega arith) (o .1) (λ t b. i (suc t) (omega arith)))
+    (shows-relabel sh n d _ (change c Loop k l) (c Next k) stop l s′ (omega arith) (o .1)
+    (λ t b. i (suc t) (omega arith)))
 
 -- what names l goes on to do so
 run-kept : (c : Columns) (d k l i : ℕ) → c Loop i ≡ l → runColumns c k d l Loop i ≡ l
 unfolding runColumns
 run-kept c zero k l i e = e
-run-kept c (suc d) k l i e = run-kept (change c Loop k l) d (c Next k) l i (split i k (λ q. rw q (upd-same (c Loop) k l)) (λ q. upd-off (c Loop) l q ∙ e))
+run-kept c (suc d) k l i e = run-kept (change c Loop k l) d (c Next k) l i
+    (split i k (λ q. rw q (upd-same (c Loop) k l)) (λ q. upd-off (c Loop) l q ∙ e))
 
 -- those met have l
 pub run-met : (c : Columns) (d k l t : ℕ) → t < d → runColumns c k d l Loop (iter (c Next) t k) ≡ l
@@ -78,14 +85,17 @@ run-met c (suc d) k l zero h = run-kept (change c Loop k l) d (c Next k) l k (up
 run-met c (suc d) k l (suc t) h = run-met (change c Loop k l) d (c Next k) l t (omega arith)
 
 -- the others what they had
-pub run-off : (c : Columns) (d k l i : ℕ) → ((t : ℕ) → t < d → iter (c Next) t k ≢ i) → runColumns c k d l Loop i ≡ c Loop i
+pub run-off : (c : Columns) (d k l i : ℕ) → ((t : ℕ) → t < d → iter (c Next) t k ≢ i) → runColumns c k d l Loop i
+    ≡ c Loop i
 unfolding runColumns iter
 run-off c zero k l i h = refl
 run-off c (suc d) k l i h =
-    run-off (change c Loop k l) d (c Next k) l i (λ t b. h (suc t) (omega arith)) ∙ upd-off (c Loop) l (λ e. h 0 (omega arith) (sym e))
+    run-off (change c Loop k l) d (c Next k) l i (λ t b. h (suc t) (omega arith))
+    ∙ upd-off (c Loop) l (λ e. h 0 (omega arith) (sym e))
 
 -- and the other columns stay
-pub run-other : (c : Columns) (d k l : ℕ) (F : Field) → sameField Loop F ≡ false → (n : ℕ) → runColumns c k d l F n ≡ c F n
+pub run-other : (c : Columns) (d k l : ℕ) (F : Field) → sameField Loop F ≡ false → (n : ℕ) → runColumns c k d l F n
+    ≡ c F n
 unfolding runColumns
 run-other c zero k l F e n = refl
 run-other c (suc d) k l F e n = run-other (change c Loop k l) d (c Next k) l F e n ∙ rw e
@@ -99,29 +109,47 @@ pub record LeastOf (f : ℕ → ℕ) (k d b r : ℕ) : Type 0 where
   pub one : (r ≡ b) ⊎ ((t : ℕ) × (t < d) × (r ≡ iter f t k))
 
 -- the smaller of two
-smaller : (k b : ℕ) → (pick (ltb k b) k b ≤ k) × (pick (ltb k b) k b ≤ b) × ((pick (ltb k b) k b ≡ k) ⊎ (pick (ltb k b) k b ≡ b))
+smaller : (k b : ℕ) → (pick (ltb k b) k b ≤ k) × (pick (ltb k b) k b ≤ b)
+    × ((pick (ltb k b) k b ≡ k) ⊎ (pick (ltb k b) k b ≡ b))
 smaller k b = ⊎-elim
     (λ h. rw (T-true {b = ltb k b} (lt→ltb k b h)) (omega arith, omega arith, inl refl))
-    (λ h. rw (T-false {b = ltb k b} (λ t. omega (arith, h, ltb→lt k b t))) (omega arith, omega arith, inr refl)) (le? (suc k) b)
+    (λ h. rw (T-false {b = ltb k b} (λ t. omega (arith, h, ltb→lt k b t))) (omega arith, omega arith, inr refl))
+    (le? (suc k) b)
 
 -- one step on, with the smaller of k and b for b
 least-on : (f : ℕ → ℕ) (k d b r : ℕ) → LeastOf f k (suc d) b r → LeastOf f (f k) d (pick (ltb k b) k b) r
 unfolding iter
-least-on f k d b r g = record { start = under; below = λ t l. g .below (suc t) (omega arith); one = ⊎-elim (λ e. inl (omega (arith, under, smaller k b .1, e))) (λ q. met (q .0) (q .1) (q .2)) (g .one) }
+least-on f k d b r g = record {
+  start = under;
+  below = λ t l. g .below (suc t) (omega arith);
+  one =
+      ⊎-elim (λ e. inl (omega (arith, under, smaller k b .1, e))) (λ q. met (q .0) (q .1) (q .2)) (g .one);
+}
   where
+    -- the least is not above the smaller
     under : r ≤ pick (ltb k b) k b
     under = ⊎-elim (λ q. omega (arith, q, g .below 0 (omega arith))) (λ q. omega (arith, q, g .start)) (smaller k b .2)
 
+    -- it is met one step later
     met : (t : ℕ) → t < suc d → r ≡ iter f t k → (r ≡ pick (ltb k b) k b) ⊎ ((t : ℕ) × (t < d) × (r ≡ iter f t (f k)))
     met zero l e = inl (omega (arith, under, smaller k b .0, e))
     met (suc t) l e = inr (t, omega arith, e)
 
 -- a number not above the least is the least where it names l, else it is below
-tried : (sh : Shape) (x : List ℕ) (c : Columns) (l j r : ℕ) → Shows sh x c → 1 ≤ l → LeastIs (2 * sh .edges) (c Loop) l r → j ≤ r
+tried : (sh : Shape) (x : List ℕ) (c : Columns) (l j r : ℕ) → Shows sh x c → 1 ≤ l
+    → LeastIs (2 * sh .edges) (c Loop) l r → j ≤ r
     → ((loopOf sh x j ≡ l) × (j ≡ r)) ⊎ ((loopOf sh x j ≢ l) × (j + 1 ≤ r))
 tried sh x c l j r s p m h = split (loopOf sh x j) l
-    (λ e. inl (e, omega (arith, h, m .before j (above j e, omega (arith, h, m .range .1)) (sym (s .at Loop j (omega (arith, h, m .range .1))) ∙ e))))
-    (λ e. let d : j ≢ r = λ q. e (ap (loopOf sh x) q ∙ s .at Loop r (m .range .1) ∙ m .label) in inr (e, omega (arith, h, d)))
+    (λ e. inl (
+      e,
+      omega (
+        arith,
+        h,
+        m .before j (above j e, omega (arith, h, m .range .1)) (sym (s .at Loop j (omega (arith, h, m .range .1))) ∙ e),
+      ),
+    ))
+    (λ e. let d : j ≢ r = λ q. e (ap (loopOf sh x) q ∙ s .at Loop r (m .range .1) ∙ m .label) in
+    inr (e, omega (arith, h, d)))
   where
     -- number 0 names no loop
     above : (j : ℕ) → loopOf sh x j ≡ l → 1 ≤ j
@@ -129,8 +157,10 @@ tried sh x c l j r s p m h = split (loopOf sh x j) l
     above (suc j) e = omega arith
 
 -- both searches end at the least: the numbers from j on, which it is among, and the walk from k to stop, which meets it
-seek-is : (sh : Shape) (n d : ℕ) (x : List ℕ) (c : Columns) (l j k stop b r : ℕ) → Shows sh x c → 1 ≤ l → LeastIs (2 * sh .edges) (c Loop) l r → j ≤ r → b ≤ j + n
-    → Steps (c Next) k stop d → ((t : ℕ) → t < d → In (2 * sh .edges) (iter (c Next) t k)) → LeastOf (c Next) k d b r → seek sh n x l j k stop b ≡ r
+seek-is : (sh : Shape) (n d : ℕ) (x : List ℕ) (c : Columns) (l j k stop b r : ℕ) → Shows sh x c → 1 ≤ l
+    → LeastIs (2 * sh .edges) (c Loop) l r → j ≤ r → b ≤ j + n
+    → Steps (c Next) k stop d → ((t : ℕ) → t < d → In (2 * sh .edges) (iter (c Next) t k)) → LeastOf (c Next) k d b r
+    → seek sh n x l j k stop b ≡ r
 unfolding seek iter
 seek-is sh zero d x c l j k stop b r s p m h v w i g = omega (arith, g .start, h, v)
 seek-is sh (suc n) zero x c l j k stop b r s p m h v w i g = ⊎-elim
@@ -142,11 +172,13 @@ seek-is sh (suc n) (suc d) x c l j k stop b r s p m h v w i g = ⊎-elim
     (λ f.
     let o = steps-on (c Next) k stop d w in
     rw (eqb-other (f .0), eqb-other (o .0), s .at Next k (i 0 (omega arith) .1))
-    (seek-is sh n d x c l (j + 1) (c Next k) stop (pick (ltb k b) k b) r s p m (f .1) (omega (arith, v, smaller k b .1)) (o .1) (λ t a. i (suc t) (omega arith)) (least-on (c Next) k d b r g)))
+    (seek-is sh n d x c l (j + 1) (c Next k) stop (pick (ltb k b) k b) r s p m (f .1)
+    (omega (arith, v, smaller k b .1)) (o .1) (λ t a. i (suc t) (omega arith)) (least-on (c Next) k d b r g)))
     (tried sh x c l j r s p m h)
 
 -- labels are kept along the way
-pub iter-keeps : {n : ℕ} {U : ℕ → Type 0} {f lab : ℕ → ℕ} → Cycles n U f lab → (t i : ℕ) → U i → lab (iter f t i) ≡ lab i
+pub iter-keeps : {n : ℕ} {U : ℕ → Type 0} {f lab : ℕ → ℕ} → Cycles n U f lab → (t i : ℕ) → U i
+    → lab (iter f t i) ≡ lab i
 unfolding iter
 iter-keeps c zero i w = refl
 iter-keeps {f = f} c (suc t) i w = iter-keeps c t (f i) (c .perm .f-in i w) ∙ c .keeps i w
@@ -161,7 +193,8 @@ module _ {n : ℕ} {U : ℕ → Type 0} {f lab : ℕ → ℕ} (c : Cycles n U f 
       (r .0, omega (arith, r .1, s .1), r .2)
 
   -- and meets all of its label on the way
-  pub on-the-way : {d : ℕ} → Steps f (f k) k d → (j : ℕ) → U j → lab j ≡ lab k → (j ≡ k) ⊎ ((t : ℕ) × (t < d) × (iter f t (f k) ≡ j))
+  pub on-the-way : {d : ℕ} → Steps f (f k) k d → (j : ℕ) → U j → lab j ≡ lab k
+      → (j ≡ k) ⊎ ((t : ℕ) × (t < d) × (iter f t (f k) ≡ j))
   on-the-way {d} s j w e =
       let m = forwards (c .perm) (c .one (f k) j (c .perm .f-in k u) w (c .keeps k u ∙ sym e)) in
       let r = first-hit f (m .0 .0) (f k) j (m .0 .1) in
@@ -170,23 +203,29 @@ module _ {n : ℕ} {U : ℕ → Type 0} {f lab : ℕ → ℕ} (c : Cycles n U f 
       (λ q.
       let p : suc d + (r .0 - suc d) ≡ r .0 = omega (arith, h, q) in
       absurd (r .2 .first (r .0 - suc d) (omega (arith, h, q))
-      (ap (iter f (r .0 - suc d)) (sym (iter-last f d (f k) ∙ ap f (s .at))) ∙ sym (iter-add f (suc d) (r .0 - suc d) (f k)) ∙ ap (λ t. iter f t (f k)) p ∙ r .2 .at)))) (le? (suc (r .0)) d)
+      (ap (iter f (r .0 - suc d)) (sym (iter-last f d (f k) ∙ ap f (s .at)))
+      ∙ sym (iter-add f (suc d) (r .0 - suc d) (f k)) ∙ ap (λ t. iter f t (f k)) p ∙ r .2 .at)))) (le? (suc (r .0)) d)
 
--- where the cycle of k is loop l and none below `low` names l, the least that names it is found, if the numbers up to k may be tried
-pub seek-first : (sh : Shape) (x : List ℕ) (c : Columns) (U : ℕ → Type 0) (l low k n : ℕ) → Shows sh x c → Cycles (2 * sh .edges) U (c Next) (c Loop) → 1 ≤ l → U k → c Loop k ≡ l
-    → ((i : ℕ) → In (2 * sh .edges) i → c Loop i ≡ l → U i) → ((i : ℕ) → In (2 * sh .edges) i → c Loop i ≡ l → low ≤ i) → k ≤ low + n
-    → seek sh n x l low (nextOf sh x k) k k ≡ leastWith (2 * sh .edges) (c Loop) l
+-- where the cycle of k is loop l and none below `low` names l, the least that names it is found, if the numbers up to k
+-- may be tried
+pub seek-first : (sh : Shape) (x : List ℕ) (c : Columns) (U : ℕ → Type 0) (l low k n : ℕ) → Shows sh x c
+    → Cycles (2 * sh .edges) U (c Next) (c Loop) → 1 ≤ l → U k → c Loop k ≡ l
+    → ((i : ℕ) → In (2 * sh .edges) i → c Loop i ≡ l → U i) → ((i : ℕ) → In (2 * sh .edges) i → c Loop i ≡ l → low ≤ i)
+    → k ≤ low + n → seek sh n x l low (nextOf sh x k) k k ≡ leastWith (2 * sh .edges) (c Loop) l
 seek-first sh x c U l low k n s y p u e all from h =
     let N = 2 * sh .edges in
     let P = y .perm in
     let d = way-round y k u in
     let fk = P .f-in k u in
-    let i : (t : ℕ) → In N (iter (c Next) t (c Next k)) = λ t. let w = iter-in P t (c Next k) fk in (P .low _ w, P .high _ w) in
-    let m : LeastIs N (c Loop) l (leastWith N (c Loop) l) = label-found N (c Loop) l (label-some N (c Loop) l k (P .low k u, P .high k u) e) in
+    let i : (t : ℕ) → In N (iter (c Next) t (c Next k)) = λ t. let w = iter-in P t (c Next k) fk in
+    (P .low _ w, P .high _ w) in
+    let m : LeastIs N (c Loop) l (leastWith N (c Loop) l) = label-found N (c Loop) l
+    (label-some N (c Loop) l k (P .low k u, P .high k u) e) in
     let g : LeastOf (c Next) (c Next k) (d .0) k (leastWith N (c Loop) l) = record {
       start = m .before k (P .low k u, P .high k u) e;
       below = λ t a. m .before _ (i t) (iter-keeps y t (c Next k) fk ∙ y .keeps k u ∙ e);
-      one = ⊎-elim inl (λ q. inr (q .0, q .1, sym (q .2))) (on-the-way y k u (d .2) _ (all _ (m .range) (m .label)) (m .label ∙ sym e));
+      one = ⊎-elim inl (λ q. inr (q .0, q .1, sym (q .2)))
+          (on-the-way y k u (d .2) _ (all _ (m .range) (m .label)) (m .label ∙ sym e));
     } in
     ap (λ z. seek sh n x l low z k k) (s .at Next k (P .high k u))
     ∙ seek-is sh n (d .0) x c l low (c Next k) k k _ s p m (from _ (m .range) (m .label)) h (d .2) (λ t a. i t) g

@@ -1,5 +1,5 @@
--- Stores as data (`Writes` of crate layout): lists show columns, what is not written stays, what stood there may be written back, writes to
--- other cells commute. Said once, for all operators and for any fields.
+-- Stores as data (`Writes` of crate layout): lists show columns, what is not written stays, what stood there may be
+-- written back, writes to other cells commute. Said once, for all operators and for any fields.
 use mathlib.Core.Path.{_≡_, refl, sym, ap, _∙_}
 use mathlib.Core.Logic.{_≢_, _⊎_, inl, inr, ⊎-elim}
 use mathlib.Core.Bool.{Bool, true, false, _&&_, false≢true}
@@ -29,10 +29,12 @@ Apart [] F n = Unit {0}
 Apart (w ∷ ws) F n = ((sameField (w .field) F ≡ false) ⊎ (n ≢ w .item)) × Apart ws F n
 
 -- a change elsewhere
-change-off : (c : Columns) (G : Field) (k v : ℕ) (F : Field) (n : ℕ) → (sameField G F ≡ false) ⊎ (n ≢ k) → change c G k v F n ≡ c F n
+change-off : (c : Columns) (G : Field) (k v : ℕ) (F : Field) (n : ℕ) → (sameField G F ≡ false) ⊎ (n ≢ k)
+    → change c G k v F n ≡ c F n
 change-off c G k v F n (inl e) = rw e
 change-off c G k v F n (inr d) = go (sameField G F)
   where
+    -- by whether the field is F
     go : (b : Bool) → pick b (upd (c F) k v) (c F) n ≡ c F n
     go true = upd-off (c F) v d
     go false = refl
@@ -41,7 +43,8 @@ change-off c G k v F n (inr d) = go (sameField G F)
 pub frame : (ws : List Write) (c : Columns) (F : Field) (n : ℕ) → Apart ws F n → changes ws c F n ≡ c F n
 frame [] c F n a = refl
 frame (w ∷ ws) c F n a =
-    frame ws (change c (w .field) (w .item) (w .value)) F n (a .1) ∙ change-off c (w .field) (w .item) (w .value) F n (a .0)
+    frame ws (change c (w .field) (w .item) (w .value)) F n (a .1) ∙ change-off c (w .field) (w .item) (w .value) F n
+    (a .0)
 
 -- ---- whole fields that stay
 
@@ -94,21 +97,23 @@ write-back (w ∷ ws) c d s h = write-back ws c (change d (w .field) (w .item) (
     -- one write on, the cells where they may differ are those of the other writes
     one : (F : Field) (n : ℕ) → Apart ws F n → change d (w .field) (w .item) (w .value) F n ≡ c F n
     one F n a =
-        let off : (sameField (w .field) F ≡ false) ⊎ (n ≢ w .item) → change d (w .field) (w .item) (w .value) F n ≡ c F n
+        let off : (sameField (w .field) F ≡ false) ⊎ (n ≢ w .item) → change d (w .field) (w .item) (w .value) F n
+        ≡ c F n
         = λ q. change-off d (w .field) (w .item) (w .value) F n q ∙ h F n (q, a) in
         ⊎-elim
         (λ e. split n (w .item)
-        (λ q. rw e (upd-at (d F) (w .value) q ∙ sym (s .0) ∙ ap (λ G. c G (w .item)) (same-field (w .field) F e) ∙ ap (c F) (sym q)))
-        (λ q. off (inr q)))
-        (λ e. off (inl e)) (ask (sameField (w .field) F))
+        (λ q. rw e (upd-at (d F) (w .value) q ∙ sym (s .0) ∙ ap (λ G. c G (w .item)) (same-field (w .field) F e)
+        ∙ ap (c F) (sym q))) (λ q. off (inr q))) (λ e. off (inl e)) (ask (sameField (w .field) F))
 
 -- ---- order
 
 -- a change looks at its own entry alone
-change-near : (c d : Columns) (G : Field) (k v : ℕ) (F : Field) (n : ℕ) → c F n ≡ d F n → change c G k v F n ≡ change d G k v F n
+change-near : (c d : Columns) (G : Field) (k v : ℕ) (F : Field) (n : ℕ) → c F n ≡ d F n
+    → change c G k v F n ≡ change d G k v F n
 unfolding upd
 change-near c d G k v F n e = go (sameField G F)
   where
+    -- by whether the field is F
     go : (b : Bool) → pick b (upd (c F) k v) (c F) n ≡ pick b (upd (d F) k v) (d F) n
     go true = rw e
     go false = e
