@@ -1,5 +1,6 @@
--- The six rules of a sound table (document 01, "Sound tables"), as tests that compute. Each item has a short list of small tests;
--- a rule is that all items of each kind pass theirs. `sh` is the table's shape, `x` its links, `p` its points.
+-- The six rules of a sound table (document 01, "Sound tables"), as tests that compute. Each item has a short list of
+-- small tests; a rule is that all items of each kind pass theirs. `sh` is the table's shape, `x` its links, `p` its
+-- points.
 use Prim.Native.Nat.{ℕ, zero, suc, _+_, _-_, _*_}
 use mathlib.Core.Bool.{Bool, true, false, not, _&&_, _||_}
 use mathlib.Core.List.{List, [], _∷_}
@@ -12,7 +13,8 @@ use Rattle.laws.specs.Sums.{countTo}
 use Rattle.laws.specs.Walks.{meets}
 use Rattle.laws.specs.Closure.{linkedb}
 use Rattle.layout.specs.declared.shape.Shape.{Shape}
-use Rattle.layout.specs.Layout.{solidUsed, faceSolid, faceOuter, loopFace, loopFirst, loopIsolated, startOf, loopOf, nextOf, prevOf, vertexUsed, side}
+use Rattle.layout.specs.Layout.{solidUsed, faceSolid, faceOuter, loopFace, loopFirst, loopIsolated, startOf, loopOf}
+use Rattle.layout.specs.Layout.{nextOf, prevOf, vertexUsed, side}
 use Rattle.layout.specs.Mate.{mate}
 use Rattle.layout.specs.Points.{inRange, isZero}
 
@@ -44,27 +46,32 @@ loopUsed sh x l = some (loopFace sh x l)
 abbrev pub halfUsed : Shape → List ℕ → ℕ → Bool
 halfUsed sh x k = some (startOf sh x k)
 
--- ---- rule 1: marks, numbers and coordinates are in range; free records are zero; both halves of an edge are in use or neither
+-- ---- rule 1: marks, numbers and coordinates are in range; free records are zero; both halves of an edge are in use or
+-- neither
 
 unfoldable pub solidRange : Shape → List ℕ → ℕ → Bool
 solidRange sh x s = leb (solidUsed sh x s) 1
 
 unfoldable pub faceRange : Shape → List ℕ → ℕ → Bool
 faceRange sh x f =
-    every (leb (faceSolid sh x f) (sh .solids) ∷ leb (faceOuter sh x f) (sh .loops) ∷ together (faceSolid sh x f) (faceOuter sh x f) ∷ [])
+    every (leb (faceSolid sh x f) (sh .solids) ∷ leb (faceOuter sh x f) (sh .loops)
+    ∷ together (faceSolid sh x f) (faceOuter sh x f) ∷ [])
 
 -- of a loop's words, first and isolated vertex may be 0 while it is in use
 unfoldable pub loopRange : Shape → List ℕ → ℕ → Bool
 loopRange sh x l =
     every
-    (leb (loopFace sh x l) (sh .faces) ∷ leb (loopFirst sh x l) (2 * sh .edges) ∷ leb (loopIsolated sh x l) (sh .vertices)
+    (leb (loopFace sh x l) (sh .faces) ∷ leb (loopFirst sh x l) (2 * sh .edges)
+    ∷ leb (loopIsolated sh x l) (sh .vertices)
     ∷ onlyWith (loopFace sh x l) (loopFirst sh x l) ∷ onlyWith (loopFace sh x l) (loopIsolated sh x l) ∷ [])
 
 unfoldable pub halfRange : Shape → List ℕ → ℕ → Bool
 halfRange sh x k =
     every
-    (leb (startOf sh x k) (sh .vertices) ∷ leb (loopOf sh x k) (sh .loops) ∷ leb (nextOf sh x k) (2 * sh .edges) ∷ leb (prevOf sh x k) (2 * sh .edges)
-    ∷ together (startOf sh x k) (loopOf sh x k) ∷ together (startOf sh x k) (nextOf sh x k) ∷ together (startOf sh x k) (prevOf sh x k)
+    (leb (startOf sh x k) (sh .vertices) ∷ leb (loopOf sh x k) (sh .loops) ∷ leb (nextOf sh x k) (2 * sh .edges)
+    ∷ leb (prevOf sh x k) (2 * sh .edges)
+    ∷ together (startOf sh x k) (loopOf sh x k) ∷ together (startOf sh x k) (nextOf sh x k)
+    ∷ together (startOf sh x k) (prevOf sh x k)
     ∷ together (startOf sh x k) (startOf sh x (mate k)) ∷ [])
 
 -- a vertex's mark, and its point: in range, and zero where the vertex is free
@@ -80,7 +87,8 @@ rule1 sh x p =
     (allTo (sh .solids) (solidRange sh x) ∷ allTo (sh .faces) (faceRange sh x) ∷ allTo (sh .loops) (loopRange sh x)
     ∷ allTo (2 * sh .edges) (halfRange sh x) ∷ allTo (sh .vertices) (vertexRange sh x p) ∷ [])
 
--- ---- rule 2: every number held names an item in use; a face's outer loop names that face; each solid in use has a face
+-- ---- rule 2: every number held names an item in use; a face's outer loop names that face; each solid in use has a
+-- face
 
 -- the least face of solid s, or 0
 abbrev pub faceIn : Shape → List ℕ → ℕ → ℕ
@@ -105,7 +113,8 @@ unfoldable pub halfNames : Shape → List ℕ → ℕ → Bool
 halfNames sh x k =
     whereSome (startOf sh x k)
     (every
-    (some (vertexUsed sh x (startOf sh x k)) ∷ some (loopFace sh x (loopOf sh x k)) ∷ some (startOf sh x (nextOf sh x k))
+    (some (vertexUsed sh x (startOf sh x k)) ∷ some (loopFace sh x (loopOf sh x k))
+    ∷ some (startOf sh x (nextOf sh x k))
     ∷ some (startOf sh x (prevOf sh x k)) ∷ []))
 
 unfoldable pub rule2 : Shape → List ℕ → Bool
@@ -119,12 +128,14 @@ rule2 sh x =
 unfoldable pub loopEither : Shape → List ℕ → ℕ → Bool
 loopEither sh x l =
     whereSome (loopFace sh x l)
-    ((some (loopFirst sh x l) && eqb (loopIsolated sh x l) 0) || (eqb (loopFirst sh x l) 0 && some (loopIsolated sh x l)))
+    ((some (loopFirst sh x l) && eqb (loopIsolated sh x l) 0)
+    || (eqb (loopFirst sh x l) 0 && some (loopIsolated sh x l)))
 
 unfoldable pub rule3 : Shape → List ℕ → Bool
 rule3 sh x = allTo (sh .loops) (loopEither sh x)
 
--- ---- rule 4: next and previous undo each other; next of k starts where k's mate starts and names k's loop; the half-edges naming
+-- ---- rule 4: next and previous undo each other; next of k starts where k's mate starts and names k's loop; the
+-- half-edges naming
 -- a loop form one cycle, and first is the least of them; an isolated loop is named by none
 
 unfoldable pub halfLinks : Shape → List ℕ → ℕ → Bool
@@ -145,9 +156,11 @@ halfInLoop sh x k = not (halfUsed sh x k) || meets (nextOf sh x) (2 * sh .edges)
 
 unfoldable pub rule4 : Shape → List ℕ → Bool
 rule4 sh x =
-    every (allTo (2 * sh .edges) (halfLinks sh x) ∷ allTo (sh .loops) (firstNames sh x) ∷ allTo (2 * sh .edges) (halfInLoop sh x) ∷ [])
+    every (allTo (2 * sh .edges) (halfLinks sh x) ∷ allTo (sh .loops) (firstNames sh x)
+    ∷ allTo (2 * sh .edges) (halfInLoop sh x) ∷ [])
 
--- ---- rule 5: a vertex in use is either the isolated vertex of exactly one loop and starts no half-edge, or it is isolated in none
+-- ---- rule 5: a vertex in use is either the isolated vertex of exactly one loop and starts no half-edge, or it is
+-- isolated in none
 -- and the half-edges starting there, at least one, form one cycle under "next of the mate"
 
 -- in how many loops v is isolated
@@ -174,7 +187,8 @@ halfAtVertex sh x k = not (halfUsed sh x k) || meets (around sh x) (2 * sh .edge
 unfoldable pub rule5 : Shape → List ℕ → Bool
 rule5 sh x = every (allTo (sh .vertices) (vertexEither sh x) ∷ allTo (2 * sh .edges) (halfAtVertex sh x) ∷ [])
 
--- ---- rule 6: the faces on an edge's two sides lie in one solid, and any two faces of a solid are linked by a chain of faces,
+-- ---- rule 6: the faces on an edge's two sides lie in one solid, and any two faces of a solid are linked by a chain of
+-- faces,
 -- neighbours sharing an edge
 
 unfoldable pub halfSides : Shape → List ℕ → ℕ → Bool
@@ -182,7 +196,8 @@ halfSides sh x k = whereSome (startOf sh x k) (eqb (faceSolid sh x (side sh x k)
 
 -- faces f and g are linked: g is reached from f across edges in use, edge e having the sides of 2e − 1 and 2e
 abbrev pub linked : Shape → List ℕ → ℕ → ℕ → Bool
-linked sh x = linkedb (sh .faces) (sh .edges) (λ e. halfUsed sh x (2 * e)) (λ e. side sh x (2 * e - 1)) (λ e. side sh x (2 * e))
+linked sh x = linkedb (sh .faces) (sh .edges) (λ e. halfUsed sh x (2 * e)) (λ e. side sh x (2 * e - 1))
+    (λ e. side sh x (2 * e))
 
 -- each face is linked to the least face of its solid
 unfoldable pub faceLinked : Shape → List ℕ → ℕ → Bool
@@ -196,4 +211,6 @@ rule6 sh x = every (allTo (2 * sh .edges) (halfSides sh x) ∷ allTo (sh .faces)
 -- the lowest broken rule, 0 where all hold
 unfoldable pub brokenRule : Shape → List ℕ → List ℤ → ℕ
 brokenRule sh x p =
-    pick (rule1 sh x p) (pick (rule2 sh x) (pick (rule3 sh x) (pick (rule4 sh x) (pick (rule5 sh x) (pick (rule6 sh x) 0 6) 5) 4) 3) 2) 1
+    pick (rule1 sh x p)
+    (pick (rule2 sh x) (pick (rule3 sh x) (pick (rule4 sh x) (pick (rule5 sh x) (pick (rule6 sh x) 0 6) 5) 4) 3) 2)
+    1

@@ -1,5 +1,6 @@
-// Rules 4 and 6 as far as one half-edge or one loop can break them: next and previous undo each other, next of k starts where k's
-// mate starts and names k's loop, no half-edge of a loop comes before its first, an edge's two sides lie in one solid.
+// Rules 4 and 6 as far as one half-edge or one loop can break them: next and previous undo each other, next of k starts
+// where k's mate starts and names k's loop, no half-edge of a loop comes before its first, an edge's two sides lie in
+// one solid.
 ghost use mathlib.Core.Path.{_≡_};
 ghost use Prim.Native.Nat.{ℕ, _<_, _≤_};
 ghost use Rattle.check_items.specs.Rules.{halfLinks, firstNames, halfSides};
@@ -24,7 +25,8 @@ fn first_low(links: &[u16], sh: Shape, n: usize) -> bool
     first <= n
 }
 
-// Half-edge n is free, or joined to its neighbours as rule 4 says, and its loop has a first half-edge, which is at most n.
+// Half-edge n is free, or joined to its neighbours as rule 4 says, and its loop has a first half-edge, which is at most
+// n.
 pub fn half_links(links: &[u16], sh: Shape, n: usize) -> bool
     requires { ⌜ n < 65536 ⌝ }
     ensures { λ r. ⌜ r ≡ halfLinks sh (now (links .entry)) n ⌝ }

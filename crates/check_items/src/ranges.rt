@@ -1,5 +1,5 @@
-// Rule 1, one item at a time: marks, numbers and coordinates in range, free records zero, both halves of an edge in use or neither.
-// Reading is total, so every test of an item is made, whatever the others say.
+// Rule 1, one item at a time: marks, numbers and coordinates in range, free records zero, both halves of an edge in use
+// or neither. Reading is total, so every test of an item is made, whatever the others say.
 ghost use mathlib.Core.Path.{_≡_};
 ghost use Prim.Native.Nat.{ℕ, _<_};
 ghost use Rattle.check_items.specs.Rules.{solidRange, faceRange, loopRange, halfRange, vertexRange};

@@ -25,4 +25,5 @@ stepOf sh x around k = pick around (nextOf sh x (mate k)) (nextOf sh x k)
 -- walks from the representatives of the labels 1 to m mark every half-edge in use
 unfoldable pub oneCycleEach : Shape → List ℕ → Bool → List ℕ → ℕ → Bool
 oneCycleEach sh x around reps m =
-    allMarked (2 * sh .edges) (halfUsed sh x) (markTo (stepOf sh x around) (2 * sh .edges) (entryOf reps) m (replicate 8193 0))
+    allMarked (2 * sh .edges) (halfUsed sh x) (markTo (stepOf sh x around) (2 * sh .edges) (entryOf reps) m
+    (replicate 8193 0))

@@ -25,7 +25,8 @@ module _ (f : ℕ → ℕ) (left k : ℕ) (a whole : List ℕ) (rest : markFrom 
 
 -- another half-edge is marked
 pub walk-turn : (f : ℕ → ℕ) (left k : ℕ) (a whole : List ℕ) → markFrom f left k a ≡ whole → 0 < left
-    → (m : ℕ) → m ≡ getD a k 0 → m ≡ 0 → (b : List ℕ) → b ≡ set a k 1 → (j : ℕ) → j ≡ f k → markFrom f (left - 1) j b ≡ whole
+    → (m : ℕ) → m ≡ getD a k 0 → m ≡ 0 → (b : List ℕ) → b ≡ set a k 1 → (j : ℕ) → j ≡ f k
+    → markFrom f (left - 1) j b ≡ whole
 walk-turn f zero k a whole rest h m e z b d j q = absurd (omega arith)
 walk-turn f (suc n) k a whole rest h m e z b d j q =
     let s : suc n - 1 ≡ n = omega arith in

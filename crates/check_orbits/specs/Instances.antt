@@ -1,5 +1,5 @@
--- Small tables on which the linear test computes, and one that goes through every assumption of its laws, so that none is empty.
--- They stand at the end of everything: no other module uses them.
+-- Small tables on which the linear test computes, and one that goes through every assumption of its laws, so that none
+-- is empty. They stand at the end of everything: no other module uses them.
 use mathlib.Core.Path.{_≡_, refl}
 use mathlib.Core.Bool.{true, false}
 use mathlib.Core.List.{List, [], _∷_}
@@ -14,7 +14,8 @@ use Rattle.layout.specs.Layout.{shapeOf, startOf, nextOf, loopOf, loopFirst, lo
 use Rattle.layout.specs.Mate.{mate}
 use Rattle.check_orbits.specs.Labels.{blank, down, leastNaming, tally, copied}
 use Rattle.check_orbits.specs.Cycles.{halfUsed, oneCycleEach}
-use Rattle.check_orbits.specs.OrbitsLaws.{Half, NextFacts, LoopFacts, VertexFacts, starter, loops-one-cycle, vertices-one-cycle}
+use Rattle.check_orbits.specs.OrbitsLaws.{Half, NextFacts, LoopFacts, VertexFacts, starter, loops-one-cycle}
+use Rattle.check_orbits.specs.OrbitsLaws.{vertices-one-cycle}
 
 -- capacities 1, 2, 2, 2, 2: one edge from vertex 1 to vertex 2, its two halves being loop 1 (example c of document 01)
 abbrev segment : List ℕ
@@ -106,8 +107,10 @@ vertex-facts = record {
 }
 
 -- so the linear test is the readable one, for its loops and for its vertices
-loops : oneCycleEach sh segment false (copied (loopFirst sh segment) 2 blank) 2 ≡ allMet 4 (halfUsed sh segment) (nextOf sh segment) (loopFirst sh segment) (loopOf sh segment)
+loops : oneCycleEach sh segment false (copied (loopFirst sh segment) 2 blank) 2
+    ≡ allMet 4 (halfUsed sh segment) (nextOf sh segment) (loopFirst sh segment) (loopOf sh segment)
 loops = loops-one-cycle sh segment loop-facts (omega arith) (omega arith)
 
-vertices : oneCycleEach sh segment true (leastNaming (startOf sh segment) 4 blank) 2 ≡ allMet 4 (halfUsed sh segment) (λ k. nextOf sh segment (mate k)) (starter sh segment) (startOf sh segment)
+vertices : oneCycleEach sh segment true (leastNaming (startOf sh segment) 4 blank) 2
+    ≡ allMet 4 (halfUsed sh segment) (λ k. nextOf sh segment (mate k)) (starter sh segment) (startOf sh segment)
 vertices = vertices-one-cycle sh segment vertex-facts (omega arith) (omega arith)

@@ -1,5 +1,6 @@
--- The linear test says what the readable one does: each half-edge in use is met from its label's representative. The labels are the
--- loops, along "next", and the vertices, along "next of the mate". What has to hold of the links beforehand is stated as records.
+-- The linear test says what the readable one does: each half-edge in use is met from its label's representative. The
+-- labels are the loops, along "next", and the vertices, along "next of the mate". What has to hold of the links
+-- beforehand is stated as records.
 use mathlib.Core.Path.{_≡_, refl, ap, _∙_}
 use mathlib.Core.Logic.{_≢_}
 use mathlib.Core.Bool.{Bool, true, false, not}
@@ -21,10 +22,12 @@ use Rattle.check_orbits.specs.LabelsLaws.{least-at, copied-at}
 use Rattle.check_orbits.specs.Cycles.{entryOf, halfUsed, stepOf, oneCycleEach}
 
 -- the walks of the labels 1 to m look at the representatives of these labels only
-pub markTo-ext : (f : ℕ → ℕ) (n : ℕ) (rep rep′ : ℕ → ℕ) (m : ℕ) (marks : List ℕ) → ((l : ℕ) → 1 ≤ l → l ≤ m → rep l ≡ rep′ l) → markTo f n rep m marks ≡ markTo f n rep′ m marks
+pub markTo-ext : (f : ℕ → ℕ) (n : ℕ) (rep rep′ : ℕ → ℕ) (m : ℕ) (marks : List ℕ)
+    → ((l : ℕ) → 1 ≤ l → l ≤ m → rep l ≡ rep′ l) → markTo f n rep m marks ≡ markTo f n rep′ m marks
 unfolding markTo
 markTo-ext f n rep rep′ zero marks h = refl
-markTo-ext f n rep rep′ (suc m) marks h = rw (h (suc m) (omega arith) (omega arith), markTo-ext f n rep rep′ m marks (λ l lo hi. h l lo (omega arith)))
+markTo-ext f n rep rep′ (suc m) marks h =
+    rw (h (suc m) (omega arith) (omega arith), markTo-ext f n rep rep′ m marks (λ l lo hi. h l lo (omega arith)))
 
 module _ (sh : Shape) (x : List ℕ) where
   -- k is a half-edge in use
@@ -32,12 +35,16 @@ module _ (sh : Shape) (x : List ℕ) where
   Half = Used (2 * sh .edges) (halfUsed sh x)
 
   -- the linear test with a list of representatives is the readable test with these
-  pub one-cycle : (around : Bool) (reps : List ℕ) (m : ℕ) (rep lab : ℕ → ℕ) → sh .edges ≤ 4096 → Labelled (2 * sh .edges) m Half (stepOf sh x around) rep lab
-      → ((l : ℕ) → 1 ≤ l → l ≤ m → getD reps l 0 ≡ rep l) → oneCycleEach sh x around reps m ≡ allMet (2 * sh .edges) (halfUsed sh x) (stepOf sh x around) rep lab
+  pub one-cycle : (around : Bool) (reps : List ℕ) (m : ℕ) (rep lab : ℕ → ℕ) → sh .edges ≤ 4096
+      → Labelled (2 * sh .edges) m Half (stepOf sh x around) rep lab
+      → ((l : ℕ) → 1 ≤ l → l ≤ m → getD reps l 0 ≡ rep l) → oneCycleEach sh x around reps m
+      ≡ allMet (2 * sh .edges) (halfUsed sh x) (stepOf sh x around) rep lab
   unfolding oneCycleEach
   one-cycle around reps m rep lab small h e =
-      ap (allMarked (2 * sh .edges) (halfUsed sh x)) (markTo-ext (stepOf sh x around) (2 * sh .edges) (entryOf reps) rep m (replicate 8193 0) e)
-      ∙ marked-met (2 * sh .edges) m (halfUsed sh x) (stepOf sh x around) rep lab (replicate 8193 0) h (omega (arith, length-replicate {A = ℕ} 8193 0)) (λ k l. zeros-at 8193 k)
+      ap (allMarked (2 * sh .edges) (halfUsed sh x))
+      (markTo-ext (stepOf sh x around) (2 * sh .edges) (entryOf reps) rep m (replicate 8193 0) e)
+      ∙ marked-met (2 * sh .edges) m (halfUsed sh x) (stepOf sh x around) rep lab (replicate 8193 0) h (omega
+      (arith, length-replicate {A = ℕ} 8193 0)) (λ k l. zeros-at 8193 k)
 
   -- ---- the facts
 
@@ -65,9 +72,17 @@ module _ (sh : Shape) (x : List ℕ) where
 
   -- ---- the loops
 
-  pub loops-labelled : LoopFacts → Labelled (2 * sh .edges) (sh .loops) Half (stepOf sh x false) (loopFirst sh x) (loopOf sh x)
+  pub loops-labelled : LoopFacts
+      → Labelled (2 * sh .edges) (sh .loops) Half (stepOf sh x false) (loopFirst sh x) (loopOf sh x)
   loops-labelled h = record {
-    perm = record { low = λ k u. u .0; high = λ k u. u .1; f-in = h .links .next-in; inv = prevOf sh x; undo = h .links .next-undone };
+    perm = record {
+      low = λ k u. u .0;
+      high = λ k u. u .1;
+      f-in = h .links .next-in;
+      inv = prevOf sh x;
+      undo =
+          h .links .next-undone;
+    };
     keeps = h .loop-kept;
     lab-low = h .loop-low;
     lab-high = h .loop-high;
@@ -77,8 +92,10 @@ module _ (sh : Shape) (x : List ℕ) where
 
   -- with the loops' firsts the linear test says that each half-edge in use is met from its loop's first along next
   pub loops-one-cycle : LoopFacts → sh .edges ≤ 4096 → sh .loops ≤ 4096
-      → oneCycleEach sh x false (copied (loopFirst sh x) (sh .loops) blank) (sh .loops) ≡ allMet (2 * sh .edges) (halfUsed sh x) (nextOf sh x) (loopFirst sh x) (loopOf sh x)
-  loops-one-cycle h small few = one-cycle false (copied (loopFirst sh x) (sh .loops) blank) (sh .loops) (loopFirst sh x) (loopOf sh x) small (loops-labelled h)
+      → oneCycleEach sh x false (copied (loopFirst sh x) (sh .loops) blank) (sh .loops)
+      ≡ allMet (2 * sh .edges) (halfUsed sh x) (nextOf sh x) (loopFirst sh x) (loopOf sh x)
+  loops-one-cycle h small few = one-cycle false (copied (loopFirst sh x) (sh .loops) blank) (sh .loops) (loopFirst sh x)
+      (loopOf sh x) small (loops-labelled h)
       (λ l lo hi. copied-at (loopFirst sh x) (sh .loops) l few lo hi)
 
   -- ---- the vertices
@@ -99,17 +116,25 @@ module _ (sh : Shape) (x : List ℕ) where
   starter-in : (v : ℕ) → 1 ≤ v → starter v ≢ 0 → Half (starter v) × (startOf sh x (starter v) ≡ v)
   starter-in v low h = go (leastFrom-is (2 * sh .edges) 1 (λ j. eqb (startOf sh x j) v))
     where
-      go : Least (2 * sh .edges) 1 (λ j. eqb (startOf sh x j) v) (starter v) → Half (starter v) × (startOf sh x (starter v) ≡ v)
+      go : Least (2 * sh .edges) 1 (λ j. eqb (startOf sh x j) v) (starter v) → Half (starter v)
+          × (startOf sh x (starter v) ≡ v)
       go (none-is z f) = absurd (h z)
       go (one-is l b t f) =
-          let e : startOf sh x (starter v) ≡ v = eqb→eq _ _ (true-T t) in
-          ((l, omega arith, not-T (eqb (startOf sh x (starter v)) 0) (λ z. omega (arith, eqb→eq (startOf sh x (starter v)) 0 z))), e)
+          let e : startOf sh x (starter v) ≡ v = eqb→eq _ _ (true-T t) in (
+            (
+              l,
+              omega arith,
+              not-T (eqb (startOf sh x (starter v)) 0) (λ z. omega (arith, eqb→eq (startOf sh x (starter v)) 0 z)),
+            ),
+            e,
+          )
 
   -- the mate of a half-edge in use is one too
   mate-in : VertexFacts → (k : ℕ) → Half k → Half (mate k)
   mate-in h k u = let r = mate-range k (sh .edges) (u .0) (u .1) in (r .0, r .1, h .mate-used k u)
 
-  pub vertices-labelled : VertexFacts → Labelled (2 * sh .edges) (sh .vertices) Half (stepOf sh x true) starter (startOf sh x)
+  pub vertices-labelled : VertexFacts
+      → Labelled (2 * sh .edges) (sh .vertices) Half (stepOf sh x true) starter (startOf sh x)
   vertices-labelled h = record {
     perm = record {
       low = λ k u. u .0;
@@ -129,8 +154,11 @@ module _ (sh : Shape) (x : List ℕ) where
       low zero t = absurd t
       low (suc n) t = omega arith
 
-  -- with the vertices' least starters it says that each half-edge in use is met from the least that starts where it does, going around
+  -- with the vertices' least starters it says that each half-edge in use is met from the least that starts where it
+  -- does, going around
   pub vertices-one-cycle : VertexFacts → sh .edges ≤ 4096 → sh .vertices ≤ 4096
-      → oneCycleEach sh x true (leastNaming (startOf sh x) (2 * sh .edges) blank) (sh .vertices) ≡ allMet (2 * sh .edges) (halfUsed sh x) (λ k. nextOf sh x (mate k)) starter (startOf sh x)
-  vertices-one-cycle h small few = one-cycle true (leastNaming (startOf sh x) (2 * sh .edges) blank) (sh .vertices) starter (startOf sh x) small (vertices-labelled h)
+      → oneCycleEach sh x true (leastNaming (startOf sh x) (2 * sh .edges) blank) (sh .vertices)
+      ≡ allMet (2 * sh .edges) (halfUsed sh x) (λ k. nextOf sh x (mate k)) starter (startOf sh x)
+  vertices-one-cycle h small few = one-cycle true (leastNaming (startOf sh x) (2 * sh .edges) blank)
+      (sh .vertices) starter (startOf sh x) small (vertices-labelled h)
       (λ v lo hi. least-at (startOf sh x) (2 * sh .edges) v (omega arith))

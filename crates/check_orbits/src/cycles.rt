@@ -1,5 +1,6 @@
-// Whether the half-edges of each label, a loop or a vertex, form one cycle: from each label's representative the walk marks what it
-// meets and stops at the first half-edge that is marked, so that all walks together take as many steps as there are half-edges.
+// Whether the half-edges of each label, a loop or a vertex, form one cycle: from each label's representative the walk
+// marks what it meets and stops at the first half-edge that is marked, so that all walks together take as many steps as
+// there are half-edges.
 ghost use mathlib.Core.Path.{_≡_};
 ghost use mathlib.Core.Bool.{not, _||_};
 ghost use Prim.Native.Nat.{_*_, _<_, _≤_};
@@ -43,7 +44,8 @@ fn step_of(links: &[u16], sh: Shape, around: bool, k: usize) -> usize
     next_of(links, sh, k)
 }
 
-// From k on, half-edges marked up to the first that is so already; `fuel` bounds the steps in a table that is not sound.
+// From k on, half-edges marked up to the first that is so already; `fuel` bounds the steps in a table that is not
+// sound.
 fn mark_from(
     links: &[u16],
     sh: Shape,
@@ -53,7 +55,8 @@ fn mark_from(
     marks: &mut [u8; 8193],
 )
     requires { ⌜ (from < 65536) × (length (now marks) ≡ 8193) ⌝ }
-    ensures { λ _. ⌜ now (marks .exit) ≡ markFrom (stepOf sh (now (links .entry)) around) fuel from (now (marks .entry)) ⌝ }
+    ensures { λ _. ⌜ now (marks .exit)
+        ≡ markFrom (stepOf sh (now (links .entry)) around) fuel from (now (marks .entry)) ⌝ }
 {
     let mut k = from;
     let mut left = fuel;
@@ -89,7 +92,9 @@ fn mark_all(
     marks: &mut [u8; 8193],
 )
     requires { ⌜ (sh .edges ≤ 4096) × (labels ≤ 4096) × (length (now marks) ≡ 8193) ⌝ }
-    ensures { λ _. ⌜ now (marks .exit) ≡ markTo (stepOf sh (now (links .entry)) around) (2 * sh .edges) (entryOf (now (reps .entry))) labels (now (marks .entry)) ⌝ }
+    ensures { λ _. ⌜ now (marks .exit)
+        ≡ markTo (stepOf sh (now (links .entry)) around) (2 * sh .edges) (entryOf (now (reps .entry))) labels (now
+        (marks .entry)) ⌝ }
 {
     let fuel = 2 * (sh.edges as usize);
     let mut l: usize = 0;
@@ -126,8 +131,8 @@ pub fn all_marked(links: &[u16], sh: Shape, marks: &[u8; 8193]) -> bool
     true
 }
 
-// Each half-edge in use is met from the representative of one of the labels 1 to `labels`. In a table in which steps keep labels
-// and can be undone, this is one cycle for each label.
+// Each half-edge in use is met from the representative of one of the labels 1 to `labels`. In a table in which steps
+// keep labels and can be undone, this is one cycle for each label.
 pub fn one_cycle_each(
     links: &[u16],
     sh: Shape,

@@ -1,5 +1,5 @@
-// Passes down one column of a table into an array with an entry for each label: the least record that names it, how many do, and
-// the column itself. The arrays are handed in all zero.
+// Passes down one column of a table into an array with an entry for each label: the least record that names it, how
+// many do, and the column itself. The arrays are handed in all zero.
 ghost use mathlib.Core.Path.{_≡_};
 ghost use Prim.Native.Nat.{_+_, _<_, _≤_};
 ghost use lib.ListN.{length, getD, set};
@@ -32,7 +32,8 @@ fn bump(a: &mut [u16; 4097], i: usize)
     }
 }
 
-// For each label the least record whose entry in the column names it. The pass goes down, so that the least is stored last.
+// For each label the least record whose entry in the column names it. The pass goes down, so that the least is stored
+// last.
 pub fn least_naming(links: &[u16], column: Column, least: &mut [u16; 4097])
     requires { ⌜ (column .count < 65536) × (now least ≡ blank) ⌝ }
     ensures { λ _. ⌜ now (least .exit) ≡ leastNaming (entryOf column (now (links .entry))) (column .count) blank ⌝ }

@@ -1,4 +1,5 @@
--- What rules 1, 2 and the joins of rule 4 give to the walks and the shells: the facts that the linear passes ask of a table.
+-- What rules 1, 2 and the joins of rule 4 give to the walks and the shells: the facts that the linear passes ask of a
+-- table.
 use mathlib.Core.Path.{_≡_, subst}
 use mathlib.Core.Logic.{_≢_, _⊎_, ⊎-elim}
 use mathlib.Core.List.{List}
@@ -32,13 +33,15 @@ module _ (sh : Shape) (x : List ℕ) (p : List ℤ) (r1 : Rule1 sh x p) (r2 : Ru
   next-in : (k : ℕ) → Half sh x k → Half sh x (nextOf sh x k)
   next-in k u =
       let r = r1 .half k (u .0) (u .1) in
-      in-use (nextOf sh x k) (together-some (r .with-next) (started k u)) (r .next) (r2 .half k (u .0) (u .1) (started k u) .next)
+      in-use (nextOf sh x k) (together-some (r .with-next) (started k u)) (r .next)
+      (r2 .half k (u .0) (u .1) (started k u) .next)
 
   mate-used : (k : ℕ) → Half sh x k → startOf sh x (mate k) ≢ 0
   mate-used k u = together-some (r1 .half k (u .0) (u .1) .with-mate) (started k u)
 
   loop-low : (k : ℕ) → Half sh x k → 1 ≤ loopOf sh x k
-  loop-low k u = let n : loopOf sh x k ≢ 0 = together-some (r1 .half k (u .0) (u .1) .with-loop) (started k u) in omega arith
+  loop-low k u = let n : loopOf sh x k ≢ 0 = together-some (r1 .half k (u .0) (u .1) .with-loop) (started k u) in
+      omega arith
 
   loop-high : (k : ℕ) → Half sh x k → loopOf sh x k ≤ sh .loops
   loop-high k u = r1 .half k (u .0) (u .1) .loop
@@ -60,7 +63,8 @@ module _ (sh : Shape) (x : List ℕ) (p : List ℤ) (r1 : Rule1 sh x p) (r2 : Ru
     at = λ e l u t.
         let h : Half sh x (2 * e) = (omega arith, omega arith, t) in
         let m : mate (2 * e) ≡ 2 * e - 1 = mate-even (2 * e) (omega arith) in
-        let g : Half sh x (2 * e - 1) = in-use (2 * e - 1) (omega arith) (omega arith) (subst (λ j. startOf sh x j ≢ 0) m (mate-used (2 * e) h)) in
+        let g : Half sh x (2 * e - 1) =
+        in-use (2 * e - 1) (omega arith) (omega arith) (subst (λ j. startOf sh x j ≢ 0) m (mate-used (2 * e) h)) in
         let a = side-range (2 * e - 1) g in
         let b = side-range (2 * e) h in
         (a .0, a .1, b .0, b .1);
@@ -81,7 +85,8 @@ module _ (sh : Shape) (x : List ℕ) (p : List ℤ) (r1 : Rule1 sh x p) (r2 : Ru
       start-high = λ k u. r1 .half k (u .0) (u .1) .start;
     }
 
-    pub loop-facts : ((l : ℕ) → 1 ≤ l → l ≤ sh .loops → loopFirst sh x l ≢ 0 → loopOf sh x (loopFirst sh x l) ≡ l) → LoopFacts sh x
+    pub loop-facts : ((l : ℕ) → 1 ≤ l → l ≤ sh .loops → loopFirst sh x l ≢ 0 → loopOf sh x (loopFirst sh x l) ≡ l)
+        → LoopFacts sh x
     loop-facts named = record {
       links = next-facts;
       loop-kept = λ k u. of-half k u .next-loop;

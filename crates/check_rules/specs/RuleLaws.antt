@@ -20,9 +20,12 @@ use Rattle.check_orbits.specs.Cycles.{oneCycleEach}
 use Rattle.check_orbits.specs.OrbitsLaws.{LoopFacts, loops-one-cycle, vertices-one-cycle}
 use Rattle.check_shells.specs.Shells.{shellsWhole}
 use Rattle.check_shells.specs.RuleLaws.{whole-is}
-use Rattle.check_items.specs.declared.scan.Test.the-variants.{SolidRange, FaceRange, LoopRange, HalfRange, VertexRange, FaceNames, LoopNames, HalfNames, LoopEither, HalfLinks, FirstNames, HalfSides}
+use Rattle.check_items.specs.declared.scan.Test.the-variants.{SolidRange, FaceRange, LoopRange, HalfRange, VertexRange}
+use Rattle.check_items.specs.declared.scan.Test.the-variants.{FaceNames, LoopNames, HalfNames, LoopEither, HalfLinks}
+use Rattle.check_items.specs.declared.scan.Test.the-variants.{FirstNames, HalfSides}
 use Rattle.check_rules.specs.declared.labels.LabelTest.the-variants.{SolidNames, VertexEither}
-use Rattle.check_items.specs.Rules.{rule1, solidNames, rule2, halfLinks, firstNames, halfInLoop, rule4, vertexEither, halfAtVertex, rule5, halfSides, faceLinked, rule6, brokenRule, rule3}
+use Rattle.check_items.specs.Rules.{rule1, solidNames, rule2, halfLinks, firstNames, halfInLoop, rule4, vertexEither}
+use Rattle.check_items.specs.Rules.{halfAtVertex, rule5, halfSides, faceLinked, rule6, brokenRule, rule3}
 use Rattle.check_items.specs.Scan.{itemTest}
 use Rattle.check_rules.specs.Labels.{labelTest}
 use Rattle.layout.specs.Small.{Small}
@@ -69,7 +72,8 @@ pub named-by : (sh : Shape) (x : List ℕ) (F : Field) {c : Column} {ls : List �
 named-by sh x F {c} {ls} e h = subst (λ (k : Column). ls ≡ leastNaming (entryOf k x) (k .count) blank) e h
 
 module _ (sh : Shape) (x : List ℕ) (p : List ℤ) where
-  pub rule1-is : (a b c d e : Bool) → a ≡ allTo (sh .solids) (itemTest SolidRange sh x p) → b ≡ allTo (sh .faces) (itemTest FaceRange sh x p)
+  pub rule1-is : (a b c d e : Bool) → a ≡ allTo (sh .solids) (itemTest SolidRange sh x p)
+      → b ≡ allTo (sh .faces) (itemTest FaceRange sh x p)
       → c ≡ allTo (sh .loops) (itemTest LoopRange sh x p) → d ≡ allTo (2 * sh .edges) (itemTest HalfRange sh x p)
       → e ≡ allTo (sh .vertices) (itemTest VertexRange sh x p) → ((((a && b) && c) && d) && e) ≡ rule1 sh x p
   unfolding rule1 itemTest
@@ -79,9 +83,11 @@ module _ (sh : Shape) (x : List ℕ) (p : List ℤ) where
   solids-named : (ls : List ℕ) → sh .solids ≤ 4096 → ls ≡ leastNaming (faceSolid sh x) (sh .faces) blank
       → allTo (sh .solids) (labelTest SolidNames sh x ls ls) ≡ allTo (sh .solids) (solidNames sh x)
   unfolding labelTest solidNames
-  solids-named ls h e = all-ext (sh .solids) _ _ (λ k l u. rw (e, least-at (faceSolid sh x) (sh .faces) k (omega arith)))
+  solids-named ls h e =
+      all-ext (sh .solids) _ _ (λ k l u. rw (e, least-at (faceSolid sh x) (sh .faces) k (omega arith)))
 
-  pub rule2-is : (ls : List ℕ) (a b c d : Bool) → sh .solids ≤ 4096 → ls ≡ leastNaming (faceSolid sh x) (sh .faces) blank
+  pub rule2-is : (ls : List ℕ) (a b c d : Bool) → sh .solids ≤ 4096
+      → ls ≡ leastNaming (faceSolid sh x) (sh .faces) blank
       → a ≡ allTo (sh .faces) (itemTest FaceNames sh x p) → b ≡ allTo (sh .loops) (itemTest LoopNames sh x p)
       → c ≡ allTo (2 * sh .edges) (itemTest HalfNames sh x p) → d ≡ allTo (sh .solids) (labelTest SolidNames sh x ls ls)
       → (((a && b) && c) && d) ≡ rule2 sh x
@@ -93,12 +99,18 @@ module _ (sh : Shape) (x : List ℕ) (p : List ℤ) where
   rule3-is r h = h
 
   -- the entries of the arrays are the rule's own counts and starters
-  vertices-counted : (counts starters : List ℕ) → sh .vertices ≤ 4096 → counts ≡ tally (loopIsolated sh x) (sh .loops) blank
+  vertices-counted : (counts starters : List ℕ) → sh .vertices ≤ 4096
+      → counts ≡ tally (loopIsolated sh x) (sh .loops) blank
       → starters ≡ leastNaming (startOf sh x) (2 * sh .edges) blank
       → allTo (sh .vertices) (labelTest VertexEither sh x counts starters) ≡ allTo (sh .vertices) (vertexEither sh x)
   unfolding labelTest vertexEither
   vertices-counted counts starters h ec es = all-ext (sh .vertices) _ _
-      (λ k l u. rw (ec, es, tally-at (loopIsolated sh x) (sh .loops) k (omega arith), least-at (startOf sh x) (2 * sh .edges) k (omega arith)))
+      (λ k l u. rw (
+        ec,
+        es,
+        tally-at (loopIsolated sh x) (sh .loops) k (omega arith),
+        least-at (startOf sh x) (2 * sh .edges) k (omega arith),
+      ))
 
   module _ (lower : Lower sh x p) where
     r1 : Rule1 sh x p
@@ -107,10 +119,12 @@ module _ (sh : Shape) (x : List ℕ) (p : List ℤ) where
     r2 : Rule2 sh x
     r2 = says-rule2 sh x .out (true-T (lower .second))
 
-    module _ (a b : Bool) (ea : a ≡ allTo (2 * sh .edges) (itemTest HalfLinks sh x p)) (eb : b ≡ allTo (sh .loops) (itemTest FirstNames sh x p)) where
+    module _ (a b : Bool) (ea : a ≡ allTo (2 * sh .edges) (itemTest HalfLinks sh x p))
+        (eb : b ≡ allTo (sh .loops) (itemTest FirstNames sh x p)) where
       pub rule4-not : not (a && b) ≡ true → false ≡ rule4 sh x
       unfolding rule4 itemTest
-      rule4-not n = stop a b (allTo (2 * sh .edges) (halfLinks sh x)) (allTo (sh .loops) (firstNames sh x)) (allTo (2 * sh .edges) (halfInLoop sh x)) ea eb n
+      rule4-not n = stop a b (allTo (2 * sh .edges) (halfLinks sh x)) (allTo (sh .loops) (firstNames sh x))
+          (allTo (2 * sh .edges) (halfInLoop sh x)) ea eb n
 
       links-hold : not (a && b) ≡ false → LoopFacts sh x
       unfolding itemTest
@@ -118,28 +132,37 @@ module _ (sh : Shape) (x : List ℕ) (p : List ℤ) where
           let t = and-T a b (true-T (not-false (a && b) n)) in
           let ta = true-T (sym ea ∙ T-true {b = a} (t .0)) in
           let tb = true-T (sym eb ∙ T-true {b = b} (t .1)) in
-          loop-facts sh x p r1 r2 (says-all (2 * sh .edges) (says-halfLinks sh x) .out ta) (says-all (sh .loops) (says-firstNames sh x) .out tb)
+          loop-facts sh x p r1 r2 (says-all (2 * sh .edges) (says-halfLinks sh x) .out ta)
+          (says-all (sh .loops) (says-firstNames sh x) .out tb)
 
-      pub rule4-is : not (a && b) ≡ false → (firsts : List ℕ) (r : Bool) → firsts ≡ copied (loopFirst sh x) (sh .loops) blank
+      pub rule4-is : not (a && b) ≡ false → (firsts : List ℕ) (r : Bool)
+          → firsts ≡ copied (loopFirst sh x) (sh .loops) blank
           → r ≡ oneCycleEach sh x false firsts (sh .loops) → r ≡ rule4 sh x
       unfolding rule4 itemTest
       rule4-is n firsts r ef er =
-          go-on a b (allTo (2 * sh .edges) (halfLinks sh x)) (allTo (sh .loops) (firstNames sh x)) (allTo (2 * sh .edges) (halfInLoop sh x)) r ea eb n
-          (er ∙ ap (λ l. oneCycleEach sh x false l (sh .loops)) ef ∙ loops-one-cycle sh x (links-hold n) (lower .small .edges) (lower .small .loops) ∙ met-loops sh x)
+          go-on a b (allTo (2 * sh .edges) (halfLinks sh x)) (allTo (sh .loops) (firstNames sh x))
+          (allTo (2 * sh .edges) (halfInLoop sh x)) r ea eb n
+          (er ∙ ap (λ l. oneCycleEach sh x false l (sh .loops)) ef
+          ∙ loops-one-cycle sh x (links-hold n) (lower .small .edges) (lower .small .loops) ∙ met-loops sh x)
 
-    pub rule5-is : rule4 sh x ≡ true → (counts starters : List ℕ) (a r : Bool) → counts ≡ tally (loopIsolated sh x) (sh .loops) blank
-        → starters ≡ leastNaming (startOf sh x) (2 * sh .edges) blank → a ≡ allTo (sh .vertices) (labelTest VertexEither sh x counts starters)
+    pub rule5-is : rule4 sh x ≡ true → (counts starters : List ℕ) (a r : Bool)
+        → counts ≡ tally (loopIsolated sh x) (sh .loops) blank
+        → starters ≡ leastNaming (startOf sh x) (2 * sh .edges) blank
+        → a ≡ allTo (sh .vertices) (labelTest VertexEither sh x counts starters)
         → r ≡ oneCycleEach sh x true starters (sh .vertices) → (a && r) ≡ rule5 sh x
     unfolding rule5
     rule5-is h4 counts starters a r ec es ea er =
         both a r (allTo (sh .vertices) (vertexEither sh x)) (allTo (2 * sh .edges) (halfAtVertex sh x)) (ea ∙ counted)
         (er ∙ ap (λ l. oneCycleEach sh x true l (sh .vertices)) es
-        ∙ vertices-one-cycle sh x (vertex-facts sh x p r1 r2 (says-rule4 sh x p r1 r2 .out (true-T h4) .half)) (lower .small .edges) (lower .small .vertices) ∙ met-vertices sh x)
+        ∙ vertices-one-cycle sh x (vertex-facts sh x p r1 r2 (says-rule4 sh x p r1 r2 .out (true-T h4) .half))
+        (lower .small .edges) (lower .small .vertices) ∙ met-vertices sh x)
       where
-        counted : allTo (sh .vertices) (labelTest VertexEither sh x counts starters) ≡ allTo (sh .vertices) (vertexEither sh x)
+        counted : allTo (sh .vertices) (labelTest VertexEither sh x counts starters)
+            ≡ allTo (sh .vertices) (vertexEither sh x)
         counted = vertices-counted counts starters (lower .small .vertices) ec es
 
-    pub rule6-is : (ls : List ℕ) (a r : Bool) → ls ≡ leastNaming (faceSolid sh x) (sh .faces) blank → a ≡ allTo (2 * sh .edges) (itemTest HalfSides sh x p)
+    pub rule6-is : (ls : List ℕ) (a r : Bool) → ls ≡ leastNaming (faceSolid sh x) (sh .faces) blank
+        → a ≡ allTo (2 * sh .edges) (itemTest HalfSides sh x p)
         → r ≡ shellsWhole sh x ls → (a && r) ≡ rule6 sh x
     unfolding rule6 itemTest faceLinked
     rule6-is ls a r el ea er =

@@ -1,5 +1,5 @@
--- What the rules of a sound table say in plain words: each rule's test passes just if the facts of its record hold. Of rules 4 to 6 the
--- parts that look at one item are here, and the cycles and chains in CyclesSay.
+-- What the rules of a sound table say in plain words: each rule's test passes just if the facts of its record hold. Of
+-- rules 4 to 6 the parts that look at one item are here, and the cycles and chains in CyclesSay.
 use mathlib.Core.Path.{_≡_}
 use mathlib.Core.Logic.{_≢_, _⊎_}
 use mathlib.Core.List.{List}
@@ -7,11 +7,15 @@ use Prim.Native.Nat.{ℕ, _*_, _≤_}
 use lib.IntN.{ℤ, pos, negsuc}
 use lib.Signed.{_≤ℤ_}
 use Rattle.layout.specs.declared.shape.Shape.{Shape}
-use Rattle.layout.specs.Layout.{solidUsed, faceSolid, faceOuter, loopFace, loopFirst, loopIsolated, startOf, loopOf, nextOf, prevOf, vertexUsed, side}
+use Rattle.layout.specs.Layout.{solidUsed, faceSolid, faceOuter, loopFace, loopFirst, loopIsolated, startOf, loopOf}
+use Rattle.layout.specs.Layout.{nextOf, prevOf, vertexUsed, side}
 use Rattle.layout.specs.Mate.{mate}
 use Rattle.layout.specs.Points.{coordinate, rangeTest, zeroTest}
-use Rattle.check_rules.specs.Says.{Says, reword, says-le, says-eq, says-some, says-leZ, says-and, says-or, says-where, says-all, last, more, says-every}
-use Rattle.check_items.specs.Rules.{together, onlyWith, faceIn, solidRange, faceRange, loopRange, halfRange, vertexRange, rule1, solidNames, faceNames, loopNames, halfNames, rule2, loopEither, rule3, halfLinks, firstNames, isolatedIn, starter, vertexEither, halfSides}
+use Rattle.check_rules.specs.Says.{Says, reword, says-le, says-eq, says-some, says-leZ, says-and, says-or}
+use Rattle.check_rules.specs.Says.{says-where, says-all, last, more, says-every}
+use Rattle.check_items.specs.Rules.{together, onlyWith, faceIn, solidRange, faceRange, loopRange, halfRange}
+use Rattle.check_items.specs.Rules.{vertexRange, rule1, solidNames, faceNames, loopNames, halfNames, rule2, loopEither}
+use Rattle.check_items.specs.Rules.{rule3, halfLinks, firstNames, isolatedIn, starter, vertexEither, halfSides}
 
 -- ---- small statements
 
@@ -58,8 +62,11 @@ module _ (sh : Shape) (x : List ℕ) where
   pub says-faceRange : (f : ℕ) → Says (faceRange sh x f) (FaceRange f)
   unfolding faceRange
   says-faceRange f =
-      reword (λ h. record { solid = h .0; outer = h .1 .0; together = h .1 .1 }) (λ r. (r .solid, (r .outer, r .together)))
-      (says-every (more (says-le (faceSolid sh x f) (sh .solids)) (more (says-le (faceOuter sh x f) (sh .loops)) (last (says-together (faceSolid sh x f) (faceOuter sh x f))))))
+      reword (λ h. record { solid = h .0; outer = h .1 .0; together = h .1 .1 })
+      (λ r. (r .solid, (r .outer, r .together)))
+      (says-every
+      (more (says-le (faceSolid sh x f) (sh .solids))
+      (more (says-le (faceOuter sh x f) (sh .loops)) (last (says-together (faceSolid sh x f) (faceOuter sh x f))))))
 
   pub record LoopRange (l : ℕ) : Type 0 where
     pub face : loopFace sh x l ≤ sh .faces
@@ -71,10 +78,19 @@ module _ (sh : Shape) (x : List ℕ) where
   pub says-loopRange : (l : ℕ) → Says (loopRange sh x l) (LoopRange l)
   unfolding loopRange
   says-loopRange l =
-      reword (λ h. record { face = h .0; first = h .1 .0; isolated = h .1 .1 .0; first-used = h .1 .1 .1 .0; isolated-used = h .1 .1 .1 .1 })
+      reword (λ h. record {
+        face = h .0;
+        first = h .1 .0;
+        isolated = h .1 .1 .0;
+        first-used = h .1 .1 .1 .0;
+        isolated-used = h .1 .1 .1 .1;
+      })
       (λ r. (r .face, (r .first, (r .isolated, (r .first-used, r .isolated-used)))))
-      (says-every (more (says-le (loopFace sh x l) (sh .faces)) (more (says-le (loopFirst sh x l) (2 * sh .edges)) (more (says-le (loopIsolated sh x l) (sh .vertices))
-      (more (says-onlyWith (loopFace sh x l) (loopFirst sh x l)) (last (says-onlyWith (loopFace sh x l) (loopIsolated sh x l))))))))
+      (says-every
+      (more (says-le (loopFace sh x l) (sh .faces))
+      (more (says-le (loopFirst sh x l) (2 * sh .edges)) (more (says-le (loopIsolated sh x l) (sh .vertices))
+      (more (says-onlyWith (loopFace sh x l) (loopFirst sh x l))
+      (last (says-onlyWith (loopFace sh x l) (loopIsolated sh x l))))))))
 
   pub record HalfRange (k : ℕ) : Type 0 where
     pub start : startOf sh x k ≤ sh .vertices
@@ -89,24 +105,54 @@ module _ (sh : Shape) (x : List ℕ) where
   pub says-halfRange : (k : ℕ) → Says (halfRange sh x k) (HalfRange k)
   unfolding halfRange
   says-halfRange k =
-      reword (λ h. record { start = h .0; loop = h .1 .0; next = h .1 .1 .0; prev = h .1 .1 .1 .0; with-loop = h .1 .1 .1 .1 .0; with-next = h .1 .1 .1 .1 .1 .0; with-prev = h .1 .1 .1 .1 .1 .1 .0; with-mate = h .1 .1 .1 .1 .1 .1 .1 })
+      reword (λ h. record {
+        start = h .0;
+        loop = h .1 .0;
+        next = h .1 .1 .0;
+        prev = h .1 .1 .1 .0;
+        with-loop =
+            h .1 .1 .1 .1 .0;
+        with-next = h .1 .1 .1 .1 .1 .0;
+        with-prev = h .1 .1 .1 .1 .1 .1 .0;
+        with-mate =
+            h .1 .1 .1 .1 .1 .1 .1;
+      })
       (λ r. (r .start, (r .loop, (r .next, (r .prev, (r .with-loop, (r .with-next, (r .with-prev, r .with-mate))))))))
-      (says-every (more (says-le (startOf sh x k) (sh .vertices)) (more (says-le (loopOf sh x k) (sh .loops)) (more (says-le (nextOf sh x k) (2 * sh .edges)) (more (says-le (prevOf sh x k) (2 * sh .edges))
-      (more (says-together (startOf sh x k) (loopOf sh x k)) (more (says-together (startOf sh x k) (nextOf sh x k)) (more (says-together (startOf sh x k) (prevOf sh x k)) (last (says-together (startOf sh x k) (startOf sh x (mate k))))))))))))
+      (says-every
+      (more (says-le (startOf sh x k) (sh .vertices))
+      (more (says-le (loopOf sh x k) (sh .loops))
+      (more (says-le (nextOf sh x k) (2 * sh .edges)) (more (says-le (prevOf sh x k) (2 * sh .edges))
+      (more (says-together (startOf sh x k) (loopOf sh x k))
+      (more (says-together (startOf sh x k) (nextOf sh x k))
+      (more (says-together (startOf sh x k) (prevOf sh x k))
+      (last (says-together (startOf sh x k) (startOf sh x (mate k))))))))))))
 
   pub record VertexRange (p : List ℤ) (v : ℕ) : Type 0 where
     pub mark : vertexUsed sh x v ≤ 1
     pub x-range : InRange (coordinate p v 0)
     pub y-range : InRange (coordinate p v 1)
     pub z-range : InRange (coordinate p v 2)
-    pub free-zero : (vertexUsed sh x v ≢ 0) ⊎ ((IsZero (coordinate p v 0) × IsZero (coordinate p v 1)) × IsZero (coordinate p v 2))
+    pub free-zero : (vertexUsed sh x v ≢ 0) ⊎ ((IsZero (coordinate p v 0) × IsZero (coordinate p v 1))
+        × IsZero (coordinate p v 2))
 
   pub says-vertexRange : (p : List ℤ) (v : ℕ) → Says (vertexRange sh x p v) (VertexRange p v)
   unfolding vertexRange
   says-vertexRange p v =
-      reword (λ h. record { mark = h .0; x-range = h .1 .0; y-range = h .1 .1 .0; z-range = h .1 .1 .1 .0; free-zero = h .1 .1 .1 .1 }) (λ r. (r .mark, (r .x-range, (r .y-range, (r .z-range, r .free-zero)))))
-      (says-every (more (says-le (vertexUsed sh x v) 1) (more (says-range (coordinate p v 0)) (more (says-range (coordinate p v 1)) (more (says-range (coordinate p v 2))
-      (last (says-or (says-some (vertexUsed sh x v)) (says-and (says-and (says-zero (coordinate p v 0)) (says-zero (coordinate p v 1))) (says-zero (coordinate p v 2))))))))))
+      reword (λ h. record {
+        mark = h .0;
+        x-range = h .1 .0;
+        y-range = h .1 .1 .0;
+        z-range = h .1 .1 .1 .0;
+        free-zero =
+            h .1 .1 .1 .1;
+      }) (λ r. (r .mark, (r .x-range, (r .y-range, (r .z-range, r .free-zero)))))
+      (says-every
+      (more (says-le (vertexUsed sh x v) 1)
+      (more (says-range (coordinate p v 0))
+      (more (says-range (coordinate p v 1)) (more (says-range (coordinate p v 2))
+      (last (says-or (says-some (vertexUsed sh x v))
+      (says-and (says-and (says-zero (coordinate p v 0)) (says-zero (coordinate p v 1)))
+      (says-zero (coordinate p v 2))))))))))
 
   pub record Rule1 (p : List ℤ) : Type 0 where
     pub solid : (s : ℕ) → 1 ≤ s → s ≤ sh .solids → solidUsed sh x s ≤ 1
@@ -122,8 +168,17 @@ module _ (sh : Shape) (x : List ℕ) where
   pub says-rule1 : (p : List ℤ) → Says (rule1 sh x p) (Rule1 p)
   unfolding rule1
   says-rule1 p =
-      reword (λ h. record { solid = h .0; face = h .1 .0; loop = h .1 .1 .0; half = h .1 .1 .1 .0; vertex = h .1 .1 .1 .1 }) (λ r. (r .solid, (r .face, (r .loop, (r .half, r .vertex)))))
-      (says-every (more (says-all (sh .solids) says-solidRange) (more (says-all (sh .faces) says-faceRange) (more (says-all (sh .loops) says-loopRange)
+      reword (λ h. record {
+        solid = h .0;
+        face = h .1 .0;
+        loop = h .1 .1 .0;
+        half = h .1 .1 .1 .0;
+        vertex =
+            h .1 .1 .1 .1;
+      }) (λ r. (r .solid, (r .face, (r .loop, (r .half, r .vertex)))))
+      (says-every
+      (more (says-all (sh .solids) says-solidRange)
+      (more (says-all (sh .faces) says-faceRange) (more (says-all (sh .loops) says-loopRange)
       (more (says-all (2 * sh .edges) says-halfRange) (last (says-all (sh .vertices) (says-vertexRange p))))))))
 
   -- ---- rule 2: what is said of an item is said of one in use
@@ -136,7 +191,8 @@ module _ (sh : Shape) (x : List ℕ) where
   unfolding faceNames
   says-faceNames f =
       says-where (faceSolid sh x f) (reword (λ h. record { solid = h .0; outer = h .1 }) (λ r. (r .solid, r .outer))
-      (says-every (more (says-some (solidUsed sh x (faceSolid sh x f))) (last (says-eq (loopFace sh x (faceOuter sh x f)) f)))))
+      (says-every
+      (more (says-some (solidUsed sh x (faceSolid sh x f))) (last (says-eq (loopFace sh x (faceOuter sh x f)) f)))))
 
   pub record LoopNames (l : ℕ) : Type 0 where
     pub face : faceSolid sh x (loopFace sh x l) ≢ 0
@@ -146,8 +202,11 @@ module _ (sh : Shape) (x : List ℕ) where
   pub says-loopNames : (l : ℕ) → Says (loopNames sh x l) (loopFace sh x l ≢ 0 → LoopNames l)
   unfolding loopNames
   says-loopNames l =
-      says-where (loopFace sh x l) (reword (λ h. record { face = h .0; first = h .1 .0; isolated = h .1 .1 }) (λ r. (r .face, (r .first, r .isolated)))
-      (says-every (more (says-some (faceSolid sh x (loopFace sh x l))) (more (says-where (loopFirst sh x l) (says-some (startOf sh x (loopFirst sh x l))))
+      says-where (loopFace sh x l) (reword (λ h. record { face = h .0; first = h .1 .0; isolated = h .1 .1 })
+      (λ r. (r .face, (r .first, r .isolated)))
+      (says-every
+      (more (says-some (faceSolid sh x (loopFace sh x l)))
+      (more (says-where (loopFirst sh x l) (says-some (startOf sh x (loopFirst sh x l))))
       (last (says-where (loopIsolated sh x l) (says-some (vertexUsed sh x (loopIsolated sh x l)))))))))
 
   pub record HalfNames (k : ℕ) : Type 0 where
@@ -159,8 +218,12 @@ module _ (sh : Shape) (x : List ℕ) where
   pub says-halfNames : (k : ℕ) → Says (halfNames sh x k) (startOf sh x k ≢ 0 → HalfNames k)
   unfolding halfNames
   says-halfNames k =
-      says-where (startOf sh x k) (reword (λ h. record { start = h .0; loop = h .1 .0; next = h .1 .1 .0; prev = h .1 .1 .1 }) (λ r. (r .start, (r .loop, (r .next, r .prev))))
-      (says-every (more (says-some (vertexUsed sh x (startOf sh x k))) (more (says-some (loopFace sh x (loopOf sh x k))) (more (says-some (startOf sh x (nextOf sh x k)))
+      says-where (startOf sh x k)
+      (reword (λ h. record { start = h .0; loop = h .1 .0; next = h .1 .1 .0; prev = h .1 .1 .1 })
+      (λ r. (r .start, (r .loop, (r .next, r .prev))))
+      (says-every
+      (more (says-some (vertexUsed sh x (startOf sh x k)))
+      (more (says-some (loopFace sh x (loopOf sh x k))) (more (says-some (startOf sh x (nextOf sh x k)))
       (last (says-some (startOf sh x (prevOf sh x k)))))))))
 
   -- a solid in use has a least face
@@ -177,16 +240,22 @@ module _ (sh : Shape) (x : List ℕ) where
   pub says-rule2 : Says (rule2 sh x) Rule2
   unfolding rule2
   says-rule2 =
-      reword (λ h. record { face = h .0; loop = h .1 .0; half = h .1 .1 .0; solid = h .1 .1 .1 }) (λ r. (r .face, (r .loop, (r .half, r .solid))))
-      (says-every (more (says-all (sh .faces) says-faceNames) (more (says-all (sh .loops) says-loopNames) (more (says-all (2 * sh .edges) says-halfNames) (last (says-all (sh .solids) says-solidNames))))))
+      reword (λ h. record { face = h .0; loop = h .1 .0; half = h .1 .1 .0; solid = h .1 .1 .1 })
+      (λ r. (r .face, (r .loop, (r .half, r .solid))))
+      (says-every
+      (more (says-all (sh .faces) says-faceNames)
+      (more (says-all (sh .loops) says-loopNames)
+      (more (says-all (2 * sh .edges) says-halfNames) (last (says-all (sh .solids) says-solidNames))))))
 
   -- ---- rule 3
 
-  pub says-loopEither : (l : ℕ) → Says (loopEither sh x l) (loopFace sh x l ≢ 0 → Either (loopFirst sh x l) (loopIsolated sh x l))
+  pub says-loopEither : (l : ℕ)
+      → Says (loopEither sh x l) (loopFace sh x l ≢ 0 → Either (loopFirst sh x l) (loopIsolated sh x l))
   unfolding loopEither
   says-loopEither l =
       says-where (loopFace sh x l)
-      (says-or (says-and (says-some (loopFirst sh x l)) (says-eq (loopIsolated sh x l) 0)) (says-and (says-eq (loopFirst sh x l) 0) (says-some (loopIsolated sh x l))))
+      (says-or (says-and (says-some (loopFirst sh x l)) (says-eq (loopIsolated sh x l) 0))
+      (says-and (says-eq (loopFirst sh x l) 0) (says-some (loopIsolated sh x l))))
 
   abbrev pub Rule3 : Type 0
   Rule3 = (l : ℕ) → 1 ≤ l → l ≤ sh .loops → loopFace sh x l ≢ 0 → Either (loopFirst sh x l) (loopIsolated sh x l)
@@ -209,10 +278,21 @@ module _ (sh : Shape) (x : List ℕ) where
   unfolding halfLinks
   says-halfLinks k =
       says-where (startOf sh x k)
-      (reword (λ h. record { prev-next = h .0; next-prev = h .1 .0; next-start = h .1 .1 .0; next-loop = h .1 .1 .1 .0; has-first = h .1 .1 .1 .1 .0; first-least = h .1 .1 .1 .1 .1 })
+      (reword (λ h. record {
+        prev-next = h .0;
+        next-prev = h .1 .0;
+        next-start = h .1 .1 .0;
+        next-loop = h .1 .1 .1 .0;
+        has-first = h .1 .1 .1 .1 .0;
+        first-least = h .1 .1 .1 .1 .1;
+      })
       (λ r. (r .prev-next, (r .next-prev, (r .next-start, (r .next-loop, (r .has-first, r .first-least))))))
-      (says-every (more (says-eq (prevOf sh x (nextOf sh x k)) k) (more (says-eq (nextOf sh x (prevOf sh x k)) k) (more (says-eq (startOf sh x (nextOf sh x k)) (startOf sh x (mate k)))
-      (more (says-eq (loopOf sh x (nextOf sh x k)) (loopOf sh x k)) (more (says-some (loopFirst sh x (loopOf sh x k))) (last (says-le (loopFirst sh x (loopOf sh x k)) k)))))))))
+      (says-every
+      (more (says-eq (prevOf sh x (nextOf sh x k)) k)
+      (more (says-eq (nextOf sh x (prevOf sh x k)) k)
+      (more (says-eq (startOf sh x (nextOf sh x k)) (startOf sh x (mate k)))
+      (more (says-eq (loopOf sh x (nextOf sh x k)) (loopOf sh x k))
+      (more (says-some (loopFirst sh x (loopOf sh x k))) (last (says-le (loopFirst sh x (loopOf sh x k)) k)))))))))
 
   pub says-firstNames : (l : ℕ) → Says (firstNames sh x l) (loopFirst sh x l ≢ 0 → loopOf sh x (loopFirst sh x l) ≡ l)
   unfolding firstNames
@@ -228,10 +308,14 @@ module _ (sh : Shape) (x : List ℕ) where
   unfolding vertexEither
   says-vertexEither v =
       says-where (vertexUsed sh x v)
-      (says-or (says-and (says-eq (isolatedIn sh x v) 1) (says-eq (starter sh x v) 0)) (says-and (says-eq (isolatedIn sh x v) 0) (says-some (starter sh x v))))
+      (says-or (says-and (says-eq (isolatedIn sh x v) 1) (says-eq (starter sh x v) 0))
+      (says-and (says-eq (isolatedIn sh x v) 0) (says-some (starter sh x v))))
 
   -- ---- rule 6, of one half-edge
 
-  pub says-halfSides : (k : ℕ) → Says (halfSides sh x k) (startOf sh x k ≢ 0 → faceSolid sh x (side sh x k) ≡ faceSolid sh x (side sh x (mate k)))
+  pub says-halfSides : (k : ℕ)
+      → Says (halfSides sh x k) (startOf sh x k ≢ 0 → faceSolid sh x (side sh x k)
+      ≡ faceSolid sh x (side sh x (mate k)))
   unfolding halfSides
-  says-halfSides k = says-where (startOf sh x k) (says-eq (faceSolid sh x (side sh x k)) (faceSolid sh x (side sh x (mate k))))
+  says-halfSides k =
+      says-where (startOf sh x k) (says-eq (faceSolid sh x (side sh x k)) (faceSolid sh x (side sh x (mate k))))

@@ -1,4 +1,5 @@
--- What a test that computes says in plain words, both ways. A rule is a test made of small ones, and what it says is made of what they say.
+-- What a test that computes says in plain words, both ways. A rule is a test made of small ones, and what it says is
+-- made of what they say.
 use mathlib.Core.Path.{_≡_}
 use mathlib.Core.Logic.{_≢_, _⊎_, inl, inr, ⊎-elim}
 use mathlib.Core.Bool.{Bool, not, _&&_, _||_}
@@ -27,7 +28,11 @@ pub says-eq : (m n : ℕ) → Says (eqb m n) (m ≡ n)
 says-eq m n = record { out = eqb→eq m n; back = λ e. true-T (eqb-same e) }
 
 pub says-some : (n : ℕ) → Says (not (eqb n 0)) (n ≢ 0)
-says-some n = record { out = λ t e. T-not (eqb n 0) t (true-T (eqb-same e)); back = λ h. not-T (eqb n 0) (λ t. h (eqb→eq n 0 t)) }
+says-some n = record {
+  out = λ t e. T-not (eqb n 0) t (true-T (eqb-same e));
+  back =
+      λ h. not-T (eqb n 0) (λ t. h (eqb→eq n 0 t));
+}
 
 pub says-leZ : (a b : ℤ) → Says (leZ a b) (a ≤ℤ b)
 says-leZ a b = record { out = λ t. record { le = t }; back = λ h. h .le }
@@ -56,8 +61,13 @@ says-where n {t} s = record {
 }
 
 -- all of 1..n
-pub says-all : (n : ℕ) {p : ℕ → Bool} {P : ℕ → Type 0} → ((k : ℕ) → Says (p k) (P k)) → Says (allTo n p) ((k : ℕ) → 1 ≤ k → k ≤ n → P k)
-says-all n {p} s = record { out = λ t k l u. s k .out (all-at n p t k l u); back = λ h. all-of n p (λ k l u. s k .back (h k l u)) }
+pub says-all : (n : ℕ) {p : ℕ → Bool} {P : ℕ → Type 0} → ((k : ℕ) → Says (p k) (P k))
+    → Says (allTo n p) ((k : ℕ) → 1 ≤ k → k ≤ n → P k)
+says-all n {p} s = record {
+  out = λ t k l u. s k .out (all-at n p t k l u);
+  back =
+      λ h. all-of n p (λ k l u. s k .back (h k l u));
+}
 
 -- a list of tests, and what they say together
 pub data SaysAll : List Bool → Type 0 → Type 1 where

@@ -1,4 +1,5 @@
-// The tests of one solid and of one vertex that ask what other records name it: a pass over those records has filled an array before.
+// The tests of one solid and of one vertex that ask what other records name it: a pass over those records has filled an
+// array before.
 ghost use mathlib.Core.Path.{_≡_};
 ghost use Prim.Native.Nat.{ℕ, _<_, _≤_};
 ghost use Rattle.laws.specs.Search.{allTo};
@@ -41,7 +42,8 @@ fn vertex_either(
     n: usize,
 ) -> bool
     requires { ⌜ n ≤ 4096 ⌝ }
-    ensures { λ r. ⌜ r ≡ labelTest VertexEither sh (now (links .entry)) (now (counts .entry)) (now (starters .entry)) n ⌝ }
+    ensures { λ r.
+        ⌜ r ≡ labelTest VertexEither sh (now (links .entry)) (now (counts .entry)) (now (starters .entry)) n ⌝ }
 {
     if vertex_used(links, sh, n) == 0 {
         return true;

@@ -58,8 +58,8 @@ fn rule_3(links: &[u16], points: &[i32], sh: Shape) -> bool
     all_items(links, points, sh, Test::LoopEither, sh.loops as usize)
 }
 
-// Half-edges are joined as they should be, and those of a loop form one cycle. The walks begin once next and previous are known to undo
-// each other.
+// Half-edges are joined as they should be, and those of a loop form one cycle. The walks begin once next and previous
+// are known to undo each other.
 fn rule_4(links: &[u16], points: &[i32], sh: Shape) -> bool
     requires { ⌜ Lower sh (now links) (now points) ⌝ }
     ensures { λ r. ⌜ r ≡ rule4 sh (now (links .entry)) ⌝ }

@@ -3,7 +3,7 @@ use mathlib.Core.Path.{_≡_}
 use Prim.Native.Nat.{ℕ, _≤_, _<_}
 use mathlib.Core.List.{List}
 use lib.ListN.{length, getD}
-use Rattle.laws.specs.Union.{Down, root, SameRoots}
+use Rattle.laws.specs.UnionFind.{Down, root, SameRoots}
 
 -- a number has a parent that is not larger
 pub record Forest (p : List ℕ) : Type 0 where

@@ -8,7 +8,8 @@ use lib.ListN.{length, getD, set, length-set, List·getD-eq-default}
 use lib.Seq.{getD-set-same, getD-set-other}
 use borrow.Author.Tests.{lt-ltb, le-ltb}
 use Rattle.laws.specs.Bools.{split, le?}
-use Rattle.laws.specs.Union.{Down, root, hang, root-end, root-step, SameRoots, halve-path, same-roots-then, United, unite-united, united-between}
+use Rattle.laws.specs.UnionFind.{Down, root, hang, root-end, root-step, SameRoots, halve-path, same-roots-then, United}
+use Rattle.laws.specs.UnionFind.{unite-united, united-between}
 use Rattle.check_shells.specs.Forest.{Forest, Apart, Climb}
 
 -- ---- each its own parent
@@ -26,7 +27,10 @@ apart-more {p} {n} a h = record {
 pub apart-forest : {p : List ℕ} {n : ℕ} → Apart p n → 4097 ≤ n → Forest p
 apart-forest {p} a h = record {
   long = a .long;
-  down = record { at = λ i. ⊎-elim (λ l. omega (arith, List·getD-eq-default p 0 l)) (λ l. omega (arith, a .own i (omega (arith, a .long)))) (le? (length p) i) };
+  down = record {
+    at = λ i. ⊎-elim (λ l. omega (arith, List·getD-eq-default p 0 l))
+        (λ l. omega (arith, a .own i (omega (arith, a .long)))) (le? (length p) i);
+  };
 }
 
 -- ---- roots stay
@@ -50,18 +54,21 @@ pub climb-start : (p : List ℕ) (x : ℕ) → Down p → Climb p p x x
 climb-start p x d = record { kept = same-roots-here d; low = omega arith; one = refl }
 
 -- k gets its grandparent g as its parent, and the walk goes on there
-pub climb-turn : {p₀ p : List ℕ} {x k : ℕ} → Climb p₀ p x k → (q g : ℕ) → q ≡ getD p k 0 → g ≡ getD p q 0 → Climb p₀ (set p k (getD p q 0)) x g
+pub climb-turn : {p₀ p : List ℕ} {x k : ℕ} → Climb p₀ p x k → (q g : ℕ) → q ≡ getD p k 0 → g ≡ getD p q 0
+    → Climb p₀ (set p k (getD p q 0)) x g
 climb-turn {p₀} {p} {x} {k} c q g eq eg = record {
   kept = same-roots-then (c .kept) (rw eq (halve-path p d k));
   low = omega (arith, c .low, d .at k, d .at q);
-  one = sym (c .kept .roots g) ∙ ap (root p) eg ∙ sym (root-step p d q) ∙ ap (root p) eq ∙ sym (root-step p d k) ∙ c .kept .roots k ∙ c .one;
+  one = sym (c .kept .roots g) ∙ ap (root p) eg ∙ sym (root-step p d q) ∙ ap (root p) eq ∙ sym (root-step p d k)
+      ∙ c .kept .roots k ∙ c .one;
 }
   where
     d : Down p
     d = c .kept .down
 
 -- each turn goes down
-pub climb-less : {p₀ p : List ℕ} {x k : ℕ} → Climb p₀ p x k → (q g : ℕ) → q ≡ getD p k 0 → q ≢ k → g ≡ getD p q 0 → g < k
+pub climb-less : {p₀ p : List ℕ} {x k : ℕ} → Climb p₀ p x k → (q g : ℕ) → q ≡ getD p k 0 → q ≢ k → g ≡ getD p q 0
+    → g < k
 climb-less {p = p} {k = k} c q g eq h eg = omega (arith, c .kept .down .at k, c .kept .down .at q)
 
 -- it ends at a number that is its own parent
@@ -70,10 +77,12 @@ climb-end {p = p} {k = k} c e = sym (root-end p k k e) ∙ c .kept .roots k ∙ 
 
 -- ---- uniting
 
-module _ {p q r : List ℕ} (f : Forest p) (s : SameRoots p q) (t : SameRoots q r) (x y a b : ℕ) (hx : x ≤ 4096) (hy : y ≤ 4096) (ea : a ≡ root p x) (eb : b ≡ root q y) where
+module _ {p q r : List ℕ} (f : Forest p) (s : SameRoots p q) (t : SameRoots q r) (x y a b : ℕ) (hx : x ≤ 4096)
+    (hy : y ≤ 4096) (ea : a ≡ root p x) (eb : b ≡ root q y) where
   -- both roots are found, and one becomes the other's parent
   hung : United p (hang r a b) x y
-  hung = united-between (same-roots-then s t) (rw (ea ∙ sym (s .roots x) ∙ sym (t .roots x), eb ∙ sym (t .roots y)) u) (same-roots-here (rw (ea ∙ sym (s .roots x) ∙ sym (t .roots x), eb ∙ sym (t .roots y)) (u .down)))
+  hung = united-between (same-roots-then s t) (rw (ea ∙ sym (s .roots x) ∙ sym (t .roots x), eb ∙ sym (t .roots y)) u)
+      (same-roots-here (rw (ea ∙ sym (s .roots x) ∙ sym (t .roots x), eb ∙ sym (t .roots y)) (u .down)))
     where
       u : United r (hang r (root r x) (root r y)) x y
       u = unite-united r (t .down) x y (omega (arith, f .long, s .len, t .len)) (omega (arith, f .long, s .len, t .len))

@@ -1,5 +1,5 @@
--- On a table whose edges have faces on both sides the shells are those of document 01: what chains of edges in use link. So the
--- code's answer is the second part of rule 6.
+-- On a table whose edges have faces on both sides the shells are those of document 01: what chains of edges in use
+-- link. So the code's answer is the second part of rule 6.
 use mathlib.Core.Path.{_≡_, refl}
 use mathlib.Core.Logic.{_≢_}
 use mathlib.Core.Bool.{Bool, true, false, _&&_, _||_}
@@ -16,7 +16,8 @@ use Rattle.laws.specs.Walks.{Used}
 use Rattle.laws.specs.Closure.{Edge, linkedb, linked-sound, linked-complete}
 use Rattle.layout.specs.declared.shape.Shape.{Shape}
 use Rattle.layout.specs.Layout.{faceSolid, loopOf, side}
-use Rattle.check_shells.specs.Shells.{sideAs, sideA, sideB, edgeUsed, within, joins, Joins, Ends, Sided, linkedBy, facesLinked, faceWhole, shellsWhole}
+use Rattle.check_shells.specs.Shells.{sideAs, sideA, sideB, edgeUsed, within, joins, Joins, Ends, Sided, linkedBy}
+use Rattle.check_shells.specs.Shells.{facesLinked, faceWhole, shellsWhole}
 use Rattle.check_shells.specs.ShellsLaws.{within-T, T-within, joins-T, T-joins, ends}
 
 -- what follows `||` matters only where the first fails
@@ -40,7 +41,8 @@ module _ (sh : Shape) (x : List ℕ) (s : ℕ → ℕ) where
   byJoins = linkedb (sh .faces) (sh .edges) (joins sh x s) (sideA s) (sideB s)
 
   -- linked faces are faces with a chain between them
-  pub linked-T : (f g : ℕ) → T (linkedBy sh x s f g) → T (within (sh .faces) f) × T (within (sh .faces) g) × Linked (Joins sh x s (sh .edges)) f g
+  pub linked-T : (f g : ℕ) → T (linkedBy sh x s f g) → T (within (sh .faces) f) × T (within (sh .faces) g)
+      × Linked (Joins sh x s (sh .edges)) f g
   unfolding linkedBy
   linked-T f g t =
       let a = and-T (within (sh .faces) f && within (sh .faces) g) (byJoins f g) t in
@@ -48,11 +50,13 @@ module _ (sh : Shape) (x : List ℕ) (s : ℕ → ℕ) where
       (b .0, b .1, linked-sound (sh .faces) (sh .edges) (joins sh x s) (sideA s) (sideB s) (ends sh x s) f g (a .1))
 
   -- and such faces are linked
-  pub T-linked : (f g : ℕ) → T (within (sh .faces) f) → T (within (sh .faces) g) → Linked (Joins sh x s (sh .edges)) f g → T (linkedBy sh x s f g)
+  pub T-linked : (f g : ℕ) → T (within (sh .faces) f) → T (within (sh .faces) g) → Linked (Joins sh x s (sh .edges)) f g
+      → T (linkedBy sh x s f g)
   unfolding linkedBy
   T-linked f g tf tg l =
       let b = within-T (sh .faces) f tf in
-      T-and (within (sh .faces) f && within (sh .faces) g) (byJoins f g) (T-and (within (sh .faces) f) (within (sh .faces) g) tf tg)
+      T-and (within (sh .faces) f && within (sh .faces) g) (byJoins f g)
+      (T-and (within (sh .faces) f) (within (sh .faces) g) tf tg)
       (linked-complete (sh .faces) (sh .edges) (joins sh x s) (sideA s) (sideB s) (ends sh x s) f g (b .0) (b .1) l)
 
 -- ---- where edges have faces on both sides
@@ -84,23 +88,33 @@ module _ (sh : Shape) (x : List ℕ) (s : ℕ → ℕ) (d : Sided sh x s) where
 
   -- a step leads from faces to faces, either way
   face-kept : (i j : ℕ) → Uses i j → (Face i → Face j) × (Face j → Face i)
-  face-kept i j r = let n = used-ends (r .0) (r .1) in (λ a. (omega (arith, n .2, r .3), omega (arith, n .3, r .3)), λ a. (omega (arith, n .0, r .2), omega (arith, n .1, r .2)))
+  face-kept i j r = let n = used-ends (r .0) (r .1) in (
+    λ a. (omega (arith, n .2, r .3), omega (arith, n .3, r .3)),
+    λ a. (omega (arith, n .0, r .2), omega (arith, n .1, r .2)),
+  )
 
   -- from a face on, what is linked is what chains of edges in use link
   pub linked-is : (f g : ℕ) → 1 ≤ f → f ≤ sh .faces → linkedBy sh x s f g ≡ byUse sh x s f g
   linked-is f g l u = same-T
-      (λ t. linked-complete (sh .faces) (sh .edges) (edgeUsed sh x) (sideA s) (sideB s) used-ends f g l u (map-linked (λ k. k) (λ i j r. link (joins-used i j r)) (linked-T sh x s f g t .2)))
+      (λ t. linked-complete (sh .faces) (sh .edges) (edgeUsed sh x) (sideA s) (sideB s) used-ends f g l u
+      (map-linked (λ k. k) (λ i j r. link (joins-used i j r)) (linked-T sh x s f g t .2)))
       (λ t. by-chain (linked-sound (sh .faces) (sh .edges) (edgeUsed sh x) (sideA s) (sideB s) used-ends f g t))
     where
       by-chain : Linked Uses f g → T (linkedBy sh x s f g)
       by-chain c = let b = carry Face face-kept c .0 (l, u) in
-          T-linked sh x s f g (T-within (sh .faces) f l u) (T-within (sh .faces) g (b .0) (b .1)) (map-linked (λ k. k) (λ i j r. link (used-joins i j r)) c)
+          T-linked sh x s f g (T-within (sh .faces) f l u) (T-within (sh .faces) g (b .0) (b .1))
+          (map-linked (λ k. k) (λ i j r. link (used-joins i j r)) c)
 
 -- a loop that passes to a face leaves faces on both sides of every edge
-pub sided-as : (sh : Shape) (x : List ℕ) (l t : ℕ) → 1 ≤ t → t ≤ sh .faces → Sided sh x (side sh x) → Sided sh x (sideAs sh x l t)
-sided-as sh x l t lo hi d = record { at = λ e a b u. let n = d .at e a b u in let p = moved (2 * e - 1) (n .0) (n .1) in let q = moved (2 * e) (n .2) (n .3) in (p .0, p .1, q .0, q .1) }
+pub sided-as : (sh : Shape) (x : List ℕ) (l t : ℕ) → 1 ≤ t → t ≤ sh .faces → Sided sh x (side sh x)
+    → Sided sh x (sideAs sh x l t)
+sided-as sh x l t lo hi d = record {
+  at = λ e a b u. let n = d .at e a b u in let p = moved (2 * e - 1) (n .0) (n .1) in
+      let q = moved (2 * e) (n .2) (n .3) in (p .0, p .1, q .0, q .1);
+}
   where
-    moved : (k : ℕ) → 1 ≤ side sh x k → side sh x k ≤ sh .faces → (1 ≤ sideAs sh x l t k) × (sideAs sh x l t k ≤ sh .faces)
+    moved : (k : ℕ) → 1 ≤ side sh x k → side sh x k ≤ sh .faces → (1 ≤ sideAs sh x l t k)
+        × (sideAs sh x l t k ≤ sh .faces)
     moved k a b = pick-ind (λ f. (1 ≤ f) × (f ≤ sh .faces)) (eqb (loopOf sh x k) l) t (side sh x k) (lo, hi) (a, b)
 
 module _ (sh : Shape) (x : List ℕ) (d : Sided sh x (side sh x)) where
@@ -109,10 +123,16 @@ module _ (sh : Shape) (x : List ℕ) (d : Sided sh x (side sh x)) where
   leastFace s = least (sh .faces) (λ f. eqb (faceSolid sh x f) s)
 
   -- with the least face of each solid for its leader it is the second part of rule 6
-  pub whole-is : (ls : List ℕ) → ((f : ℕ) → 1 ≤ f → f ≤ sh .faces → faceSolid sh x f ≢ 0 → getD ls (faceSolid sh x f) 0 ≡ leastFace (faceSolid sh x f))
-      → shellsWhole sh x ls ≡ allTo (sh .faces) (λ f. eqb (faceSolid sh x f) 0 || byUse sh x (side sh x) (leastFace (faceSolid sh x f)) f)
+  pub whole-is : (ls : List ℕ) → ((f : ℕ) → 1 ≤ f → f ≤ sh .faces → faceSolid sh x f ≢ 0 → getD ls (faceSolid sh x f) 0
+      ≡ leastFace (faceSolid sh x f))
+      → shellsWhole sh x ls
+      ≡ allTo (sh .faces) (λ f. eqb (faceSolid sh x f) 0 || byUse sh x (side sh x) (leastFace (faceSolid sh x f)) f)
   unfolding faceWhole
-  whole-is ls h = all-ext (sh .faces) (faceWhole sh x ls) (λ f. eqb (faceSolid sh x f) 0 || byUse sh x (side sh x) (leastFace (faceSolid sh x f)) f)
-      (λ f l u. or-same (eqb (faceSolid sh x f) 0) (facesLinked sh x (getD ls (faceSolid sh x f) 0) f) (byUse sh x (side sh x) (leastFace (faceSolid sh x f)) f)
-      (λ e. let b = least-within (sh .faces) (λ g. eqb (faceSolid sh x g) (faceSolid sh x f)) f l u (eqb-same {m = faceSolid sh x f} refl) in
-      rw (h f l u (eqb-false (faceSolid sh x f) 0 e)) (linked-is sh x (side sh x) d (leastFace (faceSolid sh x f)) f (b .0) (b .1))))
+  whole-is ls h = all-ext (sh .faces) (faceWhole sh x ls) (λ f. eqb (faceSolid sh x f) 0
+      || byUse sh x (side sh x) (leastFace (faceSolid sh x f)) f)
+      (λ f l u. or-same (eqb (faceSolid sh x f) 0) (facesLinked sh x (getD ls (faceSolid sh x f) 0) f)
+      (byUse sh x (side sh x) (leastFace (faceSolid sh x f)) f)
+      (λ e. let b = least-within (sh .faces) (λ g. eqb (faceSolid sh x g) (faceSolid sh x f)) f l u
+      (eqb-same {m = faceSolid sh x f} refl) in
+      rw (h f l u (eqb-false (faceSolid sh x f) 0 e)) (linked-is sh x (side sh x) d (leastFace (faceSolid sh x f)) f
+      (b .0) (b .1))))

@@ -1,5 +1,6 @@
--- The shells of a table: faces that chains of faces link, neighbours sharing an edge (document 01, rule 6). Nothing is assumed of the
--- table: an edge with a side that is no face of it links nothing. `sh` is the table's shape, `x` its links.
+-- The shells of a table: faces that chains of faces link, neighbours sharing an edge (document 01, rule 6). Nothing is
+-- assumed of the table: an edge with a side that is no face of it links nothing. `sh` is the table's shape, `x` its
+-- links.
 use mathlib.Core.Path.{_≡_}
 use Prim.Native.Nat.{ℕ, _-_, _*_, _≤_}
 use mathlib.Core.Bool.{Bool, not, _&&_, _||_}
@@ -10,7 +11,8 @@ use Rattle.laws.specs.Bools.{pick}
 use Rattle.laws.specs.Search.{allTo}
 use Rattle.laws.specs.Walks.{Used}
 use Rattle.laws.specs.Closure.{Edge, linkedb}
-use Rattle.laws.specs.Union.{root, Classes}
+use Rattle.laws.specs.Union.{Classes}
+use Rattle.laws.specs.UnionFind.{root}
 use Rattle.layout.specs.declared.shape.Shape.{Shape}
 use Rattle.layout.specs.Layout.{faceSolid, loopFace, startOf, loopOf, side}
 use Rattle.check_shells.specs.Forest.{Forest}
@@ -55,7 +57,8 @@ Joins sh x s m = Edge (Used m (joins sh x s)) (sideA s) (sideB s)
 -- f and g are faces, and a chain of faces links them
 unfoldable pub linkedBy : Shape → List ℕ → (ℕ → ℕ) → ℕ → ℕ → Bool
 linkedBy sh x s f g =
-    within (sh .faces) f && within (sh .faces) g && linkedb (sh .faces) (sh .edges) (joins sh x s) (sideA s) (sideB s) f g
+    within (sh .faces) f && within (sh .faces) g
+    && linkedb (sh .faces) (sh .edges) (joins sh x s) (sideA s) (sideB s) f g
 
 -- ---- the shells
 

@@ -12,12 +12,15 @@ use borrow.Author.Tests.{not-true, not-false}
 use Rattle.laws.specs.Bools.{true-T, and-T, T-and, split, eqb-same, eqb-other}
 use Rattle.laws.specs.Walks.{Used}
 use Rattle.laws.specs.Closure.{linkedb}
-use Rattle.laws.specs.Union.{root, SameRoots, United, classes-start, classes-none, classes-skip, classes-edge, classes-test}
+use Rattle.laws.specs.Union.{classes-start, classes-none, classes-skip, classes-edge}
+use Rattle.laws.specs.UnionFind.{root, SameRoots, United}
+use Rattle.laws.specs.Union.{classes-test}
 use Rattle.layout.specs.declared.shape.Shape.{Shape}
 use Rattle.layout.specs.Layout.{faceSolid, loopFace, loopOf, side}
 use Rattle.check_shells.specs.Forest.{Apart}
 use Rattle.check_shells.specs.ForestLaws.{apart-forest, forest-short, forest-united}
-use Rattle.check_shells.specs.Shells.{sideAs, sideA, sideB, edgeUsed, within, joins, Ends, linkedBy, faceWhole, oneRoot, Shells, Joined}
+use Rattle.check_shells.specs.Shells.{sideAs, sideA, sideB, edgeUsed, within, joins, Ends, linkedBy, faceWhole}
+use Rattle.check_shells.specs.Shells.{oneRoot, Shells, Joined}
 
 -- ---- tests
 
@@ -52,7 +55,8 @@ module _ (sh : Shape) (x : List ℕ) (s : ℕ → ℕ) where
   unfolding joins
   T-joins e u n =
       T-and (edgeUsed sh x e && within (sh .faces) (sideA s e)) (within (sh .faces) (sideB s e))
-      (T-and (edgeUsed sh x e) (within (sh .faces) (sideA s e)) u (T-within (sh .faces) (sideA s e) (n .0) (n .1))) (T-within (sh .faces) (sideB s e) (n .2) (n .3))
+      (T-and (edgeUsed sh x e) (within (sh .faces) (sideA s e)) u (T-within (sh .faces) (sideA s e) (n .0) (n .1)))
+      (T-within (sh .faces) (sideB s e) (n .2) (n .3))
 
   -- then both can be looked up
   pub joins-low : (e : ℕ) → joins sh x s e ≡ true → sh .faces ≤ 4096 → (sideA s e ≤ 4096) × (sideB s e ≤ 4096)
@@ -74,7 +78,9 @@ module _ {sh : Shape} {x : List ℕ} {s : ℕ → ℕ} {p : List ℕ} where
   pub joined-start : Apart p 4097 → sh .faces ≤ 4096 → Joined sh x s 0 p
   joined-start a h = record {
     forest = apart-forest a (omega arith);
-    classes = classes-none (sh .faces) (joins sh x s) (sideA s) (sideB s) (classes-start (sh .faces) p (apart-forest a (omega arith) .down) (omega (arith, a .long)) (λ i l. a .own i (omega arith)));
+    classes = classes-none (sh .faces) (joins sh x s) (sideA s) (sideB s)
+        (classes-start (sh .faces) p (apart-forest a (omega arith) .down) (omega (arith, a .long))
+        (λ i l. a .own i (omega arith)));
   }
 
   -- an edge that joins no faces is passed over
@@ -85,10 +91,12 @@ module _ {sh : Shape} {x : List ℕ} {s : ℕ → ℕ} {p : List ℕ} where
   })
 
   -- at another its faces are united
-  pub joined-edge : {q : List ℕ} (k : ℕ) → joins sh x s (k + 1) ≡ true → Joined sh x s k p → United p q (sideA s (k + 1)) (sideB s (k + 1)) → Joined sh x s (k + 1) q
+  pub joined-edge : {q : List ℕ} (k : ℕ) → joins sh x s (k + 1) ≡ true → Joined sh x s k p
+      → United p q (sideA s (k + 1)) (sideB s (k + 1)) → Joined sh x s (k + 1) q
   joined-edge k t j u = go (rw (add-one k) at t) (rw (add-one k) at u)
     where
-      go : {q : List ℕ} → joins sh x s (suc k) ≡ true → United p q (sideA s (suc k)) (sideB s (suc k)) → Joined sh x s (k + 1) q
+      go : {q : List ℕ} → joins sh x s (suc k) ≡ true → United p q (sideA s (suc k)) (sideB s (suc k))
+          → Joined sh x s (k + 1) q
       go t u = let a = joins-T sh x s (suc k) (true-T t) .1 in rw (add-one k) (record {
         forest = forest-united (j .forest) u;
         classes = classes-edge (sh .faces) (joins sh x s) (sideA s) (sideB s) k t (a .1) (a .3) (j .classes) u;
@@ -99,15 +107,21 @@ module _ {sh : Shape} {x : List ℕ} {s : ℕ → ℕ} {p : List ℕ} where
   unfolding oneRoot linkedBy
   joined-shells j = record {
     forest = j .forest;
-    one = λ f g. and-same (within (sh .faces) f && within (sh .faces) g) (eqb (root p f) (root p g)) (linkedb (sh .faces) (sh .edges) (joins sh x s) (sideA s) (sideB s) f g)
+    one = λ f g. and-same (within (sh .faces) f && within (sh .faces) g) (eqb (root p f) (root p g))
+        (linkedb (sh .faces) (sh .edges) (joins sh x s) (sideA s) (sideB s) f g)
         (λ t. let b = and-T (within (sh .faces) f) (within (sh .faces) g) t in
         let a = within-T (sh .faces) f (b .0) in
-        classes-test (sh .faces) (joins sh x s) (sideA s) (sideB s) (sh .edges) (ends sh x s) (j .classes) f g (a .0) (a .1) (within-T (sh .faces) g (b .1) .1));
+        classes-test (sh .faces) (joins sh x s) (sideA s) (sideB s) (sh .edges) (ends sh x s) (j .classes) f g (a .0)
+        (a .1) (within-T (sh .faces) g (b .1) .1));
   }
 
   -- shortened paths change no shell
   pub shells-short : {q : List ℕ} → Shells sh x s p → SameRoots p q → Shells sh x s q
-  shells-short c r = record { forest = forest-short (c .forest) r; one = λ f g. one-root-short (sh .faces) r f g ∙ c .one f g }
+  shells-short c r = record {
+    forest = forest-short (c .forest) r;
+    one = λ f g. one-root-short (sh .faces) r f g
+        ∙ c .one f g;
+  }
 
 -- ---- one root or not
 
@@ -119,7 +133,8 @@ module _ (n f g : ℕ) {u w : Bool} (eu : u ≡ within n f) (ew : w ≡ within n
   one-root-none e p = rw (← eu, ← ew, not-true (u && w) e)
 
   -- both are, and their roots are compared
-  pub one-root-found : not (u && w) ≡ false → {p q : List ℕ} → SameRoots p q → (a b : ℕ) → a ≡ root p f → b ≡ root q g → eqb a b ≡ oneRoot n p f g
+  pub one-root-found : not (u && w) ≡ false → {p q : List ℕ} → SameRoots p q → (a b : ℕ) → a ≡ root p f → b ≡ root q g
+      → eqb a b ≡ oneRoot n p f g
   unfolding oneRoot
   one-root-found e s a b ea eb = rw (← eu, ← ew, not-false (u && w) e, ea, eb, s .roots g)
 
@@ -156,6 +171,7 @@ module _ (sh : Shape) (x ls : List ℕ) (f : ℕ) where
   whole-free e = rw (eqb-same e)
 
   -- of another one the roots are asked
-  pub whole-asked : {p : List ℕ} → Shells sh x (side sh x) p → (s g : ℕ) → s ≡ faceSolid sh x f → s ≢ 0 → g ≡ getD ls s 0 → {r : Bool} → r ≡ oneRoot (sh .faces) p g f → r ≡ faceWhole sh x ls f
+  pub whole-asked : {p : List ℕ} → Shells sh x (side sh x) p → (s g : ℕ) → s ≡ faceSolid sh x f → s ≢ 0
+      → g ≡ getD ls s 0 → {r : Bool} → r ≡ oneRoot (sh .faces) p g f → r ≡ faceWhole sh x ls f
   unfolding faceWhole
   whole-asked c s g es h eg er = rw (← es, eqb-other h, er, c .one g f, eg)

@@ -3,9 +3,10 @@ ghost use mathlib.Core.Path.{_≡_};
 ghost use Prim.Native.Nat.{ℕ, _+_, _≤_, _<_};
 ghost use lib.ListN.{length, getD};
 ghost use Rattle.layout.specs.Layout.{side};
-ghost use Rattle.laws.specs.Union.{SameRoots};
+ghost use Rattle.laws.specs.UnionFind.{SameRoots};
 ghost use Rattle.check_shells.specs.Forest.{Forest};
-ghost use Rattle.check_shells.specs.Shells.{sideAs, within, joins, facesLinkedAs, faceWhole, shellsWhole, oneRoot, Shells, Joined};
+ghost use Rattle.check_shells.specs.Shells.{sideAs, within, joins, facesLinkedAs, faceWhole, shellsWhole};
+ghost use Rattle.check_shells.specs.Shells.{oneRoot, Shells, Joined};
 use crate::forest::find_root;
 use crate::forest::separate;
 use crate::forest::unite;
@@ -16,8 +17,8 @@ use layout::columns::loop_of;
 use layout::columns::start_of;
 use layout::shape::Shape;
 
-// The face that half-edge k lies in, once loop l lies in face t. An operator asks this before it stores anything. With l = t = 0 it
-// is the table as it is.
+// The face that half-edge k lies in, once loop l lies in face t. An operator asks this before it stores anything. With
+// l = t = 0 it is the table as it is.
 fn side_as(links: &[u16], sh: Shape, l: usize, t: usize, k: usize) -> usize
     requires { ⌜ (t < 65536) × (k ≤ 65536) ⌝ }
     ensures { λ r. ⌜ (r ≡ sideAs sh (now (links .entry)) l t k) × (r < 65536) ⌝ }
@@ -52,7 +53,8 @@ fn edge_joins(links: &[u16], sh: Shape, l: usize, t: usize, e: usize) -> bool
 fn link_edge(links: &[u16], sh: Shape, l: usize, t: usize, k: usize, parent: &mut [u16; 4097])
     requires { ⌜ (sh .faces ≤ 4096) × (t < 65536) × (k < 4096) ⌝ }
     requires { ⌜ Joined sh (now links) (sideAs sh (now links) l t) k (now parent) ⌝ }
-    ensures { λ _. ⌜ Joined sh (now (links .entry)) (sideAs sh (now (links .entry)) l t) (k + 1) (now (parent .exit)) ⌝ }
+    ensures { λ _. ⌜ Joined sh (now (links .entry)) (sideAs sh (now (links .entry)) l t) (k + 1)
+        (now (parent .exit)) ⌝ }
 {
     let e = k + 1;
     let here = edge_joins(links, sh, l, t, e);
@@ -64,8 +66,8 @@ fn link_edge(links: &[u16], sh: Shape, l: usize, t: usize, k: usize, parent: &mu
     unite(parent, a, b);
 }
 
-// Makes of `parent` a forest whose classes are the shells of the table once loop l lies in face t: two faces have one root just if
-// they are linked.
+// Makes of `parent` a forest whose classes are the shells of the table once loop l lies in face t: two faces have one
+// root just if they are linked.
 pub fn link_faces(links: &[u16], sh: Shape, l: usize, t: usize, parent: &mut [u16; 4097])
     requires { ⌜ (sh .faces ≤ 4096) × (sh .edges ≤ 4096) × (t < 65536) ⌝ }
     requires { ⌜ length (now parent) ≡ 4097 ⌝ }
@@ -84,7 +86,8 @@ pub fn link_faces(links: &[u16], sh: Shape, l: usize, t: usize, parent: &mut [u1
 pub fn same_shell(parent: &mut [u16; 4097], sh: Shape, f: usize, g: usize) -> bool
     requires { ⌜ sh .faces ≤ 4096 ⌝ }
     requires { ⌜ Forest (now parent) ⌝ }
-    ensures { λ r. ⌜ (r ≡ oneRoot (sh .faces) (now (parent .entry)) f g) × SameRoots (now (parent .entry)) (now (parent .exit)) ⌝ }
+    ensures { λ r. ⌜ (r ≡ oneRoot (sh .faces) (now (parent .entry)) f g)
+        × SameRoots (now (parent .entry)) (now (parent .exit)) ⌝ }
 {
     let n = sh.faces as usize;
     let both = is_within(n, f) & is_within(n, g);
@@ -96,8 +99,8 @@ pub fn same_shell(parent: &mut [u16; 4097], sh: Shape, f: usize, g: usize) -> bo
     a == b
 }
 
-// f and g are faces that a chain of faces links once loop l lies in face t. For more than one question link once, and ask
-// `same_shell`.
+// f and g are faces that a chain of faces links once loop l lies in face t. For more than one question link once, and
+// ask `same_shell`.
 pub fn linked_faces(links: &[u16], sh: Shape, l: usize, t: usize, f: usize, g: usize) -> bool
     requires { ⌜ (sh .faces ≤ 4096) × (sh .edges ≤ 4096) × (t < 65536) ⌝ }
     ensures { λ r. ⌜ r ≡ facesLinkedAs sh (now (links .entry)) l t f g ⌝ }
@@ -128,7 +131,8 @@ fn face_whole(
 ) -> bool
     requires { ⌜ (sh .faces ≤ 4096) × (f ≤ 4096) × (length (now leaders) ≡ 4097) ⌝ }
     requires { ⌜ Shells sh (now links) (side sh (now links)) (now parent) ⌝ }
-    ensures { λ r. ⌜ (r ≡ faceWhole sh (now (links .entry)) (now (leaders .entry)) f) × Shells sh (now (links .entry)) (side sh (now (links .entry))) (now (parent .exit)) ⌝ }
+    ensures { λ r. ⌜ (r ≡ faceWhole sh (now (links .entry)) (now (leaders .entry)) f)
+        × Shells sh (now (links .entry)) (side sh (now (links .entry))) (now (parent .exit)) ⌝ }
 {
     let s = face_solid(links, sh, f);
     if s == 0 {
@@ -138,8 +142,8 @@ fn face_whole(
     same_shell(parent, sh, g, f)
 }
 
-// Each face is free or linked to the face that leads its solid. With the least face of each solid for its leader this says that each
-// solid is one shell.
+// Each face is free or linked to the face that leads its solid. With the least face of each solid for its leader this
+// says that each solid is one shell.
 pub fn shells_whole(links: &[u16], sh: Shape, leaders: &[u16; 4097]) -> bool
     requires { ⌜ (sh .faces ≤ 4096) × (sh .edges ≤ 4096) × (length (now leaders) ≡ 4097) ⌝ }
     ensures { λ r. ⌜ r ≡ shellsWhole sh (now (links .entry)) (now (leaders .entry)) ⌝ }

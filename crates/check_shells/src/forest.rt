@@ -1,8 +1,9 @@
-// Classes of the numbers 0 to 4,096 as a forest: each number has a parent, a root is its own, and a class is what has one root.
+// Classes of the numbers 0 to 4,096 as a forest: each number has a parent, a root is its own, and a class is what has
+// one root.
 ghost use mathlib.Core.Path.{_≡_};
 ghost use Prim.Native.Nat.{ℕ, _≤_};
 ghost use lib.ListN.{length};
-ghost use Rattle.laws.specs.Union.{root, SameRoots, United};
+ghost use Rattle.laws.specs.UnionFind.{root, SameRoots, United};
 ghost use Rattle.check_shells.specs.Forest.{Forest, Apart};
 
 // A word as an index.
@@ -24,11 +25,13 @@ pub fn separate(parent: &mut [u16; 4097])
     }
 }
 
-// The root of x. On the way numbers get their grandparents as parents (path halving): no root changes, and later walks are short.
+// The root of x. On the way numbers get their grandparents as parents (path halving): no root changes, and later walks
+// are short.
 pub fn find_root(parent: &mut [u16; 4097], x: usize) -> usize
     requires { ⌜ Forest (now parent) ⌝ }
     requires { ⌜ x ≤ 4096 ⌝ }
-    ensures { λ r. ⌜ (r ≡ root (now (parent .entry)) x) × (r ≤ x) × SameRoots (now (parent .entry)) (now (parent .exit)) ⌝ }
+    ensures { λ r. ⌜ (r ≡ root (now (parent .entry)) x) × (r ≤ x)
+        × SameRoots (now (parent .entry)) (now (parent .exit)) ⌝ }
 {
     let mut k = x;
     let mut p = wide(parent[k]);

@@ -1,4 +1,5 @@
--- A number is groups of seven bits, lowest first, the high bit set on all but the last, in the fewest groups, at most three.
+-- A number is groups of seven bits, lowest first, the high bit set on all but the last, in the fewest groups, at most
+-- three.
 use Prim.Native.Nat.{ℕ, _+_, _*_, _/_, _%_}
 use mathlib.Core.List.{List, [], _∷_}
 use lib.ListN.{drop}

@@ -18,7 +18,9 @@ module _ (s : List ℕ) (at : ℕ) where
   unfolding readNumber
   first-end h = rw (drop-of-length-le s h)
 
-  pub first-is : at < length s → readNumber s at ≡ pick (ltb (getD s at 0) 128) (Got (getD s at 0) (at + 1)) (second at (getD s at 0 % 128) (drop (at + 1) s))
+  pub first-is : at < length s
+      → readNumber s at ≡ pick (ltb (getD s at 0) 128) (Got (getD s at 0) (at + 1)) (second at (getD s at 0 % 128)
+      (drop (at + 1) s))
   unfolding readNumber
   first-is h = rw (drop-cons s at 0 h, add-one at)
 
@@ -27,7 +29,10 @@ module _ (s : List ℕ) (at : ℕ) where
   second-end low h = rw (drop-of-length-le s h)
 
   pub second-is : (low : ℕ) → at + 1 < length s
-      → second at low (drop (at + 1) s) ≡ pick (eqb (getD s (at + 1) 0) 0) Bad (pick (ltb (getD s (at + 1) 0) 128) (Got (low + getD s (at + 1) 0 * 128) (at + 2)) (third at (low + getD s (at + 1) 0 % 128 * 128) (drop (at + 2) s)))
+      → second at low (drop (at + 1) s)
+      ≡ pick (eqb (getD s (at + 1) 0) 0) Bad (pick (ltb (getD s (at + 1) 0) 128)
+      (Got (low + getD s (at + 1) 0 * 128) (at + 2))
+      (third at (low + getD s (at + 1) 0 % 128 * 128) (drop (at + 2) s)))
   unfolding second
   second-is low h = let e : at + 2 ≡ suc (at + 1) = omega arith in rw (drop-cons s (at + 1) 0 h, e)
 
@@ -36,7 +41,9 @@ module _ (s : List ℕ) (at : ℕ) where
   third-end low h = rw (drop-of-length-le s h)
 
   pub third-is : (low : ℕ) → at + 2 < length s
-      → third at low (drop (at + 2) s) ≡ pick (eqb (getD s (at + 2) 0) 0) Bad (pick (ltb (getD s (at + 2) 0) 128) (Got (low + getD s (at + 2) 0 * 16384) (at + 3)) Bad)
+      → third at low (drop (at + 2) s)
+      ≡ pick (eqb (getD s (at + 2) 0) 0) Bad (pick (ltb (getD s (at + 2) 0) 128)
+      (Got (low + getD s (at + 2) 0 * 16384) (at + 3)) Bad)
   unfolding third
   third-is low h = rw (drop-cons s (at + 2) 0 h)
 
@@ -59,29 +66,39 @@ module _ (s : List ℕ) (at : ℕ) where
   pub got-2 : (v : ℕ) → 128 ≤ getD s at 0 → at + 1 < length s → 0 < getD s (at + 1) 0 → getD s (at + 1) 0 < 128
       → v ≡ getD s at 0 % 128 + getD s (at + 1) 0 * 128 → Got v (at + 2) ≡ readNumber s at
   got-2 v k l z m e =
-      sym (more-1 (omega arith) k ∙ second-is _ l ∙ rw (ne-eqb (getD s (at + 1) 0) 0 (omega arith), lt-ltb (getD s (at + 1) 0) 128 m, e))
+      sym (more-1 (omega arith) k ∙ second-is _ l
+      ∙ rw (ne-eqb (getD s (at + 1) 0) 0 (omega arith), lt-ltb (getD s (at + 1) 0) 128 m, e))
 
   more-2 : 128 ≤ getD s at 0 → at + 1 < length s → 128 ≤ getD s (at + 1) 0
       → readNumber s at ≡ third at (getD s at 0 % 128 + getD s (at + 1) 0 % 128 * 128) (drop (at + 2) s)
   more-2 k l m =
-      more-1 (omega arith) k ∙ second-is _ l ∙ rw (ne-eqb (getD s (at + 1) 0) 0 (omega arith), le-ltb (getD s (at + 1) 0) 128 m)
+      more-1 (omega arith) k ∙ second-is _ l
+      ∙ rw (ne-eqb (getD s (at + 1) 0) 0 (omega arith), le-ltb (getD s (at + 1) 0) 128 m)
 
-  pub bad-2 : 128 ≤ getD s at 0 → at + 1 < length s → 128 ≤ getD s (at + 1) 0 → length s ≤ at + 2 → Bad ≡ readNumber s at
+  pub bad-2 : 128 ≤ getD s at 0 → at + 1 < length s → 128 ≤ getD s (at + 1) 0 → length s ≤ at + 2
+      → Bad ≡ readNumber s at
   bad-2 k l m n = sym (more-2 k l m ∙ third-end _ n)
 
-  pub bad-2-zero : 128 ≤ getD s at 0 → 128 ≤ getD s (at + 1) 0 → at + 2 < length s → getD s (at + 2) 0 ≡ 0 → Bad ≡ readNumber s at
+  pub bad-2-zero : 128 ≤ getD s at 0 → 128 ≤ getD s (at + 1) 0 → at + 2 < length s → getD s (at + 2) 0 ≡ 0
+      → Bad ≡ readNumber s at
   bad-2-zero k m n z = sym (more-2 k (omega arith) m ∙ third-is _ n ∙ rw (eq-eqb (getD s (at + 2) 0) 0 z))
 
-  pub got-3 : (v : ℕ) → 128 ≤ getD s at 0 → 128 ≤ getD s (at + 1) 0 → at + 2 < length s → 0 < getD s (at + 2) 0 → getD s (at + 2) 0 < 128
-      → v ≡ getD s at 0 % 128 + getD s (at + 1) 0 % 128 * 128 + getD s (at + 2) 0 * 16384 → Got v (at + 3) ≡ readNumber s at
+  pub got-3 : (v : ℕ) → 128 ≤ getD s at 0 → 128 ≤ getD s (at + 1) 0 → at + 2 < length s → 0 < getD s (at + 2) 0
+      → getD s (at + 2) 0 < 128
+      → v ≡ getD s at 0 % 128 + getD s (at + 1) 0 % 128 * 128 + getD s (at + 2) 0 * 16384
+      → Got v (at + 3) ≡ readNumber s at
   got-3 v k m n z p e =
-      sym (more-2 k (omega arith) m ∙ third-is _ n ∙ rw (ne-eqb (getD s (at + 2) 0) 0 (omega arith), lt-ltb (getD s (at + 2) 0) 128 p, e))
+      sym (more-2 k (omega arith) m ∙ third-is _ n
+      ∙ rw (ne-eqb (getD s (at + 2) 0) 0 (omega arith), lt-ltb (getD s (at + 2) 0) 128 p, e))
 
-  pub bad-3 : 128 ≤ getD s at 0 → 128 ≤ getD s (at + 1) 0 → at + 2 < length s → 128 ≤ getD s (at + 2) 0 → Bad ≡ readNumber s at
+  pub bad-3 : 128 ≤ getD s at 0 → 128 ≤ getD s (at + 1) 0 → at + 2 < length s → 128 ≤ getD s (at + 2) 0
+      → Bad ≡ readNumber s at
   bad-3 k m n p =
-      sym (more-2 k (omega arith) m ∙ third-is _ n ∙ rw (ne-eqb (getD s (at + 2) 0) 0 (omega arith), le-ltb (getD s (at + 2) 0) 128 p))
+      sym (more-2 k (omega arith) m ∙ third-is _ n
+      ∙ rw (ne-eqb (getD s (at + 2) 0) 0 (omega arith), le-ltb (getD s (at + 2) 0) 128 p))
 
-pub joined : (v w b0 b1 b2 x0 x1 x2 : ℕ) → v ≡ b0 % 128 + w * 128 → w ≡ b1 % 128 + b2 * 128 → b0 ≡ x0 → b1 ≡ x1 → b2 ≡ x2
+pub joined : (v w b0 b1 b2 x0 x1 x2 : ℕ) → v ≡ b0 % 128 + w * 128 → w ≡ b1 % 128 + b2 * 128 → b0 ≡ x0 → b1 ≡ x1
+    → b2 ≡ x2
     → v ≡ x0 % 128 + x1 % 128 * 128 + x2 * 16384
 joined v w b0 b1 b2 x0 x1 x2 e f p q r = rw (← p, ← q, ← r) (omega arith)
 
@@ -111,7 +128,8 @@ module _ (l : List ℕ) (at n : ℕ) where
   pub wrote-1 : (a : ℕ) → n < 128 → a ≡ n % 128 → set l at a ≡ sets l at (groups n)
   wrote-1 a h e = let e′ : a ≡ n = omega arith in rw (groups-1 n h, e′)
 
-  pub wrote-2 : (a b : ℕ) → 128 ≤ n → n < 16384 → a ≡ n % 128 + 128 → b ≡ n / 128 % 128 → set (set l at a) (at + 1) b ≡ sets l at (groups n)
+  pub wrote-2 : (a b : ℕ) → 128 ≤ n → n < 16384 → a ≡ n % 128 + 128 → b ≡ n / 128 % 128 → set (set l at a) (at + 1) b
+      ≡ sets l at (groups n)
   wrote-2 a b h k e f = let f′ : b ≡ n / 128 = omega arith in rw (groups-2 n h k, e, f′, add-one at)
 
   pub wrote-3 : (a b d : ℕ) → 16384 ≤ n → a ≡ n % 128 + 128 → b ≡ n / 128 % 128 + 128 → d ≡ n / 16384 % 128

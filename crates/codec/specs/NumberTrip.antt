@@ -28,15 +28,33 @@ first-groups at n q h =
     (λ l.
     let m : n % 128 + n / 128 * 128 ≡ n = omega arith in
     let r : (n % 128 + 128) % 128 ≡ n % 128 = omega arith in
-    rw (groups-2 n k l, le-ltb (n % 128 + 128) 128 (omega arith), ne-eqb (n / 128) 0 (omega arith), lt-ltb (n / 128) 128 (omega arith), r, m))
+    rw (
+      groups-2 n k l,
+      le-ltb (n % 128 + 128) 128 (omega arith),
+      ne-eqb (n / 128) 0 (omega arith),
+      lt-ltb (n / 128) 128 (omega arith),
+      r,
+      m,
+    ))
     (λ l.
     let m : n % 128 + n / 128 % 128 * 128 + n / 16384 % 128 * 16384 ≡ n = omega arith in
     let r : (n % 128 + 128) % 128 ≡ n % 128 = omega arith in
     let r′ : (n / 128 % 128 + 128) % 128 ≡ n / 128 % 128 = omega arith in
-    rw (groups-3 n l, le-ltb (n % 128 + 128) 128 (omega arith), ne-eqb (n / 128 % 128 + 128) 0 (omega arith), le-ltb (n / 128 % 128 + 128) 128 (omega arith), ne-eqb (n / 16384 % 128) 0 (omega arith), lt-ltb (n / 16384 % 128) 128 (omega arith), r, r′, m)))
+    rw (
+      groups-3 n l,
+      le-ltb (n % 128 + 128) 128 (omega arith),
+      ne-eqb (n / 128 % 128 + 128) 0 (omega arith),
+      le-ltb (n / 128 % 128 + 128) 128 (omega arith),
+      ne-eqb (n / 16384 % 128) 0 (omega arith),
+      lt-ltb (n / 16384 % 128) 128 (omega arith),
+      r,
+      r′,
+      m,
+    )))
 
 -- write, then read
-pub number-written : (s : List ℕ) (at n : ℕ) (q : List ℕ) → n < 2097152 → drop at s ≡ groups n ++ q → readNumber s at ≡ Got n (at + length (groups n))
+pub number-written : (s : List ℕ) (at n : ℕ) (q : List ℕ) → n < 2097152 → drop at s ≡ groups n ++ q
+    → readNumber s at ≡ Got n (at + length (groups n))
 unfolding readNumber
 number-written s at n q h e = rw e (first-groups at n q h)
 
@@ -56,7 +74,8 @@ back-1 at b n k r h e =
     let q : k ≡ at + 1 = cc in
     rw (p, q, groups-1 b h) (refl, refl)
 
-back-2 : (at b d n k : ℕ) (r : List ℕ) → 128 ≤ b → b < 256 → 0 < d → d < 128 → Got (b % 128 + d * 128) (at + 2) ≡ Got n k → Back at (b ∷ d ∷ r) n k
+back-2 : (at b d n k : ℕ) (r : List ℕ) → 128 ≤ b → b < 256 → 0 < d → d < 128 → Got (b % 128 + d * 128) (at + 2)
+    ≡ Got n k → Back at (b ∷ d ∷ r) n k
 back-2 at b d n k r h h′ i i′ e =
     let p : n ≡ b % 128 + d * 128 = cc in
     let q : k ≡ at + 2 = cc in
@@ -101,17 +120,31 @@ back at (b ∷ d ∷ f ∷ r) n k w e =
     (λ j. back-2 at b d n k (f ∷ r) h (w 0) i j (rw (le-ltb b 128 h, ne-eqb d 0 (omega arith), lt-ltb d 128 j) at e))
     (λ j. split 0 f
     (λ x. split f 128
-    (λ y. back-3 at b d f n k r h (w 0) j (w 1) x y (rw (le-ltb b 128 h, ne-eqb d 0 (omega arith), le-ltb d 128 j, ne-eqb f 0 (omega arith), lt-ltb f 128 y) at e))
-    (λ y. never n k (rw (le-ltb b 128 h, ne-eqb d 0 (omega arith), le-ltb d 128 j, ne-eqb f 0 (omega arith), le-ltb f 128 y) at e)))
+    (λ y. back-3 at b d f n k r h (w 0) j (w 1) x y
+    (rw (le-ltb b 128 h, ne-eqb d 0 (omega arith), le-ltb d 128 j, ne-eqb f 0 (omega arith), lt-ltb f 128 y) at e))
+    (λ y. never n k (rw (
+      le-ltb b 128 h,
+      ne-eqb d 0 (omega arith),
+      le-ltb d 128 j,
+      ne-eqb f 0 (omega arith),
+      le-ltb f 128 y,
+    ) at e)))
     (λ x. never n k (rw (le-ltb b 128 h, ne-eqb d 0 (omega arith), le-ltb d 128 j, eq-eqb f 0 (omega arith)) at e))))
     (λ i. never n k (rw (le-ltb b 128 h, eq-eqb d 0 (omega arith)) at e)))
 
 -- read, then write: the bytes read are the bytes of the number
-pub written-number : (s : List ℕ) (at n k : ℕ) → Bytes s → readNumber s at ≡ Got n k → (k ≡ at + length (groups n)) × (drop at s ≡ groups n ++ drop k s)
+pub written-number : (s : List ℕ) (at n k : ℕ) → Bytes s → readNumber s at ≡ Got n k → (k ≡ at + length (groups n))
+    × (drop at s ≡ groups n ++ drop k s)
 unfolding readNumber
 written-number s at n k w e =
-    let b = back at (drop at s) n k (λ i. rw (getD-drop at s i 0) (w .at (at + i))) e in
-    (b .0, sym (take-append-drop (length (groups n)) (drop at s)) ∙ rw (b .1, drop-drop (length (groups n)) at s, ← b .0))
+    let b = back at (drop at s) n k (λ i. rw (getD-drop at s i 0) (w .at (at + i))) e in (
+      b .0,
+      sym (take-append-drop (length (groups n)) (drop at s)) ∙ rw (
+        b .1,
+        drop-drop (length (groups n)) at s,
+        ← b .0,
+      ),
+    )
 
 abbrev Ahead : ℕ → ℕ → Num → Type 0
 Ahead at size m = (n k : ℕ) → m ≡ Got n k → (at < k) × (k ≤ at + size)
@@ -125,7 +158,8 @@ got-ahead at size v i h l n k e = let q : k ≡ at + i = cc in rw q (omega arith
 ahead : (at : ℕ) (l : List ℕ) → Ahead at (length l) (first at l)
 unfolding first second third
 ahead at [] = bad-ahead at _
-ahead at (b ∷ []) = pick-ind (Ahead at 1) (ltb b 128) _ _ (got-ahead at 1 b 1 (omega arith) (omega arith)) (bad-ahead at 1)
+ahead at (b ∷ []) = pick-ind (Ahead at 1) (ltb b 128) _ _ (got-ahead at 1 b 1 (omega arith) (omega arith))
+    (bad-ahead at 1)
 ahead at (b ∷ d ∷ []) =
     pick-ind (Ahead at 2) (ltb b 128) _ _ (got-ahead at 2 b 1 (omega arith) (omega arith))
     (pick-ind (Ahead at 2) (eqb d 0) _ _ (bad-ahead at 2)

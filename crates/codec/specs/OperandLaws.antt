@@ -74,15 +74,19 @@ pub behind {ℓ} : {A : Type ℓ} (l : List A) (i : ℕ) → length l ≡ 8 → 
 behind l i e h = let k : length l ≤ i = omega arith in drop-of-length-le l k
 
 -- the ranges, as a turn begins, after a turn and at the end
-module _ (most ks ns : List ℕ) (i : ℕ) (p : length ks ≡ 8) (q : length ns ≡ 8) (whole : Bool) (rest : inRanges most (drop i ks) (drop i ns) ≡ whole) where
-  turn : i < 8 → pick (inRange most (getD ks i 0) (getD ns i 0)) (inRanges most (drop (i + 1) ks) (drop (i + 1) ns)) false ≡ whole
+module _ (most ks ns : List ℕ) (i : ℕ) (p : length ks ≡ 8) (q : length ns ≡ 8) (whole : Bool)
+    (rest : inRanges most (drop i ks) (drop i ns) ≡ whole) where
+  turn : i < 8
+      → pick (inRange most (getD ks i 0) (getD ns i 0)) (inRanges most (drop (i + 1) ks) (drop (i + 1) ns)) false
+      ≡ whole
   unfolding inRanges
   turn h = rw (ahead ks i 0 (omega arith), ahead ns i 0 (omega arith)) at rest
 
   pub ranges-stop : i < 8 → (t : Bool) → t ≡ inRange most (getD ks i 0) (getD ns i 0) → t ≡ false → false ≡ whole
   ranges-stop h t e f = rw (← e, f) at (turn h)
 
-  pub ranges-turn : i < 8 → (t : Bool) → t ≡ inRange most (getD ks i 0) (getD ns i 0) → t ≡ true → inRanges most (drop (i + 1) ks) (drop (i + 1) ns) ≡ whole
+  pub ranges-turn : i < 8 → (t : Bool) → t ≡ inRange most (getD ks i 0) (getD ns i 0) → t ≡ true
+      → inRanges most (drop (i + 1) ks) (drop (i + 1) ns) ≡ whole
   ranges-turn h t e f = rw (← e, f) at (turn h)
 
   pub ranges-end : 8 ≤ i → true ≡ whole
@@ -90,11 +94,20 @@ module _ (most ks ns : List ℕ) (i : ℕ) (p : length ks ≡ 8) (q : length ns 
   ranges-end h = rw (behind ks i p h) at rest
 
 -- an array filled place by place with a function of two others
-module _ {A B : Type 0} (f : ℕ → A → B) (ks : List ℕ) (xs : List A) (d : A) (i : ℕ) (p : length ks ≡ 8) (q : length xs ≡ 8)
-    (ys : List B) (r : length ys ≡ 8) (whole : List B) (rest : take i ys ++ each f (drop i ks) (drop i xs) ≡ whole) where
-  pub each-turn : i < 8 → (y : B) → y ≡ f (getD ks i 0) (getD xs i d) → take (i + 1) (set ys i y) ++ each f (drop (i + 1) ks) (drop (i + 1) xs) ≡ whole
+module _ {A B : Type 0} (f : ℕ → A → B) (ks : List ℕ) (xs : List A) (d : A) (i : ℕ) (p : length ks ≡ 8) (q : length xs
+    ≡ 8)
+    (ys : List B) (r : length ys ≡ 8) (whole : List B) (rest : take i ys ++ each f (drop i ks) (drop i xs)
+    ≡ whole) where
+  pub each-turn : i < 8 → (y : B) → y ≡ f (getD ks i 0) (getD xs i d)
+      → take (i + 1) (set ys i y) ++ each f (drop (i + 1) ks) (drop (i + 1) xs) ≡ whole
   each-turn h y e =
-      rw (add-one i, take-suc-set ys i y (omega arith), e, append-assoc (take i ys) (f (getD ks i 0) (getD xs i d) ∷ []) (each f (drop (suc i) ks) (drop (suc i) xs)))
+      rw (
+        add-one i,
+        take-suc-set ys i y (omega arith),
+        e,
+        append-assoc (take i ys) (f (getD ks i 0) (getD xs i d)
+            ∷ []) (each f (drop (suc i) ks) (drop (suc i) xs)),
+      )
       (rw (drop-cons ks i 0 (omega arith), drop-cons xs i d (omega arith)) at rest)
 
   pub each-end : 8 ≤ i → ys ≡ whole

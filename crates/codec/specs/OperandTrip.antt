@@ -15,8 +15,10 @@ use Rattle.laws.specs.Bools.{pick, ask, same?}
 use Rattle.codec.specs.declared.number.Num.{Num}
 use Rattle.codec.specs.declared.number.Num.the-variants.{Got, Bad}
 use Rattle.codec.specs.Number.{readNumber, groups, onNum}
-use Rattle.codec.specs.Operands.{unused, coordinate, leasts, largests, widest, inRange, inRanges, zig, zag, none, plain, wire, unwire, each, wires, unwires}
-use Rattle.codec.specs.OperandBytes.{Numbers, Read, Cut, onNumbers, readOperand, readOperands, operandBytes, operandsBytes}
+use Rattle.codec.specs.Operands.{unused, coordinate, leasts, largests, widest, inRange, inRanges, zig, zag, none}
+use Rattle.codec.specs.Operands.{plain, wire, unwire, each, wires, unwires}
+use Rattle.codec.specs.OperandBytes.{Numbers, Read, Cut, onNumbers, readOperand, readOperands, operandBytes}
+use Rattle.codec.specs.OperandBytes.{operandsBytes}
 use Rattle.codec.specs.SignedLaws.{zig-zag, zag-zig}
 use Rattle.codec.specs.ReadLaws.{operand-unused, operand-number}
 use Rattle.codec.specs.WriteLaws.{bytes-unused, bytes-number}
@@ -25,7 +27,8 @@ use Rattle.codec.specs.Ranges.{range-between, range-small, ranges-cons, 
 
 -- ONE OPERAND
 -- write, then read
-operand-written : (k n : ℕ) (s : List ℕ) (at : ℕ) (q : List ℕ) → inRange (largests widest) k n ≡ true → drop at s ≡ operandBytes k n ++ q
+operand-written : (k n : ℕ) (s : List ℕ) (at : ℕ) (q : List ℕ) → inRange (largests widest) k n ≡ true
+    → drop at s ≡ operandBytes k n ++ q
     → readOperand k s at ≡ Got n (at + length (operandBytes k n))
 operand-written k n s at q e f =
     ⊎-elim
@@ -36,7 +39,8 @@ operand-written k n s at q e f =
     rw (bytes-unused k n z, m, add-zero at) (sym (operand-unused k s at z)))
     (λ z.
     let b = range-small k n e in
-    rw (bytes-number k n z) (sym (operand-number k s at z _ refl) ∙ number-written s at n q (omega arith) (rw (bytes-number k n z) at f)))
+    rw (bytes-number k n z) (sym (operand-number k s at z _ refl)
+    ∙ number-written s at n q (omega arith) (rw (bytes-number k n z) at f)))
     (same? k unused)
 
 -- read, then write
@@ -81,14 +85,17 @@ pub step : (k : ℕ) (ks s : List ℕ) (at : ℕ) (ns : List ℕ) (next : ℕ) �
 unfolding readOperands
 step k ks s at ns next e = one (readOperand k s at) refl e
   where
-    two : (n mid : ℕ) (y : Numbers) → readOperand k s at ≡ Got n mid → readOperands ks s mid ≡ y → onNumbers y (λ ms end. Read (n ∷ ms) end) Cut ≡ Read ns next → Step k ks s at ns next
+    two : (n mid : ℕ) (y : Numbers) → readOperand k s at ≡ Got n mid → readOperands ks s mid ≡ y
+        → onNumbers y (λ ms end. Read (n ∷ ms) end) Cut ≡ Read ns next → Step k ks s at ns next
     two n mid (Read ms end) a b f =
         let g : ns ≡ n ∷ ms = cc in
         let h : end ≡ next = cc in
         record { n = n; mid = mid; rest = ms; first = a; others = rw h at b; all = g }
     two n mid Cut a b f = cut ns next f
 
-    one : (x : Num) → readOperand k s at ≡ x → onNum x (λ n mid. onNumbers (readOperands ks s mid) (λ ms end. Read (n ∷ ms) end) Cut) Cut ≡ Read ns next → Step k ks s at ns next
+    one : (x : Num) → readOperand k s at ≡ x
+        → onNum x (λ n mid. onNumbers (readOperands ks s mid) (λ ms end. Read (n ∷ ms) end) Cut) Cut ≡ Read ns next
+        → Step k ks s at ns next
     one (Got n mid) a f = two n mid (readOperands ks s mid) a refl f
     one Bad a f = cut ns next f
 
@@ -96,7 +103,8 @@ step k ks s at ns next e = one (readOperand k s at) refl e
 drop-part : (s : List ℕ) (at : ℕ) (a q : List ℕ) → drop at s ≡ a ++ q → drop (at + length a) s ≡ q
 drop-part s at a q e = sym (drop-drop (length a) at s) ∙ ap (drop (length a)) e ∙ drop-append-seam a q
 
-pub operands-written : (ks ns s : List ℕ) (at : ℕ) (q : List ℕ) → length ks ≡ length ns → inRanges (largests widest) ks ns ≡ true
+pub operands-written : (ks ns s : List ℕ) (at : ℕ) (q : List ℕ) → length ks ≡ length ns
+    → inRanges (largests widest) ks ns ≡ true
     → drop at s ≡ operandsBytes ks ns ++ q → readOperands ks s at ≡ Read ns (at + length (operandsBytes ks ns))
 unfolding readOperands operandsBytes
 operands-written [] [] s at q l e f = rw (add-zero at)
@@ -104,16 +112,19 @@ operands-written [] (n ∷ ns) s at q l e f = absurd (omega arith)
 operands-written (k ∷ ks) [] s at q l e f = absurd (omega arith)
 operands-written (k ∷ ks) (n ∷ ns) s at q l e f =
     let a = ranges-cons (largests widest) k n ks ns e in
-    let g : drop at s ≡ operandBytes k n ++ (operandsBytes ks ns ++ q) = f ∙ append-assoc (operandBytes k n) (operandsBytes ks ns) q in
+    let g : drop at s ≡ operandBytes k n ++ (operandsBytes ks ns ++ q) = f
+    ∙ append-assoc (operandBytes k n) (operandsBytes ks ns) q in
     rw (
       operand-written k n s at (operandsBytes ks ns ++ q) (a .0) g,
-      operands-written ks ns s (at + length (operandBytes k n)) q (omega arith) (a .1) (drop-part s at (operandBytes k n) (operandsBytes ks ns ++ q) g),
+      operands-written ks ns s (at + length (operandBytes k n)) q (omega arith) (a .1) (drop-part
+          s at (operandBytes k n) (operandsBytes ks ns ++ q) g),
       length-append (operandBytes k n) (operandsBytes ks ns),
       add-assoc at (length (operandBytes k n)) (length (operandsBytes ks ns)),
     )
 
 pub written-operands : (ks s : List ℕ) (at : ℕ) (ns : List ℕ) (next : ℕ) → Bytes s → readOperands ks s at ≡ Read ns next
-    → (next ≡ at + length (operandsBytes ks ns)) × (drop at s ≡ operandsBytes ks ns ++ drop next s) × (length ns ≡ length ks)
+    → (next ≡ at + length (operandsBytes ks ns)) × (drop at s ≡ operandsBytes ks ns ++ drop next s)
+    × (length ns ≡ length ks)
 unfolding readOperands operandsBytes
 written-operands [] s at ns next w e =
     let a : ns ≡ [] = cc in
@@ -125,18 +136,21 @@ written-operands (k ∷ ks) s at ns next w e =
     let b = written-operands ks s (t .mid) (t .rest) next w (t .others) in
     rw (t .all, length-append (operandBytes k (t .n)) (operandsBytes ks (t .rest))) (
       omega arith,
-      a .1 ∙ ap (λ (l : List ℕ). operandBytes k (t .n) ++ l) (b .1) ∙ sym (append-assoc (operandBytes k (t .n)) (operandsBytes ks (t .rest)) (drop next s)),
+      a .1 ∙ ap (λ (l : List ℕ). operandBytes k (t .n) ++ l) (b .1) ∙ sym (append-assoc (operandBytes k (t .n))
+          (operandsBytes ks (t .rest)) (drop next s)),
       ap suc (b .2),
     )
 
-pub operands-length : (ks s : List ℕ) (at : ℕ) (ns : List ℕ) (next : ℕ) → readOperands ks s at ≡ Read ns next → length ns ≡ length ks
+pub operands-length : (ks s : List ℕ) (at : ℕ) (ns : List ℕ) (next : ℕ) → readOperands ks s at ≡ Read ns next
+    → length ns ≡ length ks
 unfolding readOperands
 operands-length [] s at ns next e = let a : ns ≡ [] = cc in rw a
 operands-length (k ∷ ks) s at ns next e =
     let t = step k ks s at ns next e in
     rw (t .all) (ap suc (operands-length ks s (t .mid) (t .rest) next (t .others)))
 
-pub operands-next : (ks s : List ℕ) (at : ℕ) (ns : List ℕ) (next : ℕ) → at ≤ length s → readOperands ks s at ≡ Read ns next → (at ≤ next) × (next ≤ length s)
+pub operands-next : (ks s : List ℕ) (at : ℕ) (ns : List ℕ) (next : ℕ) → at ≤ length s
+    → readOperands ks s at ≡ Read ns next → (at ≤ next) × (next ≤ length s)
 unfolding readOperands
 operands-next [] s at ns next h e = let b : next ≡ at = cc in (omega arith, omega arith)
 operands-next (k ∷ ks) s at ns next h e =
@@ -154,7 +168,8 @@ wire-unwire k n = ⊎-elim (λ t. rw t (zig-zag n)) (λ t. rw t) (ask (eqb k coo
 -- an operand whose number is in range comes back
 unwire-wire : (k : ℕ) (a : ℤ) → inRange (largests widest) k (wire k a) ≡ true → unwire k (wire k a) ≡ a
 unfolding wire unwire
-unwire-wire k a e = ⊎-elim (λ t. rw t (zag-zig a)) (λ t. rw t (back a (range-small k _ (rw t at e)))) (ask (eqb k coordinate))
+unwire-wire k a e = ⊎-elim (λ t. rw t (zag-zig a)) (λ t. rw t (back a (range-small k _ (rw t at e))))
+    (ask (eqb k coordinate))
   where
     back : (a : ℤ) → plain a ≤ 100000 → pos (plain a) ≡ a
     back (pos n) h = refl
@@ -166,7 +181,8 @@ wires-unwires [] (n ∷ ns) l = absurd (omega arith)
 wires-unwires (k ∷ ks) [] l = absurd (omega arith)
 wires-unwires (k ∷ ks) (n ∷ ns) l = rw (wire-unwire k n, wires-unwires ks ns (omega arith))
 
-pub unwires-wires : (ks : List ℕ) (xs : List ℤ) → length xs ≡ length ks → inRanges (largests widest) ks (wires ks xs) ≡ true → unwires ks (wires ks xs) ≡ xs
+pub unwires-wires : (ks : List ℕ) (xs : List ℤ) → length xs ≡ length ks → inRanges (largests widest) ks (wires ks xs)
+    ≡ true → unwires ks (wires ks xs) ≡ xs
 unwires-wires [] [] l e = refl
 unwires-wires [] (x ∷ xs) l e = absurd (omega arith)
 unwires-wires (k ∷ ks) [] l e = absurd (omega arith)
@@ -174,7 +190,8 @@ unwires-wires (k ∷ ks) (x ∷ xs) l e =
     let a = ranges-cons (largests widest) k (wire k x) ks (wires ks xs) e in
     rw (unwire-wire k x (a .0), unwires-wires ks xs (omega arith) (a .1))
 
-pub each-length : {A B : Type 0} (f : ℕ → A → B) (ks : List ℕ) (xs : List A) → length xs ≡ length ks → length (each f ks xs) ≡ length ks
+pub each-length : {A B : Type 0} (f : ℕ → A → B) (ks : List ℕ) (xs : List A) → length xs ≡ length ks
+    → length (each f ks xs) ≡ length ks
 each-length f [] xs l = refl
 each-length f (k ∷ ks) [] l = absurd (omega arith)
 each-length f (k ∷ ks) (x ∷ xs) l = ap suc (each-length f ks xs (omega arith))

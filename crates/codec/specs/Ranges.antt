@@ -21,17 +21,20 @@ not-true e = absurd (let z : _≡_ {A = ℕ} 0 1 = cc in omega arith)
 pub range-between : (most : List ℕ) (k n : ℕ) → inRange most k n ≡ true → (getD leasts k 0 ≤ n) × (n ≤ getD most k 0)
 unfolding inRange
 range-between most k n e =
-    ⊎-elim (λ t. not-true (rw t at e)) (λ t. (ltb-false n (getD leasts k 0) t, leb-true n (getD most k 0) (rw t at e))) (ask (ltb n (getD leasts k 0)))
+    ⊎-elim (λ t. not-true (rw t at e)) (λ t. (ltb-false n (getD leasts k 0) t, leb-true n (getD most k 0) (rw t at e)))
+    (ask (ltb n (getD leasts k 0)))
 
 pub between-range : (most : List ℕ) (k n : ℕ) → getD leasts k 0 ≤ n → n ≤ getD most k 0 → inRange most k n ≡ true
 unfolding inRange
 between-range most k n h l = rw (le-ltb n (getD leasts k 0) h, le-leb n (getD most k 0) l)
 
-pub ranges-cons : (most : List ℕ) (k n : ℕ) (ks ns : List ℕ) → inRanges most (k ∷ ks) (n ∷ ns) ≡ true → (inRange most k n ≡ true) × (inRanges most ks ns ≡ true)
+pub ranges-cons : (most : List ℕ) (k n : ℕ) (ks ns : List ℕ) → inRanges most (k ∷ ks) (n ∷ ns) ≡ true
+    → (inRange most k n ≡ true) × (inRanges most ks ns ≡ true)
 unfolding inRanges
 ranges-cons most k n ks ns e = ⊎-elim (λ t. (t, rw t at e)) (λ t. not-true (rw t at e)) (ask (inRange most k n))
 
-pub cons-ranges : (most : List ℕ) (k n : ℕ) (ks ns : List ℕ) → inRange most k n ≡ true → inRanges most ks ns ≡ true → inRanges most (k ∷ ks) (n ∷ ns) ≡ true
+pub cons-ranges : (most : List ℕ) (k n : ℕ) (ks ns : List ℕ) → inRange most k n ≡ true → inRanges most ks ns ≡ true
+    → inRanges most (k ∷ ks) (n ∷ ns) ≡ true
 unfolding inRanges
 cons-ranges most k n ks ns a b = rw a b
 
@@ -80,12 +83,14 @@ within-largest lim w =
     (omega arith, (s, (s, (s, (f, (f, (l, (l, (e, (h, (h, (v, (o, (omega arith, (omega arith, tt)))))))))))))))
 
 -- a test that each row passes, each code's row passes
-all-at : (f : Pattern → Bool) (l : List Pattern) (d : Pattern) → f d ≡ true → allb (map f l) ≡ true → (k : ℕ) → f (getD l k d) ≡ true
+all-at : (f : Pattern → Bool) (l : List Pattern) (d : Pattern) → f d ≡ true → allb (map f l) ≡ true → (k : ℕ)
+    → f (getD l k d) ≡ true
 all-at f [] d e a k = e
 all-at f (p ∷ ps) d e a zero = ⊎-elim (λ t. t) (λ t. not-true (rw t at a)) (ask (f p))
 all-at f (p ∷ ps) d e a (suc k) = ⊎-elim (λ t. all-at f ps d e (rw t at a) k) (λ t. not-true (rw t at a)) (ask (f p))
 
-pub each-row : (f : Pattern → Bool) → f (row []) ≡ true → allb (map f rows) ≡ true → (code : ℕ) → f (pattern code) ≡ true
+pub each-row : (f : Pattern → Bool) → f (row []) ≡ true → allb (map f rows) ≡ true → (code : ℕ)
+    → f (pattern code) ≡ true
 unfolding pattern
 each-row f e a code = all-at f rows (row []) e a code
 
@@ -119,5 +124,8 @@ no-code-0 = refl
 
 pub code-between : (code : ℕ) → (pattern code .count ≡ 0 → ⊥) → (1 ≤ code) × (code ≤ 13)
 code-between zero h = absurd (h no-code-0)
-code-between (suc n) h =
-    (omega arith, ⊎-elim (λ l. l) (λ g. absurd (h (sym (ap (λ (p : Pattern). p .count) (no-code (suc n) g))))) (le? (suc n) 13))
+code-between (suc n) h = (
+  omega arith,
+  ⊎-elim (λ l. l) (λ g. absurd (h (sym (ap (λ (p : Pattern). p .count) (no-code (suc n) g))))) (le?
+      (suc n) 13),
+)

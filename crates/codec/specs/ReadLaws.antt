@@ -36,23 +36,29 @@ pub front-nil : (r : Numbers) → front [] r ≡ r
 front-nil (Read ns next) = refl
 front-nil Cut = refl
 
-front-cons : (l : List ℕ) (n : ℕ) (r : Numbers) → front (l ++ (n ∷ [])) r ≡ front l (onNumbers r (λ ns end. Read (n ∷ ns) end) Cut)
+front-cons : (l : List ℕ) (n : ℕ) (r : Numbers)
+    → front (l ++ (n ∷ [])) r ≡ front l (onNumbers r (λ ns end. Read (n ∷ ns) end) Cut)
 front-cons l n (Read ns next) = ap (λ (m : List ℕ). Read m next) (append-assoc l (n ∷ []) ns)
 front-cons l n Cut = refl
 
 -- as a turn begins, at a refusal, after a turn and at the end
 module _ (s ks ys : List ℕ) (i p : ℕ) (q : length ks ≡ 8) (r : length ys ≡ 8) (whole : Numbers)
     (rest : front (take i ys) (readOperands (drop i ks) s p) ≡ whole) where
-  more : i < 8 → front (take i ys) (onNum (readOperand (getD ks i 0) s p) (λ n next. onNumbers (readOperands (drop (suc i) ks) s next) (λ ns end. Read (n ∷ ns) end) Cut) Cut) ≡ whole
+  more : i < 8
+      → front (take i ys) (onNum (readOperand (getD ks i 0) s p)
+      (λ n next. onNumbers (readOperands (drop (suc i) ks) s next) (λ ns end. Read (n ∷ ns) end) Cut) Cut) ≡ whole
   unfolding readOperands
   more h = rw (drop-cons ks i 0 (omega arith)) at rest
 
-  pub operands-cut : (at : ℕ) → i < 8 → readOperand (getD ks i 0) s p ≡ Bad → record { refusal = 3; next = at; numbers = replicate 8 0 } ≡ numbersAnswer at whole
+  pub operands-cut : (at : ℕ) → i < 8 → readOperand (getD ks i 0) s p ≡ Bad
+      → record { refusal = 3; next = at; numbers = replicate 8 0 } ≡ numbersAnswer at whole
   operands-cut at h e = ap (numbersAnswer at) (rw e at (more h))
 
-  pub operands-turn : (n next : ℕ) → i < 8 → readOperand (getD ks i 0) s p ≡ Got n next → front (take (i + 1) (set ys i n)) (readOperands (drop (i + 1) ks) s next) ≡ whole
+  pub operands-turn : (n next : ℕ) → i < 8 → readOperand (getD ks i 0) s p ≡ Got n next
+      → front (take (i + 1) (set ys i n)) (readOperands (drop (i + 1) ks) s next) ≡ whole
   operands-turn n next h e =
-      rw (add-one i, take-suc-set ys i n (omega arith)) (front-cons (take i ys) n (readOperands (drop (suc i) ks) s next) ∙ (rw e at (more h)))
+      rw (add-one i, take-suc-set ys i n (omega arith))
+      (front-cons (take i ys) n (readOperands (drop (suc i) ks) s next) ∙ (rw e at (more h)))
 
   pub operands-end : (at : ℕ) → 8 ≤ i → record { refusal = 0; next = p; numbers = ys } ≡ numbersAnswer at whole
   unfolding readOperands
@@ -63,7 +69,8 @@ pub cut-is : (n : NumbersAnswer) (at : ℕ) (x : Numbers) → n ≡ numbersAnswe
 cut-is n at (Read ns next) e h = absurd (h (ap (λ (m : NumbersAnswer). m .refusal) e))
 cut-is n at Cut e h = refl
 
-pub read-is : (n : NumbersAnswer) (at : ℕ) (x : Numbers) → n ≡ numbersAnswer at x → n .refusal ≡ 0 → x ≡ Read (n .numbers) (n .next)
+pub read-is : (n : NumbersAnswer) (at : ℕ) (x : Numbers) → n ≡ numbersAnswer at x → n .refusal ≡ 0
+    → x ≡ Read (n .numbers) (n .next)
 read-is n at (Read ns next) e h = rw e
 read-is n at Cut e h = absurd (let z : n .refusal ≡ 3 = ap (λ (m : NumbersAnswer). m .refusal) e in omega arith)
 
@@ -85,20 +92,23 @@ third-small : (at low : ℕ) (l : List ℕ) → low < 16384 → SmallNum (third 
 unfolding third
 third-small at low [] h = tt
 third-small at low (b ∷ r) h =
-    pick-by SmallNum (eqb b 0) _ _ (λ e. tt) (pick-by SmallNum (ltb b 128) _ _ (λ e. let k : b < 128 = ltb-true b 128 e in omega arith) tt)
+    pick-by SmallNum (eqb b 0) _ _ (λ e. tt) (pick-by SmallNum (ltb b 128) _ _ (λ e. let k : b < 128 =
+    ltb-true b 128 e in omega arith) tt)
 
 second-small : (at low : ℕ) (l : List ℕ) → low < 128 → SmallNum (second at low l)
 unfolding second
 second-small at low [] h = tt
 second-small at low (b ∷ r) h =
     pick-by SmallNum (eqb b 0) _ _ (λ e. tt)
-    (pick-by SmallNum (ltb b 128) _ _ (λ e. let k : b < 128 = ltb-true b 128 e in omega arith) (third-small at (low + b % 128 * 128) r (omega arith)))
+    (pick-by SmallNum (ltb b 128) _ _ (λ e. let k : b < 128 = ltb-true b 128 e in
+    omega arith) (third-small at (low + b % 128 * 128) r (omega arith)))
 
 first-small : (at : ℕ) (l : List ℕ) → SmallNum (first at l)
 unfolding first
 first-small at [] = tt
 first-small at (b ∷ r) =
-    pick-by SmallNum (ltb b 128) _ _ (λ e. let k : b < 128 = ltb-true b 128 e in omega arith) (second-small at (b % 128) r (omega arith))
+    pick-by SmallNum (ltb b 128) _ _ (λ e. let k : b < 128 = ltb-true b 128 e in
+    omega arith) (second-small at (b % 128) r (omega arith))
 
 operand-small : (k : ℕ) (s : List ℕ) (at : ℕ) → SmallNum (readOperand k s at)
 unfolding readOperand readNumber
@@ -116,11 +126,13 @@ unfolding readOperands
 operands-small [] s at = record { at = λ i. omega arith }
 operands-small (k ∷ ks) s at = step (readOperand k s at) (operand-small k s at) (λ next. operands-small ks s next)
   where
-    cons : (n : ℕ) (r : Numbers) → n < 2097152 → SmallNumbers r → SmallNumbers (onNumbers r (λ ns end. Read (n ∷ ns) end) Cut)
+    cons : (n : ℕ) (r : Numbers) → n < 2097152 → SmallNumbers r
+        → SmallNumbers (onNumbers r (λ ns end. Read (n ∷ ns) end) Cut)
     cons n (Read ns next) h rest = small-cons n ns h rest
     cons n Cut h rest = tt
 
-    step : (x : Num) → SmallNum x → ((next : ℕ) → SmallNumbers (readOperands ks s next)) → SmallNumbers (onNum x (λ n next. onNumbers (readOperands ks s next) (λ ns end. Read (n ∷ ns) end) Cut) Cut)
+    step : (x : Num) → SmallNum x → ((next : ℕ) → SmallNumbers (readOperands ks s next))
+        → SmallNumbers (onNum x (λ n next. onNumbers (readOperands ks s next) (λ ns end. Read (n ∷ ns) end) Cut) Cut)
     step (Got n next) h rest = cons n (readOperands ks s next) h (rest next)
     step Bad h rest = tt
 
@@ -133,5 +145,6 @@ small-answer at Cut h = record { at = zeros 8 }
     zeros (suc n) zero = omega arith
     zeros (suc n) (suc i) = zeros n i
 
-pub small-read : (ks s : List ℕ) (at : ℕ) (n : NumbersAnswer) → n ≡ numbersAnswer at (readOperands ks s at) → Small (n .numbers)
+pub small-read : (ks s : List ℕ) (at : ℕ) (n : NumbersAnswer) → n ≡ numbersAnswer at (readOperands ks s at)
+    → Small (n .numbers)
 small-read ks s at n e = rw e (small-answer at (readOperands ks s at) (operands-small ks s at))

@@ -36,7 +36,8 @@ pub record Negative (z : ℤ) : Type 0 where
 
 pub negative : (z : ℤ) → SFits w32 z → ltZ (back z) (pos 0) ≡ true → Negative z
 unfolding zig
-negative (pos n) f t = absurd (let z : _≡_ {A = Bool} false true = rw (toZ-ofZ f, le-ltb n 0 (omega arith)) at t in no-way z)
+negative (pos n) f t = absurd (let z : _≡_ {A = Bool} false true = rw (toZ-ofZ f, le-ltb n 0 (omega arith)) at t in
+    no-way z)
   where
     no-way : _≡_ {A = Bool} false true → ⊥
     no-way e = let z : _≡_ {A = ℕ} 0 1 = cc in omega arith
@@ -85,7 +86,12 @@ module _ (n : ℕ) (small : n < 4294967296) where
 -- each code is that of its coordinate
 pub zig-zag : (n : ℕ) → zig (zag n) ≡ n
 unfolding zig zag
-zig-zag n = elim (ℕ-discrete (n % 2) 1) [ yes h ↦ rw (eq-eqb (n % 2) 1 h) (omega arith) | no h ↦ rw (ne-eqb (n % 2) 1 h) (omega arith) ]
+zig-zag n =
+    elim (ℕ-discrete (n % 2) 1) [
+      | yes h ↦ rw (eq-eqb (n % 2) 1 h) (omega arith)
+      | no h ↦ rw (ne-eqb (n % 2) 1 h)
+          (omega arith)
+    ]
 
 -- and each coordinate that of its code
 pub zag-zig : (z : ℤ) → zag (zig z) ≡ z

@@ -26,7 +26,8 @@ sets-append l i (x ∷ a) b =
 pub groups-size : (n : ℕ) → (1 ≤ length (groups n)) × (length (groups n) ≤ 3)
 groups-size n =
     ⊎-elim (λ h. let e = size-3 n h in (omega arith, omega arith))
-    (λ h. ⊎-elim (λ k. let e = size-2 n k h in (omega arith, omega arith)) (λ k. let e = size-1 n k in (omega arith, omega arith)) (le? 128 n))
+    (λ h. ⊎-elim (λ k. let e = size-2 n k h in (omega arith, omega arith)) (λ k. let e = size-1 n k in
+    (omega arith, omega arith)) (le? 128 n))
     (le? 16384 n)
 
 module _ (k n : ℕ) where
@@ -46,19 +47,26 @@ module _ (k n : ℕ) where
 
 -- the bytes that are left, as a turn begins and at the end
 module _ (ks ns : List ℕ) (i : ℕ) (p : length ks ≡ 8) (q : length ns ≡ 8) where
-  pub bytes-next : i < 8 → operandsBytes (drop i ks) (drop i ns) ≡ operandBytes (getD ks i 0) (getD ns i 0) ++ operandsBytes (drop (i + 1) ks) (drop (i + 1) ns)
+  pub bytes-next : i < 8 → operandsBytes (drop i ks) (drop i ns) ≡ operandBytes (getD ks i 0) (getD ns i 0)
+      ++ operandsBytes (drop (i + 1) ks) (drop (i + 1) ns)
   unfolding operandsBytes
   bytes-next h = rw (ahead ks i 0 (omega arith), ahead ns i 0 (omega arith))
 
-  pub size-next : i < 8 → length (operandsBytes (drop i ks) (drop i ns)) ≡ length (operandBytes (getD ks i 0) (getD ns i 0)) + length (operandsBytes (drop (i + 1) ks) (drop (i + 1) ns))
+  pub size-next : i < 8 → length (operandsBytes (drop i ks) (drop i ns))
+      ≡ length (operandBytes (getD ks i 0) (getD ns i 0)) + length (operandsBytes (drop (i + 1) ks) (drop (i + 1) ns))
   size-next h =
-      rw (bytes-next h) (length-append (operandBytes (getD ks i 0) (getD ns i 0)) (operandsBytes (drop (i + 1) ks) (drop (i + 1) ns)))
+      rw (bytes-next h) (length-append (operandBytes (getD ks i 0) (getD ns i 0))
+      (operandsBytes (drop (i + 1) ks) (drop (i + 1) ns)))
 
-  pub write-turn : i < 8 → (l y : List ℕ) (a b : ℕ) (whole : List ℕ) → sets l a (operandsBytes (drop i ks) (drop i ns)) ≡ whole
-      → y ≡ sets l a (operandBytes (getD ks i 0) (getD ns i 0)) → b ≡ a + length (operandBytes (getD ks i 0) (getD ns i 0))
+  pub write-turn : i < 8 → (l y : List ℕ) (a b : ℕ) (whole : List ℕ) → sets l a (operandsBytes (drop i ks) (drop i ns))
+      ≡ whole
+      → y ≡ sets l a (operandBytes (getD ks i 0) (getD ns i 0))
+      → b ≡ a + length (operandBytes (getD ks i 0) (getD ns i 0))
       → sets y b (operandsBytes (drop (i + 1) ks) (drop (i + 1) ns)) ≡ whole
   write-turn h l y a b whole rest e f =
-      rw (e, f) (sym (sets-append l a (operandBytes (getD ks i 0) (getD ns i 0)) (operandsBytes (drop (i + 1) ks) (drop (i + 1) ns))) ∙ (rw (bytes-next h) at rest))
+      rw (e, f)
+      (sym (sets-append l a (operandBytes (getD ks i 0) (getD ns i 0))
+      (operandsBytes (drop (i + 1) ks) (drop (i + 1) ns))) ∙ (rw (bytes-next h) at rest))
 
   bytes-end : 8 ≤ i → operandsBytes (drop i ks) (drop i ns) ≡ []
   unfolding operandsBytes
@@ -67,5 +75,6 @@ module _ (ks ns : List ℕ) (i : ℕ) (p : length ks ≡ 8) (q : length ns ≡ 8
   pub size-end : 8 ≤ i → length (operandsBytes (drop i ks) (drop i ns)) ≡ 0
   size-end h = rw (bytes-end h)
 
-  pub write-end : 8 ≤ i → (l : List ℕ) (a : ℕ) (whole : List ℕ) → sets l a (operandsBytes (drop i ks) (drop i ns)) ≡ whole → l ≡ whole
+  pub write-end : 8 ≤ i → (l : List ℕ) (a : ℕ) (whole : List ℕ) → sets l a (operandsBytes (drop i ks) (drop i ns))
+      ≡ whole → l ≡ whole
   write-end h l a whole rest = rw (bytes-end h) at rest

@@ -2,7 +2,8 @@
 ghost use mathlib.Core.Path.{_≡_};
 ghost use Prim.Native.Nat.{ℕ, _+_, _*_, _≤_, _<_};
 ghost use lib.ListN.{length};
-ghost use Rattle.codec.specs.Operands.{pattern, largests, inRange, inRanges, zig, zag, wire, unwire, wires, unwires, Small};
+ghost use Rattle.codec.specs.Operands.{pattern, largests, inRange, inRanges, zig, zag, wire, unwire, wires};
+ghost use Rattle.codec.specs.Operands.{unwires, Small};
 use crate::Limits;
 
 // Kinds of operands. OLD must be in use, NEW must be free.

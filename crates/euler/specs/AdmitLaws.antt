@@ -36,10 +36,12 @@ module _ (sh : Shape) (x : List ℕ) (kind n : ℕ) where
   unfolding useRefusal
   use-none e = rw (eq-eqb n 0 e)
 
-  pub use-free : (n ≡ 0 → ⊥) → (w : ℕ) → w ≡ useWord sh x kind n → w ≡ 0 → (r : ℕ) → r ≡ getD whenFree kind 0 → r ≡ useRefusal sh x kind n
+  pub use-free : (n ≡ 0 → ⊥) → (w : ℕ) → w ≡ useWord sh x kind n → w ≡ 0 → (r : ℕ) → r ≡ getD whenFree kind 0
+      → r ≡ useRefusal sh x kind n
   unfolding useRefusal
   use-free h w e z r f = rw (ne-eqb n 0 h, ← e, eq-eqb w 0 z) f
 
-  pub use-used : (n ≡ 0 → ⊥) → (w : ℕ) → w ≡ useWord sh x kind n → (w ≡ 0 → ⊥) → (r : ℕ) → r ≡ getD whenUsed kind 0 → r ≡ useRefusal sh x kind n
+  pub use-used : (n ≡ 0 → ⊥) → (w : ℕ) → w ≡ useWord sh x kind n → (w ≡ 0 → ⊥) → (r : ℕ) → r ≡ getD whenUsed kind 0
+      → r ≡ useRefusal sh x kind n
   unfolding useRefusal
   use-used h w e z r f = rw (ne-eqb n 0 h, ← e, ne-eqb w 0 z) f

@@ -6,10 +6,13 @@ use Prim.Native.Nat.{ℕ, _≤_, _<_}
 use lib.ListN.{length, getD, List·getD-eq-default}
 use Rattle.codec.specs.OperandLaws.{NoneOf, none-of}
 
-pub by-code {ℓ} : {A : Type ℓ} (xs : List A) (d : A) (code k : ℕ) (v r : A) → code ≡ k → getD xs k d ≡ v → r ≡ v → r ≡ getD xs code d
+pub by-code {ℓ} : {A : Type ℓ} (xs : List A) (d : A) (code k : ℕ) (v r : A) → code ≡ k → getD xs k d ≡ v → r ≡ v
+    → r ≡ getD xs code d
 by-code xs d code k v r e f g = rw (e, f) g
 
 -- past the list's end, and at 0, which is no code either
-pub by-none {ℓ} : {A : Type ℓ} (xs : List A) (d : A) (code : ℕ) → length xs ≡ 14 → getD xs 0 d ≡ d → NoneOf 13 code → d ≡ getD xs code d
+pub by-none {ℓ} : {A : Type ℓ} (xs : List A) (d : A) (code : ℕ) → length xs ≡ 14 → getD xs 0 d ≡ d → NoneOf 13 code
+    → d ≡ getD xs code d
 by-none xs d code l z n =
-    ⊎-elim (λ e. sym z ∙ ap (λ k. getD xs k d) (sym e)) (λ h. let k : length xs ≤ code = rw l h in sym (List·getD-eq-default xs d k)) (none-of 13 code n)
+    ⊎-elim (λ e. sym z ∙ ap (λ k. getD xs k d) (sym e)) (λ h. let k : length xs ≤ code = rw l h in
+    sym (List·getD-eq-default xs d k)) (none-of 13 code n)

@@ -1,5 +1,5 @@
--- One operator on a table: a refusal, or the new table with the operator that undoes it. Refusals in document 01's order:
--- all operands 5; all 6 and 7 from left to right; 8.
+-- One operator on a table: a refusal, or the new table with the operator that undoes it. Refusals in document 01's
+-- order: all operands 5; all 6 and 7 from left to right; 8.
 use Prim.Native.Nat.{ℕ, _+_, _*_}
 use mathlib.Core.Bool.{Bool, true, not, _&&_, _||_}
 use mathlib.Core.List.{List, [], _∷_}
@@ -37,20 +37,29 @@ operatorBy code args = record { code = code; count = pattern code .count; args =
 
 -- a table's capacities as limits
 abbrev pub limits : Shape → Limits
-limits sh = record { solids = sh .solids; faces = sh .faces; loops = sh .loops; edges = sh .edges; vertices = sh .vertices }
+limits sh = record {
+  solids = sh .solids;
+  faces = sh .faces;
+  loops = sh .loops;
+  edges = sh .edges;
+  vertices =
+      sh .vertices;
+}
 
 -- as in writing: 4 for no such code; 5 for another count of operands, one out of range, or an unused one that is not 0
 unfoldable pub rangeRefusal : Shape → Operator → ℕ
 rangeRefusal sh o =
     pick (eqb (pattern (o .code) .count) 0) 4
-    (pick (eqb (o .count) (pattern (o .code) .count)) (pick (inRanges (largests (limits sh)) (pattern (o .code) .kinds) (numbersOf o)) 0 5) 5)
+    (pick (eqb (o .count) (pattern (o .code) .count))
+    (pick (inRanges (largests (limits sh)) (pattern (o .code) .kinds) (numbersOf o)) 0 5) 5)
 
 -- ---- 6 and 7: an old item is free, a new number is in use
 
 -- the words that tell whether item n is in use, the operand kinds in order; a new edge by its second half
 abbrev pub useWords : Shape → List ℕ → ℕ → List ℕ
 useWords sh x n =
-    0 ∷ solidUsed sh x n ∷ solidUsed sh x n ∷ solidUsed sh x n ∷ faceSolid sh x n ∷ faceSolid sh x n ∷ loopFace sh x n ∷ loopFace sh x n
+    0 ∷ solidUsed sh x n ∷ solidUsed sh x n ∷ solidUsed sh x n ∷ faceSolid sh x n ∷ faceSolid sh x n ∷ loopFace sh x n
+    ∷ loopFace sh x n
     ∷ startOf sh x (2 * n) ∷ startOf sh x n ∷ startOf sh x n ∷ vertexUsed sh x n ∷ []
 
 -- the one of a kind
@@ -66,7 +75,8 @@ whenUsed = 0 ∷ 0 ∷ 7 ∷ 7 ∷ 0 ∷ 7 ∷ 0 ∷ 7 ∷ 7 ∷ 0 ∷ 0 ∷ 7 �
 
 -- an operand 0 names no item
 unfoldable pub useRefusal : Shape → List ℕ → ℕ → ℕ → ℕ
-useRefusal sh x kind n = pick (eqb n 0) 0 (pick (eqb (useWord sh x kind n) 0) (getD whenFree kind 0) (getD whenUsed kind 0))
+useRefusal sh x kind n =
+    pick (eqb n 0) 0 (pick (eqb (useWord sh x kind n) 0) (getD whenFree kind 0) (getD whenUsed kind 0))
 
 -- the first refusal of the operands of these kinds from place i on
 unfoldable pub useRefusals : Shape → List ℕ → Operator → List ℕ → ℕ → ℕ
@@ -79,7 +89,8 @@ useRefusals sh x o (k ∷ ks) i =
 -- the conditions that document 01 writes for the codes
 abbrev pub conditions : Shape → List ℕ → (ℕ → ℕ) → List Bool
 conditions sh x a =
-    true ∷ true ∷ kvsfTest sh x (a 0) ∷ mevTest sh x (a 0) (a 1) ∷ kevTest sh x (a 0) ∷ mefTest sh x (a 0) (a 1) (a 2) (a 6)
+    true ∷ true ∷ kvsfTest sh x (a 0) ∷ mevTest sh x (a 0) (a 1) ∷ kevTest sh x (a 0)
+    ∷ mefTest sh x (a 0) (a 1) (a 2) (a 6)
     ∷ kefTest sh x (a 0) ∷ kemrTest sh x (a 0) ∷ mekrTest sh x (a 0) (a 1) (a 2) (a 3) ∷ kfmrhTest sh x (a 0) (a 1)
     ∷ mfkrhTest sh x (a 0) (a 1) (a 2) ∷ true ∷ jekvTest sh x (a 0) ∷ rmovTest sh x (a 0) (a 1) ∷ []
 
@@ -99,9 +110,12 @@ linksBy sh x a =
     x ∷ mvsfLinks sh x (a 0) (a 1) (a 2) (a 3)
     ∷ kvsfLinks sh x (a 0) (faceIn sh x (a 0)) (onlyLoop sh x (a 0)) (onlyVertex sh x (a 0))
     ∷ mevLinks sh x (a 0) (a 1) (halfBy (a 2) (a 4)) (a 3) ∷ kevLinks sh x (a 0)
-    ∷ mefLinks sh x (a 0) (a 1) (a 2) (halfBy (a 3) (a 6)) (a 4) (a 5) (a 6) ∷ kefLinks sh x (a 0) ∷ kemrLinks sh x (a 0) (a 1)
-    ∷ mekrLinks sh x (a 0) (a 1) (a 2) (a 3) (halfBy (a 4) (a 5)) ∷ kfmrhLinks sh x (a 0) (a 1) ∷ mfkrhLinks sh x (a 0) (a 1) (a 2)
-    ∷ semvLinks sh x (a 0) (halfBy (a 1) (a 3)) (a 2) ∷ jekvLinks sh x (a 0) (nextOf sh x (a 0)) ∷ rmovLinks sh x (a 0) (a 1) ∷ []
+    ∷ mefLinks sh x (a 0) (a 1) (a 2) (halfBy (a 3) (a 6)) (a 4) (a 5) (a 6) ∷ kefLinks sh x (a 0)
+    ∷ kemrLinks sh x (a 0) (a 1)
+    ∷ mekrLinks sh x (a 0) (a 1) (a 2) (a 3) (halfBy (a 4) (a 5)) ∷ kfmrhLinks sh x (a 0) (a 1)
+    ∷ mfkrhLinks sh x (a 0) (a 1) (a 2)
+    ∷ semvLinks sh x (a 0) (halfBy (a 1) (a 3)) (a 2) ∷ jekvLinks sh x (a 0) (nextOf sh x (a 0))
+    ∷ rmovLinks sh x (a 0) (a 1) ∷ []
 
 unfoldable pub linksAfter : Shape → List ℕ → Operator → List ℕ
 linksAfter sh x o = getD (linksBy sh x (itemOf o)) (o .code) x
@@ -109,7 +123,8 @@ linksAfter sh x o = getD (linksBy sh x (itemOf o)) (o .code) x
 -- the vertex that an operator kills: of kvsf, kev and jekv; 0 for the others
 abbrev pub killed : Shape → List ℕ → (ℕ → ℕ) → List ℕ
 killed sh x a =
-    0 ∷ 0 ∷ onlyVertex sh x (a 0) ∷ 0 ∷ startOf sh x (mate (a 0)) ∷ 0 ∷ 0 ∷ 0 ∷ 0 ∷ 0 ∷ 0 ∷ 0 ∷ startOf sh x (nextOf sh x (a 0)) ∷ 0 ∷ []
+    0 ∷ 0 ∷ onlyVertex sh x (a 0) ∷ 0 ∷ startOf sh x (mate (a 0)) ∷ 0 ∷ 0 ∷ 0 ∷ 0 ∷ 0 ∷ 0 ∷ 0
+    ∷ startOf sh x (nextOf sh x (a 0)) ∷ 0 ∷ []
 
 unfoldable pub killedVertex : Shape → List ℕ → Operator → ℕ
 killedVertex sh x o = getD (killed sh x (itemOf o)) (o .code) 0
@@ -121,7 +136,8 @@ clearPoint p v = putPoint p v (pos 0) (pos 0) (pos 0)
 -- the points afterwards: a new vertex gets the operator's, a killed one's, v, is cleared
 abbrev pub pointsBy : List ℤ → Operator → (ℕ → ℕ) → ℕ → List (List ℤ)
 pointsBy p o a v =
-    p ∷ pointTo p o (a 3) 4 ∷ clearPoint p v ∷ pointTo p o (a 3) 5 ∷ clearPoint p v ∷ p ∷ p ∷ p ∷ p ∷ p ∷ p ∷ pointTo p o (a 2) 4
+    p ∷ pointTo p o (a 3) 4 ∷ clearPoint p v ∷ pointTo p o (a 3) 5 ∷ clearPoint p v ∷ p ∷ p ∷ p ∷ p ∷ p ∷ p
+    ∷ pointTo p o (a 2) 4
     ∷ clearPoint p v ∷ p ∷ []
 
 unfoldable pub pointsAfter : Shape → List ℕ → List ℤ → Operator → List ℤ
@@ -132,8 +148,10 @@ abbrev pub inverses : Shape → List ℕ → List ℤ → (ℕ → ℕ) → List
 inverses sh x p a =
     blankOf 0 0 ∷ mvsfInverse (a 0)
     ∷ kvsfInverse p (a 0) (faceIn sh x (a 0)) (onlyLoop sh x (a 0)) (onlyVertex sh x (a 0))
-    ∷ mevInverse (halfBy (a 2) (a 4)) ∷ kevInverse sh x p (a 0) ∷ mefInverse (mate (halfBy (a 3) (a 6))) ∷ kefInverse sh x (a 0)
-    ∷ kemrInverse sh x (a 0) (a 1) ∷ mekrInverse (halfBy (a 4) (a 5)) (a 2) ∷ kfmrhInverse sh x (a 0) (a 1) ∷ mfkrhInverse sh x (a 0) (a 1)
+    ∷ mevInverse (halfBy (a 2) (a 4)) ∷ kevInverse sh x p (a 0) ∷ mefInverse (mate (halfBy (a 3) (a 6)))
+    ∷ kefInverse sh x (a 0)
+    ∷ kemrInverse sh x (a 0) (a 1) ∷ mekrInverse (halfBy (a 4) (a 5)) (a 2) ∷ kfmrhInverse sh x (a 0) (a 1)
+    ∷ mfkrhInverse sh x (a 0) (a 1)
     ∷ semvInverse (a 0) ∷ jekvInverse sh x p (a 0) (nextOf sh x (a 0)) ∷ rmovInverse sh x (a 0) (a 1) ∷ []
 
 unfoldable pub inverse : Shape → List ℕ → List ℤ → Operator → Operator

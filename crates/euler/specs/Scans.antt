@@ -76,7 +76,8 @@ module _ (p : ℕ → Bool) (n i whole : ℕ) (rest : leastFrom (n + 1 - i) i p 
   found-none h = let m : n + 1 - i ≡ 0 = omega arith in rw m at rest
 
 -- the test of a label
-module _ (c : Column) (x : List ℕ) (label n i whole : ℕ) (rest : leastFrom (n + 1 - i) i (naming c x label) ≡ whole) where
+module _ (c : Column) (x : List ℕ) (label n i whole : ℕ) (rest : leastFrom (n + 1 - i) i (naming c x label)
+    ≡ whole) where
   pub least-here : i ≤ n → (owner : ℕ) → owner ≡ entryOf c x i → owner ≡ label → i ≡ whole
   least-here h owner e q = found-here (naming c x label) n i whole rest h (rw (← e) (eq-eqb owner label q))
 

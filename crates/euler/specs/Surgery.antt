@@ -11,7 +11,8 @@ use Rattle.laws.specs.Bools.{pick}
 use Rattle.script.specs.declared.Operator.{Operator}
 use Rattle.script.specs.Operator.{natOf, blankOf, withNumber}
 use Rattle.layout.specs.declared.shape.Shape.{Shape}
-use Rattle.layout.specs.Layout.{loopFirst, loopIsolated, startOf, loopOf, nextOf, setLoopFirst, setLoopIsolated, setLoop}
+use Rattle.layout.specs.Layout.{loopFirst, loopIsolated, startOf, loopOf, nextOf, setLoopFirst, setLoopIsolated}
+use Rattle.layout.specs.Layout.{setLoop}
 use Rattle.layout.specs.Mate.{mate}
 use Rattle.layout.specs.Fields.{Solid, Outer, Face, First, Isolated, Start, Loop, Next, Prev}
 use Rattle.layout.specs.Writes.{Write, write, writes}
@@ -91,7 +92,8 @@ withOperand o i c = record { code = o .code; count = o .count; args = set (o .ar
 
 -- an operator with the point of vertex v for operands i, i + 1, i + 2
 abbrev pub withPoint : Operator → ℕ → List ℤ → ℕ → Operator
-withPoint o i p v = withOperand (withOperand (withOperand o i (coordinate p v 0)) (i + 1) (coordinate p v 1)) (i + 2) (coordinate p v 2)
+withPoint o i p v = withOperand (withOperand (withOperand o i (coordinate p v 0)) (i + 1) (coordinate p v 1)) (i + 2)
+    (coordinate p v 2)
 
 -- ---- operators as records
 
@@ -127,7 +129,8 @@ abbrev pub edgeWrites : ℕ → ℕ → ℕ → ℕ → ℕ → ℕ → ℕ → 
 edgeWrites k u l n p u′ l′ n′ p′ =
     halfRecord k u l n p ++ (halfRecord (mate k) u′ l′ n′ p′ ++ (seated p k n ++ seated p′ (mate k) n′))
 
--- the edge of k is killed: p is followed by n, and p′ by n′. (Where these are k or its mate, what is stored is cleared with them.)
+-- the edge of k is killed: p is followed by n, and p′ by n′. (Where these are k or its mate, what is stored is cleared
+-- with them.)
 abbrev pub noEdgeWrites : ℕ → ℕ → ℕ → ℕ → ℕ → List Write
 noEdgeWrites k p n p′ n′ = tied p n ++ (tied p′ n′ ++ (halfRecord k 0 0 0 0 ++ halfRecord (mate k) 0 0 0 0))
 
@@ -152,7 +155,8 @@ edgeOut sh x k p n p′ n′ = writes sh (noEdgeWrites k p n p′ n′) x
 -- the half-edges from k up to before stop, at most n of them, are given loop l
 unfoldable pub relabel : Shape → ℕ → List ℕ → ℕ → ℕ → ℕ → List ℕ
 relabel sh zero x k stop l = x
-relabel sh (suc n) x k stop l = pick (eqb k stop) x (relabel sh n (setLoop sh x k l) (nextOf sh (setLoop sh x k l) k) stop l)
+relabel sh (suc n) x k stop l =
+    pick (eqb k stop) x (relabel sh n (setLoop sh x k l) (nextOf sh (setLoop sh x k l) k) stop l)
 
 -- a run given loop l
 abbrev pub relabelRun : Shape → List ℕ → ℕ → ℕ → ℕ → List ℕ
@@ -164,8 +168,9 @@ relabelRun sh x k stop l = relabel sh (2 * sh .edges) x k stop l
 abbrev pub lower : ℕ → ℕ → ℕ
 lower f k = pick (eqb f 0) k (pick (ltb f k) f k)
 
--- the least half-edge of loop l, looked for in two ways at once: n numbers from j on are tried (does half-edge j name l?), and with each
--- trial goes one step along the loop's cycle, from k up to stop, keeping the least in `best`. Whichever way ends first has the answer
+-- the least half-edge of loop l, looked for in two ways at once: n numbers from j on are tried (does half-edge j name
+-- l?), and with each trial goes one step along the loop's cycle, from k up to stop, keeping the least in `best`.
+-- Whichever way ends first has the answer
 unfoldable pub seek : Shape → ℕ → List ℕ → ℕ → ℕ → ℕ → ℕ → ℕ → ℕ
 seek sh zero x l j k stop best = best
 seek sh (suc n) x l j k stop best =
@@ -176,7 +181,7 @@ seek sh (suc n) x l j k stop best =
 abbrev pub firstFrom : Shape → List ℕ → ℕ → ℕ → ℕ → ℕ
 firstFrom sh x l low k = seek sh (k - low) x l low (nextOf sh x k) k k
 
--- loop l now has the cycle of half-edge k, no half-edge below `low` names it, and first is the least that does; where k is 0, first is 0
--- and l is isolated at vertex u
+-- loop l now has the cycle of half-edge k, no half-edge below `low` names it, and first is the least that does; where k
+-- is 0, first is 0 and l is isolated at vertex u
 unfoldable pub renew : Shape → List ℕ → ℕ → ℕ → ℕ → ℕ → List ℕ
 renew sh x l low k u = setLoopIsolated sh (setLoopFirst sh x l (firstFrom sh x l low k)) l (pick (eqb k 0) u 0)

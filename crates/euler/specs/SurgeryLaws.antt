@@ -1,5 +1,5 @@
--- The ways out of the loops that walk along next, one law each: what is left of the walk is the whole of it. And coordinates,
--- which the machine holds as bits, as they go in and out of an operator.
+-- The ways out of the loops that walk along next, one law each: what is left of the walk is the whole of it. And
+-- coordinates, which the machine holds as bits, as they go in and out of an operator.
 use mathlib.Core.Path.{_≡_, refl, sym, _∙_}
 use Prim.Native.Nat.{ℕ, suc, _+_, _-_, _*_, _%_, _<_, _≤_}
 use native.Mathlib.Omega.{arith}
@@ -21,7 +21,8 @@ use Rattle.layout.specs.Points.{pointWidth, coordinate, setCoordinate}
 use Rattle.layout.specs.PointsLaws.{coordinate-at, setCoordinate-at}
 use Rattle.euler.specs.Surgery.{itemIn, halfBy, relabel, seek, firstFrom, renew, withOperand, withPoint}
 
-module _ (sh : Shape) (left : ℕ) (x : List ℕ) (k stop l : ℕ) (whole : List ℕ) (rest : relabel sh left x k stop l ≡ whole) where
+module _ (sh : Shape) (left : ℕ) (x : List ℕ) (k stop l : ℕ) (whole : List ℕ) (rest : relabel sh left x k stop l
+    ≡ whole) where
   pub relabel-stop : 0 < left → k ≡ stop → x ≡ whole
   unfolding relabel
   relabel-stop h e = let n : left ≡ suc (left - 1) = omega arith in rw (n, eq-eqb k stop e) at rest
@@ -40,16 +41,19 @@ pub seek-from : (sh : Shape) (x : List ℕ) (l low k at : ℕ) → at ≡ nextOf
     → seek sh (k - low) x l low at k k ≡ firstFrom sh x l low k
 seek-from sh x l low k at e = rw e
 
-module _ (sh : Shape) (x : List ℕ) (l top j k stop best whole : ℕ) (rest : seek sh (top - j) x l j k stop best ≡ whole) where
+module _ (sh : Shape) (x : List ℕ) (l top j k stop best whole : ℕ) (rest : seek sh (top - j) x l j k stop best
+    ≡ whole) where
   pub seek-here : j < top → (owner : ℕ) → owner ≡ loopOf sh x j → owner ≡ l → j ≡ whole
   unfolding seek
   seek-here h owner e q = let n : top - j ≡ suc (top - j - 1) = omega arith in rw (n, ← e, eq-eqb owner l q) at rest
 
   pub seek-stop : j < top → (owner : ℕ) → owner ≡ loopOf sh x j → (owner ≡ l → ⊥) → k ≡ stop → best ≡ whole
   unfolding seek
-  seek-stop h owner e q f = let n : top - j ≡ suc (top - j - 1) = omega arith in rw (n, ← e, ne-eqb owner l q, eq-eqb k stop f) at rest
+  seek-stop h owner e q f = let n : top - j ≡ suc (top - j - 1) = omega arith in
+      rw (n, ← e, ne-eqb owner l q, eq-eqb k stop f) at rest
 
-  pub seek-turn : j < top → (owner : ℕ) → owner ≡ loopOf sh x j → (owner ≡ l → ⊥) → (k ≡ stop → ⊥) → (b m : ℕ) → b ≡ pick (ltb k best) k best → m ≡ nextOf sh x k
+  pub seek-turn : j < top → (owner : ℕ) → owner ≡ loopOf sh x j → (owner ≡ l → ⊥) → (k ≡ stop → ⊥) → (b m : ℕ)
+      → b ≡ pick (ltb k best) k best → m ≡ nextOf sh x k
       → seek sh (top - (j + 1)) x l (j + 1) m stop b ≡ whole
   unfolding seek
   seek-turn h owner e q f b m p r =
@@ -84,8 +88,10 @@ pub no-coordinate : (o : Operator) (i : ℕ) (p : List ℤ) (v j : ℕ) → leng
 no-coordinate o i p v j l h = rw (← coordinate-at p v j h, List·getD-eq-default p (pos 0) l)
 
 -- the three of a point, one after the other
-pub point-steps : (o : Operator) (i : ℕ) (p : List ℤ) (v : ℕ) (a b r : Operator) → a ≡ withOperand o i (coordinate p v 0)
-    → b ≡ withOperand a (i + 1) (coordinate p v 1) → r ≡ withOperand b (i + 2) (coordinate p v 2) → r ≡ withPoint o i p v
+pub point-steps : (o : Operator) (i : ℕ) (p : List ℤ) (v : ℕ) (a b r : Operator)
+    → a ≡ withOperand o i (coordinate p v 0)
+    → b ≡ withOperand a (i + 1) (coordinate p v 1) → r ≡ withOperand b (i + 2) (coordinate p v 2)
+    → r ≡ withPoint o i p v
 point-steps o i p v a b r e f g = rw (g, f, e)
 
 -- edge 0 has no half

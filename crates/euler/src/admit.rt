@@ -1,4 +1,5 @@
-// Refusals 6 and 7: an old item is free, a new number is in use. One table of operand kinds says which is asked of which operand.
+// Refusals 6 and 7: an old item is free, a new number is in use. One table of operand kinds says which is asked of
+// which operand.
 ghost use mathlib.Core.Path.{_≡_};
 ghost use Prim.Native.Nat.{ℕ, _≤_, _<_};
 ghost use lib.ListN.{getD};

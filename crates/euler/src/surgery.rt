@@ -33,7 +33,9 @@ pub fn edge_in(links: &mut [u16], sh: Shape, k: usize, a: Half, b: Half)
     requires { ⌜ k < 65535 ⌝ }
     requires { ⌜ (a .start < 65536) × (a .owner < 65536) × (a .next < 65536) × (a .prev < 65536) ⌝ }
     requires { ⌜ (b .start < 65536) × (b .owner < 65536) × (b .next < 65536) × (b .prev < 65536) ⌝ }
-    ensures { λ _. ⌜ now (links .exit) ≡ edgeIn sh (now (links .entry)) k (a .start) (a .owner) (a .next) (a .prev) (b .start) (b .owner) (b .next) (b .prev) ⌝ }
+    ensures { λ _. ⌜ now (links .exit)
+        ≡ edgeIn sh (now (links .entry)) k (a .start) (a .owner) (a .next) (a .prev) (b .start) (b .owner) (b .next)
+        (b .prev) ⌝ }
 {
     let m = mate_of(k);
     put_half(links, sh, k, a);

@@ -10,8 +10,8 @@ use layout::columns::set_loop_first;
 use layout::columns::set_loop_isolated;
 use layout::shape::Shape;
 
-// The half-edges from k up to before stop are given loop l. They are relabelled where they sit: at each half-edge passed,
-// those behind name l, those ahead do not yet.
+// The half-edges from k up to before stop are given loop l. They are relabelled where they sit: at each half-edge
+// passed, those behind name l, those ahead do not yet.
 fn relabel_steps(links: &mut [u16], sh: Shape, fuel: usize, from: usize, stop: usize, l: usize)
     requires { ⌜ (from ≤ 65536) × (l < 65536) ⌝ }
     ensures { λ _. ⌜ now (links .exit) ≡ relabel sh fuel (now (links .entry)) from stop l ⌝ }
@@ -44,8 +44,8 @@ pub fn lower(f: usize, k: usize) -> usize
     choose(f == 0, k, choose(f < k, f, k))
 }
 
-// The least half-edge that names loop l, where k names it and none below low does. The numbers from low up are tried, and with each
-// trial goes one step along the cycle, keeping the least: whichever ends first has the answer.
+// The least half-edge that names loop l, where k names it and none below low does. The numbers from low up are tried,
+// and with each trial goes one step along the cycle, keeping the least: whichever ends first has the answer.
 pub fn first_from(links: &[u16], sh: Shape, l: usize, low: usize, k: usize) -> usize
     requires { ⌜ k < 65536 ⌝ }
     ensures { λ r. ⌜ (r ≡ firstFrom sh (now (links .entry)) l low k) × (r < 65536) ⌝ }
@@ -68,8 +68,8 @@ pub fn first_from(links: &[u16], sh: Shape, l: usize, low: usize, k: usize) -> u
     best
 }
 
-// Loop l has the cycle of half-edge k, no half-edge below low names it, and first is the least that does; where k is 0, first is 0
-// and l is isolated at vertex u.
+// Loop l has the cycle of half-edge k, no half-edge below low names it, and first is the least that does; where k is 0,
+// first is 0 and l is isolated at vertex u.
 pub fn renew_loop(links: &mut [u16], sh: Shape, l: usize, low: usize, k: usize, u: usize)
     requires { ⌜ (l ≤ 65536) × (k < 65536) × (u < 65536) ⌝ }
     ensures { λ _. ⌜ now (links .exit) ≡ renew sh (now (links .entry)) l low k u ⌝ }

@@ -1,5 +1,5 @@
--- What the conditions by code say at a code that is known, and at one that is none of 1 to 13. They stay shut, so that a proof names
--- just the code and what stands there.
+-- What the conditions by code say at a code that is known, and at one that is none of 1 to 13. They stay shut, so that
+-- a proof names just the code and what stands there.
 use mathlib.Core.Path.{_≡_, refl}
 use mathlib.Core.Bool.{Bool, true}
 use mathlib.Core.List.{List}
@@ -13,7 +13,8 @@ use Rattle.euler.specs.Surgery.{itemOf}
 use Rattle.euler.specs.Exec.{conditions, condition}
 
 module _ (sh : Shape) (x : List ℕ) (o : Operator) where
-  pub condition-at : (k : ℕ) (v r : Bool) → o .code ≡ k → getD (conditions sh x (itemOf o)) k true ≡ v → r ≡ v → r ≡ condition sh x o
+  pub condition-at : (k : ℕ) (v r : Bool) → o .code ≡ k → getD (conditions sh x (itemOf o)) k true ≡ v → r ≡ v
+      → r ≡ condition sh x o
   unfolding condition
   condition-at k v r e f g = by-code (conditions sh x (itemOf o)) true (o .code) k v r e f g
 

@@ -39,8 +39,8 @@ pub fn kemr_fits(links: &[u16], sh: Shape, k: usize) -> bool
     o == l
 }
 
-// The run after k up to the mate becomes ring l2 of k's face, isolated at k's end where it is empty; the run after the mate stays,
-// isolated at k's start where it is empty.
+// The run after k up to the mate becomes ring l2 of k's face, isolated at k's end where it is empty; the run after the
+// mate stays, isolated at k's start where it is empty.
 pub fn kemr_links(links: &mut [u16], sh: Shape, k: usize, l2: usize)
     requires { ⌜ (k < 65535) × (l2 < 65536) ⌝ }
     ensures { λ _. ⌜ now (links .exit) ≡ kemrLinks sh (now (links .entry)) k l2 ⌝ }

@@ -66,22 +66,30 @@ pub record Filled (sh : Shape) (x : List ℕ) (i : ℕ) (c : List ℕ) : Type 0 
 -- none is counted at the beginning
 pub filled-none : (sh : Shape) (x : List ℕ) → Filled sh x 0 (replicate 4097 0)
 unfolding sumTo
-filled-none sh x = record { size = length-replicate {A = ℕ} 4097 0; loops = λ f l u. getD-replicate {A = ℕ} 4097 f 0 0 (omega arith) }
+filled-none sh x = record {
+  size = length-replicate {A = ℕ} 4097 0;
+  loops =
+      λ f l u. getD-replicate {A = ℕ} 4097 f 0 0 (omega arith);
+}
 
 -- one more number where it is wanted, and elsewhere as before
-raised-at : (c : List ℕ) (f : ℕ) → length c ≡ 4097 → 1 ≤ f → f ≤ 4096 → getD c f 0 < 65535 → getD (raised c f) f 0 ≡ getD c f 0 + 1
+raised-at : (c : List ℕ) (f : ℕ) → length c ≡ 4097 → 1 ≤ f → f ≤ 4096 → getD c f 0 < 65535
+    → getD (raised c f) f 0 ≡ getD c f 0 + 1
 unfolding raised
 raised-at c f s l u h =
-    rw (le-leb 1 f l, le-leb f 4096 u, lt-ltb (getD c f 0) 65535 h) (getD-set-same c f (getD c f 0 + 1) 0 (omega (arith, s)))
+    rw (le-leb 1 f l, le-leb f 4096 u, lt-ltb (getD c f 0) 65535 h)
+    (getD-set-same c f (getD c f 0 + 1) 0 (omega (arith, s)))
 
 raised-off : (c : List ℕ) (f g : ℕ) → f ≢ g → getD (raised c f) g 0 ≡ getD c g 0
 unfolding raised
-raised-off c f g d = pick-ind (λ l. getD l g 0 ≡ getD c g 0) (isPlace f && ltb (getD c f 0) 65535) (set c f (getD c f 0 + 1)) c
+raised-off c f g d = pick-ind (λ l. getD l g 0 ≡ getD c g 0) (isPlace f && ltb (getD c f 0) 65535)
+    (set c f (getD c f 0 + 1)) c
     (getD-set-other c f g (getD c f 0 + 1) 0 (λ e. d (sym e))) refl
 
 raised-length : (c : List ℕ) (f : ℕ) → length (raised c f) ≡ length c
 unfolding raised
-raised-length c f = pick-ind {X = List ℕ} (λ l. length l ≡ length c) (isPlace f && ltb (getD c f 0) 65535) (set c f (getD c f 0 + 1)) c
+raised-length c f = pick-ind {X = List ℕ} (λ l. length l ≡ length c) (isPlace f && ltb (getD c f 0) 65535)
+    (set c f (getD c f 0 + 1)) c
     (length-set c f (getD c f 0 + 1)) refl
 
 -- loop i + 1 lies in face f
@@ -104,11 +112,14 @@ filled-next sh x i c f d h a e q = record {
 }
 
 -- all of them are
-pub filled-all : (sh : Shape) (x : List ℕ) (i : ℕ) (c : List ℕ) → Filled sh x i c → i ≤ sh .loops → sh .loops ≤ i → Counted sh x c
+pub filled-all : (sh : Shape) (x : List ℕ) (i : ℕ) (c : List ℕ) → Filled sh x i c → i ≤ sh .loops → sh .loops ≤ i
+    → Counted sh x c
 filled-all sh x i c a h k = let e : sh .loops ≡ i = omega arith in record { loops = λ f l u. rw e (a .loops f l u) }
 
 -- what the number at face f's place says
-pub kept-at : (sh : Shape) (x c : List ℕ) (f n : ℕ) → Counted sh x c → 1 ≤ f → f ≤ 4096 → sh .loops ≤ 4096 → n ≡ getD c f 0
+pub kept-at : (sh : Shape) (x c : List ℕ) (f n : ℕ) → Counted sh x c → 1 ≤ f → f ≤ 4096 → sh .loops ≤ 4096
+    → n ≡ getD c f 0
     → (n ≡ loopsIn sh x f) × (n < 65536)
 kept-at sh x c f n a l u m e =
-    let q : n ≡ loopsIn sh x f = e ∙ a .loops f l u in (q, omega (arith, q, count-le (sh .loops) (λ k. eqb (loopFace sh x k) f)))
+    let q : n ≡ loopsIn sh x f = e ∙ a .loops f l u in
+    (q, omega (arith, q, count-le (sh .loops) (λ k. eqb (loopFace sh x k) f)))

@@ -1,4 +1,5 @@
--- How many loops each face has, kept in a list beside a table so that no operator has to count them: face f's number stands at place f.
+-- How many loops each face has, kept in a list beside a table so that no operator has to count them: face f's number
+-- stands at place f.
 use Prim.Native.Nat.{ℕ, _+_, _-_, _≤_}
 use mathlib.Core.Path.{_≡_}
 use mathlib.Core.Bool.{Bool, _&&_}
@@ -20,7 +21,8 @@ pub record Counted (sh : Shape) (x c : List ℕ) : Type 0 where
 -- the loop whose face the operator changes, the codes in order from 0; 0 for none
 abbrev pub movedLoops : Shape → List ℕ → (ℕ → ℕ) → List ℕ
 movedLoops sh x a =
-    0 ∷ a 2 ∷ onlyLoop sh x (a 0) ∷ 0 ∷ 0 ∷ a 5 ∷ loopOf sh x (a 0) ∷ a 1 ∷ a 2 ∷ faceOuter sh x (a 1) ∷ a 0 ∷ 0 ∷ 0 ∷ a 0 ∷ []
+    0 ∷ a 2 ∷ onlyLoop sh x (a 0) ∷ 0 ∷ 0 ∷ a 5 ∷ loopOf sh x (a 0) ∷ a 1 ∷ a 2 ∷ faceOuter sh x (a 1) ∷ a 0 ∷ 0 ∷ 0
+    ∷ a 0 ∷ []
 
 unfoldable pub movedLoop : Shape → List ℕ → Operator → ℕ
 movedLoop sh x o = getD (movedLoops sh x (itemOf o)) (o .code) 0

@@ -1,4 +1,5 @@
--- What each function of this crate computes step by step is what the operator's definition says: one premise for each call.
+-- What each function of this crate computes step by step is what the operator's definition says: one premise for each
+-- call.
 use mathlib.Core.Path.{_≡_}
 use Prim.Native.Nat.{ℕ, _+_, _≤_}
 use native.Mathlib.Omega.{arith}
@@ -34,7 +35,8 @@ pub mef-steps : (sh : Shape) (x : List ℕ) (l h1 h2 a f l2 w : ℕ) {b g s from
     → x4 ≡ putFace sh x3 f s l2 → x5 ≡ renewSides sh x4 l low l2 low a
     → x5 ≡ mefLinks sh x l h1 h2 a f l2 w
 unfolding mefLinks mefIn renewSides
-mef-steps sh x l h1 h2 a f l2 w eb eg es ef er eo el e1 e2 e3 e4 e5 = rw (e5, e4, e3, e2, e1, el, eo, er, ef, es, eg, eb)
+mef-steps sh x l h1 h2 a f l2 w eb eg es ef er eo el e1 e2 e3 e4 e5 =
+    rw (e5, e4, e3, e2, e1, el, eo, er, ef, es, eg, eb)
 
 pub kef-tests : (sh : Shape) (x : List ℕ) (k : ℕ) {m f g n : ℕ}
     → m ≡ mate k → f ≡ side sh x k → g ≡ side sh x m → n ≡ loopsIn sh x f
@@ -52,14 +54,34 @@ unfolding kefOut
 kef-edge-steps sh x k a b em ep en eq eo e1 = rw (e1, ep, en, eq, eo, em)
 
 pub kef-steps : (sh : Shape) (x : List ℕ) (k : ℕ) {m f rest g h low : ℕ} {a b : Half} {x1 x2 x3 x4 x5 : List ℕ}
-    → m ≡ mate k → IsHalf sh x k a → IsHalf sh x m b → f ≡ loopFace sh x (a .owner) → rest ≡ restOf k (a .next) m (b .next)
+    → m ≡ mate k → IsHalf sh x k a → IsHalf sh x m b → f ≡ loopFace sh x (a .owner)
+    → rest ≡ restOf k (a .next) m (b .next)
     → g ≡ loopFirst sh x (a .owner) → h ≡ loopFirst sh x (b .owner) → low ≡ lower g h
     → x1 ≡ relabelRun sh x (a .next) k (b .owner) → x2 ≡ kefOut sh x1 k a b → x3 ≡ putFace sh x2 f 0 0
     → x4 ≡ putLoop sh x3 (a .owner) 0 0 0 → x5 ≡ renew sh x4 (b .owner) low rest (a .start)
     → x5 ≡ kefLinks sh x k
 unfolding kefLinks kefOut
 kef-steps sh x k em ha hb ef er eg eh el e1 e2 e3 e4 e5 =
-    rw (e5, e4, e3, e2, e1, ef, er, el, eg, eh, ha .start, ha .owner, ha .next, ha .prev, hb .owner, hb .next, hb .prev, em)
+    rw (
+      e5,
+      e4,
+      e3,
+      e2,
+      e1,
+      ef,
+      er,
+      el,
+      eg,
+      eh,
+      ha .start,
+      ha .owner,
+      ha .next,
+      ha .prev,
+      hb .owner,
+      hb .next,
+      hb .prev,
+      em,
+    )
 
 -- the way of a face's inverse is 3 at most
 pub two-at-most : (t : Bool) (d : ℕ) → d ≡ pick t 2 0 → d ≤ 2
@@ -70,7 +92,8 @@ pub kef-undone : (sh : Shape) (x : List ℕ) (k : ℕ) {m f h1 h2 t d e : ℕ} {
     → m ≡ mate k → IsHalf sh x k a → IsHalf sh x m b → f ≡ loopFace sh x (a .owner)
     → h1 ≡ restOf k (a .next) m (b .next) → h2 ≡ restOf m (b .next) k (a .next)
     → t ≡ wayOf m → d ≡ pick (eqb (b .next) m && not (eqb (a .next) k)) 2 0 → e ≡ edgeOf k
-    → o1 ≡ blankOf 5 7 → o2 ≡ withThree o1 0 (b .owner) h1 h2 → o3 ≡ withThree o2 3 e f (a .owner) → r ≡ withNumber o3 6 (t + d)
+    → o1 ≡ blankOf 5 7 → o2 ≡ withThree o1 0 (b .owner) h1 h2 → o3 ≡ withThree o2 3 e f (a .owner)
+    → r ≡ withNumber o3 6 (t + d)
     → r ≡ kefInverse sh x k
 unfolding withThree
 kef-undone sh x k em ha hb ef eh1 eh2 et ed ee e1 e2 e3 e4 =

@@ -80,7 +80,8 @@ fn mef_edge(
     edge_in(links, sh, a, there, back);
 }
 
-// Loop l keeps previous of h1, a, h2 onward; l2 of the new face f, in the same solid, has h1 up to before h2, then a's mate.
+// Loop l keeps previous of h1, a, h2 onward; l2 of the new face f, in the same solid, has h1 up to before h2, then a's
+// mate.
 pub fn mef_links(
     links: &mut [u16],
     sh: Shape,
@@ -138,8 +139,8 @@ fn rest_of(k: usize, n: usize, m: usize, o: usize) -> usize
     choose(n == k, choose(o == m, 0, o), n)
 }
 
-// The edge of k killed, where k has the words a and its mate b: the rest of k's loop goes between the neighbours of the mate, and
-// where one rest is empty the other closes on itself.
+// The edge of k killed, where k has the words a and its mate b: the rest of k's loop goes between the neighbours of the
+// mate, and where one rest is empty the other closes on itself.
 fn kef_edge(links: &mut [u16], sh: Shape, k: usize, a: Half, b: Half)
     requires { ⌜ k < 65535 ⌝ }
     requires { ⌜ (a .next < 65536) × (a .prev < 65536) × (b .next < 65536) × (b .prev < 65536) ⌝ }
@@ -153,8 +154,8 @@ fn kef_edge(links: &mut [u16], sh: Shape, k: usize, a: Half, b: Half)
     edge_out(links, sh, k, p, n, q, o);
 }
 
-// Edge, face and loop of k killed; the rest of that loop takes the mate's place. Where nothing is left of the two loops, the
-// one that stays is isolated.
+// Edge, face and loop of k killed; the rest of that loop takes the mate's place. Where nothing is left of the two
+// loops, the one that stays is isolated.
 pub fn kef_links(links: &mut [u16], sh: Shape, k: usize)
     requires { ⌜ k < 65535 ⌝ }
     ensures { λ _. ⌜ now (links .exit) ≡ kefLinks sh (now (links .entry)) k ⌝ }

@@ -1,5 +1,5 @@
-// What stands in more than one edge operator: a half-edge read whole, three operands at once, the loops on both sides of an edge
-// anew, both halves of an edge cleared.
+// What stands in more than one edge operator: a half-edge read whole, three operands at once, the loops on both sides
+// of an edge anew, both halves of an edge cleared.
 ghost use mathlib.Core.Path.{_≡_};
 ghost use Prim.Native.Nat.{ℕ, _<_, _≤_};
 ghost use Rattle.euler_edges.specs.Parts.{IsHalf, withThree, renewSides, clearEdge};

@@ -12,6 +12,7 @@ module _ (sh : Shape) (x : List ℕ) (o : Operator) where
   unfolding linksAfter
   links-performed y e = e
 
-  pub points-performed : (p q : List ℤ) → q ≡ pointsAfter sh x p (operatorBy (o .code) (o .args)) → q ≡ pointsAfter sh x p o
+  pub points-performed : (p q : List ℤ) → q ≡ pointsAfter sh x p (operatorBy (o .code) (o .args))
+      → q ≡ pointsAfter sh x p o
   unfolding pointsAfter killedVertex
   points-performed p q e = e

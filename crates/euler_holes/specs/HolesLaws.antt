@@ -11,7 +11,7 @@ use lib.ListN.{length}
 use lib.Seq.{set-getD}
 use Rattle.laws.specs.Bools.{pick, split, eqb-same, eqb-other}
 use Rattle.laws.specs.Columns.{Kind, sweep}
-use Rattle.laws.specs.Union.{SameRoots}
+use Rattle.laws.specs.UnionFind.{SameRoots}
 use Rattle.layout.specs.declared.shape.Shape.{Shape}
 use Rattle.layout.specs.Layout.{faceSolid, faceOuter, loopFace, setSolidUsed, setFaceSolid}
 use Rattle.check_shells.specs.Shells.{sideAs, oneRoot, facesLinkedAs, Shells}
@@ -29,7 +29,8 @@ module _ (sh : Shape) (g : ℕ → ℕ → ℕ) (x : List ℕ) where
   sweep-none = refl
 
   -- one face more
-  pub sweep-more : (k : ℕ) (y z : List ℕ) (v w : ℕ) → y ≡ sweepFaces sh k g x → v ≡ faceSolid sh y (k + 1) → w ≡ g (k + 1) v
+  pub sweep-more : (k : ℕ) (y z : List ℕ) (v w : ℕ) → y ≡ sweepFaces sh k g x → v ≡ faceSolid sh y (k + 1)
+      → w ≡ g (k + 1) v
       → z ≡ setFaceSolid sh y (k + 1) w → z ≡ sweepFaces sh (k + 1) g x
   unfolding sweep
   sweep-more k y z v w ey ev ew ez = rw (ez, ew, ev, ey, add-one k)
@@ -53,7 +54,8 @@ move-none sh x s t e = sym (sweep-same _ _ (sh .faces) _ x (λ k v. own v))
     own v = split v s (λ q. rw (eqb-same q) (sym (q ∙ e))) (λ q. rw (eqb-other q))
 
 -- what the parents answer after their paths were shortened is what they answered first
-pub by-root : (sh : Shape) {p q : List ℕ} → SameRoots p q → (f s g old w : ℕ) (b : Bool) → b ≡ oneRoot (sh .faces) q f g → w ≡ pick b s old
+pub by-root : (sh : Shape) {p q : List ℕ} → SameRoots p q → (f s g old w : ℕ) (b : Bool) → b ≡ oneRoot (sh .faces) q f g
+    → w ≡ pick b s old
     → w ≡ byRoot sh p f s g old
 by-root sh r f s g old w b e h = rw (h, e, one-root-short (sh .faces) r f g)
 
@@ -124,7 +126,8 @@ module _ (sh : Shape) (x : List ℕ) (l f s : ℕ) where
   shell-is : (p y : List ℕ) → Shells sh x (sideAs sh x l f) p
       → moveShell sh y p f s ≡ sweepFaces sh (sh .faces) (λ g old. pick (linkedAfter sh x l f f g) s old) y
   unfolding moveShell linkedAfter
-  shell-is p y c = ap (λ h. sweepFaces sh (sh .faces) h y) (fun-ext (λ g. fun-ext (λ old. ap (λ b. pick b s old) (c .one f g))))
+  shell-is p y c =
+      ap (λ h. sweepFaces sh (sh .faces) h y) (fun-ext (λ g. fun-ext (λ old. ap (λ b. pick b s old) (c .one f g))))
 
   -- f and all faces linked to it leave
   pub mfkrh-leaves : s ≢ 0 → (p : List ℕ) → Shells sh x (sideAs sh x l f) p → (x1 x2 x3 : List ℕ)

@@ -1,5 +1,5 @@
-// The operator that undoes each operator, decided by a match over the codes 1 to 13. All its numbers are read before anything is
-// stored.
+// The operator that undoes each operator, decided by a match over the codes 1 to 13. All its numbers are read before
+// anything is stored.
 ghost use mathlib.Core.Path.{_≡_};
 ghost use Prim.Native.Nat.{ℕ, _≤_, _<_};
 ghost use Rattle.layout.specs.Layout.{nextOf};
@@ -37,7 +37,9 @@ use script::blank;
 // mvsf of the solid that kvsf kills.
 fn solid_again(links: &[u16], points: &[i32], sh: Shape, s: usize) -> Operator
     requires { ⌜ (Small sh) × (s ≤ 8192) ⌝ }
-    ensures { λ r. ⌜ r ≡ kvsfInverse (now (points .entry)) s (faceIn sh (now (links .entry)) s) (onlyLoop sh (now (links .entry)) s) (onlyVertex sh (now (links .entry)) s) ⌝ }
+    ensures { λ r.
+        ⌜ r ≡ kvsfInverse (now (points .entry)) s (faceIn sh (now (links .entry)) s) (onlyLoop sh
+        (now (links .entry)) s) (onlyVertex sh (now (links .entry)) s) ⌝ }
 {
     let f = face_in(links, sh, s);
     let l = face_outer(links, sh, f);
@@ -48,7 +50,8 @@ fn solid_again(links: &[u16], points: &[i32], sh: Shape, s: usize) -> Operator
 // semv of the vertex that jekv kills.
 fn vertex_again(links: &[u16], points: &[i32], sh: Shape, k: usize) -> Operator
     requires { ⌜ k ≤ 8192 ⌝ }
-    ensures { λ r. ⌜ r ≡ jekvInverse sh (now (links .entry)) (now (points .entry)) k (nextOf sh (now (links .entry)) k) ⌝ }
+    ensures { λ r.
+        ⌜ r ≡ jekvInverse sh (now (links .entry)) (now (points .entry)) k (nextOf sh (now (links .entry)) k) ⌝ }
 {
     let n = next_of(links, sh, k);
     jekv_inverse(links, points, sh, k, n)

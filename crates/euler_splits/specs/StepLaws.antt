@@ -1,4 +1,5 @@
--- What each function of this crate computes step by step is what the operator's definition says: one premise for each call.
+-- What each function of this crate computes step by step is what the operator's definition says: one premise for each
+-- call.
 use mathlib.Core.Path.{_≡_}
 use Prim.Native.Nat.{ℕ}
 use mathlib.Core.Bool.{not, _&&_}
@@ -22,7 +23,8 @@ pub semv-steps : (sh : Shape) (x : List ℕ) (k n v : ℕ) {m t l o u p f g w lo
     → x4 ≡ renewSides sh x3 l low o low′ k → x5 ≡ setVertexUsed sh x4 v 1
     → x5 ≡ semvLinks sh x k n v
 unfolding semvLinks renewSides
-semv-steps sh x k n v em et el eo eu ef eg ew ea eb e1 ep e2 e3 e4 e5 = rw (e5, e4, e3, e2, ep, e1, ea, eb, ef, eg, ew, el, eo, eu, et, em)
+semv-steps sh x k n v em et el eo eu ef eg ew ea eb e1 ep e2 e3 e4 e5 =
+    rw (e5, e4, e3, e2, ep, e1, ea, eb, ef, eg, ew, el, eo, eu, et, em)
 
 pub jekv-tests : (sh : Shape) (x : List ℕ) (k : ℕ) {n km nm back e f : ℕ}
     → n ≡ nextOf sh x k → km ≡ mate k → nm ≡ mate n → back ≡ nextOf sh x nm → e ≡ edgeOf k → f ≡ edgeOf n
@@ -31,7 +33,8 @@ unfolding jekvTest
 jekv-tests sh x k en ekm enm eb ee ef = rw (ef, ee, eb, enm, ekm, en)
 
 pub jekv-steps : (sh : Shape) (x : List ℕ) (k n : ℕ) {m l o v f g : ℕ} {x1 x2 x3 x4 : List ℕ}
-    → m ≡ mate k → l ≡ loopOf sh x k → o ≡ loopOf sh x m → v ≡ startOf sh x n → f ≡ loopFirst sh x l → g ≡ loopFirst sh x o
+    → m ≡ mate k → l ≡ loopOf sh x k → o ≡ loopOf sh x m → v ≡ startOf sh x n → f ≡ loopFirst sh x l
+    → g ≡ loopFirst sh x o
     → x1 ≡ joinHalves sh x k n → x2 ≡ clearEdge sh x1 n → x3 ≡ renewSides sh x2 l f o g k → x4 ≡ setVertexUsed sh x3 v 0
     → x4 ≡ jekvLinks sh x k n
 unfolding jekvLinks joinHalves clearEdge renewSides

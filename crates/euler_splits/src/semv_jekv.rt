@@ -44,8 +44,8 @@ fn insert_after(links: &mut [u16], sh: Shape, k: usize, n: usize, v: usize, l: u
     set_between(links, sh, k, n, o);
 }
 
-// After k comes n, from v; before k's mate, which now starts at v, comes n's mate. What comes before k's mate is read when n is in,
-// since next of k may be the mate.
+// After k comes n, from v; before k's mate, which now starts at v, comes n's mate. What comes before k's mate is read
+// when n is in, since next of k may be the mate.
 pub fn semv_links(links: &mut [u16], sh: Shape, k: usize, n: usize, v: usize)
     requires { ⌜ (k < 65535) × (n < 65535) × (v < 65536) ⌝ }
     ensures { λ _. ⌜ now (links .exit) ≡ semvLinks sh (now (links .entry)) k n v ⌝ }
@@ -89,8 +89,8 @@ pub fn jekv_fits(links: &[u16], sh: Shape, k: usize) -> bool
     (f != e) & (back == km)
 }
 
-// n's edge taken out: k is followed by what follows n; then what comes before n's mate, which may be k, by k's mate, which starts
-// where n's mate did.
+// n's edge taken out: k is followed by what follows n; then what comes before n's mate, which may be k, by k's mate,
+// which starts where n's mate did.
 fn join_halves(links: &mut [u16], sh: Shape, k: usize, n: usize)
     requires { ⌜ (k < 65535) × (n < 65536) ⌝ }
     ensures { λ _. ⌜ now (links .exit) ≡ joinHalves sh (now (links .entry)) k n ⌝ }

@@ -1,4 +1,5 @@
--- What each function of this crate computes step by step is what the operator's definition says: one premise for each call.
+-- What each function of this crate computes step by step is what the operator's definition says: one premise for each
+-- call.
 use mathlib.Core.Path.{_≡_}
 use Prim.Native.Nat.{ℕ}
 use mathlib.Core.List.{List}
@@ -24,7 +25,8 @@ unfolding mevLinks
 mev-steps sh x l h k v em eu eb ep en ef eo el e1 e2 e3 = rw (e3, e2, e1, el, eo, ef, ep, en, eb, eu, em)
 
 pub kev-steps : (sh : Shape) (x : List ℕ) (k : ℕ) {m rest low : ℕ} {a b : Half} {x1 x2 x3 : List ℕ}
-    → m ≡ mate k → IsHalf sh x k a → IsHalf sh x m b → rest ≡ pick (eqb (b .next) k) 0 (b .next) → low ≡ loopFirst sh x (a .owner)
+    → m ≡ mate k → IsHalf sh x k a → IsHalf sh x m b → rest ≡ pick (eqb (b .next) k) 0 (b .next)
+    → low ≡ loopFirst sh x (a .owner)
     → x1 ≡ edgeOut sh x k (a .prev) (b .next) (b .prev) (a .next) → x2 ≡ renew sh x1 (a .owner) low rest (a .start)
     → x3 ≡ setVertexUsed sh x2 (b .start) 0
     → x3 ≡ kevLinks sh x k
@@ -33,7 +35,8 @@ kev-steps sh x k em ha hb er el e1 e2 e3 =
     rw (e3, e2, e1, er, el, ha .start, ha .owner, ha .next, ha .prev, hb .start, hb .next, hb .prev, em)
 
 pub kev-undone : (sh : Shape) (x : List ℕ) (p : List ℤ) (k : ℕ) {m h e w : ℕ} {a b : Half} {o1 o2 o3 o4 r : Operator}
-    → m ≡ mate k → IsHalf sh x k a → IsHalf sh x m b → h ≡ pick (eqb (b .next) k) 0 (b .next) → e ≡ edgeOf k → w ≡ wayOf k
+    → m ≡ mate k → IsHalf sh x k a → IsHalf sh x m b → h ≡ pick (eqb (b .next) k) 0 (b .next) → e ≡ edgeOf k
+    → w ≡ wayOf k
     → o1 ≡ blankOf 3 8 → o2 ≡ withThree o1 0 (a .owner) h e → o3 ≡ withNumber o2 3 (b .start) → o4 ≡ withNumber o3 4 w
     → r ≡ withPoint o4 5 p (b .start)
     → r ≡ kevInverse sh x p k

@@ -33,7 +33,8 @@ pub fn mev_fits(links: &[u16], sh: Shape, l: usize, h: usize) -> bool
     is_corner(links, sh, l, h)
 }
 
-// Half-edge k from the corner's vertex to v, then its mate, both just before h. At a lone corner the two follow each other.
+// Half-edge k from the corner's vertex to v, then its mate, both just before h. At a lone corner the two follow each
+// other.
 pub fn mev_links(links: &mut [u16], sh: Shape, l: usize, h: usize, k: usize, v: usize)
     requires { ⌜ (l < 65536) × (h < 65536) × (k < 65535) × (v < 65536) ⌝ }
     ensures { λ _. ⌜ now (links .exit) ≡ mevLinks sh (now (links .entry)) l h k v ⌝ }

@@ -13,7 +13,10 @@ use Rattle.codec.specs.OperandBytes.{readOperand, readOperands, operandBytes, o
 use Rattle.script.specs.Operator.{readBehind, readOperator, operatorBytes, operatorRefusal, putBytes, writeOperator}
 use Rattle.layout.specs.Mate.{mate}
 use Rattle.check_shells.specs.Shells.{within, joins, linkedBy}
-use Rattle.check_items.specs.Rules.{solidRange, faceRange, loopRange, halfRange, vertexRange, rule1, solidNames, faceNames, loopNames, halfNames, rule2, loopEither, rule3, halfLinks, firstNames, halfInLoop, rule4, vertexEither, halfAtVertex, rule5, halfSides, faceLinked, rule6, brokenRule}
+use Rattle.check_items.specs.Rules.{solidRange, faceRange, loopRange, halfRange, vertexRange, rule1, solidNames}
+use Rattle.check_items.specs.Rules.{faceNames, loopNames, halfNames, rule2, loopEither, rule3, halfLinks, firstNames}
+use Rattle.check_items.specs.Rules.{halfInLoop, rule4, vertexEither, halfAtVertex, rule5, halfSides, faceLinked, rule6}
+use Rattle.check_items.specs.Rules.{brokenRule}
 use Rattle.table.specs.Sizes.{sizesFit}
 use Rattle.table.specs.Clear.{clearOf}
 use Rattle.table.specs.Check.{checkOf}
@@ -22,8 +25,10 @@ use Rattle.euler.specs.Surgery.{corner, edgeIn, edgeOut, relabel, seek, renew}
 use Rattle.euler.specs.EdgeOperators.{mevLinks, kevTest, kevLinks, mefTest, mefLinks, kefTest, kefLinks}
 use Rattle.euler.specs.FaceOperators.{mvsfLinks, kvsfTest, kvsfLinks, kfmrhTest, kfmrhLinks, linkedAfter, mfkrhTest}
 use Rattle.euler.specs.FaceOperators.{mfkrhLinks}
-use Rattle.euler.specs.Exec.{admitOf, useRefusals, useRefusal, useWord, condition, linksAfter, pointsAfter, killedVertex, inverse}
-use Rattle.runs.specs.Run.{admitRead, inverseBytes, carryRefusal, runRefusal, stepped, runFrom, entry, runOf, undoFrom, undoOf}
+use Rattle.euler.specs.Exec.{admitOf, useRefusals, useRefusal, useWord, condition, linksAfter, pointsAfter}
+use Rattle.euler.specs.Exec.{killedVertex, inverse}
+use Rattle.runs.specs.Run.{admitRead, inverseBytes, carryRefusal, runRefusal, stepped, runFrom, entry, runOf, undoFrom}
+use Rattle.runs.specs.Run.{undoOf}
 use Rattle.takedown.specs.Inversion.{act, turnB, turned, invertBy, invertOf}
 use Rattle.machine.specs.Machine.{doAll}
 use Rattle.evidence_cases.specs.Case.{Row, Hold}
@@ -44,7 +49,8 @@ unfolding doAll clearOf runOf undoOf countOf invertOf invertBy turned turnB act 
     vertexEither halfAtVertex halfSides faceLinked allTo leastFrom sumTo meets linkedb rounds pass across mate within
     joins linkedBy third second first readNumber groups pattern rows inRanges inRange zig zag wire unwire readOperand
     readOperands readBehind operandBytes operandsBytes operatorBytes operatorRefusal putBytes admitRead inverseBytes
-    carryRefusal runRefusal stepped runFrom undoFrom admitOf useRefusals useRefusal useWord condition linksAfter pointsAfter
+    carryRefusal runRefusal stepped runFrom undoFrom admitOf useRefusals useRefusal useWord condition linksAfter
+    pointsAfter
     killedVertex inverse corner edgeIn edgeOut relabel seek renew sweep mvsfLinks kvsfTest kvsfLinks mevLinks kevTest
     kevLinks mefTest mefLinks kefTest kefLinks kfmrhTest kfmrhLinks linkedAfter mfkrhTest mfkrhLinks
 cases-hold = refl

@@ -1,6 +1,6 @@
--- Example h of document 01: a capacity of 4,096 is accepted, 0 and 4,097 are refused with 1 and nothing changes; of each of the five
--- kinds, the other capacities being 1. The memory lent is as long as the capacities say.
--- (The start that a refused clearing answers is free in document 01; here it is the log's length, as in the contract.)
+-- Example h of document 01: a capacity of 4,096 is accepted, 0 and 4,097 are refused with 1 and nothing changes; of
+-- each of the five kinds, the other capacities being 1. The memory lent is as long as the capacities say. (The start
+-- that a refused clearing answers is free in document 01; here it is the log's length, as in the contract.)
 use Prim.Native.Nat.{ℕ, _+_}
 use mathlib.Core.List.{List, [], _∷_}
 use lib.IntN.{pos}

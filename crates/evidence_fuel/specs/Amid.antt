@@ -1,5 +1,6 @@
--- Amid an operator: a walk on a list that is not sound yet, but whose next column is already that of the sound table which the operator leaves.
--- (After an edge has gone in or come out, only loops, firsts and whole records are stored, so next stays.) The fuel is enough there too.
+-- Amid an operator: a walk on a list that is not sound yet, but whose next column is already that of the sound table
+-- which the operator leaves. (After an edge has gone in or come out, only loops, firsts and whole records are stored,
+-- so next stays.) The fuel is enough there too.
 use mathlib.Core.Path.{_≡_, refl, sym, ap, _∙_, subst}
 use mathlib.Core.List.{List}
 use Prim.Native.Nat.{ℕ, zero, suc, _+_, _*_}
@@ -14,12 +15,14 @@ use Rattle.sound_tables.specs.Good.{Good, own}
 use Rattle.evidence_fuel.specs.Walks.{relabel-more}
 
 -- functions that agree where one of them stays go the same way
-iter-agree : (f h : ℕ → ℕ) (U : ℕ → Type 0) → ((i : ℕ) → U i → U (h i)) → ((i : ℕ) → U i → f i ≡ h i) → (m k : ℕ) → U k → iter f m k ≡ iter h m k
+iter-agree : (f h : ℕ → ℕ) (U : ℕ → Type 0) → ((i : ℕ) → U i → U (h i)) → ((i : ℕ) → U i → f i ≡ h i) → (m k : ℕ) → U k
+    → iter f m k ≡ iter h m k
 unfolding iter
 iter-agree f h U s e zero k u = refl
 iter-agree f h U s e (suc m) k u = rw (e k u) (iter-agree f h U s e m (h k) (s k u))
 
-module _ {sh : Shape} {z : List ℕ} {q : List ℤ} (g : Good sh z q) (y : List ℕ) (same : (i : ℕ) → HalfUsed sh (own sh z) i → nextOf sh y i ≡ nextOf sh z i) where
+module _ {sh : Shape} {z : List ℕ} {q : List ℤ} (g : Good sh z q) (y : List ℕ) (same : (i : ℕ)
+    → HalfUsed sh (own sh z) i → nextOf sh y i ≡ nextOf sh z i) where
   -- next permutes the half-edges of the sound table
   amid : Perm (2 * sh .edges) (HalfUsed sh (own sh z)) (nextOf sh y)
   amid =
@@ -33,7 +36,8 @@ module _ {sh : Shape} {z : List ℕ} {q : List ℤ} (g : Good sh z q) (y : List 
       }
 
   -- the run to a half-edge of the same loop
-  pub relabel-amid : (k stop l : ℕ) → HalfUsed sh (own sh z) k → HalfUsed sh (own sh z) stop → loopOf sh z stop ≡ loopOf sh z k → (n : ℕ)
+  pub relabel-amid : (k stop l : ℕ) → HalfUsed sh (own sh z) k → HalfUsed sh (own sh z) stop
+      → loopOf sh z stop ≡ loopOf sh z k → (n : ℕ)
       → relabel sh (2 * sh .edges + n) y k stop l ≡ relabelRun sh y k stop l
   relabel-amid k stop l u v e n =
       let c = g .sound .rules .loops in

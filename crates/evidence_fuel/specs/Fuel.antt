@@ -1,4 +1,5 @@
--- A walk carries fuel. Once it has met its end, more fuel changes nothing: on any table whose walk meets its end, sound or not.
+-- A walk carries fuel. Once it has met its end, more fuel changes nothing: on any table whose walk meets its end, sound
+-- or not.
 use mathlib.Core.Path.{_≡_, refl, sym, subst}
 use mathlib.Core.List.{List}
 use Prim.Native.Nat.{ℕ, zero, suc, _≤_}
@@ -16,7 +17,8 @@ use Rattle.sound_tables.specs.Walking.{Steps, steps-on}
 -- a half-edge that is given another loop is followed by the same one
 next-kept : (sh : Shape) (x : List ℕ) (k l : ℕ) → nextOf sh (setLoop sh x k l) ≡ nextOf sh x
 next-kept sh x k l = λ t n.
-    col-store-other 0 (bare (groupAt sh halfKind)) (wordOf Next) (wordOf Loop) x (lit≤ tt) (lit≤ tt) (omega arith) k l n t
+    col-store-other 0 (bare (groupAt sh halfKind)) (wordOf Next) (wordOf Loop) x (lit≤ tt) (lit≤ tt)
+    (omega arith) k l n t
 
 -- a run of d half-edges given another loop
 pub relabel-enough : (sh : Shape) (n d : ℕ) (x : List ℕ) (k stop l : ℕ) → d ≤ n → Steps (nextOf sh x) k stop d

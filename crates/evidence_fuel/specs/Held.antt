@@ -1,6 +1,6 @@
--- Access is total: past the last record it would read another record's word, past the list's end a 0. On a sound table that never happens:
--- every number that a record in use holds is within its capacity and names an item in use, and a number within its capacity reads
--- the word of the record that it names.
+-- Access is total: past the last record it would read another record's word, past the list's end a 0. On a sound table
+-- that never happens: every number that a record in use holds is within its capacity and names an item in use, and a
+-- number within its capacity reads the word of the record that it names.
 use mathlib.Core.Path.{_≡_, refl, _∙_}
 use mathlib.Core.Logic.{_≢_, _⊎_, inl, inr, ⊎-elim}
 use mathlib.Core.List.{List}
@@ -11,9 +11,11 @@ use lib.ListN.{length, getD}
 use Rattle.laws.specs.Columns.{in-kind}
 use Rattle.laws.specs.Permutations.{undo-in}
 use Rattle.layout.specs.declared.shape.Shape.{Shape}
-use Rattle.layout.specs.Layout.{solidUsed, faceSolid, faceOuter, loopFace, loopFirst, loopIsolated, startOf, loopOf, nextOf, prevOf, vertexUsed}
+use Rattle.layout.specs.Layout.{solidUsed, faceSolid, faceOuter, loopFace, loopFirst, loopIsolated, startOf, loopOf}
+use Rattle.layout.specs.Layout.{nextOf, prevOf, vertexUsed}
 use Rattle.layout.specs.Mate.{mate}
-use Rattle.layout.specs.Fields.{Field, Capacity, SolidUsed, Solid, Outer, Face, First, Isolated, Start, Loop, Next, Prev, VertexUsed, groupOf, wordOf, groupAt, capOf, column, field-in}
+use Rattle.layout.specs.Fields.{Field, Capacity, SolidUsed, Solid, Outer, Face, First, Isolated, Start, Loop, Next}
+use Rattle.layout.specs.Fields.{Prev, VertexUsed, groupOf, wordOf, groupAt, capOf, column, field-in}
 use Rattle.sound_tables.specs.Sound.{In, HalfUsed}
 use Rattle.sound_tables.specs.Labels.{label-found}
 use Rattle.sound_tables.specs.Good.{Good, own}
@@ -109,7 +111,11 @@ module _ {sh : Shape} {x : List ℕ} {p : List ℤ} (g : Good sh x p) where
   face-holds : (f : ℕ) → Item (sh .faces) (faceSolid sh x) f → FaceHolds sh x f
   face-holds f i =
       let r = g .sound .face f (i .0) (i .1) in
-      record { solid = (r .solid-in, r .solid-used); outer = (r .outer-in, λ z. omega (arith, i .0 .0, z, r .outer-face)) }
+      record {
+        solid = (r .solid-in, r .solid-used);
+        outer =
+            (r .outer-in, λ z. omega (arith, i .0 .0, z, r .outer-face));
+      }
 
   -- a half-edge that is not free: it names a loop
   names-used : (k : ℕ) → In (2 * sh .edges) k → loopOf sh x k ≢ 0 → startOf sh x k ≢ 0

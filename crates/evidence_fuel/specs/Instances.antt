@@ -1,4 +1,5 @@
--- An instance that goes through the assumptions: the table of example d of document 01. Loop 1 has the half-edges 2, 3; loop 2 has 1, 4.
+-- An instance that goes through the assumptions: the table of example d of document 01. Loop 1 has the half-edges 2, 3;
+-- loop 2 has 1, 4.
 use mathlib.Core.Path.{_≡_, refl}
 use mathlib.Core.List.{List, [], _∷_}
 use Prim.Native.Nat.{ℕ, _+_, _*_}
@@ -14,7 +15,10 @@ use Rattle.script.specs.declared.Operator.{Operator}
 use Rattle.layout.specs.declared.shape.Shape.{Shape}
 use Rattle.layout.specs.Layout.{shapeOf}
 use Rattle.layout.specs.Mate.{mate}
-use Rattle.check_items.specs.Rules.{solidRange, faceRange, loopRange, halfRange, vertexRange, rule1, solidNames, faceNames, loopNames, halfNames, rule2, loopEither, rule3, halfLinks, firstNames, halfInLoop, rule4, vertexEither, halfAtVertex, rule5, halfSides, faceLinked, rule6, brokenRule}
+use Rattle.check_items.specs.Rules.{solidRange, faceRange, loopRange, halfRange, vertexRange, rule1, solidNames}
+use Rattle.check_items.specs.Rules.{faceNames, loopNames, halfNames, rule2, loopEither, rule3, halfLinks, firstNames}
+use Rattle.check_items.specs.Rules.{halfInLoop, rule4, vertexEither, halfAtVertex, rule5, halfSides, faceLinked, rule6}
+use Rattle.check_items.specs.Rules.{brokenRule}
 use Rattle.table.specs.Sizes.{sizesFit}
 use Rattle.table.specs.Check.{checkOf}
 use Rattle.euler.specs.Surgery.{seek, firstFrom, relabel, relabelRun, operator}
@@ -30,7 +34,8 @@ use Rattle.evidence_fuel.specs.Inverse.{SmallOperator, inverse-small}
 
 abbrev links : List ℕ
 links =
-    1 ∷ 2 ∷ 2 ∷ 2 ∷ 2 ∷ 1 ∷ 1 ∷ 1 ∷ 1 ∷ 2 ∷ 1 ∷ 2 ∷ 0 ∷ 2 ∷ 1 ∷ 0 ∷ 1 ∷ 2 ∷ 4 ∷ 4 ∷ 2 ∷ 1 ∷ 3 ∷ 3 ∷ 1 ∷ 1 ∷ 2 ∷ 2 ∷ 2 ∷ 2 ∷ 1 ∷ 1 ∷ 1 ∷ 1 ∷ []
+    1 ∷ 2 ∷ 2 ∷ 2 ∷ 2 ∷ 1 ∷ 1 ∷ 1 ∷ 1 ∷ 2 ∷ 1 ∷ 2 ∷ 0 ∷ 2 ∷ 1 ∷ 0 ∷ 1 ∷ 2 ∷ 4 ∷ 4 ∷ 2 ∷ 1 ∷ 3 ∷ 3 ∷ 1 ∷ 1 ∷ 2 ∷ 2 ∷ 2
+    ∷ 2 ∷ 1 ∷ 1 ∷ 1 ∷ 1 ∷ []
 
 abbrev points : List ℤ
 points = pos 0 ∷ pos 0 ∷ pos 0 ∷ pos 100 ∷ pos 0 ∷ pos 0 ∷ []
@@ -40,7 +45,9 @@ shape = shapeOf links
 
 -- it is good
 good : Good shape links points
-unfolding checkOf sizesFit brokenRule rule1 rule2 rule3 rule4 rule5 rule6 solidRange faceRange loopRange halfRange vertexRange solidNames faceNames loopNames halfNames loopEither halfLinks firstNames halfInLoop vertexEither halfAtVertex halfSides faceLinked allTo leastFrom sumTo meets linkedb rounds pass across mate
+unfolding checkOf sizesFit brokenRule rule1 rule2 rule3 rule4 rule5 rule6 solidRange faceRange loopRange halfRange
+    vertexRange solidNames faceNames loopNames halfNames loopEither halfLinks firstNames halfInLoop vertexEither
+    halfAtVertex halfSides faceLinked allTo leastFrom sumTo meets linkedb rounds pass across mate
 good = checked-good links points refl
 
 -- two half-edges in use, of one loop
@@ -71,7 +78,8 @@ abbrev kef-4 : Operator
 kef-4 = operator 6 (4 ∷ [])
 
 inverse-kef-4 : SmallOperator shape (inverse shape links points kef-4)
-unfolding refusalOf admitOf rangeRefusal pattern rows inRanges inRange wire zig useRefusals useRefusal useWord condition kefTest sumTo mate
+unfolding refusalOf admitOf rangeRefusal pattern rows inRanges inRange wire zig useRefusals useRefusal useWord condition
+    kefTest sumTo mate
 inverse-kef-4 = inverse-small good kef-4 refl refl
 
 -- and as amid an operator, the list standing for itself: the run from 4 to 1

@@ -1,4 +1,5 @@
--- The inverse that a run logs is small: on a sound table its operands are in the table's range, and it is written in at most 19 bytes.
+-- The inverse that a run logs is small: on a sound table its operands are in the table's range, and it is written in at
+-- most 19 bytes.
 use mathlib.Core.Path.{_≡_}
 use mathlib.Core.List.{List}
 use Prim.Native.Nat.{ℕ, _≤_, _<_}
@@ -25,13 +26,15 @@ pub record SmallOperator (sh : Shape) (i : Operator) : Type 0 where
   pub most : length (operatorBytes i) ≤ 19
 
 -- an accepted operator is
-pub accepted-small : {sh : Shape} {x : List ℕ} {p : List ℤ} → Good sh x p → (o : Operator) → length (o .args) ≡ 8 → refusalOf sh x o ≡ 0 → SmallOperator sh o
+pub accepted-small : {sh : Shape} {x : List ℕ} {p : List ℤ} → Good sh x p → (o : Operator) → length (o .args) ≡ 8
+    → refusalOf sh x o ≡ 0 → SmallOperator sh o
 accepted-small {sh} {x} g o len h =
     let s = operator-size o (range-writable (good-within g) o len (accepted sh x o h)) in
     record { range = in-range sh x o h .0; operands = operands-in-range g o len h; least = s .0; most = s .1 }
 
 -- and so is its inverse, which the table that it leaves accepts
-pub inverse-small : {sh : Shape} {x : List ℕ} {p : List ℤ} → Good sh x p → (o : Operator) → length (o .args) ≡ 8 → refusalOf sh x o ≡ 0
+pub inverse-small : {sh : Shape} {x : List ℕ} {p : List ℤ} → Good sh x p → (o : Operator) → length (o .args) ≡ 8
+    → refusalOf sh x o ≡ 0
     → SmallOperator sh (inverse sh x p o)
 inverse-small {sh} {x} {p} g o len h =
     let a = all-hold sh x p o g len h in

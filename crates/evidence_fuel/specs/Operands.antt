@@ -1,5 +1,5 @@
--- Every operand of an accepted operator is within its range: a number within the table's capacity, so that the item it names is a record
--- of the table, and a coordinate within −50,000 to 50,000.
+-- Every operand of an accepted operator is within its range: a number within the table's capacity, so that the item it
+-- names is a record of the table, and a coordinate within −50,000 to 50,000.
 use mathlib.Core.Path.{_≡_, refl, sym, subst}
 use mathlib.Core.Bool.{true, false, false≢true}
 use mathlib.Core.List.{List}
@@ -31,7 +31,8 @@ kindAt o i = getD (pattern (o .code) .kinds) i 0
 abbrev pub argumentAt : Operator → ℕ → ℤ
 argumentAt o i = getD (o .args) i (pos 0)
 
--- an operand that is no coordinate: not negative, between the least and the largest of its kind, and read as the item that it names
+-- an operand that is no coordinate: not negative, between the least and the largest of its kind, and read as the item
+-- that it names
 pub record ItemInRange (sh : Shape) (o : Operator) (i : ℕ) : Type 0 where
   pub is : argumentAt o i ≡ pos (operandOf o i)
   pub low : getD leasts (kindAt o i) 0 ≤ operandOf o i
@@ -59,17 +60,21 @@ largest-small (suc (suc (suc (suc (suc (suc (suc (suc (suc (suc zero)))))))))) e
 largest-small (suc (suc (suc (suc (suc (suc (suc (suc (suc (suc (suc zero))))))))))) e = lit≤ tt
 largest-small (suc (suc (suc (suc (suc (suc (suc (suc (suc (suc (suc (suc zero)))))))))))) e = lit≤ tt
 largest-small (suc (suc (suc (suc (suc (suc (suc (suc (suc (suc (suc (suc (suc zero))))))))))))) e = lit≤ tt
-largest-small (suc (suc (suc (suc (suc (suc (suc (suc (suc (suc (suc (suc (suc (suc zero)))))))))))))) e = absurd (false≢true (sym e))
+largest-small (suc (suc (suc (suc (suc (suc (suc (suc (suc (suc (suc (suc (suc (suc zero)))))))))))))) e =
+    absurd (false≢true (sym e))
 largest-small (suc (suc (suc (suc (suc (suc (suc (suc (suc (suc (suc (suc (suc (suc (suc k))))))))))))))) e = lit≤ tt
 
 -- a number in range, as it stands in the record
-plain-range : (lim : Limits) (kind : ℕ) (a : ℤ) → eqb kind coordinate ≡ false → limitOf lim kind ≤ 8192 → inRange (largests lim) kind (wire kind a) ≡ true
+plain-range : (lim : Limits) (kind : ℕ) (a : ℤ) → eqb kind coordinate ≡ false → limitOf lim kind ≤ 8192
+    → inRange (largests lim) kind (wire kind a) ≡ true
     → (a ≡ pos (natOf a)) × (getD leasts kind 0 ≤ natOf a) × (natOf a ≤ limitOf lim kind)
 unfolding wire
 plain-range lim kind (pos n) c s h = let r = range-between (largests lim) kind n (rw c at h) in (refl, r .0, r .1)
-plain-range lim kind (negsuc n) c s h = let r = range-between (largests lim) kind 2097152 (rw c at h) in absurd (omega (arith, s, r .1))
+plain-range lim kind (negsuc n) c s h = let r = range-between (largests lim) kind 2097152 (rw c at h) in
+    absurd (omega (arith, s, r .1))
 
-pub operands-in-range : {sh : Shape} {x : List ℕ} {p : List ℤ} → Good sh x p → (o : Operator) → length (o .args) ≡ 8 → refusalOf sh x o ≡ 0
+pub operands-in-range : {sh : Shape} {x : List ℕ} {p : List ℤ} → Good sh x p → (o : Operator) → length (o .args) ≡ 8
+    → refusalOf sh x o ≡ 0
     → (i : ℕ) → i < 8 → OperandInRange sh o i
 operands-in-range {sh} {x} g o len h i l =
     let r = by-place sh x o (o .code) len (eight (o .code)) refl h .range i l in
@@ -78,8 +83,15 @@ operands-in-range {sh} {x} g o len h i l =
           let s = largest-small (kindAt o i) c in
           let w = within-largest (limits sh) (good-within g) (kindAt o i) in
           let n = plain-range (limits sh) (kindAt o i) (argumentAt o i) c (omega (arith, s, w)) r in
-          record { is = n .0; low = n .1; high = n .2; item = rw (le-leb (operandOf o i) 8192 (omega (arith, s, w, n .2))) };
+          record {
+            is = n .0;
+            low = n .1;
+            high = n .2;
+            item =
+                rw (le-leb (operandOf o i) 8192 (omega (arith, s, w, n .2)));
+          };
       point = λ c.
           let e = eqb→eq (kindAt o i) coordinate (true-T c) in
-          coordinate-range (limits sh) (argumentAt o i) (subst (λ k. inRange (largests (limits sh)) k (wire k (argumentAt o i)) ≡ true) e r);
+          coordinate-range (limits sh) (argumentAt o i)
+          (subst (λ k. inRange (largests (limits sh)) k (wire k (argumentAt o i)) ≡ true) e r);
     }

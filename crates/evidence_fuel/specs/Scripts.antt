@@ -1,4 +1,5 @@
--- A run carries fuel too, as many steps as its script has bytes. Each operator takes a byte, so that is enough, on any table.
+-- A run carries fuel too, as many steps as its script has bytes. Each operator takes a byte, so that is enough, on any
+-- table.
 use mathlib.Core.Path.{_≡_, refl, sym, _∙_}
 use mathlib.Core.Logic.{⊎-elim}
 use mathlib.Core.List.{List}
@@ -15,7 +16,8 @@ use Rattle.runs.specs.Run.{State, readAt, runRefusal, stepped, ran, runFrom}
 use Rattle.runs.specs.RunLaws.{run-read, run-ended}
 
 -- as many steps as bytes are left are as good as more
-run-enough : (sh : Shape) (s : List ℕ) (m n at done : ℕ) (t : State) → length s ≤ at + m → runFrom (m + n) sh s at done t ≡ runFrom m sh s at done t
+run-enough : (sh : Shape) (s : List ℕ) (m n at done : ℕ) (t : State) → length s ≤ at + m
+    → runFrom (m + n) sh s at done t ≡ runFrom m sh s at done t
 unfolding runFrom
 run-enough sh s zero n at done t h = run-ended sh s (0 + n) at done t (omega arith)
 run-enough sh s (suc m) n at done t h = ⊎-elim
@@ -23,10 +25,13 @@ run-enough sh s (suc m) n at done t h = ⊎-elim
     (λ l. split (runRefusal sh t s at) 0
     (λ z.
     let r = read-next (limits sh) s at (run-read sh t s at z) in
-    rw (suc-add m n, lt-ltb at (length s) l, eqb-same z) (run-enough sh s m n (readAt sh s at .next) (done + 1) (stepped sh t (readAt sh s at .op)) (omega (arith, h, r .0))))
+    rw (suc-add m n, lt-ltb at (length s) l, eqb-same z)
+    (run-enough sh s m n (readAt sh s at .next) (done + 1) (stepped sh t (readAt sh s at .op))
+    (omega (arith, h, r .0))))
     (λ z. rw (suc-add m n, lt-ltb at (length s) l, eqb-other z) refl))
     (le? (length s) at)
 
 -- so the fuel of a run cuts nothing off
-pub run-fuel : (sh : Shape) (t : State) (s : List ℕ) (n : ℕ) → runFrom (length s + n) sh s 0 0 t ≡ runFrom (length s) sh s 0 0 t
+pub run-fuel : (sh : Shape) (t : State) (s : List ℕ) (n : ℕ) → runFrom (length s + n) sh s 0 0 t
+    ≡ runFrom (length s) sh s 0 0 t
 run-fuel sh t s n = run-enough sh s (length s) n 0 0 t (omega arith)

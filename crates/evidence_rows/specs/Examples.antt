@@ -1,5 +1,5 @@
--- The checked examples, one list under one theorem: the thirteen operators on small tables, every word of what they leave, each
--- accepted one also undone.
+-- The checked examples, one list under one theorem: the thirteen operators on small tables, every word of what they
+-- leave, each accepted one also undone.
 use mathlib.Core.Path.{refl}
 use mathlib.Core.List.{List, _++_}
 use Rattle.evidence_rows.specs.Row.{Row, leaves, Hold}
@@ -14,7 +14,8 @@ use Rattle.evidence_rows.specs.RowsRings.{ringsRows}
 
 -- all rows
 abbrev pub rows : List Row
-rows = documentRows ++ (solidsRows ++ (spursRows ++ (cutsRows ++ (bridgesRows ++ (ringfacesRows ++ (splitsRows ++ ringsRows))))))
+rows = documentRows
+    ++ (solidsRows ++ (spursRows ++ (cutsRows ++ (bridgesRows ++ (ringfacesRows ++ (splitsRows ++ ringsRows))))))
 
 -- what the definition leaves, row for row and both ways, is what the rows say
 pub rows-hold : Hold rows

@@ -1,4 +1,5 @@
--- A row of the checked examples: a table, an operator, and all that `exec` has to leave. Rows hold where it leaves just that, to the word.
+-- A row of the checked examples: a table, an operator, and all that `exec` has to leave. Rows hold where it leaves just
+-- that, to the word.
 use Prim.Native.Nat.{ℕ}
 use mathlib.Core.Path.{_≡_}
 use mathlib.Core.List.{List, [], _∷_, map}
@@ -20,7 +21,8 @@ use Rattle.euler.specs.EdgeOperators.{mevLinks, kevTest, kevLinks, mefTest, mef
 use Rattle.euler.specs.EdgeOperators.{kemrLinks, mekrTest, mekrLinks, semvLinks, jekvTest, jekvLinks}
 use Rattle.euler.specs.FaceOperators.{mvsfLinks, kvsfTest, kvsfLinks, kfmrhTest, kfmrhLinks, linkedAfter, mfkrhTest}
 use Rattle.euler.specs.FaceOperators.{mfkrhLinks, rmovTest, rmovLinks}
-use Rattle.euler.specs.Exec.{Table, Executed, exec, refusalOf, admitOf, rangeRefusal, useRefusals, useRefusal, useWord, condition, linksAfter, pointsAfter, killedVertex, inverse}
+use Rattle.euler.specs.Exec.{Table, Executed, exec, refusalOf, admitOf, rangeRefusal, useRefusals, useRefusal, useWord}
+use Rattle.euler.specs.Exec.{condition, linksAfter, pointsAfter, killedVertex, inverse}
 
 -- a table and an operator on it, and what is left: the refusal, the operator that undoes it, links and points
 pub record Row : Type 0 where
@@ -48,8 +50,8 @@ refuses t o n = record { before = t; operator = o; after = record { refusal = n;
 
 -- ---- reading them
 
--- an accepted row read backwards: on what is left the inverse is accepted, the table is left, and the operator undoes it; a refused
--- row is the same either way
+-- an accepted row read backwards: on what is left the inverse is accepted, the table is left, and the operator undoes
+-- it; a refused row is the same either way
 abbrev pub back : Row → Row
 back r = pick (eqb (r .after .refusal) 0) (accepts (r .after .table) (r .after .inverse) (r .before) (r .operator)) r
 

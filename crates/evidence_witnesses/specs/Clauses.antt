@@ -1,4 +1,5 @@
--- The conditions of the thirteen operators, taken apart into their clauses: an operator is refused with 8 just where one of them fails.
+-- The conditions of the thirteen operators, taken apart into their clauses: an operator is refused with 8 just where
+-- one of them fails.
 use Prim.Native.Nat.{ℕ, zero, suc, _*_}
 use mathlib.Core.Path.{_≡_, refl, sym, ap, subst, _∙_}
 use mathlib.Core.Bool.{Bool, true, false, not, _&&_, _||_}
@@ -24,7 +25,8 @@ use Rattle.euler.specs.Exec.{conditions, condition}
 -- one face; one loop; it is lone
 abbrev pub kvsfClauses : Shape → List ℕ → ℕ → List Bool
 kvsfClauses sh x s =
-    eqb (facesIn sh x s) 1 ∷ eqb (loopsIn sh x (faceIn sh x s)) 1 ∷ some (loopIsolated sh x (faceOuter sh x (faceIn sh x s))) ∷ []
+    eqb (facesIn sh x s) 1 ∷ eqb (loopsIn sh x (faceIn sh x s)) 1
+    ∷ some (loopIsolated sh x (faceOuter sh x (faceIn sh x s))) ∷ []
 
 -- a corner
 abbrev pub mevClauses : Shape → List ℕ → ℕ → ℕ → List Bool
@@ -50,7 +52,8 @@ kemrClauses sh x k = eqb (loopOf sh x (mate k)) (loopOf sh x k) ∷ []
 -- two loops; of one face; l2 a ring; two corners
 abbrev pub mekrClauses : Shape → List ℕ → ℕ → ℕ → ℕ → ℕ → List Bool
 mekrClauses sh x l h1 l2 h2 =
-    not (eqb l l2) ∷ eqb (loopFace sh x l) (loopFace sh x l2) ∷ isRing sh x l2 ∷ corner sh x l h1 ∷ corner sh x l2 h2 ∷ []
+    not (eqb l l2) ∷ eqb (loopFace sh x l) (loopFace sh x l2) ∷ isRing sh x l2 ∷ corner sh x l h1 ∷ corner sh x l2 h2
+    ∷ []
 
 -- two faces; f2 without rings
 abbrev pub kfmrhClauses : Shape → List ℕ → ℕ → ℕ → List Bool
@@ -59,7 +62,8 @@ kfmrhClauses sh x f1 f2 = not (eqb f1 f2) ∷ eqb (loopsIn sh x f2) 1 ∷ []
 -- l is a ring; where f is unlinked s is not 0; where it stays linked s is 0
 abbrev pub mfkrhClauses : Shape → List ℕ → ℕ → ℕ → ℕ → List Bool
 mfkrhClauses sh x l f s =
-    isRing sh x l ∷ (linkedAfter sh x l f f (loopFace sh x l) || some s) ∷ (not (linkedAfter sh x l f f (loopFace sh x l)) || eqb s 0) ∷ []
+    isRing sh x l ∷ (linkedAfter sh x l f f (loopFace sh x l) || some s)
+    ∷ (not (linkedAfter sh x l f f (loopFace sh x l)) || eqb s 0) ∷ []
 
 -- n is of another edge; next of n's mate is k's mate
 abbrev pub jekvClauses : Shape → List ℕ → ℕ → List Bool
@@ -68,7 +72,8 @@ jekvClauses sh x k =
 
 -- half-edge k lies in l's face, with its mate in f
 abbrev pub shares : Shape → List ℕ → ℕ → ℕ → ℕ → Bool
-shares sh x l f k = every (some (startOf sh x k) ∷ eqb (side sh x k) (loopFace sh x l) ∷ eqb (side sh x (mate k)) f ∷ [])
+shares sh x l f k = every (some (startOf sh x k) ∷ eqb (side sh x k) (loopFace sh x l) ∷ eqb (side sh x (mate k)) f
+    ∷ [])
 
 -- some half-edge does
 abbrev pub sharing : Shape → List ℕ → ℕ → ℕ → Bool
@@ -87,8 +92,10 @@ rmovClauses sh x l f =
 -- from code 0, which is none, to 13; `a` are the operands as items
 abbrev pub clauses : Shape → List ℕ → (ℕ → ℕ) → List (List Bool)
 clauses sh x a =
-    [] ∷ [] ∷ kvsfClauses sh x (a 0) ∷ mevClauses sh x (a 0) (a 1) ∷ kevClauses sh x (a 0) ∷ mefClauses sh x (a 0) (a 1) (a 2) (a 6)
-    ∷ kefClauses sh x (a 0) ∷ kemrClauses sh x (a 0) ∷ mekrClauses sh x (a 0) (a 1) (a 2) (a 3) ∷ kfmrhClauses sh x (a 0) (a 1)
+    [] ∷ [] ∷ kvsfClauses sh x (a 0) ∷ mevClauses sh x (a 0) (a 1) ∷ kevClauses sh x (a 0)
+    ∷ mefClauses sh x (a 0) (a 1) (a 2) (a 6)
+    ∷ kefClauses sh x (a 0) ∷ kemrClauses sh x (a 0) ∷ mekrClauses sh x (a 0) (a 1) (a 2) (a 3)
+    ∷ kfmrhClauses sh x (a 0) (a 1)
     ∷ mfkrhClauses sh x (a 0) (a 1) (a 2) ∷ [] ∷ jekvClauses sh x (a 0) ∷ rmovClauses sh x (a 0) (a 1) ∷ []
 
 -- the clauses of an operator
@@ -98,7 +105,8 @@ clausesOf sh x o = getD (clauses sh x (itemOf o)) (o .code) []
 -- ---- they are the conditions
 
 -- "if r then s and t" is "if r then s" and "if r then t"
-mef-bools : (p q r s t : Bool) → every (p ∷ q ∷ (not r || (s && t)) ∷ []) ≡ every (p ∷ q ∷ (not r || s) ∷ (not r || t) ∷ [])
+mef-bools : (p q r s t : Bool) → every (p ∷ q ∷ (not r || (s && t)) ∷ []) ≡ every (p ∷ q ∷ (not r || s) ∷ (not r || t)
+    ∷ [])
 mef-bools false q r s t = refl
 mef-bools true false r s t = refl
 mef-bools true true false s t = refl
@@ -135,9 +143,11 @@ outside-shares : (sh : Shape) (x : List ℕ) (l f : ℕ) → T (sharingOutside s
 outside-shares sh x l f t =
     weaker (2 * sh .edges) (sharesOutside sh x l f) (shares sh x l f)
     (λ k e.
-    let a = every-T (some (startOf sh x k) ∷ eqb (side sh x k) (loopFace sh x l) ∷ not (eqb (loopOf sh x k) l) ∷ eqb (side sh x (mate k)) f ∷ []) (true-T e) in
+    let a = every-T (some (startOf sh x k) ∷ eqb (side sh x k) (loopFace sh x l) ∷ not (eqb (loopOf sh x k) l)
+    ∷ eqb (side sh x (mate k)) f ∷ []) (true-T e) in
     T-true {b = shares sh x l f k}
-    (T-every (some (startOf sh x k) ∷ eqb (side sh x k) (loopFace sh x l) ∷ eqb (side sh x (mate k)) f ∷ []) (a .0, (a .1 .0, (a .1 .1 .1 .0, tt)))))
+    (T-every (some (startOf sh x k) ∷ eqb (side sh x k) (loopFace sh x l) ∷ eqb (side sh x (mate k)) f ∷ [])
+    (a .0, (a .1 .0, (a .1 .1 .1 .0, tt)))))
     t
 
 -- a clause that implies another may be said with it
@@ -151,7 +161,8 @@ rmov-bools true false false false h = refl
 rmov-same : (sh : Shape) (x : List ℕ) (l f : ℕ) → rmovTest sh x l f ≡ every (rmovClauses sh x l f)
 unfolding rmovTest
 rmov-same sh x l f =
-    rmov-bools (isRing sh x l) (eqb f (loopFace sh x l)) (sharing sh x l f) (sharingOutside sh x l f) (outside-shares sh x l f)
+    rmov-bools (isRing sh x l) (eqb f (loopFace sh x l)) (sharing sh x l f) (sharingOutside sh x l f)
+    (outside-shares sh x l f)
 
 -- an item of a mapped list
 at-map : {A B : Type 0} (f : A → B) (xs : List A) (n : ℕ) (d : A) → getD (map f xs) n (f d) ≡ f (getD xs n d)
@@ -169,4 +180,5 @@ conditions-same sh x a =
 pub condition-same : (sh : Shape) (x : List ℕ) (o : Operator) → condition sh x o ≡ every (clausesOf sh x o)
 unfolding condition clausesOf
 condition-same sh x o =
-    ap (λ bs. getD bs (o .code) true) (conditions-same sh x (itemOf o)) ∙ at-map every (clauses sh x (itemOf o)) (o .code) []
+    ap (λ bs. getD bs (o .code) true) (conditions-same sh x (itemOf o))
+    ∙ at-map every (clauses sh x (itemOf o)) (o .code) []

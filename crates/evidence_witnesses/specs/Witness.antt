@@ -1,5 +1,5 @@
--- A witness for a clause of an operator's condition: a sound table and an operator that fails in this clause alone, is refused with 8,
--- and, carried out all the same, leaves a table that the check refuses.
+-- A witness for a clause of an operator's condition: a sound table and an operator that fails in this clause alone, is
+-- refused with 8, and, carried out all the same, leaves a table that the check refuses.
 use Prim.Native.Nat.{ℕ}
 use mathlib.Core.Path.{_≡_}
 use mathlib.Core.Bool.{Bool}
@@ -15,7 +15,10 @@ use Rattle.codec.specs.Operands.{pattern, rows, inRanges, inRange, wire, zig}
 use Rattle.layout.specs.Layout.{shapeOf}
 use Rattle.layout.specs.Mate.{mate}
 use Rattle.check_shells.specs.Shells.{within, joins, linkedBy}
-use Rattle.check_items.specs.Rules.{solidRange, faceRange, loopRange, halfRange, vertexRange, rule1, solidNames, faceNames, loopNames, halfNames, rule2, loopEither, rule3, halfLinks, firstNames, halfInLoop, rule4, vertexEither, halfAtVertex, rule5, halfSides, faceLinked, rule6, brokenRule}
+use Rattle.check_items.specs.Rules.{solidRange, faceRange, loopRange, halfRange, vertexRange, rule1, solidNames}
+use Rattle.check_items.specs.Rules.{faceNames, loopNames, halfNames, rule2, loopEither, rule3, halfLinks, firstNames}
+use Rattle.check_items.specs.Rules.{halfInLoop, rule4, vertexEither, halfAtVertex, rule5, halfSides, faceLinked, rule6}
+use Rattle.check_items.specs.Rules.{brokenRule}
 use Rattle.table.specs.declared.check.CheckAnswer.{CheckAnswer}
 use Rattle.table.specs.Sizes.{sizesFit}
 use Rattle.table.specs.Check.{answer, checkOf}
@@ -24,11 +27,12 @@ use Rattle.euler.specs.EdgeOperators.{mevLinks, kevTest, kevLinks, mefTest, mef
 use Rattle.euler.specs.EdgeOperators.{kemrLinks, mekrTest, mekrLinks, jekvTest, jekvLinks}
 use Rattle.euler.specs.FaceOperators.{kvsfTest, kvsfLinks, kfmrhTest, kfmrhLinks, linkedAfter, mfkrhTest, mfkrhLinks}
 use Rattle.euler.specs.FaceOperators.{rmovTest, rmovLinks}
-use Rattle.euler.specs.Exec.{Table, refusalOf, admitOf, rangeRefusal, useRefusals, useRefusal, useWord, condition, linksAfter, pointsAfter, killedVertex, inverse}
+use Rattle.euler.specs.Exec.{Table, refusalOf, admitOf, rangeRefusal, useRefusals, useRefusal, useWord, condition}
+use Rattle.euler.specs.Exec.{linksAfter, pointsAfter, killedVertex, inverse}
 use Rattle.evidence_witnesses.specs.Clauses.{clausesOf}
 
--- what comes of the operator: what the check says of the table afterwards; and where it says that all is well, the operator that undoes
--- the inverse, which should be the one carried out
+-- what comes of the operator: what the check says of the table afterwards; and where it says that all is well, the
+-- operator that undoes the inverse, which should be the one carried out
 pub data Outcome : Type 0 where
   Checked : CheckAnswer → Outcome
   Again : CheckAnswer → Operator → Outcome
@@ -56,7 +60,18 @@ operation code count args = record { code = code; count = count; args = args }
 
 -- a sound table, an operator that these clauses refuse, and what comes of it
 abbrev pub witness : Table → Operator → List Bool → Outcome → Witness
-witness t o cs out = record { table = t; operator = o; wanted = record { before = answer 0 0; refusal = 8; clauses = cs; outcome = out } }
+witness t o cs out =
+    record {
+      table = t;
+      operator = o;
+      wanted = record {
+        before = answer 0 0;
+        refusal = 8;
+        clauses = cs;
+        outcome =
+            out;
+      };
+    }
 
 -- the table left breaks a rule
 abbrev pub breaks : Table → Operator → List Bool → ℕ → Witness
@@ -80,7 +95,8 @@ undoing t o = inverse (shapeOf (t .links)) (t .links) (t .points) o
 -- what the definitions say where this is wanted
 abbrev pub outcomeOf : Table → Operator → Outcome → Outcome
 outcomeOf t o (Checked a) = Checked (checkOf (forced t o .links) (forced t o .points))
-outcomeOf t o (Again a other) = Again (checkOf (forced t o .links) (forced t o .points)) (undoing (forced t o) (undoing t o))
+outcomeOf t o (Again a other) = Again (checkOf (forced t o .links) (forced t o .points))
+    (undoing (forced t o) (undoing t o))
 
 unfoldable pub shown : Witness → Shown
 unfolding checkOf sizesFit brokenRule rule1 rule2 rule3 rule4 rule5 rule6 solidRange faceRange loopRange halfRange

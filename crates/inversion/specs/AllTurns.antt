@@ -16,8 +16,10 @@ turns-made sh x p g ready sn =
     split (facesIn sh x (solidAt sh x)) 1
     (λ one. ⊎-elim
     (λ left. split (ringHalf sh x (solidAt sh x)) 0
-    (λ none. split (spurHalf sh x (solidAt sh x)) 0 (λ z. turn-cross g ready sn one left none z) (λ d. turn-spur g ready sn one left none d))
+    (λ none. split (spurHalf sh x (solidAt sh x)) 0 (λ z. turn-cross g ready sn one left none z)
+    (λ d. turn-spur g ready sn one left none d))
     (λ d. turn-ring g ready sn one left d))
-    (λ left. split (ringOf sh x (faceIn sh x (solidAt sh x))) 0 (λ z. turn-last g ready sn one left z) (λ d. turn-bridge g ready sn one left d))
+    (λ left. split (ringOf sh x (faceIn sh x (solidAt sh x))) 0 (λ z. turn-last g ready sn one left z)
+    (λ d. turn-bridge g ready sn one left d))
     (ask (edgesLeft sh x (solidAt sh x))))
     (λ many. turn-across g ready sn many)

@@ -23,7 +23,8 @@ use Rattle.sound_tables.specs.Good.{Good, own}
 use Rattle.takedown.specs.Inversion.{Work, act, isRingOf, moveRings, rmov}
 use Rattle.inversion.specs.Path.{Path, there, first, acted, joinsIn, acted-table}
 use Rattle.inversion.specs.Counts.{solids, faces, loops, edges, vertices, strays, count-same}
-use Rattle.inversion.specs.Same.{words-same, solids-is, faces-is, loops-is, edges-is, vertices-is, face-in-same, stray-same, face-or-none, count-fewer-in}
+use Rattle.inversion.specs.Same.{words-same, solids-is, faces-is, loops-is, edges-is, vertices-is, face-in-same}
+use Rattle.inversion.specs.Same.{stray-same, face-or-none, count-fewer-in}
 use Rattle.inversion.specs.OfSolid.{both}
 use Rattle.inversion.specs.RmovLaws.{rmov-joins, rmov-points, move-accepted, move-shows, rmov-good}
 
@@ -54,7 +55,17 @@ pub record Alike (sh : Shape) (x y : List ℕ) : Type 0 where
   pub same-vertices : vertices sh y ≡ vertices sh x
 
 pub alike-same : (sh : Shape) (x : List ℕ) → Alike sh x x
-alike-same sh x = record { mark = λ n i. refl; solid = λ n i. refl; start = λ n i. refl; same-solids = refl; same-faces = refl; same-loops = refl; same-edges = refl; same-vertices = refl }
+alike-same sh x = record {
+  mark = λ n i. refl;
+  solid = λ n i. refl;
+  start = λ n i. refl;
+  same-solids =
+      refl;
+  same-faces = refl;
+  same-loops = refl;
+  same-edges = refl;
+  same-vertices = refl;
+}
 
 pub alike-then : {sh : Shape} {x y z : List ℕ} → Alike sh x y → Alike sh y z → Alike sh x z
 alike-then a b = record {
@@ -70,9 +81,11 @@ alike-then a b = record {
 
 -- ---- one ring moves
 
-module _ {sh : Shape} {x : List ℕ} {p : List ℤ} {k l f r s : ℕ} (B : Border sh x p k l f r s) {i : ℕ} (ii : In (sh .loops) i) (fi : own sh x Face i ≡ f) (ri : own sh x Outer f ≢ i) where
+module _ {sh : Shape} {x : List ℕ} {p : List ℤ} {k l f r s : ℕ} (B : Border sh x p k l f r s) {i : ℕ}
+    (ii : In (sh .loops) i) (fi : own sh x Face i ≡ f) (ri : own sh x Outer f ≢ i) where
   f-in : In (sh .faces) f
-  f-in = let q = B .good .sound .solids .side-in k (B .used) in subst (In (sh .faces)) (ap (own sh x Face) (B .loop) ∙ B .face) (q .0, q .1)
+  f-in = let q = B .good .sound .solids .side-in k (B .used) in
+      subst (In (sh .faces)) (ap (own sh x Face) (B .loop) ∙ B .face) (q .0, q .1)
 
   f-some : f ≢ 0
   f-some z = omega (arith, f-in .0, z)
@@ -87,7 +100,8 @@ module _ {sh : Shape} {x : List ℕ} {p : List ℤ} {k l f r s : ℕ} (B : Borde
   l-i e = ri (B .outer ∙ e)
 
   pub step-accepted : refusalOf sh x (rmov i r) ≡ 0
-  step-accepted = move-accepted (B .good) ii i-used (B .r-in) r-used (λ e. ri (ap (own sh x Outer) (sym fi) ∙ e)) k (B .used) (ap (own sh x Face) (B .loop) ∙ B .face ∙ sym fi) (λ e. l-i (sym (B .loop) ∙ e)) (B .across)
+  step-accepted = move-accepted (B .good) ii i-used (B .r-in) r-used (λ e. ri (ap (own sh x Outer) (sym fi) ∙ e)) k
+      (B .used) (ap (own sh x Face) (B .loop) ∙ B .face ∙ sym fi) (λ e. l-i (sym (B .loop) ∙ e)) (B .across)
 
   v : Shows sh (linksAfter sh x (rmov i r)) (change (own sh x) Face i r)
   v = move-shows (B .good) ii i-used (B .r-in) r-used (λ e. B .other (sym fi ∙ sym e))
@@ -121,7 +135,8 @@ module _ {sh : Shape} {x : List ℕ} {p : List ℤ} {k l f r s : ℕ} (B : Borde
         face = face-else l ll l-i ∙ B .face;
         outer = v .at Outer f (f-in .1) ∙ B .outer;
         across = ap (own sh (linksAfter sh x (rmov i r)) Face) lm
-            ∙ face-else (own sh x Loop (mate k)) (hm .loop-in) (λ e. B .other (sym (sym (B .across) ∙ ap (own sh x Face) e ∙ fi))) ∙ B .across;
+            ∙ face-else (own sh x Loop (mate k)) (hm .loop-in) (λ e. B .other
+            (sym (sym (B .across) ∙ ap (own sh x Face) e ∙ fi))) ∙ B .across;
         other = B .other;
         solid = solid-same f f-in ∙ B .solid;
         root = face-in-same sh x _ solid-same s ∙ B .root;
@@ -138,8 +153,10 @@ module _ {sh : Shape} {x : List ℕ} {p : List ℤ} {k l f r s : ℕ} (B : Borde
     same-solids = solids-is sh _ ∙ words-same (sh .solids) _ _ (λ n j. v .at SolidUsed n (j .1)) ∙ sym (solids-is sh x);
     same-faces = faces-is sh _ ∙ words-same (sh .faces) _ _ solid-same ∙ sym (faces-is sh x);
     same-loops = loops-kept;
-    same-edges = edges-is sh _ ∙ words-same (sh .edges) _ _ (λ e j. v .at Start (2 * e) (omega (arith, j .1))) ∙ sym (edges-is sh x);
-    same-vertices = vertices-is sh _ ∙ words-same (sh .vertices) _ _ (λ n j. v .at VertexUsed n (j .1)) ∙ sym (vertices-is sh x);
+    same-edges = edges-is sh _ ∙ words-same (sh .edges) _ _ (λ e j. v .at Start (2 * e) (omega (arith, j .1)))
+        ∙ sym (edges-is sh x);
+    same-vertices = vertices-is sh _ ∙ words-same (sh .vertices) _ _ (λ n j. v .at VertexUsed n (j .1))
+        ∙ sym (vertices-is sh x);
   }
     where
       loops-kept : loops sh (linksAfter sh x (rmov i r)) ≡ loops sh x
@@ -150,7 +167,14 @@ module _ {sh : Shape} {x : List ℕ} {p : List ℤ} {k l f r s : ℕ} (B : Borde
   -- one stray loop fewer
   pub step-strays : suc (strays sh (linksAfter sh x (rmov i r))) ≡ strays sh x
   step-strays = count-fewer-in (sh .loops) _ _ i ii
-      (rw (face-new, solid-same r (B .r-in), B .r-solid, face-in-same sh x _ solid-same s, B .root, eqb-same {m = r} refl) (last (eqb r 0)))
+      (rw (
+        face-new,
+        solid-same r (B .r-in),
+        B .r-solid,
+        face-in-same sh x _ solid-same s,
+        B .root,
+        eqb-same {m = r} refl,
+      ) (last (eqb r 0)))
       (rw (fi, B .solid, B .root, eqb-other f-some, eqb-other (λ e. B .other (sym e))))
       (λ n j d. stray-same sh x _ solid-same n (own sh x Face n) (face-else n j d) refl (face-or-none (B .good) n j))
     where
@@ -161,13 +185,18 @@ module _ {sh : Shape} {x : List ℕ} {p : List ℤ} {k l f r s : ℕ} (B : Borde
 -- ---- all of them
 
 -- the loop at hand is a ring of f, or not
-moves-one : (sh : Shape) (n i f r : ℕ) (w : Work) (x : List ℕ) → w .state .links ≡ x → isRingOf sh x f i ≡ true → moveRings sh (suc n) i f r w ≡ moveRings sh n (i + 1) f r (act sh w (rmov i r))
+moves-one : (sh : Shape) (n i f r : ℕ) (w : Work) (x : List ℕ) → w .state .links ≡ x → isRingOf sh x f i ≡ true
+    → moveRings sh (suc n) i f r w ≡ moveRings sh n (i + 1) f r (act sh w (rmov i r))
 unfolding moveRings
-moves-one sh n i f r w x a = subst (λ x. isRingOf sh x f i ≡ true → moveRings sh (suc n) i f r w ≡ moveRings sh n (i + 1) f r (act sh w (rmov i r))) a (λ t. rw t)
+moves-one sh n i f r w x a =
+    subst (λ x. isRingOf sh x f i ≡ true → moveRings sh (suc n) i f r w
+    ≡ moveRings sh n (i + 1) f r (act sh w (rmov i r))) a (λ t. rw t)
 
-pub moves-none : (sh : Shape) (n i f r : ℕ) (w : Work) (x : List ℕ) → w .state .links ≡ x → isRingOf sh x f i ≡ false → moveRings sh (suc n) i f r w ≡ moveRings sh n (i + 1) f r w
+pub moves-none : (sh : Shape) (n i f r : ℕ) (w : Work) (x : List ℕ) → w .state .links ≡ x → isRingOf sh x f i ≡ false
+    → moveRings sh (suc n) i f r w ≡ moveRings sh n (i + 1) f r w
 unfolding moveRings
-moves-none sh n i f r w x a = subst (λ x. isRingOf sh x f i ≡ false → moveRings sh (suc n) i f r w ≡ moveRings sh n (i + 1) f r w) a (λ t. rw t)
+moves-none sh n i f r w x a =
+    subst (λ x. isRingOf sh x f i ≡ false → moveRings sh (suc n) i f r w ≡ moveRings sh n (i + 1) f r w) a (λ t. rw t)
 
 -- what is left of f when n loops from i on have been looked at: l alone, if below i it was so
 pub record Cleared (sh : Shape) (x : List ℕ) (p : List ℤ) (k l f r s n i : ℕ) : Type 0 where
@@ -181,7 +210,8 @@ pub record Cleared (sh : Shape) (x : List ℕ) (p : List ℤ) (k l f r s n i : �
   pub joins : joinsIn sh x p os ≡ 0
   pub only : (m : ℕ) → In (sh .loops) m → m < i + n → own sh y Face m ≡ f → m ≡ l
 
-pub clear-rings : (sh : Shape) (n i : ℕ) {x : List ℕ} {p : List ℤ} {k l f r s : ℕ} → Border sh x p k l f r s → 1 ≤ i → i + n ≤ suc (sh .loops)
+pub clear-rings : (sh : Shape) (n i : ℕ) {x : List ℕ} {p : List ℤ} {k l f r s : ℕ} → Border sh x p k l f r s → 1 ≤ i
+    → i + n ≤ suc (sh .loops)
     → ((m : ℕ) → In (sh .loops) m → m < i → own sh x Face m ≡ f → m ≡ l) → Cleared sh x p k l f r s n i
 unfolding moveRings acted act
 clear-rings sh zero i {x} B li hi below = record {
@@ -200,14 +230,17 @@ clear-rings sh (suc n) i {x} {p} {k} {l} {f} {r} {s} B li hi below =
     (λ t.
     let q = both (eqb (own sh x Face i) f) (isRing sh x i) t in
     let fi : own sh x Face i ≡ f = eqb→eq _ _ (true-T (q .0)) in
-    let ri : own sh x Outer f ≢ i = λ e. T-not (eqb (own sh x Outer (own sh x Face i)) i) (true-T (q .1)) (true-T (eqb-same (ap (own sh x Outer) fi ∙ e))) in
+    let ri : own sh x Outer f ≢ i =
+    λ e. T-not (eqb (own sh x Outer (own sh x Face i)) i) (true-T (q .1))
+    (true-T (eqb-same (ap (own sh x Outer) fi ∙ e))) in
     let acc = step-accepted B ii fi ri in
     let c = clear-rings sh n (i + 1) (step-border B ii fi ri) (omega arith) (omega (arith, hi)) (λ m j h e. split m i
     (λ z. absurd (moved-off B ii fi ri (ap (own sh (linksAfter sh x (rmov i r)) Face) (sym z) ∙ e)))
     (λ d. below m j (omega arith) (sym (face-else B ii fi ri m j d) ∙ e))) in
     more t acc c (step-alike B ii fi ri) (step-strays B ii fi ri))
     (λ t.
-    let c = clear-rings sh n (i + 1) B (omega arith) (omega (arith, hi)) (λ m j h e. split m i (λ z. at-i t m z e) (λ d. below m j (omega arith) e)) in
+    let c = clear-rings sh n (i + 1) B (omega arith) (omega (arith, hi))
+    (λ m j h e. split m i (λ z. at-i t m z e) (λ d. below m j (omega arith) e)) in
     less t c)
     (ask (isRingOf sh x f i))
   where
@@ -216,7 +249,9 @@ clear-rings sh (suc n) i {x} {p} {k} {l} {f} {r} {s} B li hi below =
 
     -- a loop of f that is no ring is the outer one
     at-i : isRingOf sh x f i ≡ false → (m : ℕ) → m ≡ i → own sh x Face m ≡ f → m ≡ l
-    at-i t m z e = split (own sh x Outer f) m (λ q. sym q ∙ B .outer) (λ d. absurd (false≢true (sym t ∙ ring-is (ap (own sh x Face) (sym z) ∙ e) (λ q. d (q ∙ sym z)))))
+    at-i t m z e =
+        split (own sh x Outer f) m (λ q. sym q ∙ B .outer)
+        (λ d. absurd (false≢true (sym t ∙ ring-is (ap (own sh x Face) (sym z) ∙ e) (λ q. d (q ∙ sym z)))))
       where
         ring-is : own sh x Face i ≡ f → own sh x Outer f ≢ i → isRingOf sh x f i ≡ true
         ring-is a d = rw (a, eqb-same {m = f} refl, eqb-other d)
@@ -234,14 +269,16 @@ clear-rings sh (suc n) i {x} {p} {k} {l} {f} {r} {s} B li hi below =
       only = λ m j h e. c .only m j (omega arith) e;
     }
 
-    more : isRingOf sh x f i ≡ true → refusalOf sh x (rmov i r) ≡ 0 → Cleared sh (linksAfter sh x (rmov i r)) p k l f r s n (i + 1) → Alike sh x (linksAfter sh x (rmov i r))
+    more : isRingOf sh x f i ≡ true → refusalOf sh x (rmov i r) ≡ 0
+        → Cleared sh (linksAfter sh x (rmov i r)) p k l f r s n (i + 1) → Alike sh x (linksAfter sh x (rmov i r))
         → suc (strays sh (linksAfter sh x (rmov i r))) ≡ strays sh x → Cleared sh x p k l f r s (suc n) i
     more t acc c al st = record {
       os = rmov i r ∷ c .os;
       y = c .y;
       path = first {os = c .os} {p = p} (rmov i r) refl acc (rw (rmov-points sh x p i r) (c .path));
       same = λ w a b.
-          let one : Path sh (linksAfter sh x (rmov i r)) p (rmov i r ∷ []) (w .state .links) (w .state .points) = rw (a, b) (first {os = []} {p = p} (rmov i r) refl acc (there refl (rmov-points sh x p i r))) in
+          let one : Path sh (linksAfter sh x (rmov i r)) p (rmov i r ∷ []) (w .state .links) (w .state .points) =
+          rw (a, b) (first {os = []} {p = p} (rmov i r) refl acc (there refl (rmov-points sh x p i r))) in
           let u = acted-table sh w one in
           moves-one sh n i f r w x a t ∙ c .same (act sh w (rmov i r)) (u .0) (u .1);
       border = c .border;

@@ -46,13 +46,16 @@ module _ (sh : Shape) (x : List ℕ) (p : List ℤ) (g : Good sh x p) (z : solid
   solid-0 n i = not-some _ (least-no (sh .solids) (λ s. some (own sh x SolidUsed s)) z n i)
 
   face-0 : (n : ℕ) → In (sh .faces) n → own sh x Solid n ≡ 0
-  face-0 n i = split (own sh x Solid n) 0 (λ e. e) (λ d. let F = g .sound .face n i d in absurd (F .solid-used (solid-0 (own sh x Solid n) (F .solid-in))))
+  face-0 n i = split (own sh x Solid n) 0 (λ e. e) (λ d. let F = g .sound .face n i d in
+      absurd (F .solid-used (solid-0 (own sh x Solid n) (F .solid-in))))
 
   loop-0 : (n : ℕ) → In (sh .loops) n → own sh x Face n ≡ 0
-  loop-0 n i = split (own sh x Face n) 0 (λ e. e) (λ d. let L = g .sound .loop n i d in absurd (L .face-used (face-0 (own sh x Face n) (L .face-in))))
+  loop-0 n i = split (own sh x Face n) 0 (λ e. e) (λ d. let L = g .sound .loop n i d in
+      absurd (L .face-used (face-0 (own sh x Face n) (L .face-in))))
 
   half-0 : (n : ℕ) → In (2 * sh .edges) n → own sh x Start n ≡ 0
-  half-0 n i = split (own sh x Start n) 0 (λ e. e) (λ d. let H = g .sound .half n i d in absurd (H .loop-used (loop-0 (own sh x Loop n) (H .loop-in))))
+  half-0 n i = split (own sh x Start n) 0 (λ e. e) (λ d. let H = g .sound .half n i d in
+      absurd (H .loop-used (loop-0 (own sh x Loop n) (H .loop-in))))
 
   vertex-0 : (n : ℕ) → In (sh .vertices) n → own sh x VertexUsed n ≡ 0
   vertex-0 n i = split (own sh x VertexUsed n) 0 (λ e. e) (λ d. by (g .sound .vertex n i d))
@@ -133,11 +136,13 @@ module _ (sh : Shape) (x : List ℕ) (p : List ℤ) (g : Good sh x p) (z : solid
     links = shows-ext (good-shows g) (shows-own sh (emptyOf sh) fits) same-word;
     points = points-ext (sh .vertices) p (emptyPoints (sh .vertices)) (g .points)
         (length-replicate (pointsLength (sh .vertices)) (pos 0))
-        (λ v i j h. g .sound .point v i .zero (vertex-0 v i) j h ∙ sym (zero-coordinate (pointsLength (sh .vertices)) v j));
+        (λ v i j h. g .sound .point v i .zero (vertex-0 v i) j h
+        ∙ sym (zero-coordinate (pointsLength (sh .vertices)) v j));
     no-solids = solids-is sh x ∙ words-none (sh .solids) _ solid-0;
     no-faces = faces-is sh x ∙ words-none (sh .faces) _ face-0;
     no-loops = loops-is sh x ∙ words-none (sh .loops) _ loop-0;
-    no-edges = edges-is sh x ∙ words-none (sh .edges) _ (λ n i. half-0 (2 * n) (omega (arith, i .0), omega (arith, i .1)));
+    no-edges = edges-is sh x
+        ∙ words-none (sh .edges) _ (λ n i. half-0 (2 * n) (omega (arith, i .0), omega (arith, i .1)));
     no-vertices = vertices-is sh x ∙ words-none (sh .vertices) _ vertex-0;
   }
 

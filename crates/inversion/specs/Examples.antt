@@ -1,6 +1,7 @@
--- The take-down computed beyond example e of document 01 (which crate evidence_cases has): a table whose edge 1 is a bridge
--- between two handles, so that the least crossed k is not the least k; a table that takes every kind of turn; two
--- solids; a full table, a torus of two edges with no number free: 10, with a start beyond the log 1; its holes counted.
+-- The take-down computed beyond example e of document 01 (which crate evidence_cases has): a table whose edge 1 is a
+-- bridge between two handles, so that the least crossed k is not the least k; a table that takes every kind of turn;
+-- two solids; a full table, a torus of two edges with no number free: 10, with a start beyond the log 1; its holes
+-- counted.
 use Prim.Native.Nat.{ℕ, _*_}
 use mathlib.Core.Path.{_≡_, refl}
 use mathlib.Core.List.{List, [], _∷_, _++_}
@@ -19,7 +20,10 @@ use Rattle.script.specs.Operator.{operatorBytes, putBytes}
 use Rattle.layout.specs.Layout.{shapeOf}
 use Rattle.layout.specs.Mate.{mate}
 use Rattle.check_shells.specs.Shells.{within, joins, linkedBy}
-use Rattle.check_items.specs.Rules.{solidRange, faceRange, loopRange, halfRange, vertexRange, rule1, solidNames, faceNames, loopNames, halfNames, rule2, loopEither, rule3, halfLinks, firstNames, halfInLoop, rule4, vertexEither, halfAtVertex, rule5, halfSides, faceLinked, rule6, brokenRule}
+use Rattle.check_items.specs.Rules.{solidRange, faceRange, loopRange, halfRange, vertexRange, rule1, solidNames}
+use Rattle.check_items.specs.Rules.{faceNames, loopNames, halfNames, rule2, loopEither, rule3, halfLinks, firstNames}
+use Rattle.check_items.specs.Rules.{halfInLoop, rule4, vertexEither, halfAtVertex, rule5, halfSides, faceLinked, rule6}
+use Rattle.check_items.specs.Rules.{brokenRule}
 use Rattle.table.specs.Sizes.{sizesFit}
 use Rattle.table.specs.Check.{checkOf}
 use Rattle.table.specs.Count.{itemUsed, tallyOf, counts, countOf}
@@ -29,58 +33,79 @@ use Rattle.euler.specs.FaceOperators.{kvsfLinks, mfkrhLinks, rmovLinks}
 use Rattle.euler.specs.Exec.{linksAfter, pointsAfter, killedVertex, inverse}
 use Rattle.runs.specs.Run.{state, inverseBytes, stepped, entry}
 use Rattle.inversion.specs.Promise.{Euler}
-use Rattle.takedown.specs.Inversion.{Inverted, ofSolid, crossedHalf, onRun, crossed, act, makeOuter, moveRings, turnB, turned, invertBy, invertOf}
+use Rattle.takedown.specs.Inversion.{Inverted, ofSolid, crossedHalf, onRun, crossed, act, makeOuter, moveRings, turnB}
+use Rattle.takedown.specs.Inversion.{turned, invertBy, invertOf}
 
 -- what is left
 abbrev pub leaves : ℕ → ℕ → ℕ → List ℕ → List ℤ → List ℕ → Inverted
 leaves refusal done start x p log =
-    record { answer = record { refusal = refusal; rule = 0; done = done; start = start }; links = x; points = p; log = log }
+    record {
+      answer = record { refusal = refusal; rule = 0; done = done; start = start };
+      links = x;
+      points = p;
+      log =
+          log;
+    }
 
 -- ---- a bridge: one face, one loop 7 9 8 10 1 3 5 4 6 2 along next
 
 abbrev linksBridge : List ℕ
 linksBridge =
-    1 ∷ 2 ∷ 2 ∷ 6 ∷ 2 ∷ 1 ∷ 1 ∷ 1 ∷ 0 ∷ 0 ∷ 1 ∷ 1 ∷ 0 ∷ 0 ∷ 0 ∷ 0 ∷ 1 ∷ 1 ∷ 3 ∷ 10 ∷ 2 ∷ 1 ∷ 7 ∷ 6 ∷ 2 ∷ 1 ∷ 5 ∷ 1 ∷ 2 ∷ 1 ∷ 6 ∷ 5 ∷ 2 ∷ 1 ∷ 4 ∷ 3 ∷ 2 ∷ 1 ∷ 2 ∷ 4 ∷ 1 ∷ 1 ∷ 9 ∷ 2 ∷ 1 ∷ 1 ∷ 10 ∷ 9 ∷ 1 ∷ 1 ∷ 8
+    1 ∷ 2 ∷ 2 ∷ 6 ∷ 2 ∷ 1 ∷ 1 ∷ 1 ∷ 0 ∷ 0 ∷ 1 ∷ 1 ∷ 0 ∷ 0 ∷ 0 ∷ 0 ∷ 1 ∷ 1 ∷ 3 ∷ 10 ∷ 2 ∷ 1 ∷ 7 ∷ 6 ∷ 2 ∷ 1 ∷ 5 ∷ 1 ∷ 2
+    ∷ 1 ∷ 6 ∷ 5 ∷ 2 ∷ 1 ∷ 4 ∷ 3 ∷ 2 ∷ 1 ∷ 2 ∷ 4 ∷ 1 ∷ 1 ∷ 9 ∷ 2 ∷ 1 ∷ 1 ∷ 10 ∷ 9 ∷ 1 ∷ 1 ∷ 8
     ∷ 7 ∷ 1 ∷ 1 ∷ 1 ∷ 8 ∷ 0 ∷ 0 ∷ 0 ∷ 0 ∷ 0 ∷ 0 ∷ 0 ∷ 0 ∷ 1 ∷ 1 ∷ []
 
 abbrev pointsBridge : List ℤ
 pointsBridge = pos 10 ∷ pos 0 ∷ pos 0 ∷ pos 20 ∷ pos 0 ∷ pos 0 ∷ []
 
--- mvsf, mef, kfmrh, mekr, mev, mef, kfmrh, mekr: the inverses of kvsf 1, kef 9, mfkrh 2 2 0, kemr 7 2, kev 1, kef 5, mfkrh 2 2 0, kemr 3 2
+-- mvsf, mef, kfmrh, mekr, mev, mef, kfmrh, mekr: the inverses of kvsf 1, kef 9, mfkrh 2 2 0, kemr 7 2, kev 1, kef 5,
+-- mfkrh 2 2 0, kemr 3 2
 abbrev scriptBridge : List ℕ
 scriptBridge =
-    1 ∷ 1 ∷ 1 ∷ 1 ∷ 1 ∷ 20 ∷ 0 ∷ 0 ∷ 5 ∷ 1 ∷ 0 ∷ 0 ∷ 5 ∷ 2 ∷ 2 ∷ 1 ∷ 9 ∷ 1 ∷ 2 ∷ 8 ∷ 1 ∷ 10 ∷ 2 ∷ 9 ∷ 4 ∷ 0 ∷ 3 ∷ 1 ∷ 7 ∷ 1 ∷ 2 ∷ 0 ∷ 40 ∷ 0 ∷ 0 ∷ 5 ∷ 1 ∷ 2 ∷ 2 ∷ 3 ∷ 2 ∷ 2 ∷ 1 ∷ 9 ∷ 1 ∷ 2 ∷ 8 ∷ 1 ∷ 6 ∷ 2 ∷ 5 ∷ 2 ∷ 0 ∷ []
+    1 ∷ 1 ∷ 1 ∷ 1 ∷ 1 ∷ 20 ∷ 0 ∷ 0 ∷ 5 ∷ 1 ∷ 0 ∷ 0 ∷ 5 ∷ 2 ∷ 2 ∷ 1 ∷ 9 ∷ 1 ∷ 2 ∷ 8 ∷ 1 ∷ 10 ∷ 2 ∷ 9 ∷ 4 ∷ 0 ∷ 3 ∷ 1 ∷ 7
+    ∷ 1 ∷ 2 ∷ 0 ∷ 40 ∷ 0 ∷ 0 ∷ 5 ∷ 1 ∷ 2 ∷ 2 ∷ 3 ∷ 2 ∷ 2 ∷ 1 ∷ 9 ∷ 1 ∷ 2 ∷ 8 ∷ 1 ∷ 6 ∷ 2 ∷ 5 ∷ 2 ∷ 0 ∷ []
 
--- ---- all kinds of turn: rmov 1 3 (the swap), rmov 3 2, kef 6; kemr 1 1, mfkrh 1 1 0 (a face below the root, 2), kef 3; mekr 2 0 3 0 1 0, kev 1; kvsf 1
+-- ---- all kinds of turn: rmov 1 3 (the swap), rmov 3 2, kef 6; kemr 1 1, mfkrh 1 1 0 (a face below the root, 2), kef
+-- 3; mekr 2 0 3 0 1 0, kev 1; kvsf 1
 
 abbrev linksAll : List ℕ
 linksAll =
-    3 ∷ 4 ∷ 4 ∷ 4 ∷ 2 ∷ 1 ∷ 0 ∷ 0 ∷ 0 ∷ 0 ∷ 1 ∷ 2 ∷ 1 ∷ 3 ∷ 0 ∷ 0 ∷ 3 ∷ 6 ∷ 0 ∷ 2 ∷ 1 ∷ 0 ∷ 3 ∷ 0 ∷ 2 ∷ 0 ∷ 0 ∷ 0 ∷ 1 ∷ 2 ∷ 3 ∷ 4 ∷ 1 ∷ 2 ∷ 5 ∷ 3 ∷ 1 ∷ 2 ∷ 2 ∷ 1 ∷ 1 ∷ 2 ∷ 1 ∷ 5 ∷ 1 ∷ 2 ∷ 4 ∷ 2 ∷ 1 ∷ 1 ∷ 6 ∷ 6 ∷ 0 ∷ 0 ∷ 0 ∷ 0 ∷ 0 ∷ 0 ∷ 0 ∷ 0 ∷ 1 ∷ 1 ∷ []
+    3 ∷ 4 ∷ 4 ∷ 4 ∷ 2 ∷ 1 ∷ 0 ∷ 0 ∷ 0 ∷ 0 ∷ 1 ∷ 2 ∷ 1 ∷ 3 ∷ 0 ∷ 0 ∷ 3 ∷ 6 ∷ 0 ∷ 2 ∷ 1 ∷ 0 ∷ 3 ∷ 0 ∷ 2 ∷ 0 ∷ 0 ∷ 0 ∷ 1
+    ∷ 2 ∷ 3 ∷ 4 ∷ 1 ∷ 2 ∷ 5 ∷ 3 ∷ 1 ∷ 2 ∷ 2 ∷ 1 ∷ 1 ∷ 2 ∷ 1 ∷ 5 ∷ 1 ∷ 2 ∷ 4 ∷ 2 ∷ 1 ∷ 1 ∷ 6 ∷ 6 ∷ 0 ∷ 0 ∷ 0 ∷ 0 ∷ 0
+    ∷ 0 ∷ 0 ∷ 0 ∷ 1 ∷ 1 ∷ []
 
 abbrev pointsAll : List ℤ
 pointsAll = negsuc 49999 ∷ pos 0 ∷ pos 50000 ∷ negsuc 49999 ∷ pos 50000 ∷ pos 0 ∷ []
 
 abbrev scriptAll : List ℕ
 scriptAll =
-    1 ∷ 1 ∷ 2 ∷ 2 ∷ 1 ∷ 159 ∷ 141 ∷ 6 ∷ 0 ∷ 160 ∷ 141 ∷ 6 ∷ 3 ∷ 2 ∷ 0 ∷ 1 ∷ 2 ∷ 0 ∷ 159 ∷ 141 ∷ 6 ∷ 160 ∷ 141 ∷ 6 ∷ 0 ∷ 7 ∷ 1 ∷ 3 ∷ 5 ∷ 2 ∷ 0 ∷ 0 ∷ 2 ∷ 1 ∷ 1 ∷ 1 ∷ 9 ∷ 2 ∷ 1 ∷ 8 ∷ 2 ∷ 4 ∷ 1 ∷ 3 ∷ 1 ∷ 0 ∷ 5 ∷ 2 ∷ 4 ∷ 4 ∷ 3 ∷ 3 ∷ 1 ∷ 0 ∷ 13 ∷ 3 ∷ 3 ∷ 13 ∷ 3 ∷ 3 ∷ []
+    1 ∷ 1 ∷ 2 ∷ 2 ∷ 1 ∷ 159 ∷ 141 ∷ 6 ∷ 0 ∷ 160 ∷ 141 ∷ 6 ∷ 3 ∷ 2 ∷ 0 ∷ 1 ∷ 2 ∷ 0 ∷ 159 ∷ 141 ∷ 6 ∷ 160 ∷ 141 ∷ 6 ∷ 0
+    ∷ 7 ∷ 1 ∷ 3 ∷ 5 ∷ 2 ∷ 0 ∷ 0 ∷ 2 ∷ 1 ∷ 1 ∷ 1 ∷ 9 ∷ 2 ∷ 1 ∷ 8 ∷ 2 ∷ 4 ∷ 1 ∷ 3 ∷ 1 ∷ 0 ∷ 5 ∷ 2 ∷ 4 ∷ 4 ∷ 3 ∷ 3 ∷ 1
+    ∷ 0 ∷ 13 ∷ 3 ∷ 3 ∷ 13 ∷ 3 ∷ 3 ∷ []
 
 -- ---- two solids: rmov 2 1, kef 2, mfkrh 2 2 0, kef 4, mekr 6 0 5 0 1 0, kev 1, kvsf 1; kvsf 2
 
 abbrev linksTwo : List ℕ
 linksTwo =
-    2 ∷ 5 ∷ 6 ∷ 3 ∷ 5 ∷ 1 ∷ 1 ∷ 1 ∷ 6 ∷ 0 ∷ 0 ∷ 1 ∷ 1 ∷ 2 ∷ 4 ∷ 0 ∷ 0 ∷ 3 ∷ 2 ∷ 0 ∷ 3 ∷ 4 ∷ 0 ∷ 0 ∷ 0 ∷ 0 ∷ 4 ∷ 0 ∷ 3 ∷ 1 ∷ 1 ∷ 0 ∷ 1 ∷ 3 ∷ 0 ∷ 5 ∷ 5 ∷ 1 ∷ 1 ∷ 5 ∷ 1 ∷ 2 ∷ 2 ∷ 4 ∷ 6 ∷ 3 ∷ 3 ∷ 4 ∷ 2 ∷ 4 ∷ 4 ∷ 0 ∷ 0 ∷ 0 ∷ 0 ∷ 0 ∷ 0 ∷ 0 ∷ 0 ∷ 0 ∷ 0 ∷ 1 ∷ 1 ∷ 1 ∷ []
+    2 ∷ 5 ∷ 6 ∷ 3 ∷ 5 ∷ 1 ∷ 1 ∷ 1 ∷ 6 ∷ 0 ∷ 0 ∷ 1 ∷ 1 ∷ 2 ∷ 4 ∷ 0 ∷ 0 ∷ 3 ∷ 2 ∷ 0 ∷ 3 ∷ 4 ∷ 0 ∷ 0 ∷ 0 ∷ 0 ∷ 4 ∷ 0 ∷ 3
+    ∷ 1 ∷ 1 ∷ 0 ∷ 1 ∷ 3 ∷ 0 ∷ 5 ∷ 5 ∷ 1 ∷ 1 ∷ 5 ∷ 1 ∷ 2 ∷ 2 ∷ 4 ∷ 6 ∷ 3 ∷ 3 ∷ 4 ∷ 2 ∷ 4 ∷ 4 ∷ 0 ∷ 0 ∷ 0 ∷ 0 ∷ 0 ∷ 0
+    ∷ 0 ∷ 0 ∷ 0 ∷ 0 ∷ 1 ∷ 1 ∷ 1 ∷ []
 
 abbrev pointsTwo : List ℤ
-pointsTwo = pos 0 ∷ pos 0 ∷ pos 0 ∷ pos 0 ∷ pos 0 ∷ pos 0 ∷ pos 18893 ∷ pos 50000 ∷ pos 29460 ∷ pos 8983 ∷ pos 0 ∷ negsuc 23450 ∷ pos 29636 ∷ pos 50000 ∷ pos 0 ∷ []
+pointsTwo = pos 0 ∷ pos 0 ∷ pos 0 ∷ pos 0 ∷ pos 0 ∷ pos 0 ∷ pos 18893 ∷ pos 50000 ∷ pos 29460 ∷ pos 8983 ∷ pos 0
+    ∷ negsuc 23450 ∷ pos 29636 ∷ pos 50000 ∷ pos 0 ∷ []
 
 abbrev scriptTwo : List ℕ
 scriptTwo =
-    1 ∷ 2 ∷ 4 ∷ 4 ∷ 3 ∷ 154 ∷ 167 ∷ 2 ∷ 160 ∷ 141 ∷ 6 ∷ 168 ∷ 204 ∷ 3 ∷ 1 ∷ 1 ∷ 1 ∷ 6 ∷ 4 ∷ 174 ∷ 140 ∷ 1 ∷ 0 ∷ 181 ∷ 238 ∷ 2 ∷ 3 ∷ 6 ∷ 0 ∷ 1 ∷ 5 ∷ 0 ∷ 136 ∷ 207 ∷ 3 ∷ 160 ∷ 141 ∷ 6 ∷ 0 ∷ 7 ∷ 1 ∷ 5 ∷ 5 ∷ 6 ∷ 0 ∷ 0 ∷ 2 ∷ 2 ∷ 2 ∷ 0 ∷ 9 ∷ 1 ∷ 2 ∷ 5 ∷ 5 ∷ 0 ∷ 0 ∷ 1 ∷ 3 ∷ 1 ∷ 0 ∷ 13 ∷ 2 ∷ 3 ∷ []
+    1 ∷ 2 ∷ 4 ∷ 4 ∷ 3 ∷ 154 ∷ 167 ∷ 2 ∷ 160 ∷ 141 ∷ 6 ∷ 168 ∷ 204 ∷ 3 ∷ 1 ∷ 1 ∷ 1 ∷ 6 ∷ 4 ∷ 174 ∷ 140 ∷ 1 ∷ 0 ∷ 181
+    ∷ 238 ∷ 2 ∷ 3 ∷ 6 ∷ 0 ∷ 1 ∷ 5 ∷ 0 ∷ 136 ∷ 207 ∷ 3 ∷ 160 ∷ 141 ∷ 6 ∷ 0 ∷ 7 ∷ 1 ∷ 5 ∷ 5 ∷ 6 ∷ 0 ∷ 0 ∷ 2 ∷ 2 ∷ 2
+    ∷ 0 ∷ 9 ∷ 1 ∷ 2 ∷ 5 ∷ 5 ∷ 0 ∷ 0 ∷ 1 ∷ 3 ∷ 1 ∷ 0 ∷ 13 ∷ 2 ∷ 3 ∷ []
 
 -- ---- a torus of two edges that fills its table: one loop 1 3 2 4 along next
 
 abbrev linksFull : List ℕ
-linksFull = 1 ∷ 1 ∷ 1 ∷ 2 ∷ 1 ∷ 1 ∷ 1 ∷ 1 ∷ 1 ∷ 1 ∷ 0 ∷ 1 ∷ 1 ∷ 3 ∷ 4 ∷ 1 ∷ 1 ∷ 4 ∷ 3 ∷ 1 ∷ 1 ∷ 2 ∷ 1 ∷ 1 ∷ 1 ∷ 1 ∷ 2 ∷ 1 ∷ []
+linksFull = 1 ∷ 1 ∷ 1 ∷ 2 ∷ 1 ∷ 1 ∷ 1 ∷ 1 ∷ 1 ∷ 1 ∷ 0 ∷ 1 ∷ 1 ∷ 3 ∷ 4 ∷ 1 ∷ 1 ∷ 4 ∷ 3 ∷ 1 ∷ 1 ∷ 2 ∷ 1 ∷ 1 ∷ 1 ∷ 1 ∷ 2
+    ∷ 1 ∷ []
 
 -- ---- the rows: a state, and all that is left
 
@@ -129,8 +154,10 @@ pub stray-none : (h : ℕ) → Euler (shapeOf linksStray) linksStray h → ⊥
 unfolding itemUsed sumTo
 stray-none h e = omega (arith, e)
 
--- ---- the crossing test has something to say: of the bridge's solid the least half-edge is 1, and the least crossed one is 3
+-- ---- the crossing test has something to say: of the bridge's solid the least half-edge is 1, and the least crossed
+-- one is 3
 
-pub bridge-crossed : (least (2 * 6) (ofSolid (shapeOf linksBridge) linksBridge 1) ≡ 1) × (crossedHalf (shapeOf linksBridge) linksBridge 1 ≡ 3)
+pub bridge-crossed : (least (2 * 6) (ofSolid (shapeOf linksBridge) linksBridge 1) ≡ 1)
+    × (crossedHalf (shapeOf linksBridge) linksBridge 1 ≡ 3)
 unfolding leastFrom crossed onRun anyTo mate
 bridge-crossed = (refl, refl)

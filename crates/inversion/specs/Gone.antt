@@ -1,4 +1,5 @@
--- B's turns, each of which takes an edge out of the solid at hand: which half-edges are left, what they are followed by, and that they stay in their solid.
+-- B's turns, each of which takes an edge out of the solid at hand: which half-edges are left, what they are followed
+-- by, and that they stay in their solid.
 use mathlib.Core.Path.{_≡_, refl, sym, ap, _∙_}
 use mathlib.Core.Logic.{_≢_, _⊎_, inl, inr, ⊎-elim}
 use mathlib.Core.Bool.{Bool, true, false}
@@ -27,7 +28,8 @@ use Rattle.sound_holes.specs.MfkrhSound.{RingFace}
 use Rattle.takedown.specs.Inversion.{mfkrh, kef}
 use Rattle.inversion.specs.KevLaws.{kev-law}
 use Rattle.inversion.specs.KefLaws.{kef-shown, kef-law}
-use Rattle.inversion.specs.KemrTurn.{v as kemr-shown, b as kemr-bridged, mark-same, solid-same, face-same, face-new, start-kept}
+use Rattle.inversion.specs.KemrTurn.{v as kemr-shown, b as kemr-bridged, mark-same, solid-same, face-same}
+use Rattle.inversion.specs.KemrTurn.{face-new, start-kept}
 use Rattle.inversion.specs.TurnRing.{ring-shows, good₁, place₁, mark₁, solid₂, face₂, loop₁, start₁}
 use Rattle.inversion.specs.Uncrossed.{EdgeGone}
 
@@ -40,10 +42,15 @@ pub record Goes (sh : Shape) (x y : List ℕ) (h : ℕ) : Type 0 where
 
 -- ---- kev
 
-module _ {sh : Shape} {x : List ℕ} {p : List ℤ} (g : Good sh x p) {k : ℕ} (uk : HalfUsed sh (own sh x) k) (nk : own sh x Next k ≡ mate k) where
+module _ {sh : Shape} {x : List ℕ} {p : List ℤ} (g : Good sh x p) {k : ℕ} (uk : HalfUsed sh (own sh x) k)
+    (nk : own sh x Next k ≡ mate k) where
   used : (i : ℕ) → HalfUsed sh (own sh (kevList sh x k)) i → HalfUsed sh (own sh x) i × (i ≢ k) × (i ≢ mate k)
-  used i w = let c = kev-law g uk nk in
-      ((w .0, w .1, λ z. w .2 (c .start-kept i (w .0, w .1) z)), λ e. w .2 (ap (own sh (kevList sh x k) Start) e ∙ c .gone-k), λ e. w .2 (ap (own sh (kevList sh x k) Start) e ∙ c .gone-b))
+  used i w = let c = kev-law g uk nk in (
+    (w .0, w .1, λ z. w .2 (c .start-kept i (w .0, w .1) z)),
+    λ e. w .2 (ap (own sh (kevList sh x k) Start) e
+        ∙ c .gone-k),
+    λ e. w .2 (ap (own sh (kevList sh x k) Start) e ∙ c .gone-b),
+  )
 
   module _ {I : ℕ} (left : Left (own sh x) k I) where
     v : Shows sh (kevList sh x k) (kevColumns sh (own sh x) k I)
@@ -66,7 +73,10 @@ module _ {sh : Shape} {x : List ℕ} {p : List ℤ} (g : Good sh x p) {k : ℕ} 
                 let u = used i w in
                 let e = v .at Next i (w .1) ∙ upd-off _ 0 (u .2) ∙ upd-off _ 0 (u .1) ∙ upd-off _ (mate k) (u .1) in
                 split i (own sh x Prev k)
-                (λ q. inr (inl (ap (own sh x Next) q ∙ next-prev (g .sound .rules) k uk), inr (e ∙ upd-at (own sh x Next) (own sh x Next (mate k)) q)))
+                (λ q. inr (
+                  inl (ap (own sh x Next) q ∙ next-prev (g .sound .rules) k uk),
+                  inr (e ∙ upd-at (own sh x Next) (own sh x Next (mate k)) q),
+                ))
                 (λ q. inl (e ∙ upd-off (own sh x Next) (own sh x Next (mate k)) q));
           };
           mark = c .mark;
@@ -76,18 +86,22 @@ module _ {sh : Shape} {x : List ℕ} {p : List ℤ} (g : Good sh x p) {k : ℕ} 
               let h = g .sound .half i (w .0, w .1) (u .0 .2) in
               let s = g .sound .solids .side-in i (u .0) in
               ap (λ l. own sh (kevList sh x k) Solid (own sh (kevList sh x k) Face l)) (loop-at i w)
-              ∙ ap (own sh (kevList sh x k) Solid) (c .face (own sh x Loop i) (h .loop-in)) ∙ c .solid (side (own sh x) i) (s .0, s .1);
+              ∙ ap (own sh (kevList sh x k) Solid) (c .face (own sh x Loop i) (h .loop-in))
+              ∙ c .solid (side (own sh x) i) (s .0, s .1);
         }
 
   -- whichever way the loop is left
   pub kev-goes : Goes sh x (kevList sh x k) k
-  kev-goes = split (own sh x Next (mate k)) k (λ e. goes-at {I = own sh x Start k} (inl (e, refl))) (λ d. goes-at {I = 0} (inr (d, refl)))
+  kev-goes = split (own sh x Next (mate k)) k (λ e. goes-at {I = own sh x Start k} (inl (e, refl)))
+      (λ d. goes-at {I = 0} (inr (d, refl)))
 
   pub kev-loop : (i : ℕ) → HalfUsed sh (own sh (kevList sh x k)) i → own sh (kevList sh x k) Loop i ≡ own sh x Loop i
-  kev-loop = split (own sh x Next (mate k)) k (λ e. loop-at {I = own sh x Start k} (inl (e, refl))) (λ d. loop-at {I = 0} (inr (d, refl)))
+  kev-loop = split (own sh x Next (mate k)) k (λ e. loop-at {I = own sh x Start k} (inl (e, refl)))
+      (λ d. loop-at {I = 0} (inr (d, refl)))
 
   pub kev-outer : (n : ℕ) → In (sh .faces) n → own sh (kevList sh x k) Outer n ≡ own sh x Outer n
-  kev-outer = split (own sh x Next (mate k)) k (λ e. outer-at {I = own sh x Start k} (inl (e, refl))) (λ d. outer-at {I = 0} (inr (d, refl)))
+  kev-outer = split (own sh x Next (mate k)) k (λ e. outer-at {I = own sh x Start k} (inl (e, refl)))
+      (λ d. outer-at {I = 0} (inr (d, refl)))
 
 -- ---- kemr
 
@@ -98,12 +112,14 @@ module _ {sh : Shape} {x : List ℕ} {p : List ℤ} (g : Good sh x p) {k l2 : �
       let v = kemr-shown g o in (
         (w .0, w .1, λ q. w .2 (start-kept g o i (w .0, w .1) q)),
         λ e. w .2 (ap (own sh (kemrList sh x k l2) Start) e ∙ v .at Start k (o .half .1) ∙ b .ends .zero-k .s),
-        λ e. w .2 (ap (own sh (kemrList sh x k l2) Start) e ∙ v .at Start (mate k) (g .sound .rules .mate-in k (o .half) .1) ∙ b .ends .zero-a .s),
+        λ e. w .2 (ap (own sh (kemrList sh x k l2) Start) e
+            ∙ v .at Start (mate k) (g .sound .rules .mate-in k (o .half) .1) ∙ b .ends .zero-a .s),
       )
 
   -- a half-edge names its loop or the new ring, and then its loop was that of k
   pub kemr-loop : (i : ℕ) → HalfUsed sh (own sh (kemrList sh x k l2)) i
-      → (own sh (kemrList sh x k l2) Loop i ≡ own sh x Loop i) ⊎ ((own sh (kemrList sh x k l2) Loop i ≡ l2) × (own sh x Loop i ≡ own sh x Loop k))
+      → (own sh (kemrList sh x k l2) Loop i ≡ own sh x Loop i)
+      ⊎ ((own sh (kemrList sh x k l2) Loop i ≡ l2) × (own sh x Loop i ≡ own sh x Loop k))
   kemr-loop i w =
       let b = kemr-bridged g o in
       let e = kemr-shown g o .at Loop i (w .1) in
@@ -122,10 +138,17 @@ module _ {sh : Shape} {x : List ℕ} {p : List ℤ} (g : Good sh x p) {k l2 : �
           let u = used₂ i w in
           let e = kemr-shown g o .at Next i (w .1) ∙ upd-off _ 0 (u .2) ∙ upd-off _ 0 (u .1) in
           split i (own sh x Prev (mate k))
-          (λ q. inr (inr (ap (own sh x Next) q ∙ next-prev (A .rules) (mate k) (A .rules .mate-in k (o .half))), inl (e ∙ upd-at _ (own sh x Next k) q)))
+          (λ q. inr (
+            inr (ap (own sh x Next) q ∙ next-prev (A .rules) (mate k) (A .rules .mate-in k (o .half))),
+            inl (e ∙ upd-at _ (own sh x Next k) q),
+          ))
           (λ q. split i (own sh x Prev k)
-          (λ d. inr (inl (ap (own sh x Next) d ∙ next-prev (A .rules) k (o .half)), inr (e ∙ upd-off _ (own sh x Next k) q ∙ upd-at _ (own sh x Next (mate k)) d)))
-          (λ d. inl (e ∙ upd-off _ (own sh x Next k) q ∙ upd-off _ (own sh x Next (mate k)) d ∙ run-other (own sh x) (walk A o .0) (own sh x Next k) l2 Next refl i)));
+          (λ d. inr (
+            inl (ap (own sh x Next) d ∙ next-prev (A .rules) k (o .half)),
+            inr (e ∙ upd-off _ (own sh x Next k) q ∙ upd-at _ (own sh x Next (mate k)) d),
+          ))
+          (λ d. inl (e ∙ upd-off _ (own sh x Next k) q ∙ upd-off _ (own sh x Next (mate k)) d
+          ∙ run-other (own sh x) (walk A o .0) (own sh x Next k) l2 Next refl i)));
     };
     mark = mark-same g o;
     solid = solid-same g o;
@@ -133,13 +156,17 @@ module _ {sh : Shape} {x : List ℕ} {p : List ℤ} (g : Good sh x p) {k l2 : �
         let u = used₂ i w in
         let h = g .sound .half i (w .0, w .1) (u .0 .2) in
         let s = g .sound .solids .side-in i (u .0) in
-        ap (own sh (kemrList sh x k l2) Solid) (faces i w (h .loop-in) (h .loop-used)) ∙ solid-same g o (side (own sh x) i) (s .0, s .1);
+        ap (own sh (kemrList sh x k l2) Solid) (faces i w (h .loop-in) (h .loop-used))
+        ∙ solid-same g o (side (own sh x) i) (s .0, s .1);
   }
     where
-      faces : (i : ℕ) → HalfUsed sh (own sh (kemrList sh x k l2)) i → In (sh .loops) (own sh x Loop i) → own sh x Face (own sh x Loop i) ≢ 0 → side (own sh (kemrList sh x k l2)) i ≡ side (own sh x) i
+      faces : (i : ℕ) → HalfUsed sh (own sh (kemrList sh x k l2)) i → In (sh .loops) (own sh x Loop i)
+          → own sh x Face (own sh x Loop i) ≢ 0 → side (own sh (kemrList sh x k l2)) i ≡ side (own sh x) i
       faces i w j d = ⊎-elim
-          (λ e. ap (own sh (kemrList sh x k l2) Face) e ∙ face-same g o (own sh x Loop i) j (λ q. d (ap (own sh x Face) q ∙ o .free)))
-          (λ e. ap (own sh (kemrList sh x k l2) Face) (e .0) ∙ face-new g o ∙ ap (own sh x Face) (sym (e .1))) (kemr-loop i w)
+          (λ e. ap (own sh (kemrList sh x k l2) Face) e
+          ∙ face-same g o (own sh x Loop i) j (λ q. d (ap (own sh x Face) q ∙ o .free)))
+          (λ e. ap (own sh (kemrList sh x k l2) Face) (e .0) ∙ face-new g o ∙ ap (own sh x Face) (sym (e .1)))
+          (kemr-loop i w)
 
 -- ---- kef
 
@@ -149,9 +176,17 @@ mend-next : (c : Columns) (k i n : ℕ) → c Next (c Prev k) ≡ k → c Next (
     → (n ≡ c Next i) ⊎ (((c Next i ≡ k) ⊎ (c Next i ≡ mate k)) × ((n ≡ c Next k) ⊎ (n ≡ c Next (mate k))))
 mend-next c k i n pk pm e =
     split i (tieP′ (spotAt c k))
-    (λ q. inr (before′ (eqb (c Next k) k) q, after′ (eqb (c Next (mate k)) (mate k)) (e ∙ upd-at _ (tieN′ (spotAt c k)) q)))
+    (λ q. inr (
+      before′ (eqb (c Next k) k) q,
+      after′ (eqb (c Next (mate k)) (mate k)) (e
+          ∙ upd-at _ (tieN′ (spotAt c k)) q),
+    ))
     (λ q. split i (tieP (spotAt c k))
-    (λ d. inr (before (eqb (c Next (mate k)) (mate k)) d, after (eqb (c Next k) k) (e ∙ upd-off _ (tieN′ (spotAt c k)) q ∙ upd-at _ (tieN (spotAt c k)) d)))
+    (λ d. inr (
+      before (eqb (c Next (mate k)) (mate k)) d,
+      after (eqb (c Next k) k) (e ∙ upd-off _ (tieN′ (spotAt c k)) q
+          ∙ upd-at _ (tieN (spotAt c k)) d),
+    ))
     (λ d. inl (e ∙ upd-off _ (tieN′ (spotAt c k)) q ∙ upd-off _ (tieN (spotAt c k)) d)))
   where
     before : (t : Bool) → i ≡ pick t (c Prev k) (c Prev (mate k)) → (c Next i ≡ k) ⊎ (c Next i ≡ mate k)
@@ -172,12 +207,14 @@ mend-next c k i n pk pm e =
 
 -- ---- mfkrh and kef
 
-module _ {sh : Shape} {x : List ℕ} {p : List ℤ} (g : Good sh x p) {k l f f₀ s : ℕ} (u : HalfUsed sh (own sh x) k) (kl : own sh x Loop k ≡ l) (ml : own sh x Loop (mate k) ≢ l)
+module _ {sh : Shape} {x : List ℕ} {p : List ℤ} (g : Good sh x p) {k l f f₀ s : ℕ} (u : HalfUsed sh (own sh x) k)
+    (kl : own sh x Loop k ≡ l) (ml : own sh x Loop (mate k) ≢ l)
     (mf : side (own sh x) (mate k) ≡ f₀) (r : RingFace sh (own sh x) l f f₀ s) where
   um : HalfUsed sh (own sh x) (mate k)
   um = g .sound .rules .mate-in k u
 
-  used₃ : (i : ℕ) → HalfUsed sh (own sh (linksAfter sh (linksAfter sh x (mfkrh l f)) (kef k))) i → HalfUsed sh (own sh x) i × (i ≢ k) × (i ≢ mate k)
+  used₃ : (i : ℕ) → HalfUsed sh (own sh (linksAfter sh (linksAfter sh x (mfkrh l f)) (kef k))) i
+      → HalfUsed sh (own sh x) i × (i ≢ k) × (i ≢ mate k)
   used₃ i w =
       let v = kef-shown (good₁ g u kl ml mf r) (place₁ g u kl ml mf r) in
       let c = kef-law (good₁ g u kl ml mf r) (place₁ g u kl ml mf r) in (
@@ -191,8 +228,10 @@ module _ {sh : Shape} {x : List ℕ} {p : List ℤ} (g : Good sh x p) {k l f f�
 
   -- what named the ring names the loop of k's mate
   pub ring-loop : (i : ℕ) → HalfUsed sh (own sh (linksAfter sh (linksAfter sh x (mfkrh l f)) (kef k))) i
-      → ((own sh x Loop i ≡ l) × (own sh (linksAfter sh (linksAfter sh x (mfkrh l f)) (kef k)) Loop i ≡ own sh x Loop (mate k)))
-      ⊎ ((own sh x Loop i ≢ l) × (own sh (linksAfter sh (linksAfter sh x (mfkrh l f)) (kef k)) Loop i ≡ own sh x Loop i))
+      → ((own sh x Loop i ≡ l) × (own sh (linksAfter sh (linksAfter sh x (mfkrh l f)) (kef k)) Loop i
+      ≡ own sh x Loop (mate k)))
+      ⊎ ((own sh x Loop i ≢ l) × (own sh (linksAfter sh (linksAfter sh x (mfkrh l f)) (kef k)) Loop i
+      ≡ own sh x Loop i))
   ring-loop i w =
       let v = kef-shown (good₁ g u kl ml mf r) (place₁ g u kl ml mf r) in
       let q = used₃ i w in
@@ -205,13 +244,16 @@ module _ {sh : Shape} {x : List ℕ} {p : List ℤ} (g : Good sh x p) {k l f f�
       (λ d. inr (d, e ∙ relabel-off (own sh (linksAfter sh x (mfkrh l f)) Loop) _ _ (λ z. d (sym li ∙ z ∙ lk)) ∙ li))
 
   -- the outer loops stay
-  pub ring-outer : (n : ℕ) → In (sh .faces) n → n ≢ f → own sh (linksAfter sh (linksAfter sh x (mfkrh l f)) (kef k)) Outer n ≡ own sh x Outer n
+  pub ring-outer : (n : ℕ) → In (sh .faces) n → n ≢ f
+      → own sh (linksAfter sh (linksAfter sh x (mfkrh l f)) (kef k)) Outer n ≡ own sh x Outer n
   ring-outer n i d =
       let v = kef-shown (good₁ g u kl ml mf r) (place₁ g u kl ml mf r) in
-      v .at Outer n (i .1) ∙ upd-off _ 0 (λ e. d (e ∙ face-k)) ∙ ring-shows g u kl ml mf r .at Outer n (i .1) ∙ upd-off _ l d
+      v .at Outer n (i .1) ∙ upd-off _ 0 (λ e. d (e ∙ face-k)) ∙ ring-shows g u kl ml mf r .at Outer n (i .1)
+      ∙ upd-off _ l d
     where
       face-k : side (own sh (linksAfter sh x (mfkrh l f))) k ≡ f
-      face-k = ap (own sh (linksAfter sh x (mfkrh l f)) Face) (loop₁ g u kl ml mf r k (u .0, u .1) ∙ kl) ∙ ring-shows g u kl ml mf r .at Face l (r .loop-in .1) ∙ upd-same _ l f
+      face-k = ap (own sh (linksAfter sh x (mfkrh l f)) Face) (loop₁ g u kl ml mf r k (u .0, u .1) ∙ kl)
+          ∙ ring-shows g u kl ml mf r .at Face l (r .loop-in .1) ∙ upd-same _ l f
 
   pub ring-goes : Goes sh x (linksAfter sh (linksAfter sh x (mfkrh l f)) (kef k)) k
   ring-goes = record {
@@ -221,22 +263,29 @@ module _ {sh : Shape} {x : List ℕ} {p : List ℤ} (g : Good sh x p) {k l f f�
     of = λ i w.
         let q = used₃ i w in
         let s = g .sound .solids .side-in i (q .0) in
-        ap (own sh (linksAfter sh (linksAfter sh x (mfkrh l f)) (kef k)) Solid) (faces i w) ∙ solid₂ g u kl ml mf r (side (own sh x) i) (s .0, s .1);
+        ap (own sh (linksAfter sh (linksAfter sh x (mfkrh l f)) (kef k)) Solid) (faces i w)
+        ∙ solid₂ g u kl ml mf r (side (own sh x) i) (s .0, s .1);
   }
     where
-      faces : (i : ℕ) → HalfUsed sh (own sh (linksAfter sh (linksAfter sh x (mfkrh l f)) (kef k))) i → side (own sh (linksAfter sh (linksAfter sh x (mfkrh l f)) (kef k))) i ≡ side (own sh x) i
+      faces : (i : ℕ) → HalfUsed sh (own sh (linksAfter sh (linksAfter sh x (mfkrh l f)) (kef k))) i
+          → side (own sh (linksAfter sh (linksAfter sh x (mfkrh l f)) (kef k))) i ≡ side (own sh x) i
       faces i w =
           let q = used₃ i w in
           let h = g .sound .half i (w .0, w .1) (q .0 .2) in
           let hm = g .sound .half (mate k) (um .0, um .1) (um .2) in
           ⊎-elim
-          (λ e. ap (own sh (linksAfter sh (linksAfter sh x (mfkrh l f)) (kef k)) Face) (e .1) ∙ face₂ g u kl ml mf r (own sh x Loop (mate k)) (hm .loop-in) ml ∙ mf ∙ sym (r .loop-face) ∙ ap (own sh x Face) (sym (e .0)))
-          (λ e. ap (own sh (linksAfter sh (linksAfter sh x (mfkrh l f)) (kef k)) Face) (e .1) ∙ face₂ g u kl ml mf r (own sh x Loop i) (h .loop-in) (e .0))
+          (λ e. ap (own sh (linksAfter sh (linksAfter sh x (mfkrh l f)) (kef k)) Face) (e .1)
+          ∙ face₂ g u kl ml mf r (own sh x Loop (mate k)) (hm .loop-in) ml ∙ mf ∙ sym (r .loop-face)
+          ∙ ap (own sh x Face) (sym (e .0)))
+          (λ e. ap (own sh (linksAfter sh (linksAfter sh x (mfkrh l f)) (kef k)) Face) (e .1)
+          ∙ face₂ g u kl ml mf r (own sh x Loop i) (h .loop-in) (e .0))
           (ring-loop i w)
 
       next : (i : ℕ) → HalfUsed sh (own sh (linksAfter sh (linksAfter sh x (mfkrh l f)) (kef k))) i
           → (own sh (linksAfter sh (linksAfter sh x (mfkrh l f)) (kef k)) Next i ≡ own sh x Next i)
-          ⊎ (((own sh x Next i ≡ k) ⊎ (own sh x Next i ≡ mate k)) × ((own sh (linksAfter sh (linksAfter sh x (mfkrh l f)) (kef k)) Next i ≡ own sh x Next k) ⊎ (own sh (linksAfter sh (linksAfter sh x (mfkrh l f)) (kef k)) Next i ≡ own sh x Next (mate k))))
+          ⊎ (((own sh x Next i ≡ k) ⊎ (own sh x Next i ≡ mate k))
+          × ((own sh (linksAfter sh (linksAfter sh x (mfkrh l f)) (kef k)) Next i ≡ own sh x Next k)
+          ⊎ (own sh (linksAfter sh (linksAfter sh x (mfkrh l f)) (kef k)) Next i ≡ own sh x Next (mate k))))
       next i w =
           let c₁ = own sh (linksAfter sh x (mfkrh l f)) in
           let v = kef-shown (good₁ g u kl ml mf r) (place₁ g u kl ml mf r) in
@@ -248,5 +297,9 @@ module _ {sh : Shape} {x : List ℕ} {p : List ℤ} (g : Good sh x p) {k l f f�
           let nk = next₁ k (u .0, u .1) in
           let nm = next₁ (mate k) (um .0, um .1) in
           ⊎-elim (λ t. inl (t ∙ ni))
-          (λ t. inr (⊎-elim (λ z. inl (sym ni ∙ z)) (λ z. inr (sym ni ∙ z)) (t .0), ⊎-elim (λ z. inl (z ∙ nk)) (λ z. inr (z ∙ nm)) (t .1)))
-          (mend-next c₁ k i (own sh (linksAfter sh (linksAfter sh x (mfkrh l f)) (kef k)) Next i) (next-prev R k u₁) (next-prev R (mate k) (R .mate-in k u₁)) e)
+          (λ t. inr (
+            ⊎-elim (λ z. inl (sym ni ∙ z)) (λ z. inr (sym ni ∙ z)) (t .0),
+            ⊎-elim (λ z. inl (z ∙ nk)) (λ z. inr (z ∙ nm)) (t .1),
+          ))
+          (mend-next c₁ k i (own sh (linksAfter sh (linksAfter sh x (mfkrh l f)) (kef k)) Next i) (next-prev R k u₁)
+          (next-prev R (mate k) (R .mate-in k u₁)) e)

@@ -1,4 +1,5 @@
--- kef: accepted where k's loop is the only one of its face and the mate's face is another; one edge, face and loop fewer, all else counted the same.
+-- kef: accepted where k's loop is the only one of its face and the mate's face is another; one edge, face and loop
+-- fewer, all else counted the same.
 use mathlib.Core.Path.{_≡_, refl, sym, ap, _∙_, subst}
 use mathlib.Core.Logic.{_≢_}
 use mathlib.Core.Bool.{true, not}
@@ -68,14 +69,17 @@ module _ {sh : Shape} {x : List ℕ} {p : List ℤ} (g : Good sh x p) {k : ℕ} 
 
   test : kefTest sh x k ≡ true
   unfolding kefTest
-  test = T-true (T-every (eqb (countTo (sh .loops) (λ n. eqb (own sh x Face n) (side (own sh x) k))) 1 ∷ not (eqb (side (own sh x) (mate k)) (side (own sh x) k)) ∷ []) (
-    true-T (eqb-same (many-one (sh .loops) (own sh x Face) (side (own sh x) k) (own sh x Loop k) loop-in refl (w .one))),
-    (not-T (eqb (side (own sh x) (mate k)) (side (own sh x) k)) (λ z. w .other (eqb→eq _ _ z)), tt),
-  ))
+  test = T-true (T-every (eqb (countTo (sh .loops) (λ n. eqb (own sh x Face n) (side (own sh x) k))) 1
+      ∷ not (eqb (side (own sh x) (mate k)) (side (own sh x) k)) ∷ []) (
+        true-T (eqb-same (many-one (sh .loops) (own sh x Face) (side (own sh x) k) (own sh x Loop k) loop-in refl
+            (w .one))),
+        (not-T (eqb (side (own sh x) (mate k)) (side (own sh x) k)) (λ z. w .other (eqb→eq _ _ z)), tt),
+      ))
 
   pub kef-accepted : refusalOf sh x (kef k) ≡ 0
   unfolding pattern rows useWord condition
-  kef-accepted = one-accepted sh x 6 9 refl refl refl refl (omega (arith, g .capacities .edges)) refl k (w .used .0, w .used .1) (w .used .2)
+  kef-accepted = one-accepted sh x 6 9 refl refl refl refl (omega (arith, g .capacities .edges)) refl k
+      (w .used .0, w .used .1) (w .used .2)
       (rw (le-leb k 8192 (omega (arith, w .used .1, g .capacities .edges))) test)
 
   -- the columns afterwards
@@ -83,30 +87,45 @@ module _ {sh : Shape} {x : List ℕ} {p : List ℤ} (g : Good sh x p) {k : ℕ} 
   kef-shown =
       let cut = kef-cut (g .sound) refl w in
       let s = mend-sound cut (kef-only (g .sound) refl w) (kef-first (g .sound) refl w) (g .sound) in
-      subst (λ l. Shows sh l (mendColumns sh (own sh x) (spotAt (own sh x) k))) (sym (kef-links cut s (g .sound) (good-shows g) (g .capacities))) (mend-shows cut s (g .sound) (good-shows g))
+      subst (λ l. Shows sh l (mendColumns sh (own sh x) (spotAt (own sh x) k)))
+      (sym (kef-links cut s (g .sound) (good-shows g) (g .capacities))) (mend-shows cut s (g .sound) (good-shows g))
 
   pub kef-law : KefLaw sh x (linksAfter sh x (kef k)) k
   kef-law =
       let v = kef-shown in
       let um = g .sound .rules .mate-in k (w .used) in
       let km : k ≢ mate k = mate-other k (w .used .0) in
-      let mark : (n : ℕ) → In (sh .solids) n → own sh (linksAfter sh x (kef k)) SolidUsed n ≡ own sh x SolidUsed n = λ n i. v .at SolidUsed n (i .1) in
-      let solid-gone : own sh (linksAfter sh x (kef k)) Solid (side (own sh x) k) ≡ 0 = v .at Solid (side (own sh x) k) (face-in .1) ∙ upd-same _ (side (own sh x) k) 0 in
-      let solid : (n : ℕ) → In (sh .faces) n → n ≢ side (own sh x) k → own sh (linksAfter sh x (kef k)) Solid n ≡ own sh x Solid n = λ n i d. v .at Solid n (i .1) ∙ upd-off _ 0 d in
-      let face-gone : own sh (linksAfter sh x (kef k)) Face (own sh x Loop k) ≡ 0 = v .at Face (own sh x Loop k) (loop-in .1) ∙ upd-same _ (own sh x Loop k) 0 in
-      let face : (n : ℕ) → In (sh .loops) n → n ≢ own sh x Loop k → own sh (linksAfter sh x (kef k)) Face n ≡ own sh x Face n = λ n i d. v .at Face n (i .1) ∙ upd-off _ 0 d in
-      let other : (i : ℕ) → In (2 * sh .edges) i → i ≢ k → i ≢ mate k → own sh (linksAfter sh x (kef k)) Start i ≡ own sh x Start i = λ i j d e. v .at Start i (j .1) ∙ upd-off _ 0 d ∙ upd-off _ 0 e in
+      let mark : (n : ℕ) → In (sh .solids) n → own sh (linksAfter sh x (kef k)) SolidUsed n ≡ own sh x SolidUsed n =
+      λ n i. v .at SolidUsed n (i .1) in
+      let solid-gone : own sh (linksAfter sh x (kef k)) Solid (side (own sh x) k) ≡ 0 =
+      v .at Solid (side (own sh x) k) (face-in .1) ∙ upd-same _ (side (own sh x) k) 0 in
+      let solid : (n : ℕ) → In (sh .faces) n → n ≢ side (own sh x) k → own sh (linksAfter sh x (kef k)) Solid n
+      ≡ own sh x Solid n = λ n i d. v .at Solid n (i .1) ∙ upd-off _ 0 d in
+      let face-gone : own sh (linksAfter sh x (kef k)) Face (own sh x Loop k) ≡ 0 =
+      v .at Face (own sh x Loop k) (loop-in .1) ∙ upd-same _ (own sh x Loop k) 0 in
+      let face : (n : ℕ) → In (sh .loops) n → n ≢ own sh x Loop k → own sh (linksAfter sh x (kef k)) Face n
+      ≡ own sh x Face n = λ n i d. v .at Face n (i .1) ∙ upd-off _ 0 d in
+      let other : (i : ℕ) → In (2 * sh .edges) i → i ≢ k → i ≢ mate k → own sh (linksAfter sh x (kef k)) Start i
+      ≡ own sh x Start i = λ i j d e. v .at Start i (j .1) ∙ upd-off _ 0 d ∙ upd-off _ 0 e in
       record {
         mark = mark;
         solid-gone = solid-gone;
         solid = solid;
         face-gone = face-gone;
         face = face;
-        start-kept = λ i j z. other i j (λ e. w .used .2 (ap (own sh x Start) (sym e) ∙ z)) (λ e. um .2 (ap (own sh x Start) (sym e) ∙ z)) ∙ z;
+        start-kept =
+            λ i j z. other i j (λ e. w .used .2 (ap (own sh x Start) (sym e) ∙ z)) (λ e. um .2
+            (ap (own sh x Start) (sym e) ∙ z)) ∙ z;
         same-solids = solids-is sh _ ∙ words-same (sh .solids) _ _ mark ∙ sym (solids-is sh x);
-        fewer-faces = ap suc (faces-is sh _) ∙ words-fewer (sh .faces) _ _ (side (own sh x) k) face-in solid-gone (g .sound .solids .side-in k (w .used) .2) solid ∙ sym (faces-is sh x);
+        fewer-faces = ap suc (faces-is sh _)
+            ∙ words-fewer (sh .faces) _ _ (side (own sh x) k) face-in solid-gone (g .sound .solids .side-in k
+            (w .used) .2) solid ∙ sym (faces-is sh x);
         fewer-loops = ap suc (loops-is sh _)
-            ∙ words-fewer (sh .loops) _ _ (own sh x Loop k) loop-in face-gone (g .sound .half k (w .used .0, w .used .1) (w .used .2) .loop-used) face ∙ sym (loops-is sh x);
-        fewer-edges = edge-fewer sh x _ k (w .used .0, w .used .1) (w .used .2) (um .2) (v .at Start k (w .used .1) ∙ upd-same _ k 0) (v .at Start (mate k) (um .1) ∙ upd-off _ 0 (λ e. km (sym e)) ∙ upd-same _ (mate k) 0) other;
-        same-vertices = vertices-is sh _ ∙ words-same (sh .vertices) _ _ (λ n i. v .at VertexUsed n (i .1)) ∙ sym (vertices-is sh x);
+            ∙ words-fewer (sh .loops) _ _ (own sh x Loop k) loop-in face-gone (g .sound .half k (w .used .0, w .used .1)
+            (w .used .2) .loop-used) face ∙ sym (loops-is sh x);
+        fewer-edges = edge-fewer sh x _ k (w .used .0, w .used .1) (w .used .2) (um .2) (v .at Start k (w .used .1)
+            ∙ upd-same _ k 0) (v .at Start (mate k) (um .1) ∙ upd-off _ 0 (λ e. km (sym e))
+            ∙ upd-same _ (mate k) 0) other;
+        same-vertices = vertices-is sh _ ∙ words-same (sh .vertices) _ _ (λ n i. v .at VertexUsed n (i .1))
+            ∙ sym (vertices-is sh x);
       }

@@ -1,4 +1,5 @@
--- B's last step, kemr of a crossed k: it is accepted, one edge fewer, one loop more, and then some half-edge of a ring has its mate in another loop.
+-- B's last step, kemr of a crossed k: it is accepted, one edge fewer, one loop more, and then some half-edge of a ring
+-- has its mate in another loop.
 use mathlib.Core.Path.{_≡_, refl, sym, ap, _∙_, subst}
 use mathlib.Core.Logic.{_≢_}
 use mathlib.Core.Bool.{Bool, true, false, not, _&&_, false≢true}
@@ -28,7 +29,8 @@ use Rattle.sound_bridges.specs.KemrColumns.{spanBridge, kemrList, Span, walk, k
 use Rattle.sound_bridges.specs.KemrShown.{kemr-shows}
 use Rattle.takedown.specs.Inversion.{inRing, ringHalf}
 use Rattle.inversion.specs.Counts.{solids, faces, loops, edges, vertices, isStray, strays, count-same}
-use Rattle.inversion.specs.Same.{words-same, words-fewer, solids-is, faces-is, loops-is, vertices-is, face-in-same, stray-same, face-or-none}
+use Rattle.inversion.specs.Same.{words-same, words-fewer, solids-is, faces-is, loops-is, vertices-is}
+use Rattle.inversion.specs.Same.{face-in-same, stray-same, face-or-none}
 use Rattle.inversion.specs.EdgeOut.{edge-fewer}
 use Rattle.takedown.specs.Crossed.{Crossing}
 use Rattle.inversion.specs.Runs.{run-at, at-run}
@@ -67,39 +69,51 @@ module _ {sh : Shape} {x : List ℕ} {p : List ℤ} (g : Good sh x p) {k l2 : �
 
   pub kemr-loops : suc (loops sh x) ≡ loops sh (kemrList sh x k l2)
   kemr-loops = ap suc (loops-is sh x)
-      ∙ words-fewer (sh .loops) (own sh x Face) (own sh (kemrList sh x k l2) Face) l2 (o .ring-in) (o .free) (λ z. b .ends .used (sym (b .ends .one-face) ∙ sym (v .at Face l2 (o .ring-in .1)) ∙ z)) (λ n i d. sym (face-same n i d))
+      ∙ words-fewer (sh .loops) (own sh x Face) (own sh (kemrList sh x k l2) Face) l2 (o .ring-in) (o .free) (λ z.
+      b .ends .used (sym (b .ends .one-face) ∙ sym (v .at Face l2 (o .ring-in .1)) ∙ z))
+      (λ n i d. sym (face-same n i d))
       ∙ sym (loops-is sh _)
 
   -- a free half-edge stays free
   pub start-kept : (i : ℕ) → In (2 * sh .edges) i → own sh x Start i ≡ 0 → own sh (kemrList sh x k l2) Start i ≡ 0
   start-kept i j z =
       let um = g .sound .rules .mate-in k (o .half) in
-      v .at Start i (j .1) ∙ sym (b .start-o i (λ e. o .half .2 (ap (own sh x Start) (sym e) ∙ z)) (λ e. um .2 (ap (own sh x Start) (sym e) ∙ z))) ∙ z
+      v .at Start i (j .1)
+      ∙ sym (b .start-o i (λ e. o .half .2 (ap (own sh x Start) (sym e) ∙ z))
+      (λ e. um .2 (ap (own sh x Start) (sym e) ∙ z))) ∙ z
 
   pub kemr-edges : suc (edges sh (kemrList sh x k l2)) ≡ edges sh x
   kemr-edges =
       let um = g .sound .rules .mate-in k (o .half) in
-      edge-fewer sh x _ k (o .half .0, o .half .1) (o .half .2) (um .2) (v .at Start k (o .half .1) ∙ b .ends .zero-k .s) (v .at Start (mate k) (um .1) ∙ b .ends .zero-a .s)
+      edge-fewer sh x _ k (o .half .0, o .half .1) (o .half .2) (um .2) (v .at Start k (o .half .1)
+      ∙ b .ends .zero-k .s) (v .at Start (mate k) (um .1) ∙ b .ends .zero-a .s)
       (λ i j d e. v .at Start i (j .1) ∙ sym (b .start-o i d e))
 
   pub kemr-vertices : vertices sh (kemrList sh x k l2) ≡ vertices sh x
-  kemr-vertices = vertices-is sh _ ∙ words-same (sh .vertices) _ _ (λ n i. v .at VertexUsed n (i .1) ∙ sym (b .others VertexUsed refl n)) ∙ sym (vertices-is sh x)
+  kemr-vertices = vertices-is sh _ ∙ words-same (sh .vertices) _ _ (λ n i. v .at VertexUsed n (i .1)
+      ∙ sym (b .others VertexUsed refl n)) ∙ sym (vertices-is sh x)
 
   -- ---- the ring and the rest
 
   -- the half-edges of the run name the ring
-  run-loop : (j t : ℕ) → t < walk (g .sound) o .0 → iter (own sh x Next) t (own sh x Next k) ≡ j → In (2 * sh .edges) j → j ≢ k → j ≢ mate k → own sh (kemrList sh x k l2) Loop j ≡ l2
+  run-loop : (j t : ℕ) → t < walk (g .sound) o .0 → iter (own sh x Next) t (own sh x Next k) ≡ j → In (2 * sh .edges) j
+      → j ≢ k → j ≢ mate k → own sh (kemrList sh x k l2) Loop j ≡ l2
   run-loop j t h e i a d =
-      v .at Loop j (i .1) ∙ upd-off _ 0 d ∙ upd-off _ 0 a ∙ ap (runColumns (own sh x) (own sh x Next k) (walk (g .sound) o .0) l2 Loop) (sym e) ∙ run-met (own sh x) (walk (g .sound) o .0) (own sh x Next k) l2 t h
+      v .at Loop j (i .1) ∙ upd-off _ 0 d ∙ upd-off _ 0 a
+      ∙ ap (runColumns (own sh x) (own sh x Next k) (walk (g .sound) o .0) l2 Loop) (sym e)
+      ∙ run-met (own sh x) (walk (g .sound) o .0) (own sh x Next k) l2 t h
 
   -- the others name what they named
-  pub rest-loop : (j : ℕ) → ((t : ℕ) → t < walk (g .sound) o .0 → iter (own sh x Next) t (own sh x Next k) ≢ j) → In (2 * sh .edges) j → j ≢ k → j ≢ mate k
+  pub rest-loop : (j : ℕ) → ((t : ℕ) → t < walk (g .sound) o .0 → iter (own sh x Next) t (own sh x Next k) ≢ j)
+      → In (2 * sh .edges) j → j ≢ k → j ≢ mate k
       → own sh (kemrList sh x k l2) Loop j ≡ own sh x Loop j
-  rest-loop j h i a d = v .at Loop j (i .1) ∙ upd-off _ 0 d ∙ upd-off _ 0 a ∙ run-off (own sh x) (walk (g .sound) o .0) (own sh x Next k) l2 j h
+  rest-loop j h i a d = v .at Loop j (i .1) ∙ upd-off _ 0 d ∙ upd-off _ 0 a
+      ∙ run-off (own sh x) (walk (g .sound) o .0) (own sh x Next k) l2 j h
 
   -- ---- the face of k is its solid's only one
 
-  module _ (s : ℕ) (ks : own sh x Solid (own sh x Face (own sh x Loop k)) ≡ s) (root : faceIn sh x s ≡ own sh x Face (own sh x Loop k)) where
+  module _ (s : ℕ) (ks : own sh x Solid (own sh x Face (own sh x Loop k)) ≡ s) (root : faceIn sh x s
+      ≡ own sh x Face (own sh x Loop k)) where
     -- no loop becomes stray
     pub kemr-strays : strays sh (kemrList sh x k l2) ≡ strays sh x
     kemr-strays = count-same (sh .loops) _ _ (λ l a u. split l l2
@@ -113,7 +127,8 @@ module _ {sh : Shape} {x : List ℕ} {p : List ℤ} (g : Good sh x p) {k l2 : �
         inf = let i = g .sound .solids .side-in k (o .half) in (i .0, i .1)
 
         new : isStray sh (kemrList sh x k l2) l2 ≡ false
-        new = rw (face-new, solid-same f inf, ks, face-in-same sh x _ solid-same s, root, eqb-same {m = f} refl) (last (eqb f 0))
+        new = rw (face-new, solid-same f inf, ks, face-in-same sh x _ solid-same s, root, eqb-same {m = f} refl)
+            (last (eqb f 0))
           where
             last : (b : Bool) → (not b && false) ≡ false
             last true = refl
@@ -130,27 +145,42 @@ module _ {sh : Shape} {x : List ℕ} {p : List ℤ} (g : Good sh x p) {k l2 : �
         let r = run-at sh n (w .0) x (own sh x Next k) (mate k) (q .j) (omega (arith, w .1)) (w .2) (q .inside) in
         let a : q .j ≢ mate k = λ e. w .2 .first (r .0) (r .1) (r .2 ∙ e) in
         let t = subst (Till (own sh x Next) k (mate k)) (r .2)
-        (walk-till (g .sound .rules .loops) (o .half) (mate-other k (o .half .0)) (w .0) (w .2 .at) (w .2 .first) (w .0 - r .0) (r .0) (omega (arith, r .1))) in
+        (walk-till (g .sound .rules .loops) (o .half) (mate-other k (o .half .0)) (w .0) (w .2 .at) (w .2 .first)
+        (w .0 - r .0) (r .0) (omega (arith, r .1))) in
         let d : q .j ≢ k = till-off t a in
         let im = mate-range (q .j) (sh .edges) (q .range .0) (q .range .1) in
         let off : (t : ℕ) → t < w .0 → iter (own sh x Next) t (own sh x Next k) ≢ mate (q .j) = λ t h e.
-        false≢true (sym (q .outside) ∙ at-run sh n (w .0) x (own sh x Next k) (mate k) (mate (q .j)) (omega (arith, w .1)) (w .2) t h e) in
+        false≢true (sym (q .outside)
+        ∙ at-run sh n (w .0) x (own sh x Next k) (mate k) (mate (q .j)) (omega (arith, w .1)) (w .2) t h e) in
         let l = run-loop (q .j) (r .0) (r .1) (r .2) (q .range) d a in
-        let m = rest-loop (mate (q .j)) off im (λ e. a (sym (mate-mate (q .j)) ∙ ap mate e)) (λ e. d (sym (mate-mate (q .j)) ∙ ap mate e ∙ mate-mate k)) in
+        let m = rest-loop (mate (q .j)) off im (λ e. a (sym (mate-mate (q .j)) ∙ ap mate e))
+        (λ e. d (sym (mate-mate (q .j)) ∙ ap mate e ∙ mate-mate k)) in
         least-there n (inRing sh (kemrList sh x k l2) s) (q .j) (q .range)
-        (rw (l, m, face-new, solid-same f inf, ks, eqb-same {m = s} refl, v .at Outer f (inf .1) ∙ sym (b .others Outer refl f), eqb-other not-outer, eqb-other (loop-unnamed (g .sound) l2 (o .ring-in) (o .free) (mate (q .j)) im)))
+        (rw (
+          l,
+          m,
+          face-new,
+          solid-same f inf,
+          ks,
+          eqb-same {m = s} refl,
+          v .at Outer f (inf .1) ∙ sym (b .others Outer refl f),
+          eqb-other not-outer,
+          eqb-other (loop-unnamed (g .sound) l2 (o .ring-in) (o .free) (mate (q .j)) im),
+        ))
       where
         f : ℕ
         f = own sh x Face (own sh x Loop k)
 
-        uf : HalfUsed sh (own sh x) k → (1 ≤ own sh x Face (own sh x Loop k)) × (own sh x Face (own sh x Loop k) ≤ sh .faces) × (own sh x Solid (own sh x Face (own sh x Loop k)) ≢ 0)
+        uf : HalfUsed sh (own sh x) k → (1 ≤ own sh x Face (own sh x Loop k))
+            × (own sh x Face (own sh x Loop k) ≤ sh .faces) × (own sh x Solid (own sh x Face (own sh x Loop k)) ≢ 0)
         uf u = g .sound .solids .side-in k u
 
         inf : In (sh .faces) f
         inf = let i = uf (o .half) in (i .0, i .1)
 
         not-outer : own sh x Outer f ≢ l2
-        not-outer e = let i = uf (o .half) in omega (arith, i .0, sym (g .sound .face f inf (i .2) .outer-face) ∙ ap (own sh x Face) e ∙ o .free)
+        not-outer e = let i = uf (o .half) in
+            omega (arith, i .0, sym (g .sound .face f inf (i .2) .outer-face) ∙ ap (own sh x Face) e ∙ o .free)
 
         till-off : {j : ℕ} → Till (own sh x Next) k (mate k) j → j ≢ mate k → j ≢ k
         till-off (stop e) h = absurd (h e)

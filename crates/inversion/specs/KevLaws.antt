@@ -24,7 +24,8 @@ use Rattle.sound_spurs.specs.KevAccepted.{kevList, kev-shows}
 use Rattle.takedown.specs.Inversion.{kev}
 use Rattle.inversion.specs.Path.{joinsIn}
 use Rattle.inversion.specs.Counts.{solids, faces, loops, edges, vertices, strays}
-use Rattle.inversion.specs.Same.{words-same, words-fewer, solids-is, faces-is, vertices-is, loops-same, strays-same}
+use Rattle.inversion.specs.Same.{words-same, words-fewer, solids-is, faces-is, vertices-is, loops-same}
+use Rattle.inversion.specs.Same.{strays-same}
 use Rattle.inversion.specs.EdgeOut.{edge-fewer}
 
 -- the table afterwards, as it is counted
@@ -47,10 +48,12 @@ pub kev-joins : (sh : Shape) (x : List ℕ) (p : List ℤ) (k : ℕ) → joinsIn
 unfolding inverse
 kev-joins sh x p k = refl
 
-module _ {sh : Shape} {x : List ℕ} {p : List ℤ} (g : Good sh x p) {k : ℕ} (uk : HalfUsed sh (own sh x) k) (nk : own sh x Next k ≡ mate k) where
+module _ {sh : Shape} {x : List ℕ} {p : List ℤ} (g : Good sh x p) {k : ℕ} (uk : HalfUsed sh (own sh x) k)
+    (nk : own sh x Next k ≡ mate k) where
   pub kev-accepted : refusalOf sh x (kev k) ≡ 0
   unfolding pattern rows useWord condition kevTest
-  kev-accepted = one-accepted sh x 4 9 refl refl refl refl (omega (arith, g .capacities .edges)) refl k (uk .0, uk .1) (uk .2)
+  kev-accepted = one-accepted sh x 4 9 refl refl refl refl (omega (arith, g .capacities .edges)) refl k (uk .0, uk .1)
+      (uk .2)
       (rw (le-leb k 8192 (omega (arith, uk .1, g .capacities .edges))) (eqb-same nk))
 
   module _ {I : ℕ} (left : Left (own sh x) k I) where
@@ -60,28 +63,38 @@ module _ {sh : Shape} {x : List ℕ} {p : List ℤ} (g : Good sh x p) {k : ℕ} 
     law-at : KevLaw sh x (kevList sh x k) k
     law-at =
         let sp = spurOf g uk nk in
-        let mark : (n : ℕ) → In (sh .solids) n → own sh (kevList sh x k) SolidUsed n ≡ own sh x SolidUsed n = λ n i. v .at SolidUsed n (i .1) in
-        let solid : (n : ℕ) → In (sh .faces) n → own sh (kevList sh x k) Solid n ≡ own sh x Solid n = λ n i. v .at Solid n (i .1) in
-        let face : (n : ℕ) → In (sh .loops) n → own sh (kevList sh x k) Face n ≡ own sh x Face n = λ n i. v .at Face n (i .1) in
-        let other : (i : ℕ) → In (2 * sh .edges) i → i ≢ k → i ≢ mate k → own sh (kevList sh x k) Start i ≡ own sh x Start i = λ i j d e. v .at Start i (j .1) ∙ upd-off _ 0 e ∙ upd-off _ 0 d in
+        let mark : (n : ℕ) → In (sh .solids) n → own sh (kevList sh x k) SolidUsed n ≡ own sh x SolidUsed n =
+        λ n i. v .at SolidUsed n (i .1) in
+        let solid : (n : ℕ) → In (sh .faces) n → own sh (kevList sh x k) Solid n ≡ own sh x Solid n =
+        λ n i. v .at Solid n (i .1) in
+        let face : (n : ℕ) → In (sh .loops) n → own sh (kevList sh x k) Face n ≡ own sh x Face n =
+        λ n i. v .at Face n (i .1) in
+        let other : (i : ℕ) → In (2 * sh .edges) i → i ≢ k → i ≢ mate k → own sh (kevList sh x k) Start i
+        ≡ own sh x Start i = λ i j d e. v .at Start i (j .1) ∙ upd-off _ 0 e ∙ upd-off _ 0 d in
         record {
           mark = mark;
           solid = solid;
           face = face;
           gone-k = v .at Start k (uk .1) ∙ out-start-k sp left;
           gone-b = v .at Start (mate k) (in-b sp .1) ∙ out-start-b sp left;
-          start-kept = λ i j z. other i j (λ e. uk .2 (ap (own sh x Start) (sym e) ∙ z)) (λ e. used-b sp .2 (ap (own sh x Start) (sym e) ∙ z)) ∙ z;
+          start-kept =
+              λ i j z. other i j (λ e. uk .2 (ap (own sh x Start) (sym e) ∙ z)) (λ e. used-b sp .2
+              (ap (own sh x Start) (sym e) ∙ z)) ∙ z;
           same-solids = solids-is sh _ ∙ words-same (sh .solids) _ _ mark ∙ sym (solids-is sh x);
           same-faces = faces-is sh _ ∙ words-same (sh .faces) _ _ solid ∙ sym (faces-is sh x);
           same-loops = loops-same sh x _ face;
           same-strays = strays-same sh x _ face g solid;
-          fewer-edges = edge-fewer sh x _ k (in-k sp) (uk .2) (used-b sp .2) (v .at Start k (uk .1) ∙ out-start-k sp left) (v .at Start (mate k) (in-b sp .1) ∙ out-start-b sp left) other;
+          fewer-edges = edge-fewer sh x _ k (in-k sp) (uk .2) (used-b sp .2) (v .at Start k (uk .1)
+              ∙ out-start-k sp left) (v .at Start (mate k) (in-b sp .1) ∙ out-start-b sp left) other;
           fewer-vertices = ap suc (vertices-is sh _)
-              ∙ words-fewer (sh .vertices) _ _ (own sh x Start (mate k)) (far-in sp) (v .at VertexUsed (own sh x Start (mate k)) (far-in sp .1) ∙ upd-same _ (own sh x Start (mate k)) 0) (far-used sp)
+              ∙ words-fewer (sh .vertices) _ _ (own sh x Start
+              (mate k)) (far-in sp) (v .at VertexUsed (own sh x Start (mate k)) (far-in sp .1)
+              ∙ upd-same _ (own sh x Start (mate k)) 0) (far-used sp)
               (λ n i d. v .at VertexUsed n (i .1) ∙ upd-off _ 0 d)
               ∙ sym (vertices-is sh x);
         }
 
   -- whichever way the loop is left
   pub kev-law : KevLaw sh x (kevList sh x k) k
-  kev-law = split (own sh x Next (mate k)) k (λ e. law-at {I = own sh x Start k} (inl (e, refl))) (λ d. law-at {I = 0} (inr (d, refl)))
+  kev-law = split (own sh x Next (mate k)) k (λ e. law-at {I = own sh x Start k} (inl (e, refl)))
+      (λ d. law-at {I = 0} (inr (d, refl)))

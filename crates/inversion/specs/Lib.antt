@@ -23,6 +23,7 @@ pub mod TurnLast
 pub mod TurnBridge
 pub mod RmovLaws
 pub mod Border
+pub mod TurnOuter
 pub mod TurnAcross
 pub mod AllTurns
 pub mod EmptyLaws
@@ -34,6 +35,7 @@ pub mod SwiftKept
 pub mod TurnsB
 pub mod Spans
 pub mod SwiftTurns
+pub mod SwiftMates
 pub mod SwiftAcross
 pub mod SwiftBare
 pub mod SwiftSame

@@ -26,7 +26,8 @@ use Rattle.sound_tables.specs.Labels.{one-many}
 use Rattle.sound_tables.specs.Walking.{Steps}
 use Rattle.sound_tables.specs.Good.{Good, own}
 use Rattle.evidence_fuel.specs.Walks.{near}
-use Rattle.takedown.specs.Inversion.{ofSolid, edgesLeft, inRing, ringHalf, isSpur, spurHalf, between, isCrossed, crossedHalf}
+use Rattle.takedown.specs.Inversion.{ofSolid, edgesLeft, inRing, ringHalf, isSpur, spurHalf, between, isCrossed}
+use Rattle.takedown.specs.Inversion.{crossedHalf}
 use Rattle.inversion.specs.Crossing.{crossed as crossing}
 use Rattle.takedown.specs.Crossed.{at-crossed}
 use Rattle.inversion.specs.Runs.{run-at, at-run}
@@ -85,7 +86,10 @@ module _ {sh : Shape} {x : List ℕ} {p : List ℤ} (g : Good sh x p) {s : ℕ} 
 
   -- and what follows it
   pub of-next : (k : ℕ) → Of k → Of (own sh x Next k)
-  of-next k u = (g .sound .rules .loops .perm .f-in k (u .0), ap (λ l. own sh x Solid (own sh x Face l)) (g .sound .rules .loops .keeps k (u .0)) ∙ u .1)
+  of-next k u = (
+    g .sound .rules .loops .perm .f-in k (u .0),
+    ap (λ l. own sh x Solid (own sh x Face l)) (g .sound .rules .loops .keeps k (u .0)) ∙ u .1,
+  )
 
   -- they fall into loops of their own
   pub of-cycles : Cycles (2 * sh .edges) Of (own sh x Next) (own sh x Loop)
@@ -101,13 +105,22 @@ module _ {sh : Shape} {x : List ℕ} {p : List ℤ} (g : Good sh x p) {s : ℕ} 
         };
         keeps = λ i u. c .keeps i (u .0);
         one = λ i j u v e. map-within Of
-            (λ a b t. (λ w. subst Of (t .1) (of-next a w), λ w. (t .0, ap (λ l. own sh x Solid (own sh x Face l)) (sym (c .keeps a (t .0)) ∙ ap (own sh x Loop) (t .1)) ∙ w .1)))
+            (λ a b t. (
+              λ w. subst Of (t .1) (of-next a w),
+              λ w. (
+                t .0,
+                ap (λ l. own sh x Solid (own sh x Face l)) (sym (c .keeps a (t .0))
+                    ∙ ap (own sh x Loop) (t .1)) ∙ w .1,
+              ),
+            ))
             (λ a b t w. link (w, t .1)) (c .one i j (u .0) (v .0) e) u;
       }
 
   -- a solid of one face: where no ring has a half-edge with its mate in another loop, each edge lies in one loop
   pub one-loop : facesIn sh x s ≡ 1 → ringHalf sh x s ≡ 0 → (k : ℕ) → Of k → own sh x Loop (mate k) ≡ own sh x Loop k
-  one-loop one none k u = split (own sh x Loop (mate k)) (own sh x Loop k) (λ e. e) (λ d. absurd (d (sym (outer (mate k) (of-mate k u) (λ e. d (e ∙ ap (own sh x Loop) (mate-mate k)))) ∙ ap (own sh x Outer) same-face ∙ outer k u (λ e. d (sym e)))))
+  one-loop one none k u = split (own sh x Loop (mate k)) (own sh x Loop k) (λ e. e)
+      (λ d. absurd (d (sym (outer (mate k) (of-mate k u) (λ e. d (e ∙ ap (own sh x Loop) (mate-mate k))))
+      ∙ ap (own sh x Outer) same-face ∙ outer k u (λ e. d (sym e)))))
     where
       c : Columns
       c = own sh x
@@ -116,7 +129,8 @@ module _ {sh : Shape} {x : List ℕ} {p : List ℤ} (g : Good sh x p) {s : ℕ} 
       outer : (j : ℕ) → Of j → c Loop j ≢ c Loop (mate j) → c Outer (c Face (c Loop j)) ≡ c Loop j
       outer j v d = split (c Outer (c Face (c Loop j))) (c Loop j) (λ e. e) (λ n. absurd (false≢true (
           sym (least-no (2 * sh .edges) (inRing sh x s) none j (v .0 .0, v .0 .1))
-          ∙ joint _ _ (joint _ _ (solid-of j v) (T-true (not-T (eqb (c Outer (c Face (c Loop j))) (c Loop j)) (λ t. n (eqb→eq _ _ t)))))
+          ∙ joint _ _ (joint _ _ (solid-of j v)
+          (T-true (not-T (eqb (c Outer (c Face (c Loop j))) (c Loop j)) (λ t. n (eqb→eq _ _ t)))))
           (T-true (not-T (eqb (c Loop (mate j)) (c Loop j)) (λ t. d (sym (eqb→eq _ _ t))))))))
 
       -- the two sides are the one face
@@ -124,15 +138,18 @@ module _ {sh : Shape} {x : List ℕ} {p : List ℤ} (g : Good sh x p) {s : ℕ} 
       same-face =
           let a = g .sound .solids .side-in k (u .0) in
           let b = g .sound .solids .side-in (mate k) (of-mate k u .0) in
-          one-many (sh .faces) (c Solid) s one (c Face (c Loop k)) (c Face (c Loop (mate k))) (a .0, a .1) (u .1) (b .0, b .1) (of-mate k u .1)
+          one-many (sh .faces) (c Solid) s one (c Face (c Loop k)) (c Face (c Loop (mate k))) (a .0, a .1) (u .1)
+          (b .0, b .1) (of-mate k u .1)
 
   -- B's last step: something is crossed
-  pub crossed-there : facesIn sh x s ≡ 1 → ringHalf sh x s ≡ 0 → spurHalf sh x s ≡ 0 → edgesLeft sh x s ≡ true → crossedHalf sh x s ≢ 0
+  pub crossed-there : facesIn sh x s ≡ 1 → ringHalf sh x s ≡ 0 → spurHalf sh x s ≡ 0 → edgesLeft sh x s ≡ true
+      → crossedHalf sh x s ≢ 0
   crossed-there one none no-spur left z =
       let k = least (2 * sh .edges) (ofSolid sh x s) in
       let f = least-some (2 * sh .edges) (ofSolid sh x s) (some-not _ left) in
       crossing of-cycles of-mate mate-mate (λ i u e. mate-other i (u .0 .0) (sym e)) (one-loop one none)
-      (λ i u e. false≢true (sym (least-no (2 * sh .edges) (isSpur sh x s) no-spur i (u .0 .0, u .0 .1)) ∙ joint _ _ (solid-of i u) (eqb-same e)))
+      (λ i u e. false≢true (sym (least-no (2 * sh .edges) (isSpur sh x s) no-spur i (u .0 .0, u .0 .1))
+      ∙ joint _ _ (solid-of i u) (eqb-same e)))
       uncrossed k (of-solid k (f .0) (f .1))
     where
       c : Columns
@@ -141,20 +158,25 @@ module _ {sh : Shape} {x : List ℕ} {p : List ℤ} (g : Good sh x p) {s : ℕ} 
       -- the run from k to its mate
       steps : (k : ℕ) → Of k → (d : ℕ) × (d < 2 * sh .edges) × Steps (c Next) (c Next k) (mate k) d
       steps k u =
-          let m = forwards (of-cycles .perm) (of-cycles .one (c Next k) (mate k) (of-next k u) (of-mate k u) (of-cycles .keeps k u ∙ sym (one-loop one none k u))) .0 in
+          let m = forwards (of-cycles .perm) (of-cycles .one (c Next k) (mate k) (of-next k u) (of-mate k u)
+          (of-cycles .keeps k u ∙ sym (one-loop one none k u))) .0 in
           near sh x (HalfUsed sh c) (g .sound .rules .loops .perm) (c Next k) (mate k) (m .0) (of-next k u .0) (m .1)
 
       -- nothing is crossed: with a half-edge its mate lies between
-      uncrossed : (k i : ℕ) → Of k → Of i → c Loop i ≡ c Loop k → i ≢ mate k → Till (c Next) k (mate k) i → Till (c Next) k (mate k) (mate i)
+      uncrossed : (k i : ℕ) → Of k → Of i → c Loop i ≡ c Loop k → i ≢ mate k → Till (c Next) k (mate k) i
+          → Till (c Next) k (mate k) (mate i)
       uncrossed k i u v e d t =
           let w = steps k u in
           let ka : k ≢ mate k = mate-other k (u .0 .0) in
           let r = till-walk of-cycles u ka (w .0) (w .2 .at) (w .2 .first) i v d t in
-          let inside = at-run sh (2 * sh .edges) (w .0) x (c Next k) (mate k) i (omega (arith, w .1)) (w .2) (r .0) (r .1) (r .2) in
+          let inside = at-run sh (2 * sh .edges) (w .0) x (c Next k) (mate k) i (omega (arith, w .1)) (w .2) (r .0)
+          (r .1) (r .2) in
           ⊎-elim
           (λ q.
           let m = run-at sh (2 * sh .edges) (w .0) x (c Next k) (mate k) (mate i) (omega (arith, w .1)) (w .2) q in
-          subst (Till (c Next) k (mate k)) (m .2) (walk-till of-cycles u ka (w .0) (w .2 .at) (w .2 .first) (w .0 - m .0) (m .0) (omega (arith, m .1))))
+          subst (Till (c Next) k (mate k)) (m .2) (walk-till of-cycles u ka (w .0) (w .2 .at) (w .2 .first)
+          (w .0 - m .0) (m .0) (omega (arith, m .1))))
           (λ q. absurd (false≢true (sym (least-no (2 * sh .edges) (isCrossed sh x s) z k (u .0 .0, u .0 .1))
-          ∙ joint _ _ (solid-of k u) (at-crossed sh x k (record { j = i; range = (v .0 .0, v .0 .1); inside = inside; outside = q })))))
+          ∙ joint _ _ (solid-of k u) (at-crossed sh x k
+          (record { j = i; range = (v .0 .0, v .0 .1); inside = inside; outside = q })))))
           (ask (between sh x k (mate i)))

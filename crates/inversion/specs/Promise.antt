@@ -1,5 +1,6 @@
--- THE TAKE-DOWN'S PROMISE (document 01, "Demand 3 in detail"), about `invertOf`, the definition that the contract of the entry point cites.
--- And the number of holes. Statements only: `InversionExact`, `HolesOne` and `CountHoles` are proved in Theorem.
+-- THE TAKE-DOWN'S PROMISE (document 01, "Demand 3 in detail"), about `invertOf`, the definition that the contract of
+-- the entry point cites. And the number of holes. Statements only: `InversionExact`, `HolesOne` and `CountHoles` are
+-- proved in Theorem.
 use mathlib.Core.Path.{_≡_}
 use mathlib.Core.Bool.{false}
 use mathlib.Core.List.{List}
@@ -38,13 +39,15 @@ pub record OneHoles (x : List ℕ) : Type 0 where
 abbrev pub scriptOf : State → Inverted → List ℕ
 scriptOf t r = take (t .start - r .answer .start) (drop (r .answer .start) (r .log))
 
--- what is asked: a sound table, a start not beyond the log, a free face, loop and edge, and 19 × (v + 2f + 2r + 3h − 2s) bytes in front of the start
+-- what is asked: a sound table, a start not beyond the log, a free face, loop and edge, and 19 × (v + 2f + 2r + 3h −
+-- 2s) bytes in front of the start
 pub record Asked (t : State) (h : ℕ) : Type 0 where
   pub sound : checkOf (t .links) (t .points) .refusal ≡ 0
   pub start-in : t .start ≤ length (t .log)
   pub free : noneFree (shapeOf (t .links)) (t .links) ≡ false
   pub formula : Euler (shapeOf (t .links)) (t .links) h
-  pub room : 19 * (vertices (shapeOf (t .links)) (t .links) + 2 * faces (shapeOf (t .links)) (t .links) + 2 * rings (shapeOf (t .links)) (t .links) + 3 * h) ≤ t .start + 38 * solids (shapeOf (t .links)) (t .links)
+  pub room : 19 * (vertices (shapeOf (t .links)) (t .links) + 2 * faces (shapeOf (t .links)) (t .links)
+      + 2 * rings (shapeOf (t .links)) (t .links) + 3 * h) ≤ t .start + 38 * solids (shapeOf (t .links)) (t .links)
 
 -- what is promised of r, which the take-down leaves of t
 pub record Exact (t : State) (r : Inverted) (h : ℕ) : Type 0 where
@@ -59,13 +62,17 @@ pub record Exact (t : State) (r : Inverted) (h : ℕ) : Type 0 where
   pub rest : drop (t .start) (r .log) ≡ drop (t .start) (t .log)
   -- the bound
   pub bound : r .answer .done + 2 * solids (shapeOf (t .links)) (t .links)
-      ≤ vertices (shapeOf (t .links)) (t .links) + 2 * faces (shapeOf (t .links)) (t .links) + 2 * rings (shapeOf (t .links)) (t .links) + 3 * h
+      ≤ vertices (shapeOf (t .links)) (t .links) + 2 * faces (shapeOf (t .links)) (t .links)
+      + 2 * rings (shapeOf (t .links)) (t .links) + 3 * h
   -- the logged script builds the table again, from a cleared one and with any log that is long enough for every inverse
   pub rebuilt : (log : List ℕ) (start : ℕ) → start ≤ length log
-      → roomOf (r .answer .done) (shapeOf (t .links)) (scriptOf t r) (clearLinks (t .links)) (clearPoints (t .links)) ≤ start
-      → Builds (t .links) (t .points) (r .answer .done) (length (scriptOf t r)) (runOf (state (clearLinks (t .links)) (clearPoints (t .links)) log start) (scriptOf t r))
+      → roomOf (r .answer .done) (shapeOf (t .links)) (scriptOf t r) (clearLinks (t .links)) (clearPoints (t .links))
+      ≤ start
+      → Builds (t .links) (t .points) (r .answer .done) (length (scriptOf t r)) (runOf
+      (state (clearLinks (t .links)) (clearPoints (t .links)) log start) (scriptOf t r))
   -- 19 bytes for each operator are
-  pub enough : roomOf (r .answer .done) (shapeOf (t .links)) (scriptOf t r) (clearLinks (t .links)) (clearPoints (t .links)) ≤ 19 * r .answer .done
+  pub enough : roomOf (r .answer .done) (shapeOf (t .links)) (scriptOf t r) (clearLinks (t .links)) (clearPoints
+      (t .links)) ≤ 19 * r .answer .done
   -- exactly h of its operators join two faces of one solid
   pub joins : joinsOf (r .answer .done) (shapeOf (t .links)) (scriptOf t r) (clearLinks (t .links)) ≡ h
 
@@ -80,4 +87,5 @@ HolesOne = (x : List ℕ) (p : List ℤ) → checkOf x p .refusal ≡ 0 → OneH
 -- THE COUNT'S HOLES ARE THAT NUMBER: what counting answers with refusal 0 keeps the formula
 abbrev pub CountHoles : Type 0
 CountHoles = (x : List ℕ) (p : List ℤ) → countOf x p .refusal ≡ 0
-    → countOf x p .vertices + countOf x p .faces + 2 * countOf x p .holes ≡ countOf x p .edges + countOf x p .rings + 2 * countOf x p .solids
+    → countOf x p .vertices + countOf x p .faces + 2 * countOf x p .holes ≡ countOf x p .edges + countOf x p .rings
+    + 2 * countOf x p .solids

@@ -1,4 +1,5 @@
--- rmov as the take-down uses it: a ring becomes the outer loop of its face; a ring moves to a face across an edge of the outer loop.
+-- rmov as the take-down uses it: a ring becomes the outer loop of its face; a ring moves to a face across an edge of
+-- the outer loop.
 use mathlib.Core.Path.{_≡_, refl, subst}
 use mathlib.Core.Logic.{_≢_}
 use mathlib.Core.Bool.{Bool, true, false, _||_}
@@ -35,12 +36,17 @@ pub rmov-points : (sh : Shape) (x : List ℕ) (p : List ℤ) (l f : ℕ) → poi
 unfolding pointsAfter
 rmov-points sh x p l f = refl
 
-module _ {sh : Shape} {x : List ℕ} {p : List ℤ} (g : Good sh x p) {l f : ℕ} (il : In (sh .loops) l) (ul : own sh x Face l ≢ 0) (jf : In (sh .faces) f) (uf : own sh x Solid f ≢ 0) where
+module _ {sh : Shape} {x : List ℕ} {p : List ℤ} (g : Good sh x p) {l f : ℕ} (il : In (sh .loops) l)
+    (ul : own sh x Face l ≢ 0) (jf : In (sh .faces) f) (uf : own sh x Solid f ≢ 0) where
   accepted-by : rmovTest sh x l f ≡ true → refusalOf sh x (rmov l f) ≡ 0
   unfolding pattern rows useWord condition
-  accepted-by t = two-accepted sh x 13 6 4 refl refl refl refl (omega (arith, g .capacities .loops)) refl refl (omega (arith, g .capacities .faces)) refl l f il jf ul
+  accepted-by t = two-accepted sh x 13 6 4 refl refl refl refl (omega (arith, g .capacities .loops)) refl refl
+      (omega (arith, g .capacities .faces)) refl l f il jf ul
       (old-use sh x 4 f (λ z. omega (arith, jf .0, z)) refl uf)
-      (rw (le-leb l 8192 (omega (arith, il .1, g .capacities .loops)), le-leb f 8192 (omega (arith, jf .1, g .capacities .faces))) t)
+      (rw (
+        le-leb l 8192 (omega (arith, il .1, g .capacities .loops)),
+        le-leb f 8192 (omega (arith, jf .1, g .capacities .faces)),
+      ) t)
 
   -- in its own face
   pub swap-accepted : own sh x Outer (own sh x Face l) ≢ l → f ≡ own sh x Face l → refusalOf sh x (rmov l f) ≡ 0
@@ -49,16 +55,24 @@ module _ {sh : Shape} {x : List ℕ} {p : List ℤ} (g : Good sh x p) {l f : ℕ
 
   pub swap-shows : f ≡ own sh x Face l → Shows sh (linksAfter sh x (rmov l f)) (change (own sh x) Outer f l)
   unfolding linksAfter rmovLinks
-  swap-shows e = rw (le-leb l 8192 (omega (arith, il .1, g .capacities .loops)), le-leb f 8192 (omega (arith, jf .1, g .capacities .faces)), eqb-same e) (shows-put (good-shows g) Outer f l (jf .0) (jf .1))
+  swap-shows e =
+      rw (
+        le-leb l 8192 (omega (arith, il .1, g .capacities .loops)),
+        le-leb f 8192 (omega (arith, jf .1, g .capacities .faces)),
+        eqb-same e,
+      )
+      (shows-put (good-shows g) Outer f l (jf .0) (jf .1))
 
   -- to another face, across k outside it
-  pub move-accepted : own sh x Outer (own sh x Face l) ≢ l → (k : ℕ) → HalfUsed sh (own sh x) k → side (own sh x) k ≡ own sh x Face l → own sh x Loop k ≢ l → side (own sh x) (mate k) ≡ f
+  pub move-accepted : own sh x Outer (own sh x Face l) ≢ l → (k : ℕ) → HalfUsed sh (own sh x) k
+      → side (own sh x) k ≡ own sh x Face l → own sh x Loop k ≢ l → side (own sh x) (mate k) ≡ f
       → refusalOf sh x (rmov l f) ≡ 0
   unfolding rmovTest
   move-accepted n k u a b c = accepted-by (rw (eqb-other n) (any (eqb f (own sh x Face l)) (rw (eqb-other there))))
     where
       there : least (2 * sh .edges) (sharesOutside sh x l f) ≢ 0
-      there = least-there (2 * sh .edges) (sharesOutside sh x l f) k (u .0, u .1) (rw (eqb-other (u .2), eqb-same a, eqb-other b, eqb-same c))
+      there = least-there (2 * sh .edges) (sharesOutside sh x l f) k (u .0, u .1)
+          (rw (eqb-other (u .2), eqb-same a, eqb-other b, eqb-same c))
 
       any : (a : Bool) {b : Bool} → b ≡ true → (a || b) ≡ true
       any true e = refl
@@ -66,7 +80,14 @@ module _ {sh : Shape} {x : List ℕ} {p : List ℤ} (g : Good sh x p) {l f : ℕ
 
   pub move-shows : f ≢ own sh x Face l → Shows sh (linksAfter sh x (rmov l f)) (change (own sh x) Face l f)
   unfolding linksAfter rmovLinks
-  move-shows d = rw (le-leb l 8192 (omega (arith, il .1, g .capacities .loops)), le-leb f 8192 (omega (arith, jf .1, g .capacities .faces)), eqb-other d) (shows-put (good-shows g) Face l f (il .0) (il .1))
+  move-shows d =
+      rw (
+        le-leb l 8192 (omega (arith, il .1, g .capacities .loops)),
+        le-leb f 8192 (omega (arith, jf .1, g .capacities .faces)),
+        eqb-other d,
+      )
+      (shows-put (good-shows g) Face l f (il .0) (il .1))
 
   pub rmov-good : refusalOf sh x (rmov l f) ≡ 0 → Good sh (linksAfter sh x (rmov l f)) p
-  rmov-good acc = subst (Good sh (linksAfter sh x (rmov l f))) (rmov-points sh x p l f) (all-hold sh x p (rmov l f) g refl acc .0)
+  rmov-good acc = subst (Good sh (linksAfter sh x (rmov l f))) (rmov-points sh x p l f)
+      (all-hold sh x p (rmov l f) g refl acc .0)

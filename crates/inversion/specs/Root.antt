@@ -31,7 +31,8 @@ module _ {sh : Shape} {x : List ℕ} {p : List ℤ} (g : Good sh x p) (sn : soli
   pub root-is : LeastIs (sh .faces) (own sh x Solid) (solidAt sh x) (faceIn sh x (solidAt sh x))
   root-is =
       let y = g .sound .solid (solidAt sh x) solid-in solid-used in
-      label-found (sh .faces) (own sh x Solid) (solidAt sh x) (label-some (sh .faces) (own sh x Solid) (solidAt sh x) (y .0) (y .1) (y .2))
+      label-found (sh .faces) (own sh x Solid) (solidAt sh x) (label-some (sh .faces) (own sh x Solid) (solidAt sh x)
+      (y .0) (y .1) (y .2))
 
   pub root-used : own sh x Solid (faceIn sh x (solidAt sh x)) ≢ 0
   root-used z = sn (sym (root-is .label) ∙ z)
@@ -46,21 +47,31 @@ module _ {sh : Shape} {x : List ℕ} {p : List ℤ} (g : Good sh x p) (sn : soli
   module _ (left : edgesLeft sh x (solidAt sh x) ≡ false) where
     -- no half-edge is of the solid
     pub no-half : (k : ℕ) → Of g sn k → ⊥
-    no-half k u = false≢true (sym left ∙ some-is (least-there (2 * sh .edges) (ofSolid sh x (solidAt sh x)) k (u .0 .0, u .0 .1) (eqb-same (u .1))))
+    no-half k u =
+        false≢true (sym left
+        ∙ some-is (least-there (2 * sh .edges) (ofSolid sh x (solidAt sh x)) k (u .0 .0, u .0 .1) (eqb-same (u .1))))
       where
         some-is : least (2 * sh .edges) (ofSolid sh x (solidAt sh x)) ≢ 0 → edgesLeft sh x (solidAt sh x) ≡ true
         some-is d = rw (eqb-other d)
 
     -- so that its loops are lone
     pub lone-loop : (m : ℕ) → In (sh .loops) m → own sh x Face m ≢ 0 → own sh x Solid (own sh x Face m) ≡ solidAt sh x
-        → (own sh x First m ≡ 0) × In (sh .vertices) (own sh x Isolated m) × (own sh x VertexUsed (own sh x Isolated m) ≢ 0)
+        → (own sh x First m ≡ 0) × In (sh .vertices) (own sh x Isolated m)
+        × (own sh x VertexUsed (own sh x Isolated m) ≢ 0)
     lone-loop m i d e =
         let L = g .sound .loop m i d in
         ⊎-elim
         (λ q.
         let b = label-found (2 * sh .edges) (own sh x Loop) m (λ z. q .0 (L .first ∙ z)) in
         let k = least (2 * sh .edges) (λ k. eqb (own sh x Loop k) m) in
-        absurd (no-half k ((b .range .0, b .range .1, λ z. omega (arith, i .0, sym (b .label) ∙ g .sound .half-free k (b .range) z .loop)), ap (λ l. own sh x Solid (own sh x Face l)) (b .label) ∙ e)))
+        absurd (no-half k (
+          (
+            b .range .0,
+            b .range .1,
+            λ z. omega (arith, i .0, sym (b .label) ∙ g .sound .half-free k (b .range) z .loop),
+          ),
+          ap (λ l. own sh x Solid (own sh x Face l)) (b .label) ∙ e,
+        )))
         (λ q. q) (L .either)
 
     -- and nothing is in a ring with its mate elsewhere
@@ -69,10 +80,12 @@ module _ {sh : Shape} {x : List ℕ} {p : List ℤ} (g : Good sh x p) (sn : soli
         let f = least-some (2 * sh .edges) (inRing sh x (solidAt sh x)) d in
         let k = ringHalf sh x (solidAt sh x) in
         let a = both (ofSolid sh x (solidAt sh x) k && isRing sh x (own sh x Loop k)) _ (f .1) in
-        no-half k (of-solid g sn k (f .0) (both (ofSolid sh x (solidAt sh x) k) (isRing sh x (own sh x Loop k)) (a .0) .0))
+        no-half k
+        (of-solid g sn k (f .0) (both (ofSolid sh x (solidAt sh x) k) (isRing sh x (own sh x Loop k)) (a .0) .0))
 
   -- where the root has no ring, its outer loop is its only one
-  pub only-outer : ringOf sh x (faceIn sh x (solidAt sh x)) ≡ 0 → (m : ℕ) → In (sh .loops) m → own sh x Face m ≡ faceIn sh x (solidAt sh x) → m ≡ own sh x Outer (faceIn sh x (solidAt sh x))
+  pub only-outer : ringOf sh x (faceIn sh x (solidAt sh x)) ≡ 0 → (m : ℕ) → In (sh .loops) m
+      → own sh x Face m ≡ faceIn sh x (solidAt sh x) → m ≡ own sh x Outer (faceIn sh x (solidAt sh x))
   only-outer none m i e = split (own sh x Outer (own sh x Face m)) m (λ q. sym (sym (ap (own sh x Outer) e) ∙ q))
       (λ d. absurd (false≢true (sym (least-no (sh .loops) (isRingOf sh x (faceIn sh x (solidAt sh x))) none m i)
       ∙ joint _ _ (eqb-same e) (T-true (not-T (eqb (own sh x Outer (own sh x Face m)) m) (λ t. d (eqb→eq _ _ t)))))))

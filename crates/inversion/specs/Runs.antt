@@ -26,7 +26,8 @@ or-right true b h = refl
 or-right false b h = h
 
 -- what is found on a run of d steps is one of its half-edges
-pub run-at : (sh : Shape) (n d : ℕ) (x : List ℕ) (k stop j : ℕ) → d ≤ n → Steps (nextOf sh x) k stop d → onRun sh n x k stop j ≡ true
+pub run-at : (sh : Shape) (n d : ℕ) (x : List ℕ) (k stop j : ℕ) → d ≤ n → Steps (nextOf sh x) k stop d
+    → onRun sh n x k stop j ≡ true
     → (t : ℕ) × (t < d) × (iter (nextOf sh x) t k ≡ j)
 unfolding onRun iter
 run-at sh zero d x k stop j h w t = absurd (false≢true t)
@@ -34,11 +35,13 @@ run-at sh (suc n) zero x k stop j h w t = absurd (false≢true (rw (eqb-same (w 
 run-at sh (suc n) (suc d) x k stop j h w t =
     let o = steps-on (nextOf sh x) k stop d w in
     ⊎-elim (λ e. (0, omega arith, eqb→eq k j (true-T e)))
-    (λ e. let r = run-at sh n d x (nextOf sh x k) stop j (omega arith) (o .1) e in (suc (r .0), omega (arith, r .1), r .2))
+    (λ e. let r = run-at sh n d x (nextOf sh x k) stop j (omega arith) (o .1) e in
+    (suc (r .0), omega (arith, r .1), r .2))
     (or-split (eqb k j) (onRun sh n x (nextOf sh x k) stop j) (rw (eqb-other (o .0)) at t))
 
 -- and each of them is found
-pub at-run : (sh : Shape) (n d : ℕ) (x : List ℕ) (k stop j : ℕ) → d ≤ n → Steps (nextOf sh x) k stop d → (t : ℕ) → t < d → iter (nextOf sh x) t k ≡ j → onRun sh n x k stop j ≡ true
+pub at-run : (sh : Shape) (n d : ℕ) (x : List ℕ) (k stop j : ℕ) → d ≤ n → Steps (nextOf sh x) k stop d → (t : ℕ) → t < d
+    → iter (nextOf sh x) t k ≡ j → onRun sh n x k stop j ≡ true
 unfolding onRun iter
 at-run sh n zero x k stop j h w t l e = absurd (omega arith)
 at-run sh zero (suc d) x k stop j h w t l e = absurd (omega arith)
@@ -47,4 +50,5 @@ at-run sh (suc n) (suc d) x k stop j h w zero l e =
     rw (eqb-other (o .0), eqb-same e)
 at-run sh (suc n) (suc d) x k stop j h w (suc t) l e =
     let o = steps-on (nextOf sh x) k stop d w in
-    rw (eqb-other (o .0)) (or-right (eqb k j) (onRun sh n x (nextOf sh x k) stop j) (at-run sh n d x (nextOf sh x k) stop j (omega arith) (o .1) t (omega arith) e))
+    rw (eqb-other (o .0)) (or-right (eqb k j) (onRun sh n x (nextOf sh x k) stop j)
+    (at-run sh n d x (nextOf sh x k) stop j (omega arith) (o .1) t (omega arith) e))

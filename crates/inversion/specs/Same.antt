@@ -22,12 +22,14 @@ use Rattle.inversion.specs.OfSolid.{least-some, least-there}
 use Rattle.inversion.specs.Counts.{solids, faces, loops, edges, vertices, isStray, strays, count-same}
 
 -- one term of 1..n changes
-pub change-in : (n : ℕ) (f g : ℕ → ℕ) (c : ℕ) → 1 ≤ c → c ≤ n → ((k : ℕ) → 1 ≤ k → k ≤ n → k ≢ c → f k ≡ g k) → sumTo n f + g c ≡ sumTo n g + f c
+pub change-in : (n : ℕ) (f g : ℕ → ℕ) (c : ℕ) → 1 ≤ c → c ≤ n → ((k : ℕ) → 1 ≤ k → k ≤ n → k ≢ c → f k ≡ g k)
+    → sumTo n f + g c ≡ sumTo n g + f c
 unfolding sumTo
 change-in zero f g c l u h = absurd (omega arith)
 change-in (suc n) f g c l u h = go (λ v. change-in n f g c l v (λ k a b d. h k a (omega arith) d)) (same? c (suc n))
   where
-    go : (c ≤ n → sumTo n f + g c ≡ sumTo n g + f c) → (c ≡ suc n) ⊎ (c ≢ suc n) → sumTo (suc n) f + g c ≡ sumTo (suc n) g + f c
+    go : (c ≤ n → sumTo n f + g c ≡ sumTo n g + f c) → (c ≡ suc n) ⊎ (c ≢ suc n)
+        → sumTo (suc n) f + g c ≡ sumTo (suc n) g + f c
     go ih (inl e) = omega (arith, sum-ext n f g (λ k l′ u′. h k l′ (omega arith) (omega arith)), ap f e, ap g e)
     go ih (inr e) = omega (arith, ih (omega arith), h (suc n) (omega arith) (omega arith) (λ q. e (sym q)))
 
@@ -39,9 +41,16 @@ pub words-same : (n : ℕ) (f g : ℕ → ℕ) → ((k : ℕ) → In n k → f k
 words-same n f g h = count-same n (λ k. some (f k)) (λ k. some (g k)) (λ k a b. ap some (h k (a, b)))
 
 -- one of them becomes 0
-pub words-fewer : (n : ℕ) (f g : ℕ → ℕ) (c : ℕ) → In n c → f c ≡ 0 → g c ≢ 0 → ((k : ℕ) → In n k → k ≢ c → f k ≡ g k) → suc (words n f) ≡ words n g
+pub words-fewer : (n : ℕ) (f g : ℕ → ℕ) (c : ℕ) → In n c → f c ≡ 0 → g c ≢ 0 → ((k : ℕ) → In n k → k ≢ c → f k ≡ g k)
+    → suc (words n f) ≡ words n g
 words-fewer n f g c i z d h =
-    omega (arith, change-in n (λ k. bit (some (f k))) (λ k. bit (some (g k))) c (i .0) (i .1) (λ k a b e. ap (λ m. bit (some m)) (h k (a, b) e)), here, there)
+    omega (
+      arith,
+      change-in n (λ k. bit (some (f k))) (λ k. bit (some (g k))) c (i .0) (i .1) (λ k a b e. ap
+          (λ m. bit (some m)) (h k (a, b) e)),
+      here,
+      there,
+    )
   where
     here : bit (some (f c)) ≡ 0
     here = rw (eqb-same z)
@@ -87,19 +96,23 @@ module _ (sh : Shape) (x y : List ℕ) (es : (n : ℕ) → In (sh .faces) n → 
   free-face-same = least-ext (sh .faces) _ _ (λ f a b. ap (λ n. eqb n 0) (es f (a, b)))
 
   -- a loop of the same face is stray or not
-  pub stray-same : (l f : ℕ) → own sh y Face l ≡ f → own sh x Face l ≡ f → (f ≡ 0) ⊎ In (sh .faces) f → isStray sh y l ≡ isStray sh x l
+  pub stray-same : (l f : ℕ) → own sh y Face l ≡ f → own sh x Face l ≡ f → (f ≡ 0) ⊎ In (sh .faces) f
+      → isStray sh y l ≡ isStray sh x l
   stray-same l f a b (inl z) = rw (a, b, z)
   stray-same l f a b (inr i) = rw (a, b, es f i, face-in-same (own sh x Solid f))
 
-pub solid-at-same : (sh : Shape) (x y : List ℕ) → ((n : ℕ) → In (sh .solids) n → own sh y SolidUsed n ≡ own sh x SolidUsed n) → solidAt sh y ≡ solidAt sh x
+pub solid-at-same : (sh : Shape) (x y : List ℕ)
+    → ((n : ℕ) → In (sh .solids) n → own sh y SolidUsed n ≡ own sh x SolidUsed n) → solidAt sh y ≡ solidAt sh x
 solid-at-same sh x y e = least-ext (sh .solids) _ _ (λ s a b. ap some (e s (a, b)))
 
 -- the face of a loop is 0 or a face
-pub face-or-none : {sh : Shape} {x : List ℕ} {p : List ℤ} → Good sh x p → (l : ℕ) → In (sh .loops) l → (own sh x Face l ≡ 0) ⊎ In (sh .faces) (own sh x Face l)
+pub face-or-none : {sh : Shape} {x : List ℕ} {p : List ℤ} → Good sh x p → (l : ℕ) → In (sh .loops) l
+    → (own sh x Face l ≡ 0) ⊎ In (sh .faces) (own sh x Face l)
 face-or-none {sh} {x} g l i = split (own sh x Face l) 0 (λ z. inl z) (λ d. inr (g .sound .loop l i d .face-in))
 
 -- an edge number that was free stays free
-pub free-edge-kept : (sh : Shape) (x y : List ℕ) → ((i : ℕ) → In (2 * sh .edges) i → own sh x Start i ≡ 0 → own sh y Start i ≡ 0) → freeEdge sh x ≢ 0 → freeEdge sh y ≢ 0
+pub free-edge-kept : (sh : Shape) (x y : List ℕ) → ((i : ℕ) → In (2 * sh .edges) i → own sh x Start i ≡ 0
+    → own sh y Start i ≡ 0) → freeEdge sh x ≢ 0 → freeEdge sh y ≢ 0
 free-edge-kept sh x y h d =
     let f = least-some (sh .edges) (λ e. eqb (own sh x Start (2 * e)) 0) d in
     least-there (sh .edges) (λ e. eqb (own sh y Start (2 * e)) 0) (freeEdge sh x) (f .0)
@@ -111,12 +124,22 @@ module _ (sh : Shape) (x y : List ℕ) (ef : (n : ℕ) → In (sh .loops) n → 
   free-loop-same = least-ext (sh .loops) _ _ (λ l a b. ap (λ n. eqb n 0) (ef l (a, b)))
 
   -- and faces: the same stray loops
-  pub strays-same : {p : List ℤ} → Good sh x p → ((n : ℕ) → In (sh .faces) n → own sh y Solid n ≡ own sh x Solid n) → strays sh y ≡ strays sh x
-  strays-same g es = count-same (sh .loops) _ _ (λ l a u. stray-same sh x y es l (own sh x Face l) (ef l (a, u)) refl (face-or-none g l (a, u)))
+  pub strays-same : {p : List ℤ} → Good sh x p → ((n : ℕ) → In (sh .faces) n → own sh y Solid n ≡ own sh x Solid n)
+      → strays sh y ≡ strays sh x
+  strays-same g es =
+      count-same (sh .loops) _ _ (λ l a u. stray-same sh x y es l (own sh x Face l) (ef l (a, u)) refl
+      (face-or-none g l (a, u)))
 
   pub loops-same : loops sh y ≡ loops sh x
   loops-same = loops-is sh y ∙ words-same (sh .loops) _ _ ef ∙ sym (loops-is sh x)
 
 -- tests that agree but at c, where q passes and p does not
-pub count-fewer-in : (n : ℕ) (p q : ℕ → Bool) (c : ℕ) → In n c → p c ≡ false → q c ≡ true → ((k : ℕ) → In n k → k ≢ c → p k ≡ q k) → suc (countTo n p) ≡ countTo n q
-count-fewer-in n p q c i a b h = omega (arith, change-in n (λ k. bit (p k)) (λ k. bit (q k)) c (i .0) (i .1) (λ k l u d. ap bit (h k (l, u) d)), ap bit a, ap bit b)
+pub count-fewer-in : (n : ℕ) (p q : ℕ → Bool) (c : ℕ) → In n c → p c ≡ false → q c ≡ true
+    → ((k : ℕ) → In n k → k ≢ c → p k ≡ q k) → suc (countTo n p) ≡ countTo n q
+count-fewer-in n p q c i a b h =
+    omega (
+      arith,
+      change-in n (λ k. bit (p k)) (λ k. bit (q k)) c (i .0) (i .1) (λ k l u d. ap bit (h k (l, u) d)),
+      ap bit a,
+      ap bit b,
+    )

@@ -25,7 +25,8 @@ use Rattle.takedown.specs.declared.ends.Ends.{Ends}
 use Rattle.takedown.specs.Swift.{bareEnds}
 use Rattle.inversion.specs.SwiftKept.{Keeps, Kept}
 
-module _ {sh : Shape} {x : List ℕ} {p : List ℤ} (g : Good sh x p) (ready : Ready sh x) (sn : solidAt sh x ≢ 0) (one : facesIn sh x (solidAt sh x) ≡ 1)
+module _ {sh : Shape} {x : List ℕ} {p : List ℤ} (g : Good sh x p) (ready : Ready sh x) (sn : solidAt sh x ≢ 0)
+    (one : facesIn sh x (solidAt sh x) ≡ 1)
     (left : edgesLeft sh x (solidAt sh x) ≡ false) (some : ringOf sh x (faceIn sh x (solidAt sh x)) ≢ 0) where
   -- the root, and its ring that goes
   abbrev r : ℕ
@@ -65,7 +66,9 @@ module _ {sh : Shape} {x : List ℕ} {p : List ℤ} (g : Good sh x p) (ready : R
             h .0,
             ⊎-elim
                 (λ q. ap (λ m. own sh x Solid (own sh x Face m)) q ∙ ap (own sh x Solid) ring-face ∙ label)
-                (λ q. sym (ap (λ m. own sh y Solid (own sh y Face m)) (q .1) ∙ ap (own sh y Solid) (B .face (own sh x Loop i) (L .loop-in) (q .0)) ∙ B .solid (side (own sh x) i) (F .0, F .1)) ∙ e)
+                (λ q. sym (ap (λ m. own sh y Solid (own sh y Face m)) (q .1)
+                ∙ ap (own sh y Solid) (B .face (own sh x Loop i) (L .loop-in) (q .0))
+                ∙ B .solid (side (own sh x) i) (F .0, F .1)) ∙ e)
                 (h .1),
           ))
 
@@ -88,22 +91,24 @@ module _ {sh : Shape} {x : List ℕ} {p : List ℤ} (g : Good sh x p) (ready : R
     solid = K .solid ∙ sym at;
     root = K .root ∙ sym (face-in-same sh x y (B .solid) (solidAt sh x)) ∙ ap (faceIn sh y) (sym at);
     faces = K .faces ∙ sym (faces-in-same sh x y (B .solid) (solidAt sh x)) ∙ ap (facesIn sh y) (sym at);
-    keeps = subst (λ s. Keeps sh y s (faceIn sh y s) (bareEnds sh e l)) (sym at) (subst (λ q. Keeps sh y (solidAt sh x) q (bareEnds sh e l)) (sym (face-in-same sh x y (B .solid) (solidAt sh x))) (record {
-      border-low = omega arith;
-      loop-low = omega arith;
-      half-low = omega arith;
-      ring-low = omega arith;
-      spur-low = omega arith;
-      cross-low = omega arith;
-      lone-low = least-some (sh .loops) (isRingOf sh x r) some .0 .0;
-      tips-in = (tip, tip, tip, tip);
-      border = λ i j h. absurd (omega (arith, j .0, h));
-      loop = λ i j h. absurd (omega (arith, j .0, h));
-      half = λ i j h. none i j;
-      ring = λ i j h. absurd (omega (arith, j .0, h));
-      pair = λ z. absurd (omega (arith, z));
-      spur = λ i j h. absurd (omega (arith, j .0, h));
-      cross = λ i j h. absurd (omega (arith, j .0, h));
-      lone = λ n i h. rings n i (least-before (sh .loops) (isRingOf sh x r) n i h);
-    }));
+    keeps = subst (λ s. Keeps sh y s (faceIn sh y s) (bareEnds sh e l)) (sym at)
+        (subst (λ q. Keeps sh y (solidAt sh x) q (bareEnds sh e l))
+        (sym (face-in-same sh x y (B .solid) (solidAt sh x))) (record {
+          border-low = omega arith;
+          loop-low = omega arith;
+          half-low = omega arith;
+          ring-low = omega arith;
+          spur-low = omega arith;
+          cross-low = omega arith;
+          lone-low = least-some (sh .loops) (isRingOf sh x r) some .0 .0;
+          tips-in = (tip, tip, tip, tip);
+          border = λ i j h. absurd (omega (arith, j .0, h));
+          loop = λ i j h. absurd (omega (arith, j .0, h));
+          half = λ i j h. none i j;
+          ring = λ i j h. absurd (omega (arith, j .0, h));
+          pair = λ z. absurd (omega (arith, z));
+          spur = λ i j h. absurd (omega (arith, j .0, h));
+          cross = λ i j h. absurd (omega (arith, j .0, h));
+          lone = λ n i h. rings n i (least-before (sh .loops) (isRingOf sh x r) n i h);
+        }));
   }

@@ -22,7 +22,10 @@ use Rattle.sound_tables.specs.Good.{Good, own}
 use Rattle.table.specs.Check.{checkOf}
 use Rattle.runs.specs.Run.{State, entry, stepped}
 use Rattle.promises.specs.Checked.{checked-good}
-use Rattle.takedown.specs.Inversion.{Work, act, begin, inverted, noneFree, shortLog, turns, invertOf, linksIn, solidAt, freeFace, freeLoop, freeEdge, outside, borderHalf, ofSolid, edgesLeft, inRing, ringHalf, spurHalf, isCrossed, crossedHalf, isRingOf, ringOf, makeOuter, moveRings, turnRing, turnC, turned, invertBy, kvsf, kev, kef, kemr, mekr, mfkrh}
+use Rattle.takedown.specs.Inversion.{Work, act, begin, inverted, noneFree, shortLog, turns, invertOf, linksIn, solidAt}
+use Rattle.takedown.specs.Inversion.{freeFace, freeLoop, freeEdge, outside, borderHalf, ofSolid, edgesLeft, inRing}
+use Rattle.takedown.specs.Inversion.{ringHalf, spurHalf, isCrossed, crossedHalf, isRingOf, ringOf, makeOuter, moveRings}
+use Rattle.takedown.specs.Inversion.{turnRing, turnC, turned, invertBy, kvsf, kev, kef, kemr, mekr, mfkrh}
 use Rattle.inversion.specs.Path.{path-good, acted-table}
 use Rattle.inversion.specs.OfSolid.{least-some, not-some, some-not}
 use Rattle.inversion.specs.Turn.{Ready}
@@ -33,9 +36,12 @@ use Rattle.inversion.specs.Main.{free-all}
 use Rattle.inversion.specs.AllTurns.{turns-made}
 use Rattle.inversion.specs.Gone.{Goes}
 use Rattle.takedown.specs.declared.ends.Ends.{Ends}
-use Rattle.takedown.specs.Swift.{seek, Swift, withHalf, spurFrom, ringEnds, spurEnds, crossEnds, loopFrom, acrossEnds, acrossTurn, acrossFrom, bareEnds, enter, entered, swiftTurn, swiftBy, swiftOf}
-use Rattle.inversion.specs.SwiftKept.{seek-least, Keeps, Kept, kept-enter, spur-from, solid-kept, root-kept, faces-kept}
-use Rattle.inversion.specs.TurnsB.{least-before, kev-good, kev-goes-on, kemr-good, kemr-goes-on, uncrossed-of, ring-good, ring-goes-on}
+use Rattle.takedown.specs.Swift.{seek, Swift, withHalf, spurFrom, ringEnds, spurEnds, crossEnds, loopFrom, acrossEnds}
+use Rattle.takedown.specs.Swift.{acrossTurn, acrossFrom, bareEnds, enter, entered, swiftTurn, swiftBy, swiftOf}
+use Rattle.inversion.specs.SwiftKept.{seek-least, Keeps, Kept, kept-enter, spur-from, solid-kept, root-kept}
+use Rattle.inversion.specs.SwiftKept.{faces-kept}
+use Rattle.inversion.specs.TurnsB.{least-before, kev-good, kev-goes-on, kemr-good, kemr-goes-on, uncrossed-of}
+use Rattle.inversion.specs.TurnsB.{ring-good, ring-goes-on}
 use Rattle.inversion.specs.SwiftTurns.{kept-spur, kept-cross, kept-ring}
 use Rattle.inversion.specs.SwiftBare.{kept-bare}
 use Rattle.inversion.specs.SwiftAcross.{moved-same, across-ends}
@@ -43,28 +49,42 @@ use Rattle.inversion.specs.SwiftAcross.{moved-same, across-ends}
 -- ---- the kinds of turn, as equations
 
 module _ (sh : Shape) (e : Ends) (x : List ℕ) (w : Work) where
-  shape-ring : (h k : ℕ) → e .faces ≡ 1 → seek (2 * sh .edges) (e .half) (ofSolid sh x (e .solid)) ≡ h → h ≢ 0 → seek (2 * sh .edges) (e .ring) (inRing sh x (e .solid)) ≡ k → k ≢ 0
-      → swiftTurn sh e x w ≡ record { work = turnRing sh k (loopOf sh x k) (freeFace sh x) w; ends = ringEnds sh x (withHalf e h) k }
+  shape-ring : (h k : ℕ) → e .faces ≡ 1 → seek (2 * sh .edges) (e .half) (ofSolid sh x (e .solid)) ≡ h → h ≢ 0
+      → seek (2 * sh .edges) (e .ring) (inRing sh x (e .solid)) ≡ k → k ≢ 0
+      → swiftTurn sh e x w ≡ record {
+        work = turnRing sh k (loopOf sh x k) (freeFace sh x) w;
+        ends =
+            ringEnds sh x (withHalf e h) k;
+      }
   unfolding swiftTurn
   shape-ring h k one a b c d = rw (eqb-same one, a, eqb-other b, c, eqb-other d)
 
-  shape-spur : (h k : ℕ) → e .faces ≡ 1 → seek (2 * sh .edges) (e .half) (ofSolid sh x (e .solid)) ≡ h → h ≢ 0 → seek (2 * sh .edges) (e .ring) (inRing sh x (e .solid)) ≡ 0
-      → spurFrom sh x e ≡ k → k ≢ 0 → swiftTurn sh e x w ≡ record { work = act sh w (kev k); ends = spurEnds sh x (withHalf e h) k }
+  shape-spur : (h k : ℕ) → e .faces ≡ 1 → seek (2 * sh .edges) (e .half) (ofSolid sh x (e .solid)) ≡ h → h ≢ 0
+      → seek (2 * sh .edges) (e .ring) (inRing sh x (e .solid)) ≡ 0
+      → spurFrom sh x e ≡ k → k ≢ 0
+      → swiftTurn sh e x w ≡ record { work = act sh w (kev k); ends = spurEnds sh x (withHalf e h) k }
   unfolding swiftTurn
   shape-spur h k one a b c d f = rw (eqb-same one, a, eqb-other b, c, d, eqb-other f)
 
-  shape-cross : (h k : ℕ) → e .faces ≡ 1 → seek (2 * sh .edges) (e .half) (ofSolid sh x (e .solid)) ≡ h → h ≢ 0 → seek (2 * sh .edges) (e .ring) (inRing sh x (e .solid)) ≡ 0
+  shape-cross : (h k : ℕ) → e .faces ≡ 1 → seek (2 * sh .edges) (e .half) (ofSolid sh x (e .solid)) ≡ h → h ≢ 0
+      → seek (2 * sh .edges) (e .ring) (inRing sh x (e .solid)) ≡ 0
       → spurFrom sh x e ≡ 0 → seek (2 * sh .edges) (e .cross) (isCrossed sh x (e .solid)) ≡ k
       → swiftTurn sh e x w ≡ record { work = act sh w (kemr k (freeLoop sh x)); ends = crossEnds sh x (withHalf e h) k }
   unfolding swiftTurn
   shape-cross h k one a b c d f = rw (eqb-same one, a, eqb-other b, c, d, f)
 
-  shape-c : (l : ℕ) → e .faces ≡ 1 → seek (2 * sh .edges) (e .half) (ofSolid sh x (e .solid)) ≡ 0 → seek (sh .loops) (e .lone) (isRingOf sh x (e .root)) ≡ l → l ≢ 0
-      → swiftTurn sh e x w ≡ record { work = turnC sh (faceOuter sh x (e .root)) l (freeEdge sh x) w; ends = bareEnds sh e l }
+  shape-c : (l : ℕ) → e .faces ≡ 1 → seek (2 * sh .edges) (e .half) (ofSolid sh x (e .solid)) ≡ 0
+      → seek (sh .loops) (e .lone) (isRingOf sh x (e .root)) ≡ l → l ≢ 0
+      → swiftTurn sh e x w ≡ record {
+        work = turnC sh (faceOuter sh x (e .root)) l (freeEdge sh x) w;
+        ends =
+            bareEnds sh e l;
+      }
   unfolding swiftTurn
   shape-c l one a b c = rw (eqb-same one, a, b, eqb-other c)
 
-  shape-last : e .faces ≡ 1 → seek (2 * sh .edges) (e .half) (ofSolid sh x (e .solid)) ≡ 0 → seek (sh .loops) (e .lone) (isRingOf sh x (e .root)) ≡ 0
+  shape-last : e .faces ≡ 1 → seek (2 * sh .edges) (e .half) (ofSolid sh x (e .solid)) ≡ 0
+      → seek (sh .loops) (e .lone) (isRingOf sh x (e .root)) ≡ 0
       → swiftTurn sh e x w ≡ entered sh (e .solid) (act sh w (kvsf (e .solid)))
   unfolding swiftTurn
   shape-last one a b = rw (eqb-same one, a, b)
@@ -89,57 +109,77 @@ pub record Same (sh : Shape) (x : List ℕ) (e : Ends) (w : Work) : Type 0 where
   pub work : swiftTurn sh e x w .work ≡ turned sh (solidAt sh x) (faceIn sh x (solidAt sh x)) w
   pub kept : Kept sh (linksIn (swiftTurn sh e x w .work)) (swiftTurn sh e x w .ends)
 
-module _ {sh : Shape} {x : List ℕ} {p : List ℤ} (g : Good sh x p) (ready : Ready sh x) (sn : solidAt sh x ≢ 0) (e : Ends) (K : Kept sh x e) (w : Work) (a : w .state .links ≡ x) (b : w .state .points ≡ p) where
+module _ {sh : Shape} {x : List ℕ} {p : List ℤ} (g : Good sh x p) (ready : Ready sh x) (sn : solidAt sh x ≢ 0)
+    (e : Ends) (K : Kept sh x e) (w : Work) (a : w .state .links ≡ x) (b : w .state .points ≡ p) where
   -- the searches find what they are to find
-  half-is : seek (2 * sh .edges) (e .half) (ofSolid sh x (e .solid)) ≡ least (2 * sh .edges) (ofSolid sh x (solidAt sh x))
-  half-is = ap (λ s. seek (2 * sh .edges) (e .half) (ofSolid sh x s)) (K .solid) ∙ seek-least (2 * sh .edges) (e .half) (ofSolid sh x (solidAt sh x)) (K .keeps .half-low) (K .keeps .half)
+  half-is : seek (2 * sh .edges) (e .half) (ofSolid sh x (e .solid))
+      ≡ least (2 * sh .edges) (ofSolid sh x (solidAt sh x))
+  half-is = ap (λ s. seek (2 * sh .edges) (e .half) (ofSolid sh x s)) (K .solid)
+      ∙ seek-least (2 * sh .edges) (e .half) (ofSolid sh x (solidAt sh x)) (K .keeps .half-low) (K .keeps .half)
 
   ring-is : seek (2 * sh .edges) (e .ring) (inRing sh x (e .solid)) ≡ ringHalf sh x (solidAt sh x)
-  ring-is = ap (λ s. seek (2 * sh .edges) (e .ring) (inRing sh x s)) (K .solid) ∙ seek-least (2 * sh .edges) (e .ring) (inRing sh x (solidAt sh x)) (K .keeps .ring-low) (K .keeps .ring)
+  ring-is = ap (λ s. seek (2 * sh .edges) (e .ring) (inRing sh x s)) (K .solid)
+      ∙ seek-least (2 * sh .edges) (e .ring) (inRing sh x (solidAt sh x)) (K .keeps .ring-low) (K .keeps .ring)
 
   spur-is : spurFrom sh x e ≡ spurHalf sh x (solidAt sh x)
   spur-is = spur-from sh x (solidAt sh x) (faceIn sh x (solidAt sh x)) e (K .solid) (K .keeps)
 
   border-is : seek (2 * sh .edges) (e .border) (outside sh x (e .root)) ≡ borderHalf sh x (faceIn sh x (solidAt sh x))
-  border-is = ap (λ r. seek (2 * sh .edges) (e .border) (outside sh x r)) (K .root) ∙ seek-least (2 * sh .edges) (e .border) (outside sh x (faceIn sh x (solidAt sh x))) (K .keeps .border-low) (K .keeps .border)
+  border-is = ap (λ r. seek (2 * sh .edges) (e .border) (outside sh x r)) (K .root)
+      ∙ seek-least (2 * sh .edges) (e .border) (outside sh x (faceIn sh x (solidAt sh x))) (K .keeps .border-low)
+      (K .keeps .border)
 
   lone-is : seek (sh .loops) (e .lone) (isRingOf sh x (e .root)) ≡ ringOf sh x (faceIn sh x (solidAt sh x))
-  lone-is = ap (λ r. seek (sh .loops) (e .lone) (isRingOf sh x r)) (K .root) ∙ seek-least (sh .loops) (e .lone) (isRingOf sh x (faceIn sh x (solidAt sh x))) (K .keeps .lone-low) (K .keeps .lone)
+  lone-is = ap (λ r. seek (sh .loops) (e .lone) (isRingOf sh x r)) (K .root)
+      ∙ seek-least (sh .loops) (e .lone) (isRingOf sh x (faceIn sh x (solidAt sh x))) (K .keeps .lone-low)
+      (K .keeps .lone)
 
-  h₀-before : (i : ℕ) → In (2 * sh .edges) i → i < least (2 * sh .edges) (ofSolid sh x (solidAt sh x)) → ofSolid sh x (solidAt sh x) i ≡ false
+  h₀-before : (i : ℕ) → In (2 * sh .edges) i → i < least (2 * sh .edges) (ofSolid sh x (solidAt sh x))
+      → ofSolid sh x (solidAt sh x) i ≡ false
   h₀-before = least-before (2 * sh .edges) (ofSolid sh x (solidAt sh x))
 
   -- an edge went: solid, root and faces are as they were
-  by-goes : {y : List ℕ} {q : List ℤ} {h : ℕ} (gy : Good sh y q) (G : Goes sh x y h) (n : Ends) → n .solid ≡ e .solid → n .root ≡ e .root → n .faces ≡ e .faces
+  by-goes : {y : List ℕ} {q : List ℤ} {h : ℕ} (gy : Good sh y q) (G : Goes sh x y h) (n : Ends) → n .solid ≡ e .solid
+      → n .root ≡ e .root → n .faces ≡ e .faces
       → Keeps sh y (solidAt sh x) (faceIn sh x (solidAt sh x)) n → Kept sh y n
   by-goes {y} gy G n es er ef k = record {
     solid = es ∙ K .solid ∙ sym at;
     root = er ∙ K .root ∙ sym (root-kept g gy sn G (solidAt sh x)) ∙ ap (faceIn sh y) (sym at);
     faces = ef ∙ K .faces ∙ sym (faces-kept g gy sn G (solidAt sh x)) ∙ ap (facesIn sh y) (sym at);
-    keeps = subst (λ s. Keeps sh y s (faceIn sh y s) n) (sym at) (subst (λ r. Keeps sh y (solidAt sh x) r n) (sym (root-kept g gy sn G (solidAt sh x))) k);
+    keeps = subst (λ s. Keeps sh y s (faceIn sh y s) n) (sym at)
+        (subst (λ r. Keeps sh y (solidAt sh x) r n) (sym (root-kept g gy sn G (solidAt sh x))) k);
   }
     where
       at : solidAt sh y ≡ solidAt sh x
       at = solid-kept g gy sn G
 
   -- from the shape of the turn
-  from : (t : Swift) → swiftTurn sh e x w ≡ t → t .work ≡ turned sh (solidAt sh x) (faceIn sh x (solidAt sh x)) w → Kept sh (linksIn (t .work)) (t .ends) → Same sh x e w
-  from t q u k = subst (λ t. (t .work ≡ turned sh (solidAt sh x) (faceIn sh x (solidAt sh x)) w) → Kept sh (linksIn (t .work)) (t .ends) → Same sh x e w) q
+  from : (t : Swift) → swiftTurn sh e x w ≡ t → t .work ≡ turned sh (solidAt sh x) (faceIn sh x (solidAt sh x)) w
+      → Kept sh (linksIn (t .work)) (t .ends) → Same sh x e w
+  from t q u k = subst (λ t. (t .work ≡ turned sh (solidAt sh x) (faceIn sh x (solidAt sh x)) w)
+      → Kept sh (linksIn (t .work)) (t .ends) → Same sh x e w) q
       (λ u k. record { work = u; kept = k }) u k
 
   -- the last turn: the next solid is entered
-  by-enter : (v : Work) → ((n : ℕ) → In (sh .solids) n → n < solidAt sh x → own sh (linksIn v) SolidUsed n ≡ own sh x SolidUsed n) → Kept sh (linksIn v) (enter sh (linksIn v) (e .solid))
-  by-enter v f = kept-enter sh (linksIn v) (e .solid) (g .capacities .edges .0) (omega (arith, K .solid, solid-in g sn .0))
-      (λ s i h. f s i (omega (arith, K .solid, h)) ∙ not-some (own sh x SolidUsed s) (least-before (sh .solids) (λ s. some (own sh x SolidUsed s)) s i (omega (arith, K .solid, h))))
+  by-enter : (v : Work)
+      → ((n : ℕ) → In (sh .solids) n → n < solidAt sh x → own sh (linksIn v) SolidUsed n ≡ own sh x SolidUsed n)
+      → Kept sh (linksIn v) (enter sh (linksIn v) (e .solid))
+  by-enter v f = kept-enter sh (linksIn v) (e .solid) (g .capacities .edges .0)
+      (omega (arith, K .solid, solid-in g sn .0))
+      (λ s i h. f s i (omega (arith, K .solid, h))
+      ∙ not-some (own sh x SolidUsed s) (least-before (sh .solids) (λ s. some (own sh x SolidUsed s)) s i
+      (omega (arith, K .solid, h))))
 
   same-a : facesIn sh x (solidAt sh x) ≢ 1 → Same sh x e w
   same-a many =
       let r = faceIn sh x (solidAt sh x) in
       let k = borderHalf sh x r in
-      from _ (shape-a sh e x w k (λ q. many (sym (K .faces) ∙ q)) border-is ∙ ap (acrossTurn sh e x k (loopFrom sh x e) w) (moved-same g sn many e K w a))
+      from _ (shape-a sh e x w k (λ q. many (sym (K .faces) ∙ q)) border-is
+      ∙ ap (acrossTurn sh e x k (loopFrom sh x e) w) (moved-same g sn many e K w a))
       (sym (turned-a sh (solidAt sh x) r w x a many))
       (let v = moveRings sh (sh .loops) 1 (side sh x k) r (makeOuter sh (loopOf sh x k) (side sh x k) w) in
-      kept-at sh (acrossEnds sh x e k (loopFrom sh x e) (eqb (v .done) (w .done))) (after sh v (kef k) (linksIn v) refl) (across-ends g sn many e K w a b))
+      kept-at sh (acrossEnds sh x e k (loopFrom sh x e) (eqb (v .done) (w .done))) (after sh v (kef k) (linksIn v) refl)
+      (across-ends g sn many e K w a b))
 
   module _ (one : facesIn sh x (solidAt sh x) ≡ 1) where
     faces-one : e .faces ≡ 1
@@ -158,8 +198,11 @@ module _ {sh : Shape} {x : List ℕ} {p : List ℤ} (g : Good sh x p) (ready : R
           from _ (shape-ring sh e x w _ _ faces-one half-is there ring-is d)
           (sym (turned-ring sh (solidAt sh x) r w x a one left d))
           (let k = ringHalf sh x (solidAt sh x) in
-          kept-at sh (ringEnds sh x (withHalf e (least (2 * sh .edges) (ofSolid sh x (solidAt sh x)))) k) (after sh (act sh w (mfkrh (loopOf sh x k) (freeFace sh x))) (kef k) _ (after sh w (mfkrh (loopOf sh x k) (freeFace sh x)) x a))
-          (by-goes (ring-good g ready sn one left d) (ring-goes-on g ready sn one left d) _ refl refl refl (kept-ring g ready sn one left d e r _ (K .keeps) h₀-low h₀-before)))
+          kept-at sh (ringEnds sh x (withHalf e (least (2 * sh .edges) (ofSolid sh x (solidAt sh x)))) k)
+          (after sh (act sh w (mfkrh (loopOf sh x k) (freeFace sh x))) (kef k) _
+          (after sh w (mfkrh (loopOf sh x k) (freeFace sh x)) x a))
+          (by-goes (ring-good g ready sn one left d) (ring-goes-on g ready sn one left d) _ refl refl refl
+          (kept-ring g ready sn one left d e r _ (K .keeps) h₀-low h₀-before)))
 
       module _ (none : ringHalf sh x (solidAt sh x) ≡ 0) where
         same-spur : spurHalf sh x (solidAt sh x) ≢ 0 → Same sh x e w
@@ -167,19 +210,25 @@ module _ {sh : Shape} {x : List ℕ} {p : List ℤ} (g : Good sh x p) (ready : R
             let r = faceIn sh x (solidAt sh x) in
             from _ (shape-spur sh e x w _ _ faces-one half-is there (ring-is ∙ none) spur-is d)
             (sym (turned-spur sh (solidAt sh x) r w x a one left none d))
-            (kept-at sh (spurEnds sh x (withHalf e (least (2 * sh .edges) (ofSolid sh x (solidAt sh x)))) (spurHalf sh x (solidAt sh x))) (after sh w (kev (spurHalf sh x (solidAt sh x))) x a)
-            (by-goes (kev-good g ready sn one left none d) (kev-goes-on g ready sn one left none d) _ refl refl refl (kept-spur g ready sn one left none d e r _ (K .keeps) h₀-low h₀-before)))
+            (kept-at sh (spurEnds sh x (withHalf e (least (2 * sh .edges) (ofSolid sh x (solidAt sh x))))
+            (spurHalf sh x (solidAt sh x))) (after sh w (kev (spurHalf sh x (solidAt sh x))) x a)
+            (by-goes (kev-good g ready sn one left none d) (kev-goes-on g ready sn one left none d) _ refl refl refl
+            (kept-spur g ready sn one left none d e r _ (K .keeps) h₀-low h₀-before)))
 
         same-cross : spurHalf sh x (solidAt sh x) ≡ 0 → Same sh x e w
         same-cross d =
             let r = faceIn sh x (solidAt sh x) in
             let q : seek (2 * sh .edges) (e .cross) (isCrossed sh x (e .solid)) ≡ crossedHalf sh x (solidAt sh x) =
             ap (λ s. seek (2 * sh .edges) (e .cross) (isCrossed sh x s)) (K .solid)
-            ∙ seek-least (2 * sh .edges) (e .cross) (isCrossed sh x (solidAt sh x)) (K .keeps .cross-low) (λ i j h. uncrossed-of g sn one none i j (K .keeps .cross i j h)) in
+            ∙ seek-least (2 * sh .edges) (e .cross) (isCrossed sh x (solidAt sh x)) (K .keeps .cross-low) (λ i j h.
+            uncrossed-of g sn one none i j (K .keeps .cross i j h)) in
             from _ (shape-cross sh e x w _ _ faces-one half-is there (ring-is ∙ none) (spur-is ∙ d) q)
             (sym (turned-cross sh (solidAt sh x) r w x a one left none d))
-            (kept-at sh (crossEnds sh x (withHalf e (least (2 * sh .edges) (ofSolid sh x (solidAt sh x)))) (crossedHalf sh x (solidAt sh x))) (after sh w (kemr (crossedHalf sh x (solidAt sh x)) (freeLoop sh x)) x a)
-            (by-goes (kemr-good g ready sn one left none d) (kemr-goes-on g ready sn one left none d) _ refl refl refl (kept-cross g ready sn one left none d e r _ (K .keeps) h₀-low h₀-before)))
+            (kept-at sh (crossEnds sh x (withHalf e (least (2 * sh .edges) (ofSolid sh x (solidAt sh x))))
+            (crossedHalf sh x (solidAt sh x)))
+            (after sh w (kemr (crossedHalf sh x (solidAt sh x)) (freeLoop sh x)) x a)
+            (by-goes (kemr-good g ready sn one left none d) (kemr-goes-on g ready sn one left none d) _ refl refl refl
+            (kept-cross g ready sn one left none d e r _ (K .keeps) h₀-low h₀-before)))
 
     module _ (left : edgesLeft sh x (solidAt sh x) ≡ false) where
       gone : seek (2 * sh .edges) (e .half) (ofSolid sh x (e .solid)) ≡ 0
@@ -190,22 +239,30 @@ module _ {sh : Shape} {x : List ℕ} {p : List ℤ} (g : Good sh x p) (ready : R
           let r = faceIn sh x (solidAt sh x) in
           let o = mekr (faceOuter sh x r) (ringOf sh x r) (freeEdge sh x) in
           from _ (shape-c sh e x w _ faces-one gone lone-is d)
-          (ap (λ q. turnC sh (faceOuter sh x q) (ringOf sh x r) (freeEdge sh x) w) (K .root) ∙ sym (turned-c sh (solidAt sh x) r w x a one left d))
-          (subst (λ q. Kept sh (linksIn (turnC sh (faceOuter sh x q) (ringOf sh x r) (freeEdge sh x) w)) (bareEnds sh e (ringOf sh x r))) (sym (K .root))
-          (kept-at sh (bareEnds sh e (ringOf sh x r)) (after sh (act sh w o) (kev (2 * freeEdge sh x - 1)) _ (after sh w o x a)) (kept-bare g ready sn one left d e K)))
+          (ap (λ q. turnC sh (faceOuter sh x q) (ringOf sh x r) (freeEdge sh x) w) (K .root)
+          ∙ sym (turned-c sh (solidAt sh x) r w x a one left d))
+          (subst (λ q. Kept sh (linksIn (turnC sh (faceOuter sh x q) (ringOf sh x r) (freeEdge sh x) w))
+          (bareEnds sh e (ringOf sh x r))) (sym (K .root))
+          (kept-at sh (bareEnds sh e (ringOf sh x r))
+          (after sh (act sh w o) (kev (2 * freeEdge sh x - 1)) _ (after sh w o x a))
+          (kept-bare g ready sn one left d e K)))
 
       same-last : ringOf sh x (faceIn sh x (solidAt sh x)) ≡ 0 → Same sh x e w
       same-last d =
           let r = faceIn sh x (solidAt sh x) in
           from _ (shape-last sh e x w faces-one gone (lone-is ∙ d))
           (ap (λ s. act sh w (kvsf s)) (K .solid) ∙ sym (turned-last sh (solidAt sh x) r w x a one left d))
-          (by-enter (act sh w (kvsf (e .solid))) (λ n i h. ap (λ t. own sh t SolidUsed n) (after sh w (kvsf (e .solid)) x a ∙ ap (λ s. linksAfter sh x (kvsf s)) (K .solid)) ∙ last-mark g ready sn one left d n i (λ z. omega (arith, h, z))))
+          (by-enter (act sh w (kvsf (e .solid)))
+          (λ n i h. ap (λ t. own sh t SolidUsed n) (after sh w (kvsf (e .solid)) x a
+          ∙ ap (λ s. linksAfter sh x (kvsf s)) (K .solid))
+          ∙ last-mark g ready sn one left d n i (λ z. omega (arith, h, z))))
 
   pub turn-same : Same sh x e w
   turn-same = split (facesIn sh x (solidAt sh x)) 1
       (λ one. ⊎-elim
       (λ left. split (ringHalf sh x (solidAt sh x)) 0
-      (λ none. split (spurHalf sh x (solidAt sh x)) 0 (λ z. same-cross one left none z) (λ d. same-spur one left none d))
+      (λ none. split (spurHalf sh x (solidAt sh x)) 0 (λ z. same-cross one left none z)
+      (λ d. same-spur one left none d))
       (λ d. same-ring one left d))
       (λ left. split (ringOf sh x (faceIn sh x (solidAt sh x))) 0 (λ z. same-last one left z) (λ d. same-c one left d))
       (ask (edgesLeft sh x (solidAt sh x))))
@@ -213,7 +270,8 @@ module _ {sh : Shape} {x : List ℕ} {p : List ℤ} (g : Good sh x p) (ready : R
 
 -- ---- turn by turn
 
-pub swift-by : (n : ℕ) (sh : Shape) (t : Swift) → Good sh (linksIn (t .work)) (t .work .state .points) → Ready sh (linksIn (t .work)) → Kept sh (linksIn (t .work)) (t .ends) → swiftBy n sh t ≡ invertBy n sh (t .work)
+pub swift-by : (n : ℕ) (sh : Shape) (t : Swift) → Good sh (linksIn (t .work)) (t .work .state .points)
+    → Ready sh (linksIn (t .work)) → Kept sh (linksIn (t .work)) (t .ends) → swiftBy n sh t ≡ invertBy n sh (t .work)
 unfolding swiftBy invertBy
 swift-by zero sh t g ready K = refl
 swift-by (suc n) sh t g ready K = split (solidAt sh (linksIn (t .work))) 0
@@ -226,9 +284,11 @@ swift-by (suc n) sh t g ready K = split (solidAt sh (linksIn (t .work))) 0
     let v = acted-table sh (t .work) (m .path) in
     let el = ap linksIn e ∙ v .0 in
     let ep = ap (λ w. w .state .points) e ∙ v .1 in
-    let gy : Good sh (linksIn (swiftTurn sh (t .ends) x (t .work) .work)) (swiftTurn sh (t .ends) x (t .work) .work .state .points) = rw (el, ep) (path-good g (m .path)) in
+    let gy : Good sh (linksIn (swiftTurn sh (t .ends) x (t .work) .work)) (swiftTurn sh (t .ends) x
+    (t .work) .work .state .points) = rw (el, ep) (path-good g (m .path)) in
     let ry : Ready sh (linksIn (swiftTurn sh (t .ends) x (t .work) .work)) = rw el (m .ready) in
-    rw (eqb-other (λ z. d (sym (K .solid) ∙ z)), eqb-other d) (swift-by n sh (swiftTurn sh (t .ends) x (t .work)) gy ry (s .kept) ∙ ap (invertBy n sh) (s .work)))
+    rw (eqb-other (λ z. d (sym (K .solid) ∙ z)), eqb-other d)
+    (swift-by n sh (swiftTurn sh (t .ends) x (t .work)) gy ry (s .kept) ∙ ap (invertBy n sh) (s .work)))
 
 -- ---- the entry point
 
@@ -237,7 +297,8 @@ let-in : (t : State) → entry t .refusal ≡ 0 → checkOf (t .links) (t .point
 unfolding entry
 let-in t = by (leb (t .start) (length (t .log)))
   where
-    by : (b : Bool) → pick b (checkOf (t .links) (t .points)) (record { refusal = 1; rule = 0 }) .refusal ≡ 0 → checkOf (t .links) (t .points) .refusal ≡ 0
+    by : (b : Bool) → pick b (checkOf (t .links) (t .points)) (record { refusal = 1; rule = 0 }) .refusal ≡ 0
+        → checkOf (t .links) (t .points) .refusal ≡ 0
     by true e = e
     by false e = absurd (omega (arith, e))
 
@@ -250,15 +311,21 @@ swift-same t = split (entry t .refusal) 0 in-it (λ d. rw (eqb-other d))
     in-it z = ⊎-elim full free (ask (noneFree (shapeOf (t .links)) (t .links)))
       where
         work : noneFree (shapeOf (t .links)) (t .links) ≡ false
-            → swiftBy (turns (shapeOf (t .links))) (shapeOf (t .links)) (entered (shapeOf (t .links)) 1 (begin t)) ≡ invertBy (turns (shapeOf (t .links))) (shapeOf (t .links)) (begin t)
+            → swiftBy (turns (shapeOf (t .links))) (shapeOf (t .links)) (entered (shapeOf (t .links)) 1 (begin t))
+            ≡ invertBy (turns (shapeOf (t .links))) (shapeOf (t .links)) (begin t)
         work n =
             let g = checked-good (t .links) (t .points) (let-in t z) in
-            let fr = free-all (freeFace (shapeOf (t .links)) (t .links)) (freeLoop (shapeOf (t .links)) (t .links)) (freeEdge (shapeOf (t .links)) (t .links)) n in
-            swift-by (turns (shapeOf (t .links))) (shapeOf (t .links)) (entered (shapeOf (t .links)) 1 (begin t)) g (record { face = fr .0; edge = fr .2; loop = inl (fr .1) })
-            (kept-enter (shapeOf (t .links)) (t .links) 1 (g .capacities .edges .0) (omega arith) (λ s i h. absurd (omega (arith, i .0, h))))
+            let fr = free-all (freeFace (shapeOf (t .links)) (t .links)) (freeLoop (shapeOf (t .links)) (t .links))
+            (freeEdge (shapeOf (t .links)) (t .links)) n in
+            swift-by (turns (shapeOf (t .links))) (shapeOf (t .links)) (entered (shapeOf (t .links)) 1 (begin t)) g
+            (record { face = fr .0; edge = fr .2; loop = inl (fr .1) })
+            (kept-enter (shapeOf (t .links)) (t .links) 1 (g .capacities .edges .0) (omega arith)
+            (λ s i h. absurd (omega (arith, i .0, h))))
 
         full : noneFree (shapeOf (t .links)) (t .links) ≡ true → swiftOf t ≡ invertOf t
         full n = rw (z, n)
 
         free : noneFree (shapeOf (t .links)) (t .links) ≡ false → swiftOf t ≡ invertOf t
-        free n = rw (z, n) (ap (λ v. pick (shortLog (shapeOf (t .links)) t) (inverted 9 0 (begin t)) (inverted 0 0 v)) (work n))
+        free n =
+            rw (z, n) (ap (λ v. pick (shortLog (shapeOf (t .links)) t) (inverted 9 0 (begin t)) (inverted 0 0 v))
+            (work n))

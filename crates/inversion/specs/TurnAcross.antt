@@ -1,201 +1,50 @@
 -- A's turn, whole: a face across an edge from the root goes, its rings having moved to the root.
 use mathlib.Core.Path.{_≡_, refl, sym, ap, _∙_, subst}
-use mathlib.Core.Logic.{_≢_, inl, ⊎-elim}
-use mathlib.Core.Bool.{Bool, true, false, not, _&&_, false≢true}
+use mathlib.Core.Logic.{_≢_, inl}
+use mathlib.Core.Bool.{false}
 use mathlib.Core.List.{List, [], _∷_, _++_}
-use Prim.Native.Nat.{ℕ, suc, _*_, _≤_, _<_}
+use Prim.Native.Nat.{ℕ, suc, _≤_, _<_}
 use native.Mathlib.Omega.{arith}
-use lib.Dec.{eqb, eqb→eq, T-not, not-T}
+use lib.Dec.{eqb}
 use lib.IntN.{ℤ}
-use lib.ListN.{length, length-append}
-use Rattle.laws.specs.Bools.{split, ask, T-true, true-T, eqb-same, eqb-other}
+use lib.ListN.{length-append}
+use Rattle.laws.specs.Bools.{split, eqb-same, eqb-other}
 use Rattle.laws.specs.Search.{least, least-ext, least-unique}
-use Rattle.laws.specs.Update.{upd-same}
-use Rattle.laws.specs.Linked.{carry}
-use Rattle.script.specs.declared.Operator.{Operator}
 use Rattle.layout.specs.declared.shape.Shape.{Shape}
-use Rattle.layout.specs.Mate.{mate}
-use Rattle.layout.specs.MateLaws.{mate-mate, mate-range}
-use Rattle.euler.specs.Queries.{isRing, faceIn, facesIn}
+use Rattle.euler.specs.Queries.{faceIn, facesIn}
 use Rattle.euler.specs.Exec.{linksAfter}
-use Rattle.layout.specs.Fields.{change, SolidUsed, Solid, Outer, Face, Start, Loop, VertexUsed}
-use Rattle.sound_tables.specs.Sound.{In, HalfUsed, side}
-use Rattle.sound_tables.specs.Labels.{many-one, LeastIs, label-found}
+use Rattle.layout.specs.Fields.{change, Solid, Face, Loop}
+use Rattle.sound_tables.specs.Sound.{In, side}
+use Rattle.sound_tables.specs.Labels.{label-found}
 use Rattle.sound_tables.specs.Good.{Good, own}
 use Rattle.sound_cuts.specs.KefPlace.{KefPlace}
-use Rattle.takedown.specs.Inversion.{Work, act, solidAt, freeEdge, turned, outside, borderHalf, makeOuter, moveRings, turnA, rmov, kef}
+use Rattle.takedown.specs.Inversion.{Work, act, solidAt, freeEdge, turned, borderHalf, moveRings}
+use Rattle.takedown.specs.Inversion.{turnA, kef}
 use Rattle.inversion.specs.Path.{Path, there, first, acted, path-append, acted-append, acted-table, joinsIn}
-use Rattle.inversion.specs.Counts.{solids, faces, loops, edges, vertices, isStray, strays}
-use Rattle.inversion.specs.Same.{words-same, solids-is, faces-is, loops-same, edges-is, vertices-is, face-in-same, strays-same, count-fewer-in, free-edge-kept}
-use Rattle.inversion.specs.OfSolid.{least-some, least-no, least-there, both, joint}
+use Rattle.inversion.specs.Counts.{solids, faces, loops, isStray, strays}
+use Rattle.inversion.specs.Same.{count-fewer-in, free-edge-kept}
+use Rattle.inversion.specs.OfSolid.{least-there}
 use Rattle.inversion.specs.Root.{root-is}
-use Rattle.inversion.specs.RmovLaws.{rmov-joins, rmov-points, swap-accepted, swap-shows, rmov-good}
 use Rattle.inversion.specs.KefLaws.{KefLaw, kef-accepted, kef-law, kef-joins, kef-points-same}
-use Rattle.inversion.specs.Border.{Border, Alike, alike-same, alike-then, Cleared, clear-rings}
+use Rattle.inversion.specs.Border.{Border, Alike, alike-then, Cleared, clear-rings}
 use Rattle.inversion.specs.Turn.{Ready, TurnMade, joins-append}
 use Rattle.inversion.specs.TurnShape.{turned-a}
-
--- ---- the edge
-
-module _ {sh : Shape} {x : List ℕ} {p : List ℤ} (g : Good sh x p) (sn : solidAt sh x ≢ 0) (many : facesIn sh x (solidAt sh x) ≢ 1) where
-  abbrev r : ℕ
-  r = faceIn sh x (solidAt sh x)
-
-  root : LeastIs (sh .faces) (own sh x Solid) (solidAt sh x) (faceIn sh x (solidAt sh x))
-  root = root-is g sn
-
-  -- another face of the solid
-  other : (f : ℕ) × In (sh .faces) f × (own sh x Solid f ≡ solidAt sh x) × (f ≢ faceIn sh x (solidAt sh x))
-  other = split (least (sh .faces) test) 0
-      (λ z. absurd (many (many-one (sh .faces) (own sh x Solid) (solidAt sh x) (faceIn sh x (solidAt sh x)) (root .range) (root .label)
-      (λ n i e. split n (faceIn sh x (solidAt sh x)) (λ q. q) (λ d. absurd (false≢true (sym (least-no (sh .faces) test z n i) ∙ joint _ _ (eqb-same e) (T-true (not-T (eqb n (faceIn sh x (solidAt sh x))) (λ t. d (eqb→eq _ _ t)))))))))))
-      (λ d.
-      let q = least-some (sh .faces) test d in
-      let b = both (eqb (own sh x Solid (least (sh .faces) test)) (solidAt sh x)) _ (q .1) in
-      (least (sh .faces) test, q .0, eqb→eq _ _ (true-T (b .0)), λ e. T-not (eqb (least (sh .faces) test) (faceIn sh x (solidAt sh x))) (true-T (b .1)) (true-T (eqb-same e))))
-    where
-      test : ℕ → Bool
-      test f = eqb (own sh x Solid f) (solidAt sh x) && not (eqb f (faceIn sh x (solidAt sh x)))
-
-  -- so that some edge leads out of the root
-  pub border-there : borderHalf sh x (faceIn sh x (solidAt sh x)) ≢ 0
-  border-there z =
-      let o = other in
-      let chain = g .sound .solids .one (faceIn sh x (solidAt sh x)) (o .0) (root .range .0, root .range .1, λ e. sn (sym (root .label) ∙ e)) (o .1 .0, o .1 .1, λ e. sn (sym (o .2) ∙ e)) (root .label ∙ sym (o .2)) in
-      o .3 (carry (λ f. f ≡ faceIn sh x (solidAt sh x)) (λ a b t. (
-        λ e. split b (faceIn sh x (solidAt sh x)) (λ q. q) (λ d. absurd (stays (mate (t .0)) (g .sound .rules .mate-in (t .0) (t .1)) (ap (side (own sh x)) (mate-mate (t .0)) ∙ t .2 ∙ e) (λ q. d (sym (t .3) ∙ q)))),
-        λ e. split a (faceIn sh x (solidAt sh x)) (λ q. q) (λ d. absurd (stays (t .0) (t .1) (t .3 ∙ e) (λ q. d (sym (t .2) ∙ q)))),
-      )) chain .0 refl)
-    where
-      stays : (k : ℕ) → HalfUsed sh (own sh x) k → side (own sh x) (mate k) ≡ faceIn sh x (solidAt sh x) → side (own sh x) k ≢ faceIn sh x (solidAt sh x) → ⊥
-      stays k u a d = false≢true (sym (least-no (2 * sh .edges) (outside sh x (faceIn sh x (solidAt sh x))) z k (u .0, u .1)) ∙ joint _ _ (eqb-same a) (T-true (not-T (eqb (side (own sh x) k) (faceIn sh x (solidAt sh x))) (λ t. d (eqb→eq _ _ t)))))
-
-  -- what the search says
-  pub found : HalfUsed sh (own sh x) (borderHalf sh x (faceIn sh x (solidAt sh x))) × (side (own sh x) (mate (borderHalf sh x (faceIn sh x (solidAt sh x)))) ≡ faceIn sh x (solidAt sh x))
-      × (side (own sh x) (borderHalf sh x (faceIn sh x (solidAt sh x))) ≢ faceIn sh x (solidAt sh x))
-  found =
-      let k = borderHalf sh x (faceIn sh x (solidAt sh x)) in
-      let q = least-some (2 * sh .edges) (outside sh x (faceIn sh x (solidAt sh x))) border-there in
-      let b = both (eqb (side (own sh x) (mate k)) (faceIn sh x (solidAt sh x))) _ (q .1) in
-      let e : side (own sh x) (mate k) ≡ faceIn sh x (solidAt sh x) = eqb→eq _ _ (true-T (b .0)) in
-      let im = mate-range k (sh .edges) (q .0 .0) (q .0 .1) in
-      let um : HalfUsed sh (own sh x) (mate k) = (im .0, im .1, λ z. omega (arith, root .range .0, sym e ∙ ap (own sh x Face) (g .sound .half-free (mate k) im z .loop))) in
-      (subst (HalfUsed sh (own sh x)) (mate-mate k) (g .sound .rules .mate-in (mate k) um), e, λ a. T-not (eqb (side (own sh x) k) (faceIn sh x (solidAt sh x))) (true-T (b .1)) (true-T (eqb-same a)))
-
--- ---- k's loop becomes the outer one
-
--- what makeOuter leaves
-pub record Opened (sh : Shape) (x : List ℕ) (p : List ℤ) (k l f r s : ℕ) : Type 0 where
-  pub os : List Operator
-  pub y : List ℕ
-  pub path : Path sh y p os x p
-  pub same : (w : Work) → w .state .links ≡ x → w .state .points ≡ p → makeOuter sh l f w ≡ acted sh w os
-  pub border : Border sh y p k l f r s
-  pub alike : Alike sh x y
-  pub same-strays : strays sh y ≡ strays sh x
-  pub short : length os ≤ 1
-  pub joins : joinsIn sh x p os ≡ 0
-
-opens : (sh : Shape) (l f : ℕ) (w : Work) (x : List ℕ) → w .state .links ≡ x → isRing sh x l ≡ true → makeOuter sh l f w ≡ act sh w (rmov l f)
-unfolding makeOuter
-opens sh l f w x a = subst (λ x. isRing sh x l ≡ true → makeOuter sh l f w ≡ act sh w (rmov l f)) a (λ t. rw t)
-
-pub opens-not : (sh : Shape) (l f : ℕ) (w : Work) (x : List ℕ) → w .state .links ≡ x → isRing sh x l ≡ false → makeOuter sh l f w ≡ w
-unfolding makeOuter
-opens-not sh l f w x a = subst (λ x. isRing sh x l ≡ false → makeOuter sh l f w ≡ w) a (λ t. rw t)
-
-pub open-face : (sh : Shape) {x : List ℕ} {p : List ℤ} {k l f r s : ℕ} → Good sh x p → HalfUsed sh (own sh x) k → own sh x Loop k ≡ l → own sh x Face l ≡ f → side (own sh x) (mate k) ≡ r → f ≢ r
-    → own sh x Solid f ≡ s → faceIn sh x s ≡ r → In (sh .faces) r → own sh x Solid r ≡ s → s ≢ 0 → Opened sh x p k l f r s
-unfolding acted
-open-face sh {x} {p} {k} {l} {f} {r} {s} g u kl lf mr fr fs root ir rs sn = ⊎-elim swap stay (ask (isRing sh x l))
-  where
-    hk : In (sh .loops) l
-    hk = subst (In (sh .loops)) kl (g .sound .half k (u .0, u .1) (u .2) .loop-in)
-
-    jf : In (sh .faces) f
-    jf = let q = g .sound .solids .side-in k u in subst (In (sh .faces)) (ap (own sh x Face) kl ∙ lf) (q .0, q .1)
-
-    stay : isRing sh x l ≡ false → Opened sh x p k l f r s
-    stay t = record {
-      os = [];
-      y = x;
-      path = there refl refl;
-      same = λ w a b. opens-not sh l f w x a t;
-      border = record {
-        good = g;
-        used = u;
-        loop = kl;
-        face = lf;
-        outer = split (own sh x Outer f) l (λ e. e) (λ d. absurd (false≢true (sym t ∙ ring-is d)));
-        across = mr;
-        other = fr;
-        solid = fs;
-        root = root;
-        r-in = ir;
-        r-solid = rs;
-        there-is = sn;
-      };
-      alike = alike-same sh x;
-      same-strays = refl;
-      short = omega arith;
-      joins = refl;
-    }
-      where
-        ring-is : own sh x Outer f ≢ l → isRing sh x l ≡ true
-        ring-is d = rw (lf, eqb-other d)
-
-    swap : isRing sh x l ≡ true → Opened sh x p k l f r s
-    swap t =
-        let lu : own sh x Face l ≢ 0 = λ z. omega (arith, jf .0, sym lf ∙ z) in
-        let fu : own sh x Solid f ≢ 0 = λ z. sn (sym fs ∙ z) in
-        let acc = swap-accepted g hk lu jf fu (λ e. T-not (eqb (own sh x Outer (own sh x Face l)) l) (true-T t) (true-T (eqb-same e))) (sym lf) in
-        let v = swap-shows g hk lu jf fu (sym lf) in
-        let um = g .sound .rules .mate-in k u in
-        let hm = g .sound .half (mate k) (um .0, um .1) (um .2) in
-        let es : (n : ℕ) → In (sh .faces) n → own sh (linksAfter sh x (rmov l f)) Solid n ≡ own sh x Solid n = λ n i. v .at Solid n (i .1) in
-        let ef : (n : ℕ) → In (sh .loops) n → own sh (linksAfter sh x (rmov l f)) Face n ≡ own sh x Face n = λ n i. v .at Face n (i .1) in
-        record {
-          os = rmov l f ∷ [];
-          y = linksAfter sh x (rmov l f);
-          path = first {os = []} {p = p} (rmov l f) refl acc (there refl (rmov-points sh x p l f));
-          same = λ w a b. opens sh l f w x a t;
-          border = record {
-            good = rmov-good g hk lu jf fu acc;
-            used = (u .0, u .1, λ z. u .2 (sym (v .at Start k (u .1)) ∙ z));
-            loop = v .at Loop k (u .1) ∙ kl;
-            face = ef l hk ∙ lf;
-            outer = v .at Outer f (jf .1) ∙ upd-same _ f l;
-            across = ap (own sh (linksAfter sh x (rmov l f)) Face) (v .at Loop (mate k) (um .1)) ∙ ef (own sh x Loop (mate k)) (hm .loop-in) ∙ mr;
-            other = fr;
-            solid = es f jf ∙ fs;
-            root = face-in-same sh x _ es s ∙ root;
-            r-in = ir;
-            r-solid = es r ir ∙ rs;
-            there-is = sn;
-          };
-          alike = record {
-            mark = λ n i. v .at SolidUsed n (i .1);
-            solid = es;
-            start = λ n i. v .at Start n (i .1);
-            same-solids = solids-is sh _ ∙ words-same (sh .solids) _ _ (λ n i. v .at SolidUsed n (i .1)) ∙ sym (solids-is sh x);
-            same-faces = faces-is sh _ ∙ words-same (sh .faces) _ _ es ∙ sym (faces-is sh x);
-            same-loops = loops-same sh x _ ef;
-            same-edges = edges-is sh _ ∙ words-same (sh .edges) _ _ (λ e i. v .at Start (2 * e) (omega (arith, i .1))) ∙ sym (edges-is sh x);
-            same-vertices = vertices-is sh _ ∙ words-same (sh .vertices) _ _ (λ n i. v .at VertexUsed n (i .1)) ∙ sym (vertices-is sh x);
-          };
-          same-strays = strays-same sh x _ ef g es;
-          short = omega arith;
-          joins = rmov-joins sh x p l f;
-        }
+use Rattle.inversion.specs.TurnOuter.{found, Opened, open-face}
 
 -- ---- kef k, its loop now the only one of its face
 
-module _ {sh : Shape} {x : List ℕ} {p : List ℤ} {k l f r s : ℕ} (B : Border sh x p k l f r s) (only : (m : ℕ) → In (sh .loops) m → own sh x Face m ≡ f → m ≡ l) where
+module _ {sh : Shape} {x : List ℕ} {p : List ℤ} {k l f r s : ℕ} (B : Border sh x p k l f r s) (only : (m : ℕ)
+    → In (sh .loops) m → own sh x Face m ≡ f → m ≡ l) where
   side-k : side (own sh x) k ≡ f
   side-k = ap (own sh x Face) (B .loop) ∙ B .face
 
   pub place : KefPlace sh (own sh x) k
-  place = record { used = B .used; one = λ n i e. only n i (e ∙ side-k) ∙ sym (B .loop); other = λ e. B .other (sym (sym (B .across) ∙ e ∙ side-k)) }
+  place = record {
+    used = B .used;
+    one = λ n i e. only n i (e ∙ side-k) ∙ sym (B .loop);
+    other =
+        λ e. B .other (sym (sym (B .across) ∙ e ∙ side-k));
+  }
 
   law : KefLaw sh x (linksAfter sh x (kef k)) k
   law = kef-law (B .good) place
@@ -221,10 +70,12 @@ module _ {sh : Shape} {x : List ℕ} {p : List ℤ} {k l f r s : ℕ} (B : Borde
   -- each solid keeps its least face
   root-kept : (t : ℕ) → t ≢ 0 → faceIn sh (linksAfter sh x (kef k)) t ≡ faceIn sh x t
   root-kept t tn = split t s
-      (λ e. rw e (least-unique (sh .faces) _ r (B .r-in .0) (B .r-in .1) (eqb-same (solid-else r (B .r-in) (λ q. B .other (sym q)) ∙ B .r-solid))
+      (λ e. rw e (least-unique (sh .faces) _ r (B .r-in .0) (B .r-in .1)
+      (eqb-same (solid-else r (B .r-in) (λ q. B .other (sym q)) ∙ B .r-solid))
       (λ j a b. below j a b) ∙ sym (B .root)))
       (λ d. least-ext (sh .faces) _ _ (λ n a b. split n f
-      (λ e. eqb-other (λ q. tn (sym q ∙ ap (own sh (linksAfter sh x (kef k)) Solid) e ∙ solid-gone)) ∙ sym (eqb-other (λ q. d (sym q ∙ ap (own sh x Solid) e ∙ B .solid))))
+      (λ e. eqb-other (λ q. tn (sym q ∙ ap (own sh (linksAfter sh x (kef k)) Solid) e ∙ solid-gone))
+      ∙ sym (eqb-other (λ q. d (sym q ∙ ap (own sh x Solid) e ∙ B .solid))))
       (λ e. ap (λ m. eqb m t) (solid-else n (a, b) e))))
     where
       below : (j : ℕ) → 1 ≤ j → j < r → eqb (own sh (linksAfter sh x (kef k)) Solid j) s ≡ false
@@ -232,7 +83,8 @@ module _ {sh : Shape} {x : List ℕ} {p : List ℤ} {k l f r s : ℕ} (B : Borde
           (λ e. eqb-other (λ q. B .there-is (sym q ∙ ap (own sh (linksAfter sh x (kef k)) Solid) e ∙ solid-gone)))
           (λ e. eqb-other (λ q.
           let ij : In (sh .faces) j = (a, omega (arith, b, B .r-in .1)) in
-          let m = label-found (sh .faces) (own sh x Solid) s (λ z. omega (arith, B .r-in .0, sym (B .root) ∙ z)) .before j ij (sym (solid-else j ij e) ∙ q) in
+          let m = label-found (sh .faces) (own sh x Solid) s (λ z. omega (arith, B .r-in .0, sym (B .root) ∙ z)) .before
+          j ij (sym (solid-else j ij e) ∙ q) in
           omega (arith, m, B .root, b)))
 
   gone-off : own sh (linksAfter sh x (kef k)) Face l ≡ 0 → isStray sh (linksAfter sh x (kef k)) l ≡ false
@@ -241,7 +93,13 @@ module _ {sh : Shape} {x : List ℕ} {p : List ℤ} {k l f r s : ℕ} (B : Borde
   -- one stray loop fewer
   strays-fewer : suc (strays sh (linksAfter sh x (kef k))) ≡ strays sh x
   strays-fewer = count-fewer-in (sh .loops) _ _ l l-in (gone-off face-gone)
-      (rw (B .face, B .solid, B .root, eqb-other {m = f} {n = 0} (λ z. omega (arith, f-in .0, z)), eqb-other (λ e. B .other (sym e))))
+      (rw (
+        B .face,
+        B .solid,
+        B .root,
+        eqb-other {m = f} {n = 0} (λ z. omega (arith, f-in .0, z)),
+        eqb-other (λ e. B .other (sym e)),
+      ))
       kept
     where
       none : (y : List ℕ) (n : ℕ) → own sh y Face n ≡ 0 → isStray sh y n ≡ false
@@ -253,14 +111,19 @@ module _ {sh : Shape} {x : List ℕ} {p : List ℤ} {k l f r s : ℕ} (B : Borde
           (λ u.
           let L = B .good .sound .loop n i u in
           let h : own sh x Face n ≢ f = λ e. d (only n i e) in
-          rw (face-else n i d, solid-else (own sh x Face n) (L .face-in) h, root-kept (own sh x Solid (own sh x Face n)) (L .face-used)))
+          rw (
+            face-else n i d,
+            solid-else (own sh x Face n) (L .face-in) h,
+            root-kept (own sh x Solid (own sh x Face n)) (L .face-used),
+          ))
 
   -- what is ready
   pub kef-ready : freeEdge sh x ≢ 0 → Ready sh (linksAfter sh x (kef k))
   kef-ready fe = record {
     face = least-there (sh .faces) (λ n. eqb (own sh (linksAfter sh x (kef k)) Solid n) 0) f f-in (eqb-same solid-gone);
     edge = free-edge-kept sh x _ (law .start-kept) fe;
-    loop = inl (least-there (sh .loops) (λ n. eqb (own sh (linksAfter sh x (kef k)) Face n) 0) l l-in (eqb-same face-gone));
+    loop = inl (least-there (sh .loops) (λ n. eqb (own sh (linksAfter sh x (kef k)) Face n) 0) l l-in
+        (eqb-same face-gone));
   }
 
   pub kef-path : Path sh (linksAfter sh x (kef k)) p (kef k ∷ []) x p
@@ -275,20 +138,24 @@ module _ {sh : Shape} {x : List ℕ} {p : List ℤ} {k l f r s : ℕ} (B : Borde
 free-edge-same : {sh : Shape} {x y : List ℕ} → Alike sh x y → Ready sh x → freeEdge sh y ≢ 0
 free-edge-same {sh} {x} {y} a ready = free-edge-kept sh x y (λ i j z. a .start i j ∙ z) (ready .edge)
 
-module _ {sh : Shape} {x : List ℕ} {p : List ℤ} (g : Good sh x p) (ready : Ready sh x) (sn : solidAt sh x ≢ 0) (many : facesIn sh x (solidAt sh x) ≢ 1) where
+module _ {sh : Shape} {x : List ℕ} {p : List ℤ} (g : Good sh x p) (ready : Ready sh x) (sn : solidAt sh x ≢ 0)
+    (many : facesIn sh x (solidAt sh x) ≢ 1) where
   -- the whole turn from its parts
   whole : {k l f r s : ℕ} (O : Opened sh x p k l f r s) (C : Cleared sh (O .y) p k l f r s (sh .loops) 1)
-      → ((w : Work) → w .state .links ≡ x → turned sh (solidAt sh x) (faceIn sh x (solidAt sh x)) w ≡ turnA sh r k l f w) → TurnMade sh x p
+      → ((w : Work) → w .state .links ≡ x → turned sh (solidAt sh x) (faceIn sh x (solidAt sh x)) w
+      ≡ turnA sh r k l f w) → TurnMade sh x p
   unfolding acted
   whole {k} {l} {f} {r} {s} O C at =
       let B = C .border in
-      let only : (m : ℕ) → In (sh .loops) m → own sh (C .y) Face m ≡ f → m ≡ l = λ m i e. C .only m i (omega (arith, i .1)) e in
+      let only : (m : ℕ) → In (sh .loops) m → own sh (C .y) Face m ≡ f → m ≡ l =
+      λ m i e. C .only m i (omega (arith, i .1)) e in
       let kp = kef-path B only in
       let K = kef-counts B only in
       let al = alike-then (O .alike) (C .alike) in
       let j2 = joins-append sh (kef k ∷ []) (C .path) in
       let j1 = joins-append sh (C .os ++ (kef k ∷ [])) (O .path) in
-      let nj : joinsIn sh x p (O .os ++ (C .os ++ (kef k ∷ []))) ≡ 0 = omega (arith, j1, j2, O .joins, C .joins, kef-joins sh (C .y) p k) in
+      let nj : joinsIn sh x p (O .os ++ (C .os ++ (kef k ∷ []))) ≡ 0 =
+      omega (arith, j1, j2, O .joins, C .joins, kef-joins sh (C .y) p k) in
       let n2 = length-append (C .os) (kef k ∷ []) in
       let n1 = length-append (O .os) (C .os ++ (kef k ∷ [])) in
       record {
@@ -302,11 +169,40 @@ module _ {sh : Shape} {x : List ℕ} {p : List ℤ} (g : Good sh x p) (ready : R
             at w a
             ∙ ap (λ v. act sh (moveRings sh (sh .loops) 1 f r v) (kef k)) (O .same w a b)
             ∙ ap (λ v. act sh v (kef k)) (C .same (acted sh w (O .os)) (u .0) (u .1))
-            ∙ sym (acted-append sh w (O .os) (C .os ++ (kef k ∷ [])) ∙ acted-append sh (acted sh w (O .os)) (C .os) (kef k ∷ []));
+            ∙ sym (acted-append sh w (O .os) (C .os ++ (kef k ∷ []))
+            ∙ acted-append sh (acted sh w (O .os)) (C .os) (kef k ∷ []));
         change = record {
-          euler = omega (arith, nj, al .same-solids, al .same-faces, al .same-loops, al .same-edges, al .same-vertices, K .0 .same-solids, K .0 .fewer-faces, K .0 .fewer-loops, K .0 .fewer-edges, K .0 .same-vertices);
+          euler = omega (
+            arith,
+            nj,
+            al .same-solids,
+            al .same-faces,
+            al .same-loops,
+            al .same-edges,
+            al .same-vertices,
+            K .0 .same-solids,
+            K .0 .fewer-faces,
+            K .0 .fewer-loops,
+            K .0 .fewer-edges,
+            K .0 .same-vertices,
+          );
           less = omega (arith, al .same-edges, al .same-vertices, K .0 .fewer-edges, K .0 .same-vertices);
-          paid = inl (omega (arith, nj, n1, n2, al .same-solids, al .same-loops, al .same-vertices, K .0 .same-solids, K .0 .fewer-loops, K .0 .same-vertices, K .1, O .same-strays, C .fewer, O .short));
+          paid = inl (omega (
+            arith,
+            nj,
+            n1,
+            n2,
+            al .same-solids,
+            al .same-loops,
+            al .same-vertices,
+            K .0 .same-solids,
+            K .0 .fewer-loops,
+            K .0 .same-vertices,
+            K .1,
+            O .same-strays,
+            C .fewer,
+            O .short,
+          ));
           back = λ z. absurd (many (z .1));
         };
         ready = kef-ready B only (free-edge-same al ready);
@@ -320,5 +216,8 @@ module _ {sh : Shape} {x : List ℕ} {p : List ℤ} (g : Good sh x p) (ready : R
       let f = side (own sh x) k in
       let q = found g sn many in
       let i = root-is g sn in
-      let O = open-face sh {l = l} {f = f} {r = r} {s = solidAt sh x} g (q .0) refl refl (q .1) (q .2) (sym (g .sound .solids .edge k (q .0)) ∙ ap (own sh x Solid) (q .1) ∙ i .label) refl (i .range) (i .label) sn in
-      whole O (clear-rings sh (sh .loops) 1 (O .border) (omega arith) (omega arith) (λ m j h e. absurd (omega (arith, j .0, h)))) (λ w a. turned-a sh (solidAt sh x) r w x a many)
+      let O = open-face sh {l = l} {f = f} {r = r} {s = solidAt sh x} g (q .0) refl refl (q .1) (q .2)
+      (sym (g .sound .solids .edge k (q .0)) ∙ ap (own sh x Solid) (q .1) ∙ i .label) refl (i .range)
+      (i .label) sn in
+      whole O (clear-rings sh (sh .loops) 1 (O .border) (omega arith) (omega arith)
+      (λ m j h e. absurd (omega (arith, j .0, h)))) (λ w a. turned-a sh (solidAt sh x) r w x a many)

@@ -26,7 +26,8 @@ use Rattle.sound_bridges.specs.MekrAccepted.{MekrFacts, mekr-accepted, mekr-lin
 use Rattle.takedown.specs.Inversion.{solidAt, freeEdge, edgesLeft, isRingOf, ringOf, mekr, kev}
 use Rattle.inversion.specs.Path.{path-good, Path, there, first, acted, joinsIn}
 use Rattle.inversion.specs.Counts.{solids, faces, loops, edges, vertices, isStray, strays, count-le-by}
-use Rattle.inversion.specs.Same.{words-same, words-fewer, solids-is, faces-is, loops-is, vertices-is, free-face-same, stray-same, face-or-none}
+use Rattle.inversion.specs.Same.{words-same, words-fewer, solids-is, faces-is, loops-is, vertices-is}
+use Rattle.inversion.specs.Same.{free-face-same, stray-same, face-or-none}
 use Rattle.inversion.specs.EdgeOut.{edge-fewer}
 use Rattle.inversion.specs.OfSolid.{least-some, least-there, both}
 use Rattle.inversion.specs.Root.{root-is, outer-in, outer-face, lone-loop, no-ring}
@@ -35,7 +36,8 @@ use Rattle.inversion.specs.KevLaws.{KevLaw, kev-accepted, kev-law}
 use Rattle.inversion.specs.Turn.{RingAt, Ready, Change, TurnMade}
 use Rattle.inversion.specs.TurnShape.{turned-c}
 
--- ring l of the table x, which holds no half-edge of its solid, is gone from the table y; half-edges, other loops, faces and solids stay
+-- ring l of the table x, which holds no half-edge of its solid, is gone from the table y; half-edges, other loops,
+-- faces and solids stay
 pub record Bare (sh : Shape) (x y : List ℕ) (l : ℕ) : Type 0 where
   pub mark : (n : ℕ) → In (sh .solids) n → own sh y SolidUsed n ≡ own sh x SolidUsed n
   pub solid : (n : ℕ) → In (sh .faces) n → own sh y Solid n ≡ own sh x Solid n
@@ -43,7 +45,8 @@ pub record Bare (sh : Shape) (x y : List ℕ) (l : ℕ) : Type 0 where
   pub face : (n : ℕ) → In (sh .loops) n → n ≢ l → own sh y Face n ≡ own sh x Face n
   pub outer : (n : ℕ) → In (sh .faces) n → own sh y Outer n ≡ own sh x Outer n
   pub half-free : (i : ℕ) → In (2 * sh .edges) i → own sh y Start i ≡ 0 → own sh y Loop i ≡ 0
-  pub half : (i : ℕ) → HalfUsed sh (own sh y) i → HalfUsed sh (own sh x) i × ((own sh x Loop i ≡ l) ⊎ ((own sh x Loop i ≢ l) × (own sh y Loop i ≡ own sh x Loop i)))
+  pub half : (i : ℕ) → HalfUsed sh (own sh y) i → HalfUsed sh (own sh x) i
+      × ((own sh x Loop i ≡ l) ⊎ ((own sh x Loop i ≢ l) × (own sh y Loop i ≡ own sh x Loop i)))
 
 -- mekr is undone by kemr, kev by mev: no faces are joined
 no-join : (sh : Shape) (x : List ℕ) (p : List ℤ) (o l e k : ℕ) → joinsIn sh x p (mekr o l e ∷ kev k ∷ []) ≡ 0
@@ -56,22 +59,28 @@ low-mate e h = mate-odd (2 * e - 1) (omega arith) ∙ omega arith
 
 -- ---- two lone loops o and l of one face, l a ring, and a free edge e
 
-module _ {sh : Shape} {x : List ℕ} {p : List ℤ} (g : Good sh x p) {o l e u1 u2 : ℕ} (r : MekrFacts sh (own sh x) o 0 l 0 e 0)
-    (i1 : own sh x Isolated o ≡ u1) (v1 : In (sh .vertices) u1) (w1 : own sh x VertexUsed u1 ≢ 0) (i2 : own sh x Isolated l ≡ u2) (v2 : In (sh .vertices) u2) (w2 : own sh x VertexUsed u2 ≢ 0) where
+module _ {sh : Shape} {x : List ℕ} {p : List ℤ} (g : Good sh x p) {o l e u1 u2 : ℕ}
+    (r : MekrFacts sh (own sh x) o 0 l 0 e 0)
+    (i1 : own sh x Isolated o ≡ u1) (v1 : In (sh .vertices) u1) (w1 : own sh x VertexUsed u1 ≢ 0)
+    (i2 : own sh x Isolated l ≡ u2) (v2 : In (sh .vertices) u2) (w2 : own sh x VertexUsed u2 ≢ 0) where
   abbrev k : ℕ
   k = 2 * e - 1
 
   -- both halves are free
   range : In (2 * sh .edges) (2 * e - 1) × In (2 * sh .edges) (mate (2 * e - 1))
   range =
-      let m = low-mate e (r .edge-in .0) in
-      ((omega (arith, r .edge-in .0), omega (arith, r .edge-in .1)), rw m (omega (arith, r .edge-in .0), omega (arith, r .edge-in .1)))
+      let m = low-mate e (r .edge-in .0) in (
+        (omega (arith, r .edge-in .0), omega (arith, r .edge-in .1)),
+        rw m (omega (arith, r .edge-in .0), omega (arith, r .edge-in .1)),
+      )
 
   free-m : own sh x Start (mate (2 * e - 1)) ≡ 0
   free-m = ap (own sh x Start) (low-mate e (r .edge-in .0)) ∙ r .edge-free
 
   free-k : own sh x Start (2 * e - 1) ≡ 0
-  free-k = split (own sh x Start (2 * e - 1)) 0 (λ z. z) (λ d. absurd (g .sound .rules .mate-in (2 * e - 1) (range .0 .0, range .0 .1, d) .2 free-m))
+  free-k =
+      split (own sh x Start (2 * e - 1)) 0 (λ z. z)
+      (λ d. absurd (g .sound .rules .mate-in (2 * e - 1) (range .0 .0, range .0 .1, d) .2 free-m))
 
   -- the bridge: both its corners are isolated
   abbrev bridge : Bridge
@@ -126,7 +135,11 @@ module _ {sh : Shape} {x : List ℕ} {p : List ℤ} (g : Good sh x p) {o l e u1 
 
   -- k is a spur there
   used₁ : HalfUsed sh (own sh x₁) (2 * e - 1)
-  used₁ = (range .0 .0, range .0 .1, λ z. omega (arith, v1 .0, sym (b .start-k) ∙ sym (v .at Start (2 * e - 1) (range .0 .1)) ∙ z))
+  used₁ = (
+    range .0 .0,
+    range .0 .1,
+    λ z. omega (arith, v1 .0, sym (b .start-k) ∙ sym (v .at Start (2 * e - 1) (range .0 .1)) ∙ z),
+  )
 
   next₁ : own sh x₁ Next (2 * e - 1) ≡ mate (2 * e - 1)
   next₁ = v .at Next (2 * e - 1) (range .0 .1) ∙ b .next-k
@@ -158,19 +171,40 @@ module _ {sh : Shape} {x : List ℕ} {p : List ℤ} (g : Good sh x p) {o l e u1 
 
   -- one edge more between
   edges₁ : suc (edges sh x) ≡ edges sh x₁
-  edges₁ = edge-fewer sh x₁ x (2 * e - 1) (range .0) (used₁ .2) (λ z. omega (arith, v2 .0, sym (b .start-a) ∙ sym (v .at Start (mate (2 * e - 1)) (range .1 .1)) ∙ z)) free-k free-m
+  edges₁ =
+      edge-fewer sh x₁ x (2 * e - 1) (range .0) (used₁ .2)
+      (λ z. omega (arith, v2 .0, sym (b .start-a) ∙ sym (v .at Start (mate (2 * e - 1)) (range .1 .1)) ∙ z)) free-k
+      free-m
       (λ i j c d. sym (v .at Start i (j .1) ∙ b .start-o i c d))
 
   pub bridge-change : (RingAt sh x → ⊥) → Change sh x y 2 0
   bridge-change never =
-      let cs : solids sh x₁ ≡ solids sh x = solids-is sh _ ∙ words-same (sh .solids) _ _ (λ n i. v .at SolidUsed n (i .1) ∙ b .others SolidUsed refl n) ∙ sym (solids-is sh x) in
-      let cf : faces sh x₁ ≡ faces sh x = faces-is sh _ ∙ words-same (sh .faces) _ _ (λ n i. v .at Solid n (i .1) ∙ b .others Solid refl n) ∙ sym (faces-is sh x) in
+      let cs : solids sh x₁ ≡ solids sh x = solids-is sh _
+      ∙ words-same (sh .solids) _ _ (λ n i. v .at SolidUsed n (i .1) ∙ b .others SolidUsed refl n)
+      ∙ sym (solids-is sh x) in
+      let cf : faces sh x₁ ≡ faces sh x = faces-is sh _ ∙ words-same (sh .faces) _ _ (λ n i. v .at Solid n (i .1)
+      ∙ b .others Solid refl n) ∙ sym (faces-is sh x) in
       let cl : suc (loops sh x₁) ≡ loops sh x = ap suc (loops-is sh _)
-      ∙ words-fewer (sh .loops) _ _ l (r .ring-in) (v .at Face l (r .ring-in .1) ∙ b .face-2) (r .ring-used) (λ n i d. v .at Face n (i .1) ∙ b .face-o n d) ∙ sym (loops-is sh x) in
-      let cv : vertices sh x₁ ≡ vertices sh x = vertices-is sh _ ∙ words-same (sh .vertices) _ _ (λ n i. v .at VertexUsed n (i .1) ∙ b .others VertexUsed refl n) ∙ sym (vertices-is sh x) in
+      ∙ words-fewer (sh .loops) _ _ l (r .ring-in) (v .at Face l (r .ring-in .1)
+      ∙ b .face-2) (r .ring-used) (λ n i d. v .at Face n (i .1) ∙ b .face-o n d) ∙ sym (loops-is sh x) in
+      let cv : vertices sh x₁ ≡ vertices sh x = vertices-is sh _
+      ∙ words-same (sh .vertices) _ _ (λ n i. v .at VertexUsed n (i .1) ∙ b .others VertexUsed refl n)
+      ∙ sym (vertices-is sh x) in
       let K = law in
       record {
-        euler = omega (arith, cs, cf, cl, cv, edges₁, K .same-solids, K .same-faces, K .same-loops, K .fewer-edges, K .fewer-vertices);
+        euler = omega (
+          arith,
+          cs,
+          cf,
+          cl,
+          cv,
+          edges₁,
+          K .same-solids,
+          K .same-faces,
+          K .same-loops,
+          K .fewer-edges,
+          K .fewer-vertices,
+        );
         less = omega (arith, cv, edges₁, K .fewer-edges, K .fewer-vertices);
         paid = inl (omega (arith, cs, cl, cv, K .same-solids, K .same-loops, K .fewer-vertices, strays₂));
         back = λ z. absurd (never z);
@@ -179,7 +213,8 @@ module _ {sh : Shape} {x : List ℕ} {p : List ℤ} (g : Good sh x p) {o l e u1 
   pub bridge-ready : Ready sh x → Ready sh y
   bridge-ready ready = record {
     face = λ z. ready .face (sym (free-face-same sh x y solid₂) ∙ z);
-    edge = least-there (sh .edges) (λ n. eqb (own sh y Start (2 * n)) 0) e (r .edge-in) (eqb-same (ap (own sh y Start) (sym (low-mate e (r .edge-in .0))) ∙ law .gone-b));
+    edge = least-there (sh .edges) (λ n. eqb (own sh y Start (2 * n)) 0) e (r .edge-in)
+        (eqb-same (ap (own sh y Start) (sym (low-mate e (r .edge-in .0))) ∙ law .gone-b));
     loop = inl (least-there (sh .loops) (λ n. eqb (own sh y Face n) 0) l (r .ring-in) (eqb-same face-gone));
   }
 
@@ -190,8 +225,10 @@ module _ {sh : Shape} {x : List ℕ} {p : List ℤ} (g : Good sh x p) {o l e u1 
   pub bridge-path : Path sh y (kevPoints sh x₁ p (2 * e - 1)) (mekr o l e ∷ kev (2 * e - 1) ∷ []) x p
   bridge-path =
       let rest : Path sh y (kevPoints sh x₁ p (2 * e - 1)) (kev (2 * e - 1) ∷ []) x₁ p =
-      first (kev (2 * e - 1)) refl (kev-accepted good₁ used₁ next₁) (there (kev-links good₁ used₁ next₁) (kev-points good₁ used₁ next₁)) in
-      first {os = kev (2 * e - 1) ∷ []} {p = p} (mekr o l e) refl (mekr-accepted sh x (g .capacities) r) (rw (links₁, mekr-points sh x (g .capacities) r p) rest)
+      first (kev (2 * e - 1)) refl (kev-accepted good₁ used₁ next₁)
+      (there (kev-links good₁ used₁ next₁) (kev-points good₁ used₁ next₁)) in
+      first {os = kev (2 * e - 1) ∷ []} {p = p} (mekr o l e) refl (mekr-accepted sh x (g .capacities) r)
+      (rw (links₁, mekr-points sh x (g .capacities) r p) rest)
 
   -- what is known of it
   pub bridge-bare : Bare sh x y l
@@ -204,32 +241,42 @@ module _ {sh : Shape} {x : List ℕ} {p : List ℤ} (g : Good sh x p) {o l e u1 
     half-free = λ i j z. path-good g bridge-path .sound .half-free i j z .loop;
     half = λ i w.
         let c = kev-goes good₁ used₁ next₁ .edge .used i w in
-        let el = kev-loop good₁ used₁ next₁ i w ∙ v .at Loop i (w .1) in
-        ((w .0, w .1, λ z. c .0 .2 (v .at Start i (w .1) ∙ b .start-o i (c .1) (c .2) ∙ z)), split (own sh x Loop i) l (λ q. inl q) (λ q. inr (q, el ∙ b .loop-o i (c .1) (c .2) q)));
+        let el = kev-loop good₁ used₁ next₁ i w ∙ v .at Loop i (w .1) in (
+          (w .0, w .1, λ z. c .0 .2 (v .at Start i (w .1) ∙ b .start-o i (c .1) (c .2) ∙ z)),
+          split (own sh x Loop i) l (λ q. inl q) (λ q. inr (q, el ∙ b .loop-o i (c .1) (c .2) q)),
+        );
   }
 
 -- ---- the turn
 
-module _ {sh : Shape} {x : List ℕ} {p : List ℤ} (g : Good sh x p) (ready : Ready sh x) (sn : solidAt sh x ≢ 0) (one : facesIn sh x (solidAt sh x) ≡ 1)
+module _ {sh : Shape} {x : List ℕ} {p : List ℤ} (g : Good sh x p) (ready : Ready sh x) (sn : solidAt sh x ≢ 0)
+    (one : facesIn sh x (solidAt sh x) ≡ 1)
     (left : edgesLeft sh x (solidAt sh x) ≡ false) (some : ringOf sh x (faceIn sh x (solidAt sh x)) ≢ 0) where
   -- what the search says
-  pub found : In (sh .loops) (ringOf sh x (faceIn sh x (solidAt sh x))) × (own sh x Face (ringOf sh x (faceIn sh x (solidAt sh x))) ≡ faceIn sh x (solidAt sh x))
-      × (own sh x Outer (own sh x Face (ringOf sh x (faceIn sh x (solidAt sh x)))) ≢ ringOf sh x (faceIn sh x (solidAt sh x)))
+  pub found : In (sh .loops) (ringOf sh x (faceIn sh x (solidAt sh x)))
+      × (own sh x Face (ringOf sh x (faceIn sh x (solidAt sh x))) ≡ faceIn sh x (solidAt sh x))
+      × (own sh x Outer (own sh x Face (ringOf sh x (faceIn sh x (solidAt sh x))))
+      ≢ ringOf sh x (faceIn sh x (solidAt sh x)))
   found =
       let f = faceIn sh x (solidAt sh x) in
       let l = ringOf sh x f in
       let q = least-some (sh .loops) (isRingOf sh x f) some in
-      let t = both (eqb (own sh x Face l) f) (isRing sh x l) (q .1) in
-      (q .0, eqb→eq _ _ (true-T (t .0)), λ e. T-not (eqb (own sh x Outer (own sh x Face l)) l) (true-T (t .1)) (true-T (eqb-same e)))
+      let t = both (eqb (own sh x Face l) f) (isRing sh x l) (q .1) in (
+        q .0,
+        eqb→eq _ _ (true-T (t .0)),
+        λ e. T-not (eqb (own sh x Outer (own sh x Face l)) l) (true-T (t .1)) (true-T (eqb-same e)),
+      )
 
   root-some : faceIn sh x (solidAt sh x) ≢ 0
   root-some z = omega (arith, root-is g sn .range .0, z)
 
   -- a loop of the root is lone
-  lone-of : (m : ℕ) → In (sh .loops) m → own sh x Face m ≡ faceIn sh x (solidAt sh x) → (own sh x First m ≡ 0) × In (sh .vertices) (own sh x Isolated m) × (own sh x VertexUsed (own sh x Isolated m) ≢ 0)
+  lone-of : (m : ℕ) → In (sh .loops) m → own sh x Face m ≡ faceIn sh x (solidAt sh x) → (own sh x First m ≡ 0)
+      × In (sh .vertices) (own sh x Isolated m) × (own sh x VertexUsed (own sh x Isolated m) ≢ 0)
   lone-of m i q = lone-loop g sn left m i (λ z. root-some (sym q ∙ z)) (ap (own sh x Solid) q ∙ root-is g sn .label)
 
-  facts : MekrFacts sh (own sh x) (own sh x Outer (faceIn sh x (solidAt sh x))) 0 (ringOf sh x (faceIn sh x (solidAt sh x))) 0 (freeEdge sh x) 0
+  facts : MekrFacts sh (own sh x) (own sh x Outer (faceIn sh x (solidAt sh x))) 0
+      (ringOf sh x (faceIn sh x (solidAt sh x))) 0 (freeEdge sh x) 0
   facts =
       let f = faceIn sh x (solidAt sh x) in
       let q = least-some (sh .edges) (λ n. eqb (own sh x Start (2 * n)) 0) (ready .edge) in
@@ -251,11 +298,16 @@ module _ {sh : Shape} {x : List ℕ} {p : List ℤ} (g : Good sh x p) (ready : R
       }
 
   -- what is known of the table afterwards
-  pub turn-bare : Bare sh x (linksAfter sh (linksAfter sh x (mekr (own sh x Outer (faceIn sh x (solidAt sh x))) (ringOf sh x (faceIn sh x (solidAt sh x))) (freeEdge sh x))) (kev (2 * freeEdge sh x - 1))) (ringOf sh x (faceIn sh x (solidAt sh x)))
+  pub turn-bare : Bare sh x
+      (linksAfter sh
+      (linksAfter sh x (mekr (own sh x Outer (faceIn sh x (solidAt sh x))) (ringOf sh x (faceIn sh x (solidAt sh x)))
+      (freeEdge sh x))) (kev (2 * freeEdge sh x - 1))) (ringOf sh x (faceIn sh x (solidAt sh x)))
   turn-bare =
       let a = lone-of (own sh x Outer (faceIn sh x (solidAt sh x))) (outer-in g sn) (outer-face g sn) in
       let c = lone-of (ringOf sh x (faceIn sh x (solidAt sh x))) (found .0) (found .1) in
-      subst (λ t. Bare sh x t (ringOf sh x (faceIn sh x (solidAt sh x)))) (sym (bridge-links g facts refl (a .1) (a .2) refl (c .1) (c .2))) (bridge-bare g facts refl (a .1) (a .2) refl (c .1) (c .2))
+      subst (λ t. Bare sh x t (ringOf sh x (faceIn sh x (solidAt sh x))))
+      (sym (bridge-links g facts refl (a .1) (a .2) refl (c .1) (c .2)))
+      (bridge-bare g facts refl (a .1) (a .2) refl (c .1) (c .2))
 
   pub turn-bridge : TurnMade sh x p
   unfolding acted
@@ -272,6 +324,8 @@ module _ {sh : Shape} {x : List ℕ} {p : List ℤ} (g : Good sh x p) (ready : R
         q = _;
         path = bridge-path g facts refl (a .1) (a .2) refl (c .1) (c .2);
         same = λ w q z. turned-c sh (solidAt sh x) f w x q one left some;
-        change = rw (no-join sh x p o l e (2 * e - 1)) (bridge-change g facts refl (a .1) (a .2) refl (c .1) (c .2) (λ z. no-ring g sn left (z .2)));
+        change =
+            rw (no-join sh x p o l e (2 * e - 1)) (bridge-change g facts refl (a .1) (a .2) refl (c .1) (c .2)
+            (λ z. no-ring g sn left (z .2)));
         ready = bridge-ready g facts refl (a .1) (a .2) refl (c .1) (c .2) ready;
       }

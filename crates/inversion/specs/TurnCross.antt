@@ -17,7 +17,8 @@ use Rattle.sound_tables.specs.Labels.{label-only, one-many}
 use Rattle.sound_tables.specs.Good.{Good, own}
 use Rattle.sound_bridges.specs.KemrColumns.{kemrList, Span}
 use Rattle.sound_bridges.specs.KemrAccepted.{kemr-accepted, kemr-links, kemr-points}
-use Rattle.takedown.specs.Inversion.{solidAt, freeLoop, edgesLeft, isCrossed, crossedHalf, crossed, ofSolid, ringHalf, spurHalf, kemr}
+use Rattle.takedown.specs.Inversion.{solidAt, freeLoop, edgesLeft, isCrossed, crossedHalf, crossed, ofSolid, ringHalf}
+use Rattle.takedown.specs.Inversion.{spurHalf, kemr}
 use Rattle.inversion.specs.Path.{there, first, acted, joinsIn}
 use Rattle.inversion.specs.Counts.{solids, faces, loops, edges}
 use Rattle.inversion.specs.Same.{faces-in-same, free-face-same, solid-at-same, free-edge-kept}
@@ -25,7 +26,8 @@ use Rattle.takedown.specs.Crossed.{crossed-at}
 use Rattle.inversion.specs.OfSolid.{least-some, both, Of, of-solid, one-loop, crossed-there}
 use Rattle.inversion.specs.Turn.{RingAt, Ready, TurnMade}
 use Rattle.inversion.specs.TurnShape.{turned-cross}
-use Rattle.inversion.specs.KemrTurn.{kemr-solids, kemr-faces, kemr-loops, kemr-edges, kemr-vertices, kemr-strays, kemr-ring, solid-same, mark-same, start-kept}
+use Rattle.inversion.specs.KemrTurn.{kemr-solids, kemr-faces, kemr-loops, kemr-edges, kemr-vertices, kemr-strays}
+use Rattle.inversion.specs.KemrTurn.{kemr-ring, solid-same, mark-same, start-kept}
 
 -- kemr is undone by mekr, which joins no faces
 no-join : (sh : Shape) (x : List ℕ) (p : List ℤ) (k l : ℕ) → joinsIn sh x p (kemr k l ∷ []) ≡ 0
@@ -33,13 +35,17 @@ unfolding inverse
 no-join sh x p k l = refl
 
 -- the only face of a solid is its least
-pub only-root : {sh : Shape} {x : List ℕ} {p : List ℤ} (g : Good sh x p) {s : ℕ} (sn : s ≢ 0) → facesIn sh x s ≡ 1 → (k : ℕ) → Of g sn k → faceIn sh x s ≡ side (own sh x) k
+pub only-root : {sh : Shape} {x : List ℕ} {p : List ℤ} (g : Good sh x p) {s : ℕ} (sn : s ≢ 0) → facesIn sh x s ≡ 1
+    → (k : ℕ) → Of g sn k → faceIn sh x s ≡ side (own sh x) k
 only-root {sh} {x} g {s} sn one k u =
     let i = g .sound .solids .side-in k (u .0) in
-    label-only (sh .faces) (own sh x Solid) s (side (own sh x) k) (i .0, i .1) (u .1) (λ f j e. one-many (sh .faces) (own sh x Solid) s one (side (own sh x) k) f (i .0, i .1) (u .1) j e)
+    label-only (sh .faces) (own sh x Solid) s (side (own sh x) k) (i .0, i .1) (u .1)
+    (λ f j e. one-many (sh .faces) (own sh x Solid) s one (side (own sh x) k) f (i .0, i .1) (u .1) j e)
 
-module _ {sh : Shape} {x : List ℕ} {p : List ℤ} (g : Good sh x p) (ready : Ready sh x) (sn : solidAt sh x ≢ 0) (one : facesIn sh x (solidAt sh x) ≡ 1)
-    (left : edgesLeft sh x (solidAt sh x) ≡ true) (none : ringHalf sh x (solidAt sh x) ≡ 0) (no-spur : spurHalf sh x (solidAt sh x) ≡ 0) where
+module _ {sh : Shape} {x : List ℕ} {p : List ℤ} (g : Good sh x p) (ready : Ready sh x) (sn : solidAt sh x ≢ 0)
+    (one : facesIn sh x (solidAt sh x) ≡ 1)
+    (left : edgesLeft sh x (solidAt sh x) ≡ true) (none : ringHalf sh x (solidAt sh x) ≡ 0)
+    (no-spur : spurHalf sh x (solidAt sh x) ≡ 0) where
   -- the half-edge
   abbrev k : ℕ
   k = crossedHalf sh x (solidAt sh x)
@@ -48,7 +54,8 @@ module _ {sh : Shape} {x : List ℕ} {p : List ℤ} (g : Good sh x p) (ready : R
   pub found : Of g sn (crossedHalf sh x (solidAt sh x)) × (crossed sh x (crossedHalf sh x (solidAt sh x)) ≡ true)
   found =
       let f = least-some (2 * sh .edges) (isCrossed sh x (solidAt sh x)) (crossed-there g sn one none no-spur left) in
-      let t = both (ofSolid sh x (solidAt sh x) (crossedHalf sh x (solidAt sh x))) (crossed sh x (crossedHalf sh x (solidAt sh x))) (f .1) in
+      let t = both (ofSolid sh x (solidAt sh x) (crossedHalf sh x (solidAt sh x)))
+      (crossed sh x (crossedHalf sh x (solidAt sh x))) (f .1) in
       (of-solid g sn (crossedHalf sh x (solidAt sh x)) (f .0) (t .0), t .1)
 
   -- a loop is free
@@ -59,7 +66,12 @@ module _ {sh : Shape} {x : List ℕ} {p : List ℤ} (g : Good sh x p) (ready : R
       (f .0, eqb→eq _ _ (true-T (f .1)))
 
   pub span : Span sh (own sh x) (crossedHalf sh x (solidAt sh x)) (freeLoop sh x)
-  span = record { half = found .0 .0; one = one-loop g sn one none (crossedHalf sh x (solidAt sh x)) (found .0); ring-in = loop-free .0; free = loop-free .1 }
+  span = record {
+    half = found .0 .0;
+    one = one-loop g sn one none (crossedHalf sh x (solidAt sh x)) (found .0);
+    ring-in = loop-free .0;
+    free = loop-free .1;
+  }
 
   pub root : faceIn sh x (solidAt sh x) ≡ own sh x Face (own sh x Loop (crossedHalf sh x (solidAt sh x)))
   root = only-root g sn one (crossedHalf sh x (solidAt sh x)) (found .0)
@@ -68,8 +80,12 @@ module _ {sh : Shape} {x : List ℕ} {p : List ℤ} (g : Good sh x p) (ready : R
   pub ring : RingAt sh (kemrList sh x (crossedHalf sh x (solidAt sh x)) (freeLoop sh x))
   ring =
       let e = solid-at-same sh x _ (mark-same g span) in
-      subst (λ s. (s ≢ 0) × (facesIn sh (kemrList sh x (crossedHalf sh x (solidAt sh x)) (freeLoop sh x)) s ≡ 1) × (ringHalf sh (kemrList sh x (crossedHalf sh x (solidAt sh x)) (freeLoop sh x)) s ≢ 0)) (sym e)
-      (sn, faces-in-same sh x _ (solid-same g span) (solidAt sh x) ∙ one, kemr-ring g span (solidAt sh x) (found .0 .1) root sn (crossed-at sh x _ (found .1)))
+      subst (λ s. (s ≢ 0) × (facesIn sh (kemrList sh x (crossedHalf sh x (solidAt sh x)) (freeLoop sh x)) s ≡ 1)
+      × (ringHalf sh (kemrList sh x (crossedHalf sh x (solidAt sh x)) (freeLoop sh x)) s ≢ 0)) (sym e) (
+        sn,
+        faces-in-same sh x _ (solid-same g span) (solidAt sh x) ∙ one,
+        kemr-ring g span (solidAt sh x) (found .0 .1) root sn (crossed-at sh x _ (found .1)),
+      )
 
   pub turn-cross : TurnMade sh x p
   unfolding acted
@@ -85,7 +101,8 @@ module _ {sh : Shape} {x : List ℕ} {p : List ℤ} (g : Good sh x p) (ready : R
         os = kemr (crossedHalf sh x (solidAt sh x)) (freeLoop sh x) ∷ [];
         y = kemrList sh x (crossedHalf sh x (solidAt sh x)) (freeLoop sh x);
         q = p;
-        path = first (kemr (crossedHalf sh x (solidAt sh x)) (freeLoop sh x)) refl (kemr-accepted sh x (g .capacities) span)
+        path = first (kemr (crossedHalf sh x (solidAt sh x)) (freeLoop sh x)) refl
+            (kemr-accepted sh x (g .capacities) span)
             (there (kemr-links sh x (g .capacities) span) (kemr-points sh x (g .capacities) span p));
         same = λ w a b. turned-cross sh (solidAt sh x) (faceIn sh x (solidAt sh x)) w x a one left none no-spur;
         change = record {

@@ -30,7 +30,8 @@ use Rattle.takedown.specs.Inversion.{solidAt, freeFace, edgesLeft, ofSolid, inR
 use Rattle.inversion.specs.Script.{joinsFaces}
 use Rattle.inversion.specs.Path.{Path, there, first, acted, joinsIn}
 use Rattle.inversion.specs.Counts.{solids, faces, loops, edges, vertices, isStray, strays, count-le-by}
-use Rattle.inversion.specs.Same.{words-same, words-fewer, solids-is, faces-is, loops-is, edges-is, vertices-is, free-face-same, stray-same, free-edge-kept, face-or-none}
+use Rattle.inversion.specs.Same.{words-same, words-fewer, solids-is, faces-is, loops-is, edges-is, vertices-is}
+use Rattle.inversion.specs.Same.{free-face-same, stray-same, free-edge-kept, face-or-none}
 use Rattle.inversion.specs.OfSolid.{least-some, least-there, both, Of, of-solid, of-mate}
 use Rattle.inversion.specs.Turn.{Ready, Change, TurnMade}
 use Rattle.inversion.specs.TurnShape.{turned-ring}
@@ -39,11 +40,17 @@ use Rattle.inversion.specs.TurnCross.{only-root}
 
 -- ---- mfkrh of a ring that shares an edge: k in the ring l of face f₀, its mate in another loop of f₀, face f free
 
-module _ {sh : Shape} {x : List ℕ} {p : List ℤ} (g : Good sh x p) {k l f f₀ s : ℕ} (u : HalfUsed sh (own sh x) k) (kl : own sh x Loop k ≡ l) (ml : own sh x Loop (mate k) ≢ l)
+module _ {sh : Shape} {x : List ℕ} {p : List ℤ} (g : Good sh x p) {k l f f₀ s : ℕ} (u : HalfUsed sh (own sh x) k)
+    (kl : own sh x Loop k ≡ l) (ml : own sh x Loop (mate k) ≢ l)
     (mf : side (own sh x) (mate k) ≡ f₀) (r : RingFace sh (own sh x) l f f₀ s) where
   -- the new face is linked to the old one by k
   outcome : Outcome sh x l f f₀ s s
-  outcome = inl (refl, chain-after (g .sound) l f (r .face-in) f f₀ (r .face-in) (link (k, u, upd-at (own sh x Face) f kl, upd-off (own sh x Face) f ml ∙ mf)))
+  outcome =
+      inl (
+        refl,
+        chain-after (g .sound) l f (r .face-in) f f₀ (r .face-in)
+            (link (k, u, upd-at (own sh x Face) f kl, upd-off (own sh x Face) f ml ∙ mf)),
+      )
 
   -- with s = 0
   operand : mfkrhOf l f (pick (eqb s s) 0 s) ≡ mfkrh l f
@@ -53,7 +60,8 @@ module _ {sh : Shape} {x : List ℕ} {p : List ℤ} (g : Good sh x p) {k l f f�
   ring-accepted = subst (λ o. refusalOf sh x o ≡ 0) operand (mfkrh-accepted (g .sound) (g .capacities) r outcome)
 
   ring-inverse : (q : List ℤ) → inverse sh x q (mfkrh l f) ≡ kfmrhOf f₀ f
-  ring-inverse q = subst (λ o. inverse sh x q o ≡ kfmrhOf f₀ f) operand (mfkrh-inverse (g .sound) (g .capacities) r outcome q)
+  ring-inverse q =
+      subst (λ o. inverse sh x q o ≡ kfmrhOf f₀ f) operand (mfkrh-inverse (g .sound) (g .capacities) r outcome q)
 
   -- the columns afterwards
   pub ring-shows : Shows sh (linksAfter sh x (mfkrh l f)) (cut (own sh x) l f s s (λ h. false))
@@ -65,7 +73,8 @@ module _ {sh : Shape} {x : List ℕ} {p : List ℤ} (g : Good sh x p) {k l f f�
   -- ---- its columns
 
   pub mark₁ : (n : ℕ) → In (sh .solids) n → own sh (linksAfter sh x (mfkrh l f)) SolidUsed n ≡ own sh x SolidUsed n
-  mark₁ n i = ring-shows .at SolidUsed n (i .1) ∙ split n s (λ e. rw e (upd-same _ s 1 ∙ sym (old-solid (g .sound) r .1))) (λ d. upd-off _ 1 d)
+  mark₁ n i = ring-shows .at SolidUsed n (i .1)
+      ∙ split n s (λ e. rw e (upd-same _ s 1 ∙ sym (old-solid (g .sound) r .1))) (λ d. upd-off _ 1 d)
 
   pub solid₁-new : own sh (linksAfter sh x (mfkrh l f)) Solid f ≡ s
   solid₁-new = ring-shows .at Solid f (r .face-in .1) ∙ upd-same _ f s
@@ -94,20 +103,34 @@ module _ {sh : Shape} {x : List ℕ} {p : List ℤ} (g : Good sh x p) {k l f f�
   solids₁ = solids-is sh _ ∙ words-same (sh .solids) _ _ mark₁ ∙ sym (solids-is sh x)
 
   pub faces₁ : suc (faces sh x) ≡ faces sh (linksAfter sh x (mfkrh l f))
-  faces₁ = ap suc (faces-is sh x) ∙ words-fewer (sh .faces) _ _ f (r .face-in) (r .face-free) (λ z. s-some (sym solid₁-new ∙ z)) (λ n i d. sym (solid₁ n i d)) ∙ sym (faces-is sh _)
+  faces₁ = ap suc (faces-is sh x)
+      ∙ words-fewer (sh .faces) _ _ f (r .face-in) (r .face-free) (λ z. s-some (sym solid₁-new ∙ z)) (λ n i d. sym
+      (solid₁ n i d)) ∙ sym (faces-is sh _)
 
   pub edges₁ : edges sh (linksAfter sh x (mfkrh l f)) ≡ edges sh x
-  edges₁ = edges-is sh _ ∙ words-same (sh .edges) _ _ (λ e i. start₁ (2 * e) (omega (arith, i .0), omega (arith, i .1))) ∙ sym (edges-is sh x)
+  edges₁ = edges-is sh _ ∙ words-same (sh .edges) _ _ (λ e i. start₁ (2 * e) (omega (arith, i .0), omega (arith, i .1)))
+      ∙ sym (edges-is sh x)
 
   pub vertices₁ : vertices sh (linksAfter sh x (mfkrh l f)) ≡ vertices sh x
-  vertices₁ = vertices-is sh _ ∙ words-same (sh .vertices) _ _ (λ n i. ring-shows .at VertexUsed n (i .1)) ∙ sym (vertices-is sh x)
+  vertices₁ = vertices-is sh _ ∙ words-same (sh .vertices) _ _ (λ n i. ring-shows .at VertexUsed n (i .1))
+      ∙ sym (vertices-is sh x)
 
   -- its inverse joins two faces of one solid
   pub ring-joins : (q : List ℤ) → bit (joinsFaces sh (linksAfter sh x (mfkrh l f)) (inverse sh x q (mfkrh l f))) ≡ 1
-  ring-joins q = rw (ring-inverse q, le-leb f₀ 8192 small, le-leb f 8192 (omega (arith, r .face-in .1, g .capacities .faces)), solid₁-new, solid₁ f₀ in₀ f₀f, r .face-solid, eqb-same {m = s} refl)
+  ring-joins q =
+      rw (
+        ring-inverse q,
+        le-leb f₀ 8192 small,
+        le-leb f 8192 (omega (arith, r .face-in .1, g .capacities .faces)),
+        solid₁-new,
+        solid₁ f₀ in₀ f₀f,
+        r .face-solid,
+        eqb-same {m = s} refl,
+      )
     where
       in₀ : In (sh .faces) f₀
-      in₀ = let i = g .sound .solids .side-in (mate k) (g .sound .rules .mate-in k u) in subst (In (sh .faces)) mf (i .0, i .1)
+      in₀ = let i = g .sound .solids .side-in (mate k) (g .sound .rules .mate-in k u) in
+          subst (In (sh .faces)) mf (i .0, i .1)
 
       small : f₀ ≤ 8192
       small = omega (arith, in₀ .1, g .capacities .faces)
@@ -121,20 +144,24 @@ module _ {sh : Shape} {x : List ℕ} {p : List ℤ} (g : Good sh x p) {k l f f�
   place₁ =
       let im = g .sound .rules .mate-in k u in
       let lk = loop₁ k (u .0, u .1) ∙ kl in
-      let ef : side (own sh (linksAfter sh x (mfkrh l f))) k ≡ f = ap (own sh (linksAfter sh x (mfkrh l f)) Face) lk ∙ face₁-new in
+      let ef : side (own sh (linksAfter sh x (mfkrh l f))) k ≡ f = ap (own sh (linksAfter sh x (mfkrh l f)) Face) lk
+      ∙ face₁-new in
       record {
         used = (u .0, u .1, λ z. u .2 (sym (start₁ k (u .0, u .1)) ∙ z));
-        one = λ n i e. split n l (λ q. q ∙ sym lk) (λ d. absurd (face-unnamed (g .sound) r n i (sym (face₁ n i d) ∙ e ∙ ef)));
+        one = λ n i e. split n l (λ q. q ∙ sym lk)
+            (λ d. absurd (face-unnamed (g .sound) r n i (sym (face₁ n i d) ∙ e ∙ ef)));
         other = λ e.
             let hm = g .sound .half (mate k) (im .0, im .1) (im .2) in
             face-unnamed (g .sound) r (own sh x Loop (mate k)) (hm .loop-in)
-            (sym (face₁ (own sh x Loop (mate k)) (hm .loop-in) ml) ∙ ap (own sh (linksAfter sh x (mfkrh l f)) Face) (sym (loop₁ (mate k) (im .0, im .1))) ∙ e ∙ ef);
+            (sym (face₁ (own sh x Loop (mate k)) (hm .loop-in) ml)
+            ∙ ap (own sh (linksAfter sh x (mfkrh l f)) Face) (sym (loop₁ (mate k) (im .0, im .1))) ∙ e ∙ ef);
       }
 
   -- ---- both together
 
   pub good₁ : Good sh (linksAfter sh x (mfkrh l f)) p
-  good₁ = subst (Good sh (linksAfter sh x (mfkrh l f))) (mfkrh-points sh x l f 0 p) (all-hold sh x p (mfkrh l f) g refl ring-accepted .0)
+  good₁ = subst (Good sh (linksAfter sh x (mfkrh l f))) (mfkrh-points sh x l f 0 p)
+      (all-hold sh x p (mfkrh l f) g refl ring-accepted .0)
 
   -- the table after the turn
   abbrev y : List ℕ
@@ -149,26 +176,33 @@ module _ {sh : Shape} {x : List ℕ} {p : List ℤ} (g : Good sh x p) {k l f f�
   side-k : side (own sh (linksAfter sh x (mfkrh l f))) k ≡ f
   side-k = ap (own sh (linksAfter sh x (mfkrh l f)) Face) loop-k ∙ face₁-new
 
-  pub solid₂ : (n : ℕ) → In (sh .faces) n → own sh (linksAfter sh (linksAfter sh x (mfkrh l f)) (kef k)) Solid n ≡ own sh x Solid n
+  pub solid₂ : (n : ℕ) → In (sh .faces) n → own sh (linksAfter sh (linksAfter sh x (mfkrh l f)) (kef k)) Solid n
+      ≡ own sh x Solid n
   solid₂ n i = split n f
-      (λ e. ap (own sh (linksAfter sh (linksAfter sh x (mfkrh l f)) (kef k)) Solid) (e ∙ sym side-k) ∙ law₂ .solid-gone ∙ sym (ap (own sh x Solid) e ∙ r .face-free))
+      (λ e. ap (own sh (linksAfter sh (linksAfter sh x (mfkrh l f)) (kef k)) Solid) (e ∙ sym side-k) ∙ law₂ .solid-gone
+      ∙ sym (ap (own sh x Solid) e ∙ r .face-free))
       (λ d. law₂ .solid n i (λ e. d (e ∙ side-k)) ∙ solid₁ n i d)
 
   pub face₂-gone : own sh (linksAfter sh (linksAfter sh x (mfkrh l f)) (kef k)) Face l ≡ 0
   face₂-gone = ap (own sh (linksAfter sh (linksAfter sh x (mfkrh l f)) (kef k)) Face) (sym loop-k) ∙ law₂ .face-gone
 
-  pub face₂ : (n : ℕ) → In (sh .loops) n → n ≢ l → own sh (linksAfter sh (linksAfter sh x (mfkrh l f)) (kef k)) Face n ≡ own sh x Face n
+  pub face₂ : (n : ℕ) → In (sh .loops) n → n ≢ l → own sh (linksAfter sh (linksAfter sh x (mfkrh l f)) (kef k)) Face n
+      ≡ own sh x Face n
   face₂ n i d = law₂ .face n i (λ e. d (e ∙ loop-k)) ∙ face₁ n i d
 
   loops₂ : suc (loops sh (linksAfter sh (linksAfter sh x (mfkrh l f)) (kef k))) ≡ loops sh x
-  loops₂ = ap suc (loops-is sh _) ∙ words-fewer (sh .loops) _ _ l (r .loop-in) face₂-gone (r .loop-used) face₂ ∙ sym (loops-is sh x)
+  loops₂ = ap suc (loops-is sh _) ∙ words-fewer (sh .loops) _ _ l (r .loop-in) face₂-gone (r .loop-used) face₂
+      ∙ sym (loops-is sh x)
 
   strays₂ : strays sh (linksAfter sh (linksAfter sh x (mfkrh l f)) (kef k)) ≤ strays sh x
   strays₂ = count-le-by (sh .loops) _ _ (λ n a b t. split n l
-      (λ e. absurd (false≢true (gone n (ap (own sh (linksAfter sh (linksAfter sh x (mfkrh l f)) (kef k)) Face) e ∙ face₂-gone) t)))
+      (λ e. absurd
+      (false≢true (gone n (ap (own sh (linksAfter sh (linksAfter sh x (mfkrh l f)) (kef k)) Face) e
+      ∙ face₂-gone) t)))
       (λ d. sym (stray-same sh x _ solid₂ n (own sh x Face n) (face₂ n (a, b) d) refl (face-or-none g n (a, b))) ∙ t))
     where
-      gone : (n : ℕ) → own sh (linksAfter sh (linksAfter sh x (mfkrh l f)) (kef k)) Face n ≡ 0 → isStray sh (linksAfter sh (linksAfter sh x (mfkrh l f)) (kef k)) n ≡ true → false ≡ true
+      gone : (n : ℕ) → own sh (linksAfter sh (linksAfter sh x (mfkrh l f)) (kef k)) Face n ≡ 0
+          → isStray sh (linksAfter sh (linksAfter sh x (mfkrh l f)) (kef k)) n ≡ true → false ≡ true
       gone n e t = rw e at t
 
   pub ring-path : Path sh (linksAfter sh (linksAfter sh x (mfkrh l f)) (kef k)) p (mfkrh l f ∷ kef k ∷ []) x p
@@ -178,11 +212,24 @@ module _ {sh : Shape} {x : List ℕ} {p : List ℤ} (g : Good sh x p) {k l f f�
   joins₂ : joinsIn sh x p (mfkrh l f ∷ kef k ∷ []) ≡ 1
   joins₂ = omega (arith, ring-joins p, kef-joins sh (linksAfter sh x (mfkrh l f)) (pointsAfter sh x p (mfkrh l f)) k)
 
-  pub ring-change : Change sh x (linksAfter sh (linksAfter sh x (mfkrh l f)) (kef k)) 2 (joinsIn sh x p (mfkrh l f ∷ kef k ∷ []))
+  pub ring-change : Change sh x (linksAfter sh (linksAfter sh x (mfkrh l f)) (kef k)) 2
+      (joinsIn sh x p (mfkrh l f ∷ kef k ∷ []))
   ring-change =
       let K = law₂ in
       record {
-        euler = omega (arith, K .same-solids, K .fewer-faces, K .fewer-edges, K .same-vertices, solids₁, faces₁, edges₁, vertices₁, loops₂, joins₂);
+        euler = omega (
+          arith,
+          K .same-solids,
+          K .fewer-faces,
+          K .fewer-edges,
+          K .same-vertices,
+          solids₁,
+          faces₁,
+          edges₁,
+          vertices₁,
+          loops₂,
+          joins₂,
+        );
         less = omega (arith, K .fewer-edges, K .same-vertices, edges₁, vertices₁);
         paid = inl (omega (arith, K .same-solids, K .same-vertices, solids₁, vertices₁, loops₂, strays₂, joins₂));
         back = λ z. omega (arith, K .same-solids, K .same-vertices, solids₁, vertices₁, loops₂, strays₂, joins₂);
@@ -192,12 +239,15 @@ module _ {sh : Shape} {x : List ℕ} {p : List ℤ} (g : Good sh x p) {k l f f�
   ring-ready ready = record {
     face = λ z. ready .face (sym (free-face-same sh x _ solid₂) ∙ z);
     edge = free-edge-kept sh x _ (λ i j z. law₂ .start-kept i j (start₁ i j ∙ z)) (ready .edge);
-    loop = inl (least-there (sh .loops) (λ n. eqb (own sh (linksAfter sh (linksAfter sh x (mfkrh l f)) (kef k)) Face n) 0) l (r .loop-in) (eqb-same face₂-gone));
+    loop = inl
+        (least-there (sh .loops) (λ n. eqb (own sh (linksAfter sh (linksAfter sh x (mfkrh l f)) (kef k)) Face n) 0) l
+        (r .loop-in) (eqb-same face₂-gone));
   }
 
 -- ---- the turn
 
-module _ {sh : Shape} {x : List ℕ} {p : List ℤ} (g : Good sh x p) (ready : Ready sh x) (sn : solidAt sh x ≢ 0) (one : facesIn sh x (solidAt sh x) ≡ 1)
+module _ {sh : Shape} {x : List ℕ} {p : List ℤ} (g : Good sh x p) (ready : Ready sh x) (sn : solidAt sh x ≢ 0)
+    (one : facesIn sh x (solidAt sh x) ≡ 1)
     (left : edgesLeft sh x (solidAt sh x) ≡ true) (some : ringHalf sh x (solidAt sh x) ≢ 0) where
   -- what the search says: of the solid, in a ring, the mate in another loop
   pub found : Of g sn (ringHalf sh x (solidAt sh x))
@@ -206,7 +256,8 @@ module _ {sh : Shape} {x : List ℕ} {p : List ℤ} (g : Good sh x p) (ready : R
   found =
       let k = ringHalf sh x (solidAt sh x) in
       let f = least-some (2 * sh .edges) (inRing sh x (solidAt sh x)) some in
-      let a = both (ofSolid sh x (solidAt sh x) k && isRing sh x (own sh x Loop k)) (not (eqb (own sh x Loop (mate k)) (own sh x Loop k))) (f .1) in
+      let a = both (ofSolid sh x (solidAt sh x) k && isRing sh x (own sh x Loop k))
+      (not (eqb (own sh x Loop (mate k)) (own sh x Loop k))) (f .1) in
       let b = both (ofSolid sh x (solidAt sh x) k) (isRing sh x (own sh x Loop k)) (a .0) in (
         of-solid g sn k (f .0) (b .0),
         λ e. T-not (eqb (own sh x Outer (side (own sh x) k)) (own sh x Loop k)) (true-T (b .1)) (true-T (eqb-same e)),
@@ -219,24 +270,39 @@ module _ {sh : Shape} {x : List ℕ} {p : List ℤ} (g : Good sh x p) (ready : R
   abbrev l : ℕ
   l = own sh x Loop (ringHalf sh x (solidAt sh x))
 
-  pub ring-face : RingFace sh (own sh x) (own sh x Loop (ringHalf sh x (solidAt sh x))) (freeFace sh x) (side (own sh x) (ringHalf sh x (solidAt sh x))) (solidAt sh x)
+  pub ring-face : RingFace sh (own sh x) (own sh x Loop (ringHalf sh x (solidAt sh x))) (freeFace sh x)
+      (side (own sh x) (ringHalf sh x (solidAt sh x))) (solidAt sh x)
   ring-face =
       let u = found .0 in
       let h = g .sound .half (ringHalf sh x (solidAt sh x)) (u .0 .0, u .0 .1) (u .0 .2) in
       let f = least-some (sh .faces) (λ f. eqb (own sh x Solid f) 0) (ready .face) in
-      record { loop-in = h .loop-in; loop-used = h .loop-used; loop-face = refl; face-solid = u .1; ring = found .1; face-in = f .0; face-free = eqb→eq _ _ (true-T (f .1)) }
+      record {
+        loop-in = h .loop-in;
+        loop-used = h .loop-used;
+        loop-face = refl;
+        face-solid = u .1;
+        ring =
+            found .1;
+        face-in = f .0;
+        face-free = eqb→eq _ _ (true-T (f .1));
+      }
 
   -- the mate lies in the same face
   pub same-face : side (own sh x) (mate (ringHalf sh x (solidAt sh x))) ≡ side (own sh x) (ringHalf sh x (solidAt sh x))
-  same-face = sym (only-root g sn one (mate (ringHalf sh x (solidAt sh x))) (of-mate g sn (ringHalf sh x (solidAt sh x)) (found .0))) ∙ only-root g sn one (ringHalf sh x (solidAt sh x)) (found .0)
+  same-face =
+      sym (only-root g sn one (mate (ringHalf sh x (solidAt sh x)))
+      (of-mate g sn (ringHalf sh x (solidAt sh x)) (found .0)))
+      ∙ only-root g sn one (ringHalf sh x (solidAt sh x)) (found .0)
 
   pub turn-ring : TurnMade sh x p
   unfolding acted
   turn-ring =
       let u = found .0 .0 in
       record {
-        os = mfkrh (own sh x Loop (ringHalf sh x (solidAt sh x))) (freeFace sh x) ∷ kef (ringHalf sh x (solidAt sh x)) ∷ [];
-        y = linksAfter sh (linksAfter sh x (mfkrh (own sh x Loop (ringHalf sh x (solidAt sh x))) (freeFace sh x))) (kef (ringHalf sh x (solidAt sh x)));
+        os = mfkrh (own sh x Loop (ringHalf sh x (solidAt sh x))) (freeFace sh x) ∷ kef (ringHalf sh x (solidAt sh x))
+            ∷ [];
+        y = linksAfter sh (linksAfter sh x (mfkrh (own sh x Loop (ringHalf sh x (solidAt sh x))) (freeFace sh x)))
+            (kef (ringHalf sh x (solidAt sh x)));
         q = p;
         path = ring-path g u refl (found .2) same-face ring-face;
         same = λ w a b. turned-ring sh (solidAt sh x) (faceIn sh x (solidAt sh x)) w x a one left some;

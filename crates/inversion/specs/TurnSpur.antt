@@ -22,10 +22,13 @@ use Rattle.inversion.specs.Turn.{Ready, TurnMade}
 use Rattle.inversion.specs.TurnShape.{turned-spur}
 use Rattle.inversion.specs.KevLaws.{kev-joins, kev-accepted, kev-law}
 
-module _ {sh : Shape} {x : List ℕ} {p : List ℤ} (g : Good sh x p) (ready : Ready sh x) (sn : solidAt sh x ≢ 0) (one : facesIn sh x (solidAt sh x) ≡ 1)
-    (left : edgesLeft sh x (solidAt sh x) ≡ true) (none : ringHalf sh x (solidAt sh x) ≡ 0) (spur : spurHalf sh x (solidAt sh x) ≢ 0) where
+module _ {sh : Shape} {x : List ℕ} {p : List ℤ} (g : Good sh x p) (ready : Ready sh x) (sn : solidAt sh x ≢ 0)
+    (one : facesIn sh x (solidAt sh x) ≡ 1)
+    (left : edgesLeft sh x (solidAt sh x) ≡ true) (none : ringHalf sh x (solidAt sh x) ≡ 0)
+    (spur : spurHalf sh x (solidAt sh x) ≢ 0) where
   -- what the search says
-  pub found : Of g sn (spurHalf sh x (solidAt sh x)) × (own sh x Next (spurHalf sh x (solidAt sh x)) ≡ mate (spurHalf sh x (solidAt sh x)))
+  pub found : Of g sn (spurHalf sh x (solidAt sh x))
+      × (own sh x Next (spurHalf sh x (solidAt sh x)) ≡ mate (spurHalf sh x (solidAt sh x)))
   found =
       let f = least-some (2 * sh .edges) (isSpur sh x (solidAt sh x)) spur in
       let t = both (ofSolid sh x (solidAt sh x) (spurHalf sh x (solidAt sh x))) _ (f .1) in
@@ -41,7 +44,8 @@ module _ {sh : Shape} {x : List ℕ} {p : List ℤ} (g : Good sh x p) (ready : R
         os = kev k ∷ [];
         y = kevList sh x k;
         q = kevPoints sh x p k;
-        path = first (kev k) refl (kev-accepted g (found .0 .0) (found .1)) (there (kev-links g (found .0 .0) (found .1)) (kev-points g (found .0 .0) (found .1)));
+        path = first (kev k) refl (kev-accepted g (found .0 .0) (found .1))
+            (there (kev-links g (found .0 .0) (found .1)) (kev-points g (found .0 .0) (found .1)));
         same = λ w a b. turned-spur sh (solidAt sh x) (faceIn sh x (solidAt sh x)) w x a one left none spur;
         change = record {
           euler = omega (arith, c .same-solids, c .same-faces, c .same-loops, c .fewer-edges, c .fewer-vertices, nj);
@@ -52,6 +56,7 @@ module _ {sh : Shape} {x : List ℕ} {p : List ℤ} (g : Good sh x p) (ready : R
         ready = record {
           face = λ z. ready .face (sym (free-face-same sh x _ (c .solid)) ∙ z);
           edge = free-edge-kept sh x _ (c .start-kept) (ready .edge);
-          loop = ⊎-elim (λ d. inl (λ z. d (sym (free-loop-same sh x _ (c .face)) ∙ z))) (λ r. absurd (r .2 none)) (ready .loop);
+          loop = ⊎-elim (λ d. inl (λ z. d (sym (free-loop-same sh x _ (c .face)) ∙ z))) (λ r. absurd (r .2 none))
+              (ready .loop);
         };
       }

@@ -1,5 +1,5 @@
--- Tests that compute (Bool) and what they say: a test that passes is a fact (`T`), a test of two numbers is their equation or
--- its denial, and a rule made of several tests is a list of them.
+-- Tests that compute (Bool) and what they say: a test that passes is a fact (`T`), a test of two numbers is their
+-- equation or its denial, and a rule made of several tests is a list of them.
 use mathlib.Core.Path.{_≡_, refl, sym, subst}
 use mathlib.Core.Logic.{_≢_, _⊎_, inl, inr}
 use mathlib.Core.Bool.{Bool, true, false, not, _&&_, _||_}

@@ -135,14 +135,16 @@ sweep-length κ j zero g l = refl
 sweep-length κ j (suc n) g l = store-length κ j (sweep κ j n g l) (suc n) _ ∙ sweep-length κ j n g l
 
 -- and every other column of the kind
-pub sweep-other : (κ : Kind) (i j n : ℕ) (g : ℕ → ℕ → ℕ) (l : List ℕ) → i < κ .width → j < κ .width → i ≢ j → (m : ℕ) → col κ i (sweep κ j n g l) m ≡ col κ i l m
+pub sweep-other : (κ : Kind) (i j n : ℕ) (g : ℕ → ℕ → ℕ) (l : List ℕ) → i < κ .width → j < κ .width → i ≢ j → (m : ℕ)
+    → col κ i (sweep κ j n g l) m ≡ col κ i l m
 unfolding sweep
 sweep-other κ i j zero g l hi hj f m = refl
 sweep-other κ i j (suc n) g l hi hj f m =
     col-store-other 0 κ i j (sweep κ j n g l) hi hj f (suc n) _ m ∙ sweep-other κ i j n g l hi hj f m
 
 -- and every column of another kind
-pub sweep-apart : (κ μ : Kind) (i j n : ℕ) (g : ℕ → ℕ → ℕ) (l : List ℕ) → i < κ .width → j < μ .width → (κ .base + κ .width * κ .count ≤ μ .base) ⊎ (μ .base + μ .width * μ .count ≤ κ .base)
+pub sweep-apart : (κ μ : Kind) (i j n : ℕ) (g : ℕ → ℕ → ℕ) (l : List ℕ) → i < κ .width → j < μ .width
+    → (κ .base + κ .width * κ .count ≤ μ .base) ⊎ (μ .base + μ .width * μ .count ≤ κ .base)
     → n ≤ μ .count → (m : ℕ) → m ≤ κ .count → col κ i (sweep μ j n g l) m ≡ col κ i l m
 unfolding sweep
 sweep-apart κ μ i j zero g l hi hj d un m um = refl
@@ -155,16 +157,24 @@ module _ (κ : Kind) (j : ℕ) (g : ℕ → ℕ → ℕ) (l : List ℕ) (fits : 
   pub sweep-above : (n m : ℕ) → n ≤ κ .count → n < m → col κ j (sweep κ j n g l) m ≡ col κ j l m
   unfolding sweep
   sweep-above zero m un h = refl
-  sweep-above (suc n) m un h = col-store κ j (sweep κ j n g l) (omega (arith, sweep-length κ j n g l)) hj (suc n) _ m (omega arith) un ∙ upd-off _ _ (omega arith) ∙ sweep-above n m (omega arith) (omega arith)
+  sweep-above (suc n) m un h =
+      col-store κ j (sweep κ j n g l) (omega (arith, sweep-length κ j n g l)) hj (suc n) _ m (omega arith) un
+      ∙ upd-off _ _ (omega arith) ∙ sweep-above n m (omega arith) (omega arith)
 
   -- up to n each is g of what it was
   pub sweep-at : (n m : ℕ) → n ≤ κ .count → 1 ≤ m → m ≤ n → col κ j (sweep κ j n g l) m ≡ g m (col κ j l m)
   unfolding sweep
   sweep-at zero m un lm um = absurd (omega arith)
-  sweep-at (suc n) m un lm um = col-store κ j (sweep κ j n g l) (omega (arith, sweep-length κ j n g l)) hj (suc n) _ m (omega arith) un ∙ by (sweep-at n m (omega arith) lm)
+  sweep-at (suc n) m un lm um =
+      col-store κ j (sweep κ j n g l) (omega (arith, sweep-length κ j n g l)) hj (suc n) _ m (omega arith) un
+      ∙ by (sweep-at n m (omega arith) lm)
     where
-      by : (m ≤ n → col κ j (sweep κ j n g l) m ≡ g m (col κ j l m)) → upd (col κ j (sweep κ j n g l)) (suc n) (g (suc n) (col κ j (sweep κ j n g l) (suc n))) m ≡ g m (col κ j l m)
-      by ih = split m (suc n) (λ e. rw e (upd-at _ _ refl ∙ ap (g (suc n)) (sweep-above n (suc n) (omega arith) (omega arith)))) (λ f. upd-off _ _ f ∙ ih (omega arith))
+      by : (m ≤ n → col κ j (sweep κ j n g l) m ≡ g m (col κ j l m))
+          → upd (col κ j (sweep κ j n g l)) (suc n) (g (suc n) (col κ j (sweep κ j n g l) (suc n))) m
+          ≡ g m (col κ j l m)
+      by ih = split m (suc n)
+          (λ e. rw e (upd-at _ _ refl ∙ ap (g (suc n)) (sweep-above n (suc n) (omega arith) (omega arith))))
+          (λ f. upd-off _ _ f ∙ ih (omega arith))
 
 -- ---- two lists with the same columns are equal
 

@@ -23,11 +23,20 @@ pub record Swap (U : ℕ → Type 0) (f f′ : ℕ → ℕ) (x y : ℕ) : Type 0
 
 -- the same, seen from y
 turn : {U : ℕ → Type 0} {f f′ : ℕ → ℕ} {x y : ℕ} → Swap U f f′ x y → Swap U f f′ y x
-turn r = record { x-in = r .y-in; y-in = r .x-in; apart = λ e. r .apart (sym e); f-x = r .f-y; f-y = r .f-x; f-o = λ i h k. r .f-o i k h }
+turn r = record {
+  x-in = r .y-in;
+  y-in = r .x-in;
+  apart = λ e. r .apart (sym e);
+  f-x = r .f-y;
+  f-y = r .f-x;
+  f-o =
+      λ i h k. r .f-o i k h;
+}
 
 -- a statement about each number: about x, about y, about another one
 three : {x y : ℕ} (P : ℕ → Type 0) → P x → P y → ((i : ℕ) → i ≢ x → i ≢ y → P i) → (i : ℕ) → P i
-three {x} {y} P px py po i = split i x (λ e. subst P (sym e) px) (λ h. split i y (λ e. subst P (sym e) py) (λ k. po i h k))
+three {x} {y} P px py po i =
+    split i x (λ e. subst P (sym e) px) (λ h. split i y (λ e. subst P (sym e) py) (λ k. po i h k))
 
 module _ {n : ℕ} {U : ℕ → Type 0} {f f′ : ℕ → ℕ} {x y : ℕ} (p : Perm n U f) (r : Swap U f f′ x y) where
   -- what undoes f′
@@ -40,10 +49,14 @@ module _ {n : ℕ} {U : ℕ → Type 0} {f f′ : ℕ → ℕ} {x y : ℕ} (p : 
   swap-perm = record {
     low = p .low;
     high = p .high;
-    f-in = three (λ i. U i → U (f′ i)) (λ u. rw (r .f-x) (p .f-in y (r .y-in))) (λ u. rw (r .f-y) (p .f-in x (r .x-in))) (λ i h k u. rw (r .f-o i h k) (p .f-in i u));
+    f-in = three (λ i. U i → U (f′ i)) (λ u. rw (r .f-x) (p .f-in y (r .y-in))) (λ u. rw (r .f-y) (p .f-in x (r .x-in)))
+        (λ i h k u. rw (r .f-o i h k) (p .f-in i u));
     inv = g;
-    undo = three (λ i. U i → g (f′ i) ≡ i) (λ u. rw (r .f-x) (upd-off _ y (λ e. r .apart (inj p (r .x-in) (r .y-in) (sym e))) ∙ upd-at _ x refl)) (λ u. rw (r .f-y) (upd-at _ y refl))
-        (λ i h k u. rw (r .f-o i h k) (upd-off _ y (λ e. h (inj p u (r .x-in) e)) ∙ upd-off _ x (λ e. k (inj p u (r .y-in) e)) ∙ p .undo i u));
+    undo = three (λ i. U i → g (f′ i) ≡ i)
+        (λ u. rw (r .f-x) (upd-off _ y (λ e. r .apart (inj p (r .x-in) (r .y-in) (sym e))) ∙ upd-at _ x refl))
+        (λ u. rw (r .f-y) (upd-at _ y refl))
+        (λ i h k u. rw (r .f-o i h k) (upd-off _ y (λ e. h (inj p u (r .x-in) e))
+        ∙ upd-off _ x (λ e. k (inj p u (r .y-in) e)) ∙ p .undo i u));
   }
 
 -- two cycles become one, which keeps the label of x
@@ -54,16 +67,20 @@ pub record Merged (U : ℕ → Type 0) (lab lab′ : ℕ → ℕ) (x y : ℕ) : 
   pub lab-y : (i : ℕ) → U i → lab i ≡ lab y → lab′ i ≡ lab x
   pub lab-o : (i : ℕ) → U i → lab i ≢ lab y → lab′ i ≡ lab i
 
-module _ {n : ℕ} {U : ℕ → Type 0} {f lab f′ lab′ : ℕ → ℕ} {x y : ℕ} (c : Cycles n U f lab) (r : Swap U f f′ x y) (m : Merged U lab lab′ x y) where
+module _ {n : ℕ} {U : ℕ → Type 0} {f lab f′ lab′ : ℕ → ℕ} {x y : ℕ} (c : Cycles n U f lab) (r : Swap U f f′ x y)
+    (m : Merged U lab lab′ x y) where
   -- from one of y's cycle on to y
   to-y : (k z : ℕ) → U z → lab z ≡ lab y → iter f k z ≡ y → Linked (Step U f′) z y
   unfolding iter
   to-y zero z u e q = same q
-  to-y (suc k) z u e q = split z y (λ d. same d) (λ h. via (f z) (link (u, r .f-o z (λ d. m .two (ap lab (sym d) ∙ e)) h)) (to-y k (f z) (c .perm .f-in z u) (c .keeps z u ∙ e) q))
+  to-y (suc k) z u e q =
+      split z y (λ d. same d) (λ h. via (f z) (link (u, r .f-o z (λ d. m .two (ap lab (sym d) ∙ e)) h))
+      (to-y k (f z) (c .perm .f-in z u) (c .keeps z u ∙ e) q))
 
   -- x and y are in one cycle now
   x~y : Linked (Step U f′) x y
-  x~y = let b = comes-back (c .perm) y (r .y-in) in via (f y) (link (r .x-in, r .f-x)) (to-y (b .0) (f y) (c .perm .f-in y (r .y-in)) (c .keeps y (r .y-in)) (b .1))
+  x~y = let b = comes-back (c .perm) y (r .y-in) in
+      via (f y) (link (r .x-in, r .f-x)) (to-y (b .0) (f y) (c .perm .f-in y (r .y-in)) (c .keeps y (r .y-in)) (b .1))
 
   -- chains of steps stay chains
   merge-old : {i j : ℕ} → Linked (Step U f) i j → Linked (Step U f′) i j
@@ -77,12 +94,18 @@ module _ {n : ℕ} {U : ℕ → Type 0} {f lab f′ lab′ : ℕ → ℕ} {x y :
   merge = record {
     perm = swap-perm (c .perm) r;
     keeps = three (λ i. U i → lab′ (f′ i) ≡ lab′ i)
-        (λ u. ap lab′ (r .f-x) ∙ m .lab-y (f y) (c .perm .f-in y (r .y-in)) (c .keeps y (r .y-in)) ∙ sym (m .lab-o x u (m .two)))
-        (λ u. ap lab′ (r .f-y) ∙ m .lab-o (f x) (c .perm .f-in x (r .x-in)) (λ e. m .two (sym (c .keeps x (r .x-in)) ∙ e)) ∙ c .keeps x (r .x-in) ∙ sym (m .lab-y y u refl))
+        (λ u. ap lab′ (r .f-x) ∙ m .lab-y (f y) (c .perm .f-in y (r .y-in)) (c .keeps y (r .y-in))
+        ∙ sym (m .lab-o x u (m .two)))
+        (λ u. ap lab′ (r .f-y)
+        ∙ m .lab-o (f x) (c .perm .f-in x (r .x-in)) (λ e. m .two (sym (c .keeps x (r .x-in)) ∙ e))
+        ∙ c .keeps x (r .x-in) ∙ sym (m .lab-y y u refl))
         (λ i h k u. ap lab′ (r .f-o i h k) ∙ split (lab i) (lab y)
         (λ e. m .lab-y (f i) (c .perm .f-in i u) (c .keeps i u ∙ e) ∙ sym (m .lab-y i u e))
-        (λ e. m .lab-o (f i) (c .perm .f-in i u) (λ q. e (sym (c .keeps i u) ∙ q)) ∙ c .keeps i u ∙ sym (m .lab-o i u e)));
-    one = λ i j u v e. let a = near i u in let b = near j v in via (a .0) (a .3) (via (b .0) (merge-old (c .one (a .0) (b .0) (a .1) (b .1) (sym (a .2) ∙ e ∙ b .2))) (back (b .3)));
+        (λ e. m .lab-o (f i) (c .perm .f-in i u) (λ q. e (sym (c .keeps i u) ∙ q)) ∙ c .keeps i u
+        ∙ sym (m .lab-o i u e)));
+    one = λ i j u v e. let a = near i u in let b = near j v in
+        via (a .0) (a .3) (via (b .0) (merge-old (c .one (a .0) (b .0) (a .1) (b .1) (sym (a .2) ∙ e ∙ b .2)))
+        (back (b .3)));
   }
     where
       near : (i : ℕ) → U i → (k : ℕ) × U k × (lab′ i ≡ lab k) × Linked (Step U f′) i k
@@ -102,7 +125,9 @@ module _ (f : ℕ → ℕ) (x y : ℕ) (apart : x ≢ y) where
   again : (m z : ℕ) → iter f m z ≡ y → Till f x y z ⊎ Till f x y (f x)
   unfolding iter
   again zero z e = inl (stop e)
-  again (suc m) z e = ⊎-elim (λ t. split z y (λ d. inl (stop d)) (λ k. split z x (λ d. inr (subst (λ w. Till f x y (f w)) d t)) (λ h. inl (go h k t)))) (λ t. inr t) (again m (f z) e)
+  again (suc m) z e =
+      ⊎-elim (λ t. split z y (λ d. inl (stop d)) (λ k. split z x (λ d. inr (subst (λ w. Till f x y (f w)) d t))
+      (λ h. inl (go h k t)))) (λ t. inr t) (again m (f z) e)
 
   -- the run begins at f x, if y is met from there at all
   pub till-fx : (m : ℕ) → iter f m (f x) ≡ y → Till f x y (f x)
@@ -112,7 +137,9 @@ module _ (f : ℕ → ℕ) (x y : ℕ) (apart : x ≢ y) where
   pub either : (m z : ℕ) → iter f m z ≡ y → Till f x y z ⊎ Till f y x z
   unfolding iter
   either zero z e = inl (stop e)
-  either (suc m) z e = split z y (λ d. inl (stop d)) (λ k. split z x (λ d. inr (stop d)) (λ h. ⊎-elim (λ t. inl (go h k t)) (λ t. inr (go k h t)) (either m (f z) e)))
+  either (suc m) z e =
+      split z y (λ d. inl (stop d))
+      (λ k. split z x (λ d. inr (stop d)) (λ h. ⊎-elim (λ t. inl (go h k t)) (λ t. inr (go k h t)) (either m (f z) e)))
 
   -- and not both
   pub not-both : {z : ℕ} → Till f x y z → Till f y x z → ⊥
@@ -122,7 +149,8 @@ module _ (f : ℕ → ℕ) (x y : ℕ) (apart : x ≢ y) where
   not-both (go h k t) (go h′ k′ t′) = not-both t t′
 
 -- the steps of a Till
-pub till-steps : {f : ℕ → ℕ} {x y z : ℕ} → Till f x y z → (e : ℕ) × (iter f e z ≡ y) × ((t : ℕ) → t < e → iter f t z ≢ x)
+pub till-steps : {f : ℕ → ℕ} {x y z : ℕ} → Till f x y z → (e : ℕ) × (iter f e z ≡ y)
+    × ((t : ℕ) → t < e → iter f t z ≢ x)
 unfolding iter
 till-steps (stop e) = (0, e, λ t l. absurd (omega arith))
 till-steps {f} {x} {y} (go {z} h k s) = let r = till-steps s in (suc (r .0), r .1, at (r .0) (r .2))
@@ -157,7 +185,8 @@ module _ {n : ℕ} {U : ℕ → Type 0} {f f′ lab : ℕ → ℕ} {x y : ℕ} (
   till-lab u (stop e) = ap lab e
   till-lab u (go {z} h k t) = sym (c .keeps z u) ∙ till-lab (c .perm .f-in z u) t
 
-module _ {n : ℕ} {U : ℕ → Type 0} {f lab f′ lab′ : ℕ → ℕ} {x y d : ℕ} (c : Cycles n U f lab) (r : Swap U f f′ x y) (m : Halved U f lab lab′ x y d) where
+module _ {n : ℕ} {U : ℕ → Type 0} {f lab f′ lab′ : ℕ → ℕ} {x y d : ℕ} (c : Cycles n U f lab) (r : Swap U f f′ x y)
+    (m : Halved U f lab lab′ x y d) where
   -- where a number lies: on the run, on the rest of the cycle, or in another cycle
   data Side (i : ℕ) : Type 0 where
     run : Till f x y i → lab′ i ≡ d → Side i
@@ -170,11 +199,17 @@ module _ {n : ℕ} {U : ℕ → Type 0} {f lab f′ lab′ : ℕ → ℕ} {x y d
     where
       near : lab i ≡ lab x → Side i
       near e = let w = forwards (c .perm) (c .one i y u (r .y-in) (e ∙ m .one-label)) in
-          ⊎-elim (λ t. run t (m .lab-run i u t)) (λ t. rest t (m .lab-rest i u t) e) (either f x y (r .apart) (w .0 .0) i (w .0 .1))
+          ⊎-elim (λ t. run t (m .lab-run i u t)) (λ t. rest t (m .lab-rest i u t) e)
+          (either f x y (r .apart) (w .0 .0) i (w .0 .1))
 
   -- the cycles after the move
   pub halve : Cycles n U f′ lab′
-  halve = record { perm = swap-perm (c .perm) r; keeps = λ i u. keep i u (side i u); one = λ i j u v e. join i j u v e (side i u) (side j v) }
+  halve = record {
+    perm = swap-perm (c .perm) r;
+    keeps = λ i u. keep i u (side i u);
+    one =
+        λ i j u v e. join i j u v e (side i u) (side j v);
+  }
     where
       keep : (i : ℕ) → U i → Side i → lab′ (f′ i) ≡ lab′ i
       keep i u (run t e) = m .lab-run _ (swap-perm (c .perm) r .f-in i u) (till-next c r (m .one-label) t) ∙ sym e
@@ -191,7 +226,11 @@ module _ {n : ℕ} {U : ℕ → Type 0} {f lab f′ lab′ : ℕ → ℕ} {x y d
       join i j u v e (rest t p a) (rest s q b) = via x (till-linked c (turn r) u t) (back (till-linked c (turn r) v s))
       join i j u v e (far h p) (far k q) =
           map-within (λ z. lab z ≢ lab x)
-          (λ a b s. (λ w z. w (sym (c .keeps a (s .0)) ∙ ap lab (s .1) ∙ z), λ w z. w (ap lab (sym (s .1)) ∙ c .keeps a (s .0) ∙ z)))
+          (λ a b s. (
+            λ w z. w (sym (c .keeps a (s .0)) ∙ ap lab (s .1) ∙ z),
+            λ w z. w (ap lab (sym (s .1))
+                ∙ c .keeps a (s .0) ∙ z),
+          ))
           (λ a b s w. link (s .0, r .f-o a (λ z. w (ap lab z)) (λ z. w (ap lab z ∙ sym (m .one-label))) ∙ s .1))
           (c .one i j u v (sym p ∙ e ∙ q)) h
       join i j u v e (run t p) (rest s q b) = absurd (m .fresh j v (sym q ∙ sym e ∙ p))

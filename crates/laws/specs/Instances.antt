@@ -1,5 +1,6 @@
 -- Small instances that go through every assumption of the laws, so that none of them is empty.
--- Here: searches, columns, chains, permutations, the six moves and walks. `LinearInstances` has marks, closure and union.
+-- Here: searches, columns, chains, permutations, the six moves and walks. `LinearInstances` has marks, closure and
+-- union.
 use mathlib.Core.Path.{_≡_, refl, sym, ap, _∙_}
 use mathlib.Core.Logic.{_≢_, inl, inr}
 use mathlib.Core.Bool.{Bool, true, false, _&&_}
@@ -20,7 +21,8 @@ use Rattle.laws.specs.Permutations.{iter, Twice, pigeonhole, comes-back,
 use Rattle.laws.specs.Cycles.{Cycles, agree, birth, death, alone}
 use Rattle.laws.specs.Exchange.{Till, stop, go}
 use Rattle.laws.specs.Moves.{Or, But, ins, out, xchg, ins-cycles, out-cycles, merge-cycles, halve-cycles}
-use Rattle.laws.specs.Walks.{first, meets, Used, allStep, allMet, cycles-of, of-cycles, run-yes, run-no, walk-till, till-walk}
+use Rattle.laws.specs.Walks.{first, meets, Used, allStep, allMet, cycles-of, of-cycles, run-yes, run-no}
+use Rattle.laws.specs.Walks.{walk-till, till-walk}
 
 -- ---- search and sums, at sizes that show that they compute
 
@@ -37,7 +39,8 @@ count-computes = refl
 -- a test that only 3 passes, by two tests that agree on 1..4
 least-3 : (least 4 (λ k. eqb k 3) ≡ 3) × (least 4 (λ k. eqb k 3) ≡ least 4 (λ k. eqb (upd (λ i. i) 9 3 k) 3))
 unfolding leastFrom
-least-3 = (refl, least-ext 4 _ _ (λ j l u. let d : j ≢ 9 = omega arith in ap (λ k. eqb k 3) (sym (upd-off (λ i. i) 3 d))))
+least-3 =
+    (refl, least-ext 4 _ _ (λ j l u. let d : j ≢ 9 = omega arith in ap (λ k. eqb k 3) (sym (upd-off (λ i. i) 3 d))))
 
 -- it is counted once
 count-3 : countTo 4 (λ k. eqb k 3) ≡ 1
@@ -50,7 +53,16 @@ change = sum-change 3 (λ k. k) (upd (λ k. k) 2 9) 2 (omega arith) (omega arith
 
 -- four changes read by simp
 read-back : (f : ℕ → ℕ) → upd (upd (upd (upd f 1 5) 2 6) 3 7) 4 8 2 ≡ 6
-read-back f = apart {k = 1} {a = 2} {p = 3} {q = 4} (record { ka = omega arith; kp = omega arith; kq = omega arith; ap = omega arith; aq = omega arith; pq = omega arith })
+read-back f =
+    apart {k = 1} {a = 2} {p = 3} {q = 4} (record {
+      ka = omega arith;
+      kp = omega arith;
+      kq = omega arith;
+      ap =
+          omega arith;
+      aq = omega arith;
+      pq = omega arith;
+    })
     (λ c1 c2 c3 c4 c5 c6 c7 c8 c9 c10 c11 c12. simp (upd-same, upd-off))
 
 -- ---- columns: one word, then two records of two words, then one record of one word
@@ -69,11 +81,13 @@ words = 9 ∷ 10 ∷ 11 ∷ 12 ∷ 13 ∷ 14 ∷ []
 
 -- what is stored is read
 stored : col pairs 1 (store pairs 1 words 2 7) 2 ≡ 7
-stored = col-store pairs 1 words (omega arith) (omega arith) 2 7 2 (omega arith) (omega arith) ∙ upd-same (col pairs 1 words) 2 7
+stored = col-store pairs 1 words (omega arith) (omega arith) 2 7 2 (omega arith) (omega arith)
+    ∙ upd-same (col pairs 1 words) 2 7
 
 -- another record is as it was
 stored-record : col pairs 1 (store pairs 1 words 2 7) 1 ≡ 11
-stored-record = col-store pairs 1 words (omega arith) (omega arith) 2 7 1 (omega arith) (omega arith) ∙ upd-off (col pairs 1 words) 7 (omega arith)
+stored-record = col-store pairs 1 words (omega arith) (omega arith) 2 7 1 (omega arith) (omega arith)
+    ∙ upd-off (col pairs 1 words) 7 (omega arith)
 
 -- and another field
 stored-field : col pairs 0 (store pairs 1 words 2 7) 2 ≡ 12
@@ -89,17 +103,20 @@ stored-kind = (
 )
 
 -- a sweep over the first record only
-swept : (col pairs 0 (sweep pairs 0 1 (λ n w. n + w) words) 1 ≡ 11) × (col pairs 0 (sweep pairs 0 1 (λ n w. n + w) words) 2 ≡ 12)
+swept : (col pairs 0 (sweep pairs 0 1 (λ n w. n + w) words) 1 ≡ 11)
+    × (col pairs 0 (sweep pairs 0 1 (λ n w. n + w) words) 2 ≡ 12)
 swept = (
   sweep-at pairs 0 (λ n w. n + w) words (omega arith) (omega arith) 1 1 (omega arith) (omega arith) (omega arith),
   sweep-above pairs 0 (λ n w. n + w) words (omega arith) (omega arith) 1 2 (omega arith) (omega arith),
 )
 
 -- a sweep over both leaves the other field and the other kind
-swept-else : (col pairs 1 (sweep pairs 0 2 (λ n w. n + w) words) 2 ≡ 13) × (col single 0 (sweep pairs 0 2 (λ n w. n + w) words) 1 ≡ 14)
+swept-else : (col pairs 1 (sweep pairs 0 2 (λ n w. n + w) words) 2 ≡ 13)
+    × (col single 0 (sweep pairs 0 2 (λ n w. n + w) words) 1 ≡ 14)
 swept-else = (
   sweep-other pairs 1 0 2 (λ n w. n + w) words (omega arith) (omega arith) (omega arith) 2,
-  sweep-apart single pairs 0 0 2 (λ n w. n + w) words (omega arith) (omega arith) (inr (omega arith)) (omega arith) 1 (omega arith),
+  sweep-apart single pairs 0 0 2 (λ n w. n + w) words (omega arith) (omega arith) (inr
+      (omega arith)) (omega arith) 1 (omega arith),
 )
 
 -- record 2 of the pairs begins one width behind their base
@@ -128,7 +145,8 @@ restored =
     head zero h = refl
     head (suc k) h = absurd (omega arith)
 
-    one : (j n : ℕ) → j < 2 → 1 ≤ n → n ≤ 2 → col pairs j (store pairs 1 (store pairs 1 words 2 7) 2 13) n ≡ col pairs j words n
+    one : (j n : ℕ) → j < 2 → 1 ≤ n → n ≤ 2 → col pairs j (store pairs 1 (store pairs 1 words 2 7) 2 13) n
+        ≡ col pairs j words n
     one zero n hj l u =
         col-store-other 0 pairs 0 1 _ (omega arith) (omega arith) (omega arith) 2 13 n
         ∙ col-store-other 0 pairs 0 1 words (omega arith) (omega arith) (omega arith) 2 7 n
@@ -138,7 +156,8 @@ restored =
     one (suc zero) (suc (suc (suc n))) hj l u = absurd (omega arith)
     one (suc (suc j)) n hj l u = absurd (omega arith)
 
-    two : (j n : ℕ) → j < 1 → 1 ≤ n → n ≤ 1 → col single j (store pairs 1 (store pairs 1 words 2 7) 2 13) n ≡ col single j words n
+    two : (j n : ℕ) → j < 1 → 1 ≤ n → n ≤ 1 → col single j (store pairs 1 (store pairs 1 words 2 7) 2 13) n
+        ≡ col single j words n
     two zero zero hj l u = refl
     two zero (suc zero) hj l u = refl
     two zero (suc (suc n)) hj l u = absurd (omega arith)
@@ -156,7 +175,8 @@ mapped = map-linked suc (λ i j r. link (ap suc (r .0), omega arith)) chain-13
 
 -- backwards, within the numbers below 5
 mapped-within : Linked (λ i j. i ≡ suc j) 1 3
-mapped-within = map-within (λ i. i < 5) (λ i j r. (λ h. omega arith, λ h. omega arith)) (λ i j r h. back (link (r .0))) chain-13 (omega arith)
+mapped-within = map-within (λ i. i < 5) (λ i j r. (λ h. omega arith, λ h. omega arith)) (λ i j r h. back (link (r .0)))
+    chain-13 (omega arith)
 
 -- ---- one cycle of four, 1 3 2 4, among 1..5
 
@@ -187,7 +207,8 @@ each P a b c d (suc zero) u = a
 each P a b c d (suc (suc zero)) u = b
 each P a b c d (suc (suc (suc zero))) u = c
 each P a b c d (suc (suc (suc (suc zero)))) u = d
-each P a b c d (suc (suc (suc (suc (suc i))))) u = absurd (omega (arith, leb→le (suc (suc (suc (suc (suc i))))) 4 (u .2)))
+each P a b c d (suc (suc (suc (suc (suc i))))) u =
+    absurd (omega (arith, leb→le (suc (suc (suc (suc (suc i))))) 4 (u .2)))
 
 -- each of 1..4 is in use
 pub use-of : (i : ℕ) → 1 ≤ i → T (leb i 4) → U i
@@ -204,12 +225,16 @@ ring = cycles-of 5 below nx (λ l. 1) lab pv (λ i u. use-of 1 (omega arith) tt)
 
 -- and the tests from the cycle
 tests-again : T (allStep 5 below nx pv lab) × T (allMet 5 below nx (λ l. 1) lab)
-tests-again = of-cycles 5 below nx (λ l. 1) lab pv (λ i u. (use-of 1 (omega arith) tt, refl)) (each (λ i. pv (nx i) ≡ i) refl refl refl refl) ring
+tests-again = of-cycles 5 below nx (λ l. 1) lab pv (λ i u. (use-of 1 (omega arith) tt, refl))
+    (each (λ i. pv (nx i) ≡ i) refl refl refl refl) ring
 
 -- the same cycle of functions that agree with it on the numbers in use
 ring-again : Cycles 5 U (upd nx 5 7) (upd lab 5 7)
-ring-again = agree ring (λ i u. u) (λ i u. u) (each (λ i. upd nx 5 7 i ≡ nx i) (upd-off nx 7 (omega arith)) (upd-off nx 7 (omega arith)) (upd-off nx 7 (omega arith)) (upd-off nx 7 (omega arith)))
-    (each (λ i. upd lab 5 7 i ≡ lab i) (upd-off lab 7 (omega arith)) (upd-off lab 7 (omega arith)) (upd-off lab 7 (omega arith)) (upd-off lab 7 (omega arith)))
+ring-again =
+    agree ring (λ i u. u) (λ i u. u) (each (λ i. upd nx 5 7 i ≡ nx i) (upd-off nx 7 (omega arith))
+    (upd-off nx 7 (omega arith)) (upd-off nx 7 (omega arith)) (upd-off nx 7 (omega arith)))
+    (each (λ i. upd lab 5 7 i ≡ lab i) (upd-off lab 7 (omega arith)) (upd-off lab 7 (omega arith))
+    (upd-off lab 7 (omega arith)) (upd-off lab 7 (omega arith)))
 
 -- two of three numbers of 1..2 are equal
 twice : Twice 2 (λ i. getD (1 ∷ 2 ∷ 1 ∷ []) i 0)
@@ -236,7 +261,8 @@ other-side = redo (ring .perm) pv (each (λ i. pv (nx i) ≡ i) refl refl refl r
 -- what undoes nx is pv on the numbers in use, and stays there
 only-pv : (g : ℕ → ℕ) → ((i : ℕ) → U i → g (nx i) ≡ i) → (g 4 ≡ 2) × U (g 4)
 only-pv g h = (
-  inverse-same (ring .perm) nx pv g (each (λ i. pv (nx i) ≡ i) refl refl refl refl) h (λ i u. refl) 4 (use-of 4 (omega arith) tt),
+  inverse-same (ring .perm) nx pv g (each (λ i. pv (nx i) ≡ i) refl refl refl refl) h (λ i u. refl) 4 (use-of 4
+      (omega arith) tt),
   undo-in (ring .perm) g h 4 (use-of 4 (omega arith) tt),
 )
 
@@ -280,7 +306,8 @@ rest-41 = each (λ i. Till nx 2 1 i → lab2 i ≡ 1) (λ t. refl) at-2 at-3 (λ
 
 -- 1 and 2 exchange what they go to: two cycles, 1 4 and 3 2
 halves : Cycles 5 U (xchg nx 1 2) lab2
-halves = halve-cycles ring 1 2 2 lab2 (use-of 1 (omega arith) tt) (use-of 2 (omega arith) tt) (omega arith) refl (λ i u. omega arith) run-32 rest-41 (λ i u h. absurd (h refl))
+halves = halve-cycles ring 1 2 2 lab2 (use-of 1 (omega arith) tt) (use-of 2 (omega arith) tt) (omega arith) refl
+    (λ i u. omega arith) run-32 rest-41 (λ i u h. absurd (h refl))
 
 -- and again: they are one
 whole : Cycles 5 U (xchg (xchg nx 1 2) 1 2) (relabel lab2 2 1)
@@ -322,12 +349,14 @@ gone = death born (record {
 -- 2 is on the run, by the test
 on-run : Till nx 1 2 2
 unfolding first
-on-run = run-yes ring (use-of 1 (omega arith) tt) (use-of 4 (omega arith) tt) (use-of 2 (omega arith) tt) refl (omega arith) refl 2 (use-of 2 (omega arith) tt) (omega arith) refl refl
+on-run = run-yes ring (use-of 1 (omega arith) tt) (use-of 4 (omega arith) tt) (use-of 2 (omega arith) tt) refl
+    (omega arith) refl 2 (use-of 2 (omega arith) tt) (omega arith) refl refl
 
 -- 1 is not
 off-run : Till nx 2 1 1
 unfolding first
-off-run = run-no ring (use-of 1 (omega arith) tt) (use-of 4 (omega arith) tt) (use-of 2 (omega arith) tt) refl (omega arith) refl 1 (use-of 1 (omega arith) tt) (omega arith) refl refl
+off-run = run-no ring (use-of 1 (omega arith) tt) (use-of 4 (omega arith) tt) (use-of 2 (omega arith) tt) refl
+    (omega arith) refl 1 (use-of 1 (omega arith) tt) (omega arith) refl refl
 
 -- two steps from 3 lead to 4
 two-steps : iter nx 2 3 ≡ 4
@@ -348,4 +377,5 @@ walked = walk-till ring (use-of 1 (omega arith) tt) (omega arith) 2 two-steps no
 
 -- and meets each of it
 met : (t : ℕ) × (t < 2) × (iter nx t 3 ≡ 2)
-met = till-walk ring (use-of 1 (omega arith) tt) (omega arith) 2 two-steps no-sooner 2 (use-of 2 (omega arith) tt) (omega arith) (go (omega arith) (omega arith) (stop refl))
+met = till-walk ring (use-of 1 (omega arith) tt) (omega arith) 2 two-steps no-sooner 2 (use-of 2 (omega arith) tt)
+    (omega arith) (go (omega arith) (omega arith) (stop refl))

@@ -12,6 +12,7 @@ pub mod Moves
 pub mod Walks
 pub mod Marks
 pub mod Closure
+pub mod UnionFind
 pub mod Union
 pub mod Instances
 pub mod LinearInstances

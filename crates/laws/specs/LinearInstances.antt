@@ -11,12 +11,19 @@ use Rattle.laws.specs.Search.{allTo}
 use Rattle.laws.specs.Cycles.{Cycles}
 use Rattle.laws.specs.Linked.{Linked, link}
 use Rattle.laws.specs.Walks.{Used, allMet}
-use Rattle.laws.specs.Marks.{markFrom, markRep, markTo, zeros-at, Labelled, allMarked, marked-met, met-all-cycles, cycles-all-met}
-use Rattle.laws.specs.Closure.{Edge, across, pass, rounds, linkedb, allLinked, all-linked, linked-all, linked-sound, linked-complete}
-use Rattle.laws.specs.Union.{Down, rootOf, root, hang, unite, uniteEdge, uniteTo, halve-path, point-root, United, unite-united, united-between, united-linked, same-roots-then, classes-short, Classes, classes-start, classes-to, classes-test, allRooted, rooted-linked}
+use Rattle.laws.specs.Marks.{markFrom, markRep, markTo, zeros-at, Labelled, allMarked, marked-met, met-all-cycles}
+use Rattle.laws.specs.Marks.{cycles-all-met}
+use Rattle.laws.specs.Closure.{Edge, across, pass, rounds, linkedb, allLinked, all-linked, linked-all}
+use Rattle.laws.specs.Closure.{linked-sound, linked-complete}
+use Rattle.laws.specs.UnionFind.{Down, rootOf, root, hang, unite, uniteEdge, uniteTo, halve-path, point-root}
+use Rattle.laws.specs.UnionFind.{United}
+use Rattle.laws.specs.Union.{classes-short, Classes}
+use Rattle.laws.specs.UnionFind.{unite-united, united-between, united-linked, same-roots-then}
+use Rattle.laws.specs.Union.{classes-start, classes-to, classes-test, allRooted, rooted-linked}
 use Rattle.laws.specs.Instances.{U, below, each, use-of}
 
--- ---- marks: of 1..5 the first four are in use, in two cycles, 1 4 and 2 3; there is a third label, of which nothing is in use
+-- ---- marks: of 1..5 the first four are in use, in two cycles, 1 4 and 2 3; there is a third label, of which nothing
+-- is in use
 
 -- what each goes to
 abbrev step : ℕ → ℕ
@@ -33,7 +40,15 @@ rep l = getD (0 ∷ 4 ∷ 2 ∷ []) l 0
 -- all that the marks ask for
 two-cycles : Labelled 5 3 U step rep label
 two-cycles = record {
-  perm = record { low = λ i u. u .0; high = λ i u. u .1; f-in = each (λ i. U (step i)) (use-of 4 (omega arith) tt) (use-of 3 (omega arith) tt) (use-of 2 (omega arith) tt) (use-of 1 (omega arith) tt); inv = step; undo = each (λ i. step (step i) ≡ i) refl refl refl refl };
+  perm = record {
+    low = λ i u. u .0;
+    high = λ i u. u .1;
+    f-in =
+        each (λ i. U (step i)) (use-of 4 (omega arith) tt) (use-of 3 (omega arith) tt) (use-of 2 (omega arith) tt)
+        (use-of 1 (omega arith) tt);
+    inv = step;
+    undo = each (λ i. step (step i) ≡ i) refl refl refl refl;
+  };
   keeps = each (λ i. label (step i) ≡ label i) refl refl refl refl;
   lab-low = each (λ i. 1 ≤ label i) (omega arith) (omega arith) (omega arith) (omega arith);
   lab-high = each (λ i. label i ≤ 3) (omega arith) (omega arith) (omega arith) (omega arith);
@@ -107,7 +122,8 @@ chain-34 = linked-sound 4 3 present left right ends 3 4 tt
 
 -- from the chain to the test
 test-12 : T (linkedb 4 3 present left right 1 2)
-test-12 = linked-complete 4 3 present left right ends 1 2 (omega arith) (omega arith) (link (1, (omega arith, omega arith, tt), refl, refl))
+test-12 = linked-complete 4 3 present left right ends 1 2 (omega arith) (omega arith)
+    (link (1, (omega arith, omega arith, tt), refl, refl))
 
 -- the class of each item
 abbrev class : ℕ → ℕ
@@ -128,12 +144,17 @@ all-computes = tt
 
 -- so the items of one class are linked
 one-class : Linked (Edge (Used 3 present) left right) 1 2
-one-class = all-linked 4 3 present left right ends below first-of class all-computes 1 2 (omega arith, omega arith, tt) (omega arith, omega arith, tt) refl
+one-class = all-linked 4 3 present left right ends below first-of class all-computes 1 2 (omega arith, omega arith, tt)
+    (omega arith, omega arith, tt) refl
 
 -- and back
 all-again : T (allLinked 4 below 3 present left right first-of class)
 all-again = linked-all 4 3 present left right ends below first-of class
-    (item (λ g. Used 4 below (first-of (class g)) × (class (first-of (class g)) ≡ class g)) ((omega arith, omega arith, tt), refl) ((omega arith, omega arith, tt), refl) ((omega arith, omega arith, tt), refl) ((omega arith, omega arith, tt), refl))
+    (item (λ g. Used 4 below (first-of (class g)) × (class (first-of (class g)) ≡ class g))
+    ((omega arith, omega arith, tt), refl) ((omega arith, omega arith, tt), refl) (
+      (omega arith, omega arith, tt),
+      refl,
+    ) ((omega arith, omega arith, tt), refl))
     (all-linked 4 3 present left right ends below first-of class all-computes)
 
 -- ---- union: the same items and edges
@@ -170,21 +191,26 @@ united-are = refl
 
 -- one root is one chain
 classes : Classes 4 (Edge (Used 3 present) left right) (uniteTo present left right 3 own)
-classes = classes-to 4 present left right 3 (λ i u. let e = ends i u in (e .1, e .3)) (classes-start 4 own own-down (omega arith) own-at)
+classes = classes-to 4 present left right 3 (λ i u. let e = ends i u in
+    (e .1, e .3)) (classes-start 4 own own-down (omega arith) own-at)
 
 -- and the two tests agree
-roots-test : eqb (root (uniteTo present left right 3 own) 1) (root (uniteTo present left right 3 own) 3) ≡ linkedb 4 3 present left right 1 3
+roots-test : eqb (root (uniteTo present left right 3 own) 1) (root (uniteTo present left right 3 own) 3)
+    ≡ linkedb 4 3 present left right 1 3
 roots-test = classes-test 4 present left right 3 ends classes 1 3 (omega arith) (omega arith) (omega arith)
 
 -- for all items at once
-rooted-test : allRooted 4 below (uniteTo present left right 3 own) first-of class ≡ allLinked 4 below 3 present left right first-of class
+rooted-test : allRooted 4 below (uniteTo present left right 3 own) first-of class
+    ≡ allLinked 4 below 3 present left right first-of class
 rooted-test = rooted-linked 4 below 3 present left right first-of class (uniteTo present left right 3 own) ends
-    (item (λ g. (1 ≤ first-of (class g)) × (first-of (class g) ≤ 4)) (omega arith, omega arith) (omega arith, omega arith) (omega arith, omega arith) (omega arith, omega arith)) classes
+    (item (λ g. (1 ≤ first-of (class g)) × (first-of (class g) ≤ 4)) (omega arith, omega arith)
+    (omega arith, omega arith) (omega arith, omega arith) (omega arith, omega arith)) classes
 
 -- a path shortened before and after a union
 shortened : United own (set (unite (set own 4 4) 4 2) 4 2) 4 2
 unfolding hang rootOf
-shortened = united-between (halve-path own own-down 4) (unite-united own own-down 4 2 (omega arith) (omega arith)) (point-root (unite own 4 2) (unite-united own own-down 4 2 (omega arith) (omega arith) .down) 4)
+shortened = united-between (halve-path own own-down 4) (unite-united own own-down 4 2 (omega arith) (omega arith))
+    (point-root (unite own 4 2) (unite-united own own-down 4 2 (omega arith) (omega arith) .down) 4)
 
 -- a shortened path changes no class
 classes-again : Classes 4 (Edge (Used 3 present) left right) (0 ∷ 1 ∷ 1 ∷ 3 ∷ 3 ∷ [])
@@ -194,5 +220,6 @@ classes-again =
     classes-short classes (same-roots-then s (point-root (0 ∷ 1 ∷ 1 ∷ 3 ∷ 3 ∷ []) (s .down) 2))
 
 -- 2 and 4 are one class once they are united, and no others
-pair-24 : (root (unite own 2 4) 2 ≡ root (unite own 2 4) 4 → Linked (λ i j. (root own i ≡ root own j) ⊎ ((i ≡ 2) × (j ≡ 4))) 2 4)
+pair-24 : (root (unite own 2 4) 2 ≡ root (unite own 2 4) 4
+    → Linked (λ i j. (root own i ≡ root own j) ⊎ ((i ≡ 2) × (j ≡ 4))) 2 4)
 pair-24 = united-linked (unite-united own own-down 2 4 (omega arith) (omega arith)) 2 4 .0

@@ -70,11 +70,18 @@ module _ {n : ℕ} {U : ℕ → Type 0} {f lab : ℕ → ℕ} (c : Cycles n U f 
     f-x = upd-off _ (f x) (λ e. h (ap lab e)) ∙ upd-same _ x (f y);
     f-y = upd-same _ y (f x);
     f-o = λ i p q. upd-off _ (f x) q ∙ upd-off _ (f y) p;
-  }) (record { two = h; lab-y = λ i w e. relabel-at lab (lab y) (lab x) e; lab-o = λ i w e. relabel-off lab (lab y) (lab x) e })
+  }) (record {
+    two = h;
+    lab-y = λ i w e. relabel-at lab (lab y) (lab x) e;
+    lab-o =
+        λ i w e. relabel-off lab (lab y) (lab x) e;
+  })
 
   -- the run from f x up to y gets the label d; the rest keeps its own
-  pub halve-cycles : (d : ℕ) (lab′ : ℕ → ℕ) → U x → U y → x ≢ y → lab x ≡ lab y → ((i : ℕ) → U i → lab i ≢ d) → ((i : ℕ) → U i → Till f x y i → lab′ i ≡ d)
-      → ((i : ℕ) → U i → Till f y x i → lab′ i ≡ lab i) → ((i : ℕ) → U i → lab i ≢ lab x → lab′ i ≡ lab i) → Cycles n U (xchg f x y) lab′
+  pub halve-cycles : (d : ℕ) (lab′ : ℕ → ℕ) → U x → U y → x ≢ y → lab x ≡ lab y → ((i : ℕ) → U i → lab i ≢ d)
+      → ((i : ℕ) → U i → Till f x y i → lab′ i ≡ d)
+      → ((i : ℕ) → U i → Till f y x i → lab′ i ≡ lab i) → ((i : ℕ) → U i → lab i ≢ lab x → lab′ i ≡ lab i)
+      → Cycles n U (xchg f x y) lab′
   halve-cycles d lab′ u v h e fr run rest far = halve c (record {
     x-in = u;
     y-in = v;

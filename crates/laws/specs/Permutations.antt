@@ -64,22 +64,33 @@ pigeonhole (suc n) h b = go (λ k u. pigeonhole n k u) (find n (h (suc n)) h)
     h′ : ℕ → ℕ
     h′ i = swap (h i) (same? (h i) (suc n))
 
-    low : ((i : ℕ) → i ≤ n → h i ≢ h (suc n)) → (i : ℕ) → i ≤ n → (q : (h i ≡ suc n) ⊎ (h i ≢ suc n)) → (1 ≤ swap (h i) q) × (swap (h i) q ≤ n)
+    low : ((i : ℕ) → i ≤ n → h i ≢ h (suc n)) → (i : ℕ) → i ≤ n → (q : (h i ≡ suc n) ⊎ (h i ≢ suc n))
+        → (1 ≤ swap (h i) q) × (swap (h i) q ≤ n)
     low f i l (inl e) = omega (arith, b (suc n) (omega arith), f i l)
     low f i l (inr e) = omega (arith, b i (omega arith))
 
-    same : ((i : ℕ) → i ≤ n → h i ≢ h (suc n)) → (i j : ℕ) → i ≤ n → j ≤ n → (p : (h i ≡ suc n) ⊎ (h i ≢ suc n)) (q : (h j ≡ suc n) ⊎ (h j ≢ suc n))
+    same : ((i : ℕ) → i ≤ n → h i ≢ h (suc n)) → (i j : ℕ) → i ≤ n → j ≤ n
+        → (p : (h i ≡ suc n) ⊎ (h i ≢ suc n)) (q : (h j ≡ suc n) ⊎ (h j ≢ suc n))
         → swap (h i) p ≡ swap (h j) q → h i ≡ h j
     same f i j li lj (inl d) (inl e) z = d ∙ sym e
     same f i j li lj (inl d) (inr e) z = absurd (f j lj (sym z))
     same f i j li lj (inr d) (inl e) z = absurd (f i li z)
     same f i j li lj (inr d) (inr e) z = z
 
-    go : ((k : ℕ → ℕ) → ((i : ℕ) → i ≤ n → (1 ≤ k i) × (k i ≤ n)) → Twice n k) → ((i : ℕ) × (i ≤ n) × (h i ≡ h (suc n))) ⊎ ((i : ℕ) → i ≤ n → h i ≢ h (suc n)) → Twice (suc n) h
+    go : ((k : ℕ → ℕ) → ((i : ℕ) → i ≤ n → (1 ≤ k i) × (k i ≤ n)) → Twice n k) → ((i : ℕ) × (i ≤ n) × (h i ≡ h (suc n)))
+        ⊎ ((i : ℕ) → i ≤ n → h i ≢ h (suc n)) → Twice (suc n) h
     go ih (inl r) = record { i = r .0; j = suc n; i<j = omega (arith, r .1); j≤n = omega arith; eq = r .2 }
     go ih (inr f) =
         let t : Twice n h′ = ih h′ (λ i l. low f i l (same? (h i) (suc n))) in
-        record { i = t .i; j = t .j; i<j = t .i<j; j≤n = omega arith; eq = same f (t .i) (t .j) (omega arith) (omega arith) (same? (h (t .i)) (suc n)) (same? (h (t .j)) (suc n)) (t .eq) }
+        record {
+          i = t .i;
+          j = t .j;
+          i<j = t .i<j;
+          j≤n = omega arith;
+          eq =
+              same f (t .i) (t .j) (omega arith) (omega arith) (same? (h (t .i)) (suc n)) (same? (h (t .j)) (suc n))
+              (t .eq);
+        }
 
 -- ---- a permutation of some of the numbers 1..n
 
@@ -120,21 +131,30 @@ module _ {n : ℕ} {U : ℕ → Type 0} {f : ℕ → ℕ} (p : Perm n U f) where
       go : Twice n (λ i. iter f i x) → (m : ℕ) × (iter f m (f x) ≡ x)
       go t =
           let m : ℕ = t .j - suc (t .i) in
-          let s : t .j ≡ suc m + t .i = omega arith in
-          (m, sym (iter-inj (t .i) x (iter f (suc m) x) u (iter-in (suc m) x u) (t .eq ∙ ap (λ k. iter f k x) s ∙ iter-add f (suc m) (t .i) x)))
+          let s : t .j ≡ suc m + t .i = omega arith in (
+            m,
+            sym (iter-inj (t .i) x (iter f (suc m) x) u (iter-in (suc m) x u) (t .eq ∙ ap (λ k. iter f k x) s
+                ∙ iter-add f (suc m) (t .i) x)),
+          )
 
   -- what is met at all is met within n steps, and no later
   pub soon : (fuel m x : ℕ) → m ≤ fuel → U x → (k : ℕ) × (k < n) × (k ≤ m) × (iter f k x ≡ iter f m x)
   soon zero m x l u = (0, omega (arith, p .low x u, p .high x u), omega arith, ap (λ k. iter f k x) (omega arith))
   soon (suc fuel) m x l u = go (λ k h. soon fuel k x h u) (twice x u) (le? n m)
     where
-      go : ((k : ℕ) → k ≤ fuel → (r : ℕ) × (r < n) × (r ≤ k) × (iter f r x ≡ iter f k x)) → Twice n (λ i. iter f i x) → (n ≤ m) ⊎ (m < n) → (k : ℕ) × (k < n) × (k ≤ m) × (iter f k x ≡ iter f m x)
+      go : ((k : ℕ) → k ≤ fuel → (r : ℕ) × (r < n) × (r ≤ k) × (iter f r x ≡ iter f k x)) → Twice n (λ i. iter f i x)
+          → (n ≤ m) ⊎ (m < n) → (k : ℕ) × (k < n) × (k ≤ m) × (iter f k x ≡ iter f m x)
       go ih t (inr h) = (m, h, omega arith, refl)
       go ih t (inl h) =
           let d : ℕ = m - t .j in
           let r = ih (t .i + d) (omega arith) in
-          let s : t .j + d ≡ m = omega arith in
-          (r .0, r .1, omega (arith, r .2), r .3 ∙ iter-add f (t .i) d x ∙ ap (iter f d) (t .eq) ∙ sym (iter-add f (t .j) d x) ∙ ap (λ k. iter f k x) s)
+          let s : t .j + d ≡ m = omega arith in (
+            r .0,
+            r .1,
+            omega (arith, r .2),
+            r .3 ∙ iter-add f (t .i) d x ∙ ap (iter f d) (t .eq) ∙ sym (iter-add f (t .j) d x)
+                ∙ ap (λ k. iter f k x) s,
+          )
 
   -- so every number of U comes from one of U, and g undoes f on the other side too
   pub onto : (x : ℕ) → U x → (z : ℕ) × U z × (f z ≡ x)
@@ -150,7 +170,8 @@ module _ {n : ℕ} {U : ℕ → Type 0} {f : ℕ → ℕ} (p : Perm n U f) where
   undo-in g h x u = let r = onto x u in subst U (sym (h (r .0) (r .1)) ∙ ap g (r .2)) (r .1)
 
   -- so what undoes f is fixed by f on U
-  pub inverse-same : (f′ g g′ : ℕ → ℕ) → ((i : ℕ) → U i → g (f i) ≡ i) → ((i : ℕ) → U i → g′ (f′ i) ≡ i) → ((i : ℕ) → U i → f′ i ≡ f i) → (i : ℕ) → U i → g′ i ≡ g i
+  pub inverse-same : (f′ g g′ : ℕ → ℕ) → ((i : ℕ) → U i → g (f i) ≡ i) → ((i : ℕ) → U i → g′ (f′ i) ≡ i)
+      → ((i : ℕ) → U i → f′ i ≡ f i) → (i : ℕ) → U i → g′ i ≡ g i
   inverse-same f′ g g′ h h′ e i u =
       let z = onto i u in
       ap g′ (sym (e (z .0) (z .1) ∙ z .2)) ∙ h′ (z .0) (z .1) ∙ sym (h (z .0) (z .1)) ∙ ap g (z .2)

@@ -14,13 +14,15 @@ unfolding allTo
 all-start p = refl
 
 -- the next one passes
-pub all-turn : (p : ℕ → Bool) (k : ℕ) (b : Bool) → allTo k p ≡ true → b ≡ p (k + 1) → not b ≡ false → allTo (k + 1) p ≡ true
+pub all-turn : (p : ℕ → Bool) (k : ℕ) (b : Bool) → allTo k p ≡ true → b ≡ p (k + 1) → not b ≡ false
+    → allTo (k + 1) p ≡ true
 unfolding allTo
 all-turn p k b h e t = rw (add-one k) (rw (sym (rw (add-one k) at e), not-false b t) h)
 
 -- the next one fails, and so do all
 pub all-fail : (p : ℕ → Bool) (k n : ℕ) (b : Bool) → k < n → b ≡ p (k + 1) → not b ≡ true → false ≡ allTo n p
-all-fail p k n b l e f = sym (T-false (λ t. false-T (sym e ∙ not-true b f) (all-at n p t (k + 1) (omega arith) (omega arith))))
+all-fail p k n b l e f =
+    sym (T-false (λ t. false-T (sym e ∙ not-true b f) (all-at n p t (k + 1) (omega arith) (omega arith))))
 
 -- all have passed
 pub all-end : (p : ℕ → Bool) (k n : ℕ) → k ≤ n → n ≤ k → allTo k p ≡ true → true ≡ allTo n p

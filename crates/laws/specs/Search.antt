@@ -30,7 +30,8 @@ all-at (suc n) p t k l u =
 pub all-of : (n : ℕ) (p : ℕ → Bool) → ((k : ℕ) → 1 ≤ k → k ≤ n → T (p k)) → T (allTo n p)
 unfolding allTo
 all-of zero p h = tt
-all-of (suc n) p h = T-and (p (suc n)) (allTo n p) (h (suc n) (omega arith) (omega arith)) (all-of n p (λ k l u. h k l (omega arith)))
+all-of (suc n) p h = T-and (p (suc n)) (allTo n p) (h (suc n) (omega arith) (omega arith))
+    (all-of n p (λ k l u. h k l (omega arith)))
 
 -- all tests of 1..n agree, and so do the answers
 pub all-ext : (n : ℕ) (p q : ℕ → Bool) → ((k : ℕ) → 1 ≤ k → k ≤ n → p k ≡ q k) → allTo n p ≡ allTo n q
@@ -47,13 +48,15 @@ anyTo (suc n) p = p (suc n) || anyTo n p
 pub any-at : (n : ℕ) (p : ℕ → Bool) → T (anyTo n p) → (k : ℕ) × (1 ≤ k) × (k ≤ n) × T (p k)
 unfolding anyTo
 any-at zero p t = absurd t
-any-at (suc n) p t = ⊎-elim (λ s. (suc n, omega arith, omega arith, s)) (λ s. let r = any-at n p s in (r .0, r .1, omega (arith, r .2), r .3)) (or-T (p (suc n)) (anyTo n p) t)
+any-at (suc n) p t = ⊎-elim (λ s. (suc n, omega arith, omega arith, s)) (λ s. let r = any-at n p s in
+    (r .0, r .1, omega (arith, r .2), r .3)) (or-T (p (suc n)) (anyTo n p) t)
 
 -- and if one is there, the answer is yes
 pub any-of : (n : ℕ) (p : ℕ → Bool) (k : ℕ) → 1 ≤ k → k ≤ n → T (p k) → T (anyTo n p)
 unfolding anyTo
 any-of zero p k l u t = absurd (omega arith)
-any-of (suc n) p k l u t = split k (suc n) (λ e. T-or-l (p (suc n)) (anyTo n p) (subst (λ j. T (p j)) e t)) (λ h. T-or-r (p (suc n)) (anyTo n p) (any-of n p k l (omega arith) t))
+any-of (suc n) p k l u t = split k (suc n) (λ e. T-or-l (p (suc n)) (anyTo n p) (subst (λ j. T (p j)) e t))
+    (λ h. T-or-r (p (suc n)) (anyTo n p) (any-of n p k l (omega arith) t))
 
 -- all tests of 1..n agree, and so do the answers
 pub any-ext : (n : ℕ) (p q : ℕ → Bool) → ((k : ℕ) → 1 ≤ k → k ≤ n → p k ≡ q k) → anyTo n p ≡ anyTo n q
@@ -93,10 +96,12 @@ leastFrom-is (suc n) k p = go (p k) refl (leastFrom-is n (suc k) p)
     go : (b : Bool) → p k ≡ b → Least n (suc k) p (leastFrom n (suc k) p) → Least (suc n) k p (leastFrom (suc n) k p)
     go true e ih = rw (e, leastFrom) (one-is (omega arith) (omega arith) e (λ j l u. absurd (omega arith)))
     go false e (none-is z f) = rw (e, leastFrom) (none-is z (λ j l u. at e l (λ m. f j m (omega arith))))
-    go false e (one-is l u t f) = rw (e, leastFrom) (one-is (omega arith) (omega arith) t (λ j m v. at e m (λ m′. f j m′ v)))
+    go false e (one-is l u t f) =
+        rw (e, leastFrom) (one-is (omega arith) (omega arith) t (λ j m v. at e m (λ m′. f j m′ v)))
 
 -- the least is the only number that passes with none before it
-pub least-unique : (n : ℕ) (p : ℕ → Bool) (r : ℕ) → 1 ≤ r → r ≤ n → p r ≡ true → ((j : ℕ) → 1 ≤ j → j < r → p j ≡ false) → least n p ≡ r
+pub least-unique : (n : ℕ) (p : ℕ → Bool) (r : ℕ) → 1 ≤ r → r ≤ n → p r ≡ true → ((j : ℕ) → 1 ≤ j → j < r → p j ≡ false)
+    → least n p ≡ r
 least-unique n p r l u t f = go (leastFrom-is n 1 p)
   where
     clash : {b : Bool} → b ≡ true → b ≡ false → ⊥
@@ -126,4 +131,5 @@ least-ext n p q h = go (leastFrom-is n 1 q)
   where
     go : Least n 1 q (least n q) → least n p ≡ least n q
     go (none-is z g) = least-none n p (λ j l u. h j l u ∙ g j l (omega arith)) ∙ sym z
-    go (one-is l u t g) = least-unique n p (least n q) l (omega arith) (h _ l (omega arith) ∙ t) (λ j l′ u′. h j l′ (omega arith) ∙ g j l′ u′)
+    go (one-is l u t g) = least-unique n p (least n q) l (omega arith) (h _ l (omega arith) ∙ t)
+        (λ j l′ u′. h j l′ (omega arith) ∙ g j l′ u′)

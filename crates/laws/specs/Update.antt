@@ -19,7 +19,8 @@ pub upd-off : (f : ℕ → ℕ) {k : ℕ} (v : ℕ) {i : ℕ} → i ≢ k → up
 unfolding upd
 upd-off f {k} v {i} h = rw (eqb-other h)
 
--- the first as a rule for simp: `simp (upd-same, upd-off)` reads any nest of changes whose places are told apart by variables
+-- the first as a rule for simp: `simp (upd-same, upd-off)` reads any nest of changes whose places are told apart by
+-- variables
 pub upd-same : (f : ℕ → ℕ) (k v : ℕ) → upd f k v k ≡ v
 upd-same f k v = upd-at f v refl
 
@@ -57,5 +58,7 @@ pub record Apart (k a p q : ℕ) : Type 0 where
   pub pq : p ≢ q
 
 -- hands them out
-pub apart : {k a p q : ℕ} {A : Type 0} → Apart k a p q → (k ≢ a → a ≢ k → k ≢ p → p ≢ k → k ≢ q → q ≢ k → a ≢ p → p ≢ a → a ≢ q → q ≢ a → p ≢ q → q ≢ p → A) → A
-apart d c = c (d .ka) (λ e. d .ka (sym e)) (d .kp) (λ e. d .kp (sym e)) (d .kq) (λ e. d .kq (sym e)) (d .ap) (λ e. d .ap (sym e)) (d .aq) (λ e. d .aq (sym e)) (d .pq) (λ e. d .pq (sym e))
+pub apart : {k a p q : ℕ} {A : Type 0} → Apart k a p q → (k ≢ a → a ≢ k → k ≢ p → p ≢ k → k ≢ q → q ≢ k → a ≢ p → p ≢ a
+    → a ≢ q → q ≢ a → p ≢ q → q ≢ p → A) → A
+apart d c = c (d .ka) (λ e. d .ka (sym e)) (d .kp) (λ e. d .kp (sym e)) (d .kq) (λ e. d .kq (sym e)) (d .ap)
+    (λ e. d .ap (sym e)) (d .aq) (λ e. d .aq (sym e)) (d .pq) (λ e. d .pq (sym e))

@@ -1,5 +1,5 @@
--- Walks that compute, with fuel, and the cycles that they speak of: what is met from a number, the run between two numbers as a
--- test and as a loop of code walks it, and the tests over 1..n that say what `Cycles` says.
+-- Walks that compute, with fuel, and the cycles that they speak of: what is met from a number, the run between two
+-- numbers as a test and as a loop of code walks it, and the tests over 1..n that say what `Cycles` says.
 use mathlib.Core.Path.{_≡_, refl, sym, ap, _∙_, subst}
 use mathlib.Core.Logic.{_≢_, ⊎-elim}
 use mathlib.Core.Bool.{Bool, true, false, not, _||_, false≢true}
@@ -7,7 +7,8 @@ use mathlib.Core.List.{List, [], _∷_}
 use Prim.Native.Nat.{ℕ, zero, suc, _+_, _-_, _≤_, _<_}
 use native.Mathlib.Omega.{arith}
 use lib.Dec.{T, eqb, eqb→eq, leb, leb→le, le→leb}
-use Rattle.laws.specs.Bools.{pick, le?, T-true, true-T, eqb-same, eqb-other, split, allb, All, allb-T, T-allb, imp-T, T-imp}
+use Rattle.laws.specs.Bools.{pick, le?, T-true, true-T, eqb-same, eqb-other, split, allb, All, allb-T, T-allb}
+use Rattle.laws.specs.Bools.{imp-T, T-imp}
 use Rattle.laws.specs.Search.{allTo, all-at, all-of}
 use Rattle.laws.specs.Permutations.{iter, iter-add, iter-last, Perm, inj, iter-in, iter-inj, soon}
 use Rattle.laws.specs.Linked.{Linked, same, link, back, via}
@@ -78,32 +79,40 @@ pub iter-meets : (f : ℕ → ℕ) (n m s j : ℕ) → m < n → iter f m s ≡ 
 unfolding iter
 iter-meets f zero m s j l e = absurd (omega arith)
 iter-meets f (suc n) zero s j l e = meets-at f n e
-iter-meets f (suc n) (suc m) s j l e = split s j (λ d. meets-at f n d) λ h. meets-on f n h ∙ iter-meets f n m (f s) j (omega arith) e
+iter-meets f (suc n) (suc m) s j l e = split s j (λ d. meets-at f n d) λ h. meets-on f n h
+    ∙ iter-meets f n m (f s) j (omega arith) e
 
 -- in a permutation of 1..n, what is met at all is met within n steps
-pub met-soon : {n : ℕ} {U : ℕ → Type 0} {f : ℕ → ℕ} {s j : ℕ} → Perm n U f → U s → (m : ℕ) → iter f m s ≡ j → meets f n s j ≡ true
-met-soon {n} {f = f} {s} {j} p u m e = let r = soon p m m s (omega arith) u in iter-meets f n (r .0) s j (r .1) (r .3 ∙ e)
+pub met-soon : {n : ℕ} {U : ℕ → Type 0} {f : ℕ → ℕ} {s j : ℕ} → Perm n U f → U s → (m : ℕ) → iter f m s ≡ j
+    → meets f n s j ≡ true
+met-soon {n} {f = f} {s} {j} p u m e = let r = soon p m m s (omega arith) u in
+    iter-meets f n (r .0) s j (r .1) (r .3 ∙ e)
 
 -- along f from one in use, all are linked
-pub chain : {U : ℕ → Type 0} {f : ℕ → ℕ} → ((i : ℕ) → U i → U (f i)) → (m s : ℕ) → U s → Linked (Step U f) s (iter f m s)
+pub chain : {U : ℕ → Type 0} {f : ℕ → ℕ} → ((i : ℕ) → U i → U (f i)) → (m s : ℕ) → U s
+    → Linked (Step U f) s (iter f m s)
 unfolding iter
 chain c zero s u = same refl
 chain {f = f} c (suc m) s u = via (f s) (link (u, refl)) (chain c m (f s) (c s u))
 
 -- if each is met from its label's representative, those of one label are in one cycle
-pub met-cycles : {n : ℕ} {U : ℕ → Type 0} {f lab : ℕ → ℕ} → Perm n U f → ((i : ℕ) → U i → lab (f i) ≡ lab i) → (rep : ℕ → ℕ) → ((i : ℕ) → U i → U (rep (lab i)))
+pub met-cycles : {n : ℕ} {U : ℕ → Type 0} {f lab : ℕ → ℕ} → Perm n U f → ((i : ℕ) → U i → lab (f i) ≡ lab i)
+    → (rep : ℕ → ℕ) → ((i : ℕ) → U i → U (rep (lab i)))
     → ((i : ℕ) → U i → meets f n (rep (lab i)) i ≡ true) → Cycles n U f lab
 met-cycles {n} {U} {f} {lab} p keeps rep rooted met = record {
   perm = p;
   keeps = keeps;
-  one = λ i j v w e. via (rep (lab i)) (back (from i v)) (subst (λ k. Linked (Step U f) k j) (ap rep (sym e)) (from j w));
+  one = λ i j v w e. via (rep (lab i)) (back (from i v))
+      (subst (λ k. Linked (Step U f) k j) (ap rep (sym e)) (from j w));
 }
   where
     from : (i : ℕ) → U i → Linked (Step U f) (rep (lab i)) i
-    from i v = let r = meets-iter f n (rep (lab i)) i (met i v) in subst (Linked (Step U f) (rep (lab i))) (r .2) (chain (p .f-in) (r .0) (rep (lab i)) (rooted i v))
+    from i v = let r = meets-iter f n (rep (lab i)) i (met i v) in
+        subst (Linked (Step U f) (rep (lab i))) (r .2) (chain (p .f-in) (r .0) (rep (lab i)) (rooted i v))
 
 -- and back: n steps are enough for each walk
-pub cycles-met : {n : ℕ} {U : ℕ → Type 0} {f lab : ℕ → ℕ} → Cycles n U f lab → (rep : ℕ → ℕ) → ((i : ℕ) → U i → U (rep (lab i)) × (lab (rep (lab i)) ≡ lab i))
+pub cycles-met : {n : ℕ} {U : ℕ → Type 0} {f lab : ℕ → ℕ} → Cycles n U f lab → (rep : ℕ → ℕ)
+    → ((i : ℕ) → U i → U (rep (lab i)) × (lab (rep (lab i)) ≡ lab i))
     → (i : ℕ) → U i → meets f n (rep (lab i)) i ≡ true
 cycles-met {n} {U} {f} {lab} c rep rooted i v =
     let m = forwards (c .perm) (c .one (rep (lab i)) i (rooted i v .0) v (rooted i v .1)) in
@@ -148,12 +157,16 @@ module _ (n : ℕ) (u : ℕ → Bool) (f g lab : ℕ → ℕ) where
   steps-keep t i v = eqb→eq _ _ (facts t i v .1 .1 .1 .1 .0)
 
   -- and back
-  pub perm-steps : Perm n (Used n u) f → ((i : ℕ) → Used n u i → g (f i) ≡ i) → ((i : ℕ) → Used n u i → lab (f i) ≡ lab i) → T (allStep n u f g lab)
+  pub perm-steps : Perm n (Used n u) f → ((i : ℕ) → Used n u i → g (f i) ≡ i)
+      → ((i : ℕ) → Used n u i → lab (f i) ≡ lab i) → T (allStep n u f g lab)
   unfolding allStep
   perm-steps p gf keeps = all-of n _ λ i l h. T-imp (u i) _ λ t.
       let v : Used n u i = (l, h, t) in
       let w = p .f-in i v in
-      T-allb (step-tests n u f g lab i) (le→leb _ _ (w .0), (le→leb _ _ (w .1), (w .2, (true-T (eqb-same (gf i v)), (true-T (eqb-same (keeps i v)), tt)))))
+      T-allb (step-tests n u f g lab i) (
+        le→leb _ _ (w .0),
+        (le→leb _ _ (w .1), (w .2, (true-T (eqb-same (gf i v)), (true-T (eqb-same (keeps i v)), tt)))),
+      )
 
 module _ (n : ℕ) (u : ℕ → Bool) (f rep lab : ℕ → ℕ) where
   -- the second test says that each is met
@@ -167,26 +180,31 @@ module _ (n : ℕ) (u : ℕ → Bool) (f rep lab : ℕ → ℕ) where
   met-of h = all-of n _ (λ i l r. T-imp (u i) _ (λ t. true-T (h i (l, r, t))))
 
   -- both tests say what `Cycles` says
-  pub cycles-of : (g : ℕ → ℕ) → ((i : ℕ) → Used n u i → Used n u (rep (lab i))) → T (allStep n u f g lab) → T (allMet n u f rep lab) → Cycles n (Used n u) f lab
+  pub cycles-of : (g : ℕ → ℕ) → ((i : ℕ) → Used n u i → Used n u (rep (lab i))) → T (allStep n u f g lab)
+      → T (allMet n u f rep lab) → Cycles n (Used n u) f lab
   cycles-of g rooted s t = met-cycles (steps-perm n u f g lab s) (steps-keep n u f g lab s) rep rooted (met-at t)
 
   -- and back
-  pub of-cycles : (g : ℕ → ℕ) → ((i : ℕ) → Used n u i → Used n u (rep (lab i)) × (lab (rep (lab i)) ≡ lab i)) → ((i : ℕ) → Used n u i → g (f i) ≡ i)
+  pub of-cycles : (g : ℕ → ℕ) → ((i : ℕ) → Used n u i → Used n u (rep (lab i)) × (lab (rep (lab i)) ≡ lab i))
+      → ((i : ℕ) → Used n u i → g (f i) ≡ i)
       → Cycles n (Used n u) f lab → T (allStep n u f g lab) × T (allMet n u f rep lab)
   of-cycles g rooted gf c = (perm-steps n u f g lab (c .perm) gf (c .keeps), met-of (cycles-met c rep rooted))
 
 -- ---- the run after k up to a, as a test: of the numbers of k's cycle, those from which a is met before k
 
-module _ {n : ℕ} {U : ℕ → Type 0} {f lab : ℕ → ℕ} (c : Cycles n U f lab) {k a q : ℕ} (uk : U k) (ua : U a) (uq : U q) (qa : f q ≡ a) (ka : k ≢ a) (one : lab k ≡ lab a) where
+module _ {n : ℕ} {U : ℕ → Type 0} {f lab : ℕ → ℕ} (c : Cycles n U f lab) {k a q : ℕ} (uk : U k) (ua : U a) (uq : U q)
+    (qa : f q ≡ a) (ka : k ≢ a) (one : lab k ≡ lab a) where
   -- from a number other than a: where a is met before k, its predecessor q is
   to-run : {i : ℕ} → U i → i ≢ a → Till f k a i → Till f k q i
   to-run u h (stop e) = absurd (h e)
-  to-run u h (go {z} p p′ t) = split z q (λ e. stop e) λ g. go p g (to-run (c .perm .f-in z u) (λ e. g (inj (c .perm) u uq (e ∙ sym qa))) t)
+  to-run u h (go {z} p p′ t) =
+      split z q (λ e. stop e) λ g. go p g (to-run (c .perm .f-in z u) (λ e. g (inj (c .perm) u uq (e ∙ sym qa))) t)
 
   -- and where k is met before a, k is met before q
   to-rest : {i : ℕ} → U i → i ≢ a → Till f a k i → Till f q k i
   to-rest u h (stop e) = stop e
-  to-rest u h (go {z} p p′ t) = split z q (λ e. absurd (not-here (subst (Till f a k) (ap f e ∙ qa) t))) λ g. go g p′ (to-rest (c .perm .f-in z u) (λ e. g (inj (c .perm) u uq (e ∙ sym qa))) t)
+  to-rest u h (go {z} p p′ t) = split z q (λ e. absurd (not-here (subst (Till f a k) (ap f e ∙ qa) t))) λ g. go g p′
+      (to-rest (c .perm .f-in z u) (λ e. g (inj (c .perm) u uq (e ∙ sym qa))) t)
     where
       not-here : Till f a k a → ⊥
       not-here (stop e) = ka (sym e)
@@ -202,7 +220,8 @@ module _ {n : ℕ} {U : ℕ → Type 0} {f lab : ℕ → ℕ} (c : Cycles n U f 
 
   -- the test says no: on the rest
   pub run-no : (i : ℕ) → U i → i ≢ a → lab i ≡ lab k → first f n k a i ≡ false → Till f q k i
-  run-no i u h e t = ⊎-elim (λ s. absurd (seen s)) (λ s. to-rest u h s) (either f k a ka (ahead i u e .0) i (ahead i u e .1))
+  run-no i u h e t =
+      ⊎-elim (λ s. absurd (seen s)) (λ s. to-rest u h s) (either f k a ka (ahead i u e .0) i (ahead i u e .1))
     where
       seen : Till f k a i → ⊥
       seen s =
@@ -221,7 +240,8 @@ module _ {n : ℕ} {U : ℕ → Type 0} {f lab : ℕ → ℕ} (c : Cycles n U f 
 
   -- k is not met on the way: the walk would begin again
   no-k : (t : ℕ) → t < d → iter f t (f k) ≢ k
-  no-k t l e = first-d (d - suc t) (omega arith) (ap (iter f (d - suc t)) (sym (iter-last f t (f k) ∙ ap f e)) ∙ sym (iter-add f (suc t) (d - suc t) (f k)) ∙ ap (λ m. iter f m (f k)) steps ∙ at-d)
+  no-k t l e = first-d (d - suc t) (omega arith) (ap (iter f (d - suc t)) (sym (iter-last f t (f k) ∙ ap f e))
+      ∙ sym (iter-add f (suc t) (d - suc t) (f k)) ∙ ap (λ m. iter f m (f k)) steps ∙ at-d)
     where
       steps : suc t + (d - suc t) ≡ d
       steps = omega arith
@@ -232,14 +252,17 @@ module _ {n : ℕ} {U : ℕ → Type 0} {f lab : ℕ → ℕ} (c : Cycles n U f 
     where
       same-t : t ≡ d
       same-t = omega arith
-  walk-till (suc r) t e = go (no-k t (omega arith)) (first-d t (omega arith)) (subst (Till f k a) (iter-last f t (f k)) (walk-till r (suc t) (omega arith)))
+  walk-till (suc r) t e =
+      go (no-k t (omega arith)) (first-d t (omega arith))
+      (subst (Till f k a) (iter-last f t (f k)) (walk-till r (suc t) (omega arith)))
 
   -- and the walk meets all of the run
   pub till-walk : (i : ℕ) → U i → i ≢ a → Till f k a i → (t : ℕ) × (t < d) × (iter f t (f k) ≡ i)
   unfolding iter
   till-walk i u h s = from (till-steps s)
     where
-      from : ((e : ℕ) × (iter f e i ≡ a) × ((t : ℕ) → t < e → iter f t i ≢ k)) → (t : ℕ) × (t < d) × (iter f t (f k) ≡ i)
+      from : ((e : ℕ) × (iter f e i ≡ a) × ((t : ℕ) → t < e → iter f t i ≢ k)) → (t : ℕ) × (t < d)
+          × (iter f t (f k) ≡ i)
       from r = ⊎-elim near (λ l. absurd (r .2 (r .0 - suc d) (omega arith) (far l))) (le? (r .0) d)
         where
           some-step : 1 ≤ r .0
@@ -247,10 +270,15 @@ module _ {n : ℕ} {U : ℕ → Type 0} {f lab : ℕ → ℕ} (c : Cycles n U f 
 
           near : r .0 ≤ d → (t : ℕ) × (t < d) × (iter f t (f k) ≡ i)
           near l =
-              let steps : d - r .0 + r .0 ≡ d = omega arith in
-              (d - r .0, omega (arith, some-step), iter-inj (c .perm) (r .0) _ i (iter-in (c .perm) (d - r .0) (f k) ufk) u (sym (iter-add f (d - r .0) (r .0) (f k)) ∙ ap (λ m. iter f m (f k)) steps ∙ at-d ∙ sym (r .1)))
+              let steps : d - r .0 + r .0 ≡ d = omega arith in (
+                d - r .0,
+                omega (arith, some-step),
+                iter-inj (c .perm) (r .0) _ i (iter-in (c .perm) (d - r .0) (f k) ufk) u
+                    (sym (iter-add f (d - r .0) (r .0) (f k)) ∙ ap (λ m. iter f m (f k)) steps ∙ at-d ∙ sym (r .1)),
+              )
 
           far : d < r .0 → iter f (r .0 - suc d) i ≡ k
           far l =
               let steps : r .0 - suc d + suc d ≡ r .0 = omega arith in
-              iter-inj (c .perm) (suc d) _ k (iter-in (c .perm) (r .0 - suc d) i u) uk (sym (iter-add f (r .0 - suc d) (suc d) i) ∙ ap (λ m. iter f m i) steps ∙ r .1 ∙ sym at-d)
+              iter-inj (c .perm) (suc d) _ k (iter-in (c .perm) (r .0 - suc d) i u) uk
+              (sym (iter-add f (r .0 - suc d) (suc d) i) ∙ ap (λ m. iter f m i) steps ∙ r .1 ∙ sym at-d)

@@ -1,4 +1,5 @@
--- The twelve columns of a table's links, the capacities among them, as one family: what is said of a store to one column is said once for all.
+-- The twelve columns of a table's links, the capacities among them, as one family: what is said of a store to one
+-- column is said once for all.
 use mathlib.Core.Path.{_≡_, refl, sym, ap, _∙_, subst}
 use mathlib.Core.Logic.{⊎-elim}
 use mathlib.Core.Bool.{Bool, true, false, _&&_, _||_}
@@ -35,8 +36,8 @@ halfKind = 4
 abbrev pub vertexKind : ℕ
 vertexKind = 5
 
--- THE TABLE OF FIELDS: of each kind of record its words, in order. How wide a record is, and so where every record of a table stands,
--- follows from it; `field-back` and `field-named` hold it to `groupOf` and `wordOf`, its other reading
+-- THE TABLE OF FIELDS: of each kind of record its words, in order. How wide a record is, and so where every record of a
+-- table stands, follows from it; `field-back` and `field-named` hold it to `groupOf` and `wordOf`, its other reading
 abbrev pub records : List (List Field)
 records =
     (Capacity ∷ [])
@@ -234,7 +235,8 @@ Each P [] = Unit {0}
 Each P (F ∷ Fs) = P F × Each P Fs
 
 -- P of every field: of Fs one by one, of the others at once. A new field is one of the others
-pub by-fields : (Fs : List Field) (P : Field → Type 0) → Each P Fs → ((F : Field) → among Fs F ≡ false → P F) → (F : Field) → P F
+pub by-fields : (Fs : List Field) (P : Field → Type 0) → Each P Fs → ((F : Field) → among Fs F ≡ false → P F)
+    → (F : Field) → P F
 by-fields Fs P each others F = go Fs each (others F)
   where
     go : (Gs : List Field) → Each P Gs → (among Gs F ≡ false → P F) → P F

@@ -1,4 +1,5 @@
--- The table of document 01 as plain lists: links and points. What each field of `Fields` is called, and where the records begin.
+-- The table of document 01 as plain lists: links and points. What each field of `Fields` is called, and where the
+-- records begin.
 use Prim.Native.Nat.{ℕ, zero, suc, _+_, _*_}
 use mathlib.Core.List.{List}
 use lib.ListN.{getD}

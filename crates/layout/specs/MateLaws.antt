@@ -18,7 +18,8 @@ mate-even k e = rw (eqb-other e)
 pub mate-mate : (k : ℕ) → mate (mate k) ≡ k
 mate-mate k = split (k % 2) 1
     (λ e. rw (mate-odd k e) (mate-even (k + 1) (omega arith) ∙ omega arith))
-    (λ e. rw (mate-even k e) (split k 0 (λ z. rw z (mate-even 0 (omega arith))) (λ p. mate-odd (k - 1) (omega arith) ∙ omega arith)))
+    (λ e. rw (mate-even k e) (split k 0 (λ z. rw z (mate-even 0 (omega arith))) (λ p. mate-odd (k - 1) (omega arith)
+    ∙ omega arith)))
 
 -- the mate of a half-edge of the first c edges is one of them
 pub mate-range : (k c : ℕ) → 1 ≤ k → k ≤ 2 * c → (1 ≤ mate k) × (mate k ≤ 2 * c)

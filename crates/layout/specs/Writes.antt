@@ -1,4 +1,5 @@
--- Stores as data: a list of cells with their new words. On links it is the stores one after the other, on columns the changes.
+-- Stores as data: a list of cells with their new words. On links it is the stores one after the other, on columns the
+-- changes.
 use mathlib.Core.List.{List, [], _∷_}
 use Prim.Native.Nat.{ℕ}
 use Rattle.layout.specs.declared.shape.Shape.{Shape}

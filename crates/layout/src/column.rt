@@ -1,4 +1,5 @@
-// A column as a value: where one field's words stand, and how many there are. A scan goes down a column, `entryOf` in the specs, and knows no field.
+// A column as a value: where one field's words stand, and how many there are. A scan goes down a column, `entryOf` in
+// the specs, and knows no field.
 ghost use mathlib.Core.Path.{_≡_};
 ghost use Prim.Native.Nat.{ℕ};
 ghost use Rattle.layout.specs.Fields.{Solid, Face, Start};

@@ -1,7 +1,10 @@
 // The columns of a table: one word of each kind of record by name. The places come from `fields`.
 ghost use mathlib.Core.Path.{_≡_};
 ghost use Prim.Native.Nat.{ℕ, _<_, _≤_};
-ghost use Rattle.layout.specs.Layout.{solidUsed, setSolidUsed, faceSolid, setFaceSolid, faceOuter, setFaceOuter, loopFace, setLoopFace, loopFirst, setLoopFirst, loopIsolated, setLoopIsolated, startOf, setStart, loopOf, setLoop, nextOf, setNext, prevOf, setPrev, vertexUsed, setVertexUsed, side};
+ghost use Rattle.layout.specs.Layout.{solidUsed, setSolidUsed, faceSolid, setFaceSolid, faceOuter, setFaceOuter};
+ghost use Rattle.layout.specs.Layout.{loopFace, setLoopFace, loopFirst, setLoopFirst, loopIsolated};
+ghost use Rattle.layout.specs.Layout.{setLoopIsolated, startOf, setStart, loopOf, setLoop, nextOf, setNext};
+ghost use Rattle.layout.specs.Layout.{prevOf, setPrev, vertexUsed, setVertexUsed, side};
 use crate::cells::cell;
 use crate::cells::put_cell;
 use crate::fields::FACE_OUTER;

@@ -1,6 +1,6 @@
 // The table of fields as the code has it: how many words a record of each kind has, and which of them a field is.
-// It is the copy of `Fields` in the specs. The contracts of `columns`, `column` and `shape` hold the two together: with a wrong number
-// here they are not proved.
+// It is the copy of `Fields` in the specs. The contracts of `columns`, `column` and `shape` hold the two together: with
+// a wrong number here they are not proved.
 
 // Capacities before the first record: one of each kind of item.
 pub const HEAD: u32 = 5;

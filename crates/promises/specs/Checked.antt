@@ -25,7 +25,14 @@ use Rattle.runs.specs.Run.{State, entry}
 pub good-within : {sh : Shape} {x : List ℕ} {p : List ℤ} → Good sh x p → Within (limits sh)
 good-within g =
     let c = g .capacities in
-    record { solids = c .solids .1; faces = c .faces .1; loops = c .loops .1; edges = c .edges .1; vertices = c .vertices .1 }
+    record {
+      solids = c .solids .1;
+      faces = c .faces .1;
+      loops = c .loops .1;
+      edges = c .edges .1;
+      vertices =
+          c .vertices .1;
+    }
 
 -- a check that does not refuse names no rule
 pub checked-valid : (x : List ℕ) (p : List ℤ) → checkOf x p .refusal ≡ 0 → Valid x p
@@ -45,6 +52,7 @@ pub good-checked : {sh : Shape} {x : List ℕ} {p : List ℤ} → Good sh x p �
 good-checked {sh} {x} {p} g = good-valid x p (subst (λ sh. Good sh x p) (g .shape) g)
 
 -- a good table whose log start is not beyond the log is let in
-pub good-entry : {sh : Shape} (t : State) → Good sh (t .links) (t .points) → t .start ≤ length (t .log) → entry t ≡ answer 0 0
+pub good-entry : {sh : Shape} (t : State) → Good sh (t .links) (t .points) → t .start ≤ length (t .log)
+    → entry t ≡ answer 0 0
 unfolding entry
 good-entry t g h = rw (le-leb (t .start) (length (t .log)) h) (good-checked g)

@@ -1,5 +1,6 @@
--- An instance by computation, so that the promise is seen to speak of runs that do something: from an empty table, a script with
--- examples b and c of document 01, then one with example d and an operator that is refused; six bytes of log, two more behind the start.
+-- An instance by computation, so that the promise is seen to speak of runs that do something: from an empty table, a
+-- script with examples b and c of document 01, then one with example d and an operator that is refused; six bytes of
+-- log, two more behind the start.
 use mathlib.Core.Path.{_≡_, refl}
 use mathlib.Core.List.{List, [], _∷_}
 use Prim.Native.Nat.{ℕ}
@@ -15,13 +16,17 @@ use Rattle.codec.specs.Operands.{pattern, rows, inRanges, inRange, zig, zag, wi
 use Rattle.codec.specs.OperandBytes.{readOperand, readOperands, operandBytes, operandsBytes}
 use Rattle.script.specs.Operator.{readBehind, readOperator, operatorBytes, putBytes}
 use Rattle.layout.specs.Mate.{mate}
-use Rattle.check_items.specs.Rules.{solidRange, faceRange, loopRange, halfRange, vertexRange, rule1, solidNames, faceNames, loopNames, halfNames, rule2, loopEither, rule3, halfLinks, firstNames, halfInLoop, rule4, vertexEither, halfAtVertex, rule5, halfSides, faceLinked, rule6, brokenRule}
+use Rattle.check_items.specs.Rules.{solidRange, faceRange, loopRange, halfRange, vertexRange, rule1, solidNames}
+use Rattle.check_items.specs.Rules.{faceNames, loopNames, halfNames, rule2, loopEither, rule3, halfLinks, firstNames}
+use Rattle.check_items.specs.Rules.{halfInLoop, rule4, vertexEither, halfAtVertex, rule5, halfSides, faceLinked, rule6}
+use Rattle.check_items.specs.Rules.{brokenRule}
 use Rattle.table.specs.Sizes.{sizesFit}
 use Rattle.table.specs.Check.{checkOf}
 use Rattle.euler.specs.Surgery.{corner, edgeIn, edgeOut, relabel, seek, renew}
 use Rattle.euler.specs.EdgeOperators.{mevLinks, kevTest, kevLinks, mefTest, mefLinks, kefTest, kefLinks}
 use Rattle.euler.specs.FaceOperators.{mvsfLinks, kvsfTest, kvsfLinks}
-use Rattle.euler.specs.Exec.{admitOf, useRefusals, useRefusal, useWord, condition, linksAfter, pointsAfter, killedVertex, inverse}
+use Rattle.euler.specs.Exec.{admitOf, useRefusals, useRefusal, useWord, condition, linksAfter, pointsAfter}
+use Rattle.euler.specs.Exec.{killedVertex, inverse}
 use Rattle.runs.specs.Run.{State, state, admitRead, inverseBytes, carryRefusal, stepped, runRefusal}
 use Rattle.runs.specs.Run.{runFrom, entry, runOf, undid, undoFrom, undoOf}
 use Rattle.promises.specs.RunAll.{runAll}
@@ -45,7 +50,8 @@ scripts =
     ∷ (5 ∷ 1 ∷ 1 ∷ 2 ∷ 2 ∷ 2 ∷ 2 ∷ 0 ∷ 2 ∷ 1 ∷ []) ∷ []
 
 -- three operators are done, their inverses stand in the log, newest first; undo by three gives back what there was
-pub begin-undone : (runAll begin scripts .done ≡ 3) × (runAll begin scripts .last .log ≡ 6 ∷ 4 ∷ 4 ∷ 1 ∷ 2 ∷ 1 ∷ 17 ∷ 18 ∷ [])
+pub begin-undone : (runAll begin scripts .done ≡ 3) × (runAll begin scripts .last .log ≡ 6 ∷ 4 ∷ 4 ∷ 1 ∷ 2 ∷ 1 ∷ 17 ∷ 18
+    ∷ [])
     × (undoAll begin scripts ≡ undid 0 3 6 (begin .links) (begin .points))
 unfolding checkOf sizesFit brokenRule rule1 rule2 rule3 rule4 rule5 rule6 solidRange faceRange loopRange halfRange
     vertexRange solidNames faceNames loopNames halfNames loopEither halfLinks firstNames halfInLoop vertexEither

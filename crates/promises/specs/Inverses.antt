@@ -15,7 +15,8 @@ AllEight [] = Unit {0}
 AllEight (o ∷ os) = (length (o .args) ≡ 8) × AllEight os
 
 -- then so has the one at any place
-eight-at : (os : List Operator) (d : Operator) → length (d .args) ≡ 8 → AllEight os → (k : ℕ) → length (getD os k d .args) ≡ 8
+eight-at : (os : List Operator) (d : Operator) → length (d .args) ≡ 8 → AllEight os → (k : ℕ)
+    → length (getD os k d .args) ≡ 8
 eight-at [] d e a k = e
 eight-at (o ∷ os) d e a zero = a .0
 eight-at (o ∷ os) d e a (suc k) = eight-at os d e (a .1) k
@@ -25,4 +26,5 @@ pub inverse-eight : (sh : Shape) (x : List ℕ) (p : List ℤ) (o : Operator) �
 unfolding inverse
 inverse-eight sh x p o =
     eight-at (inverses sh x p (itemOf o)) _ refl
-    (refl, (refl, (refl, (refl, (refl, (refl, (refl, (refl, (refl, (refl, (refl, (refl, (refl, (refl, tt)))))))))))))) (o .code)
+    (refl, (refl, (refl, (refl, (refl, (refl, (refl, (refl, (refl, (refl, (refl, (refl, (refl, (refl, tt))))))))))))))
+    (o .code)

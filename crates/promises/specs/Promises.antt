@@ -1,7 +1,8 @@
 -- The undo promise (document 01, "Demand 3 in detail"), and what comes with it.
--- It is about `runOf` and `undoOf`, the very definitions that the contracts of `zoghvari_run` and `zoghvari_undo` (crate `kernel`) cite: these say
--- that answer, links, points and log after a call are the definition's, for every input. So what is said here of a chain of such values is said
--- of the same calls made one after the other on memory that nobody else writes to.
+-- It is about `runOf` and `undoOf`, the very definitions that the contracts of `zoghvari_run` and `zoghvari_undo`
+-- (crate `kernel`) cite: these say that answer, links, points and log after a call are the definition's, for every
+-- input. So what is said here of a chain of such values is said of the same calls made one after the other on memory
+-- that nobody else writes to.
 use mathlib.Core.Path.{_≡_, refl, sym, ap, _∙_, subst}
 use mathlib.Core.Logic.{⊎-elim}
 use mathlib.Core.List.{List, [], _∷_}
@@ -17,20 +18,22 @@ use Rattle.promises.specs.RunAll.{runAll, undoneBy}
 use Rattle.runs.specs.Clauses.{run-out, undo-in, undo-out, entry-beyond}
 use Rattle.promises.specs.Checked.{checked-good, good-checked, good-entry}
 use Rattle.promises.specs.OtherLog.{withLog, Alike, Same, same-run}
-use Rattle.promises.specs.UndoParts.{counted, onward, undo-counted, undo-add, undo-fewer, undo-full, undo-entered, undo-kept}
+use Rattle.promises.specs.UndoParts.{counted, onward, undo-counted, undo-add, undo-fewer, undo-full, undo-entered}
+use Rattle.promises.specs.UndoParts.{undo-kept}
 use Rattle.promises.specs.WayBack.{Back, back-none, back-undo, back-all}
 
 -- undo by the sum of the done counts, after the scripts ss were run, one after the other, from the state t on
 abbrev pub undoAll : State → List (List ℕ) → Undid
 undoAll t ss = undoOf (runAll t ss .last) (runAll t ss .done)
 
--- everything is as it was: every word of links and points; the log from the first start on; and if that start is not beyond the
--- log, undo answers 0, that sum and the first start
+-- everything is as it was: every word of links and points; the log from the first start on; and if that start is not
+-- beyond the log, undo answers 0, that sum and the first start
 pub record Restored (t : State) (ss : List (List ℕ)) : Type 0 where
   pub links : undoAll t ss .links ≡ t .links
   pub points : undoAll t ss .points ≡ t .points
   pub log : drop (t .start) (runAll t ss .last .log) ≡ drop (t .start) (t .log)
-  pub answer : t .start ≤ length (t .log) → undoAll t ss .answer ≡ record { refusal = 0; rule = 0; undone = runAll t ss .done; start = t .start }
+  pub answer : t .start ≤ length (t .log)
+      → undoAll t ss .answer ≡ record { refusal = 0; rule = 0; undone = runAll t ss .done; start = t .start }
 
 -- ---- a start beyond the log: nothing is run
 
@@ -88,18 +91,22 @@ module _ (t : State) (ss : List (List ℕ)) (sound : checkOf (t .links) (t .poin
   -- a sound table stays sound
   pub runs-sound : checkOf (runAll t ss .last .links) (runAll t ss .last .points) .refusal ≡ 0
   runs-sound =
-      ⊎-elim (λ h. rw (good-checked (all-back h .good))) (λ h. rw (all-beyond t ss h) sound) (le? (t .start) (length (t .log)))
+      ⊎-elim (λ h. rw (good-checked (all-back h .good))) (λ h. rw (all-beyond t ss h) sound)
+      (le? (t .start) (length (t .log)))
 
   -- undo leaves the first table and the first start; only the log's bytes below it may be others
   pub undone-first : undoneBy (runAll t ss .last) (runAll t ss .done) ≡ withLog t (runAll t ss .last .log)
   undone-first =
-      ⊎-elim (λ h. rw (all-undone h)) (λ h. rw (all-beyond t ss h, undo-beyond t 0 h)) (le? (t .start) (length (t .log)))
+      ⊎-elim (λ h. rw (all-undone h)) (λ h. rw (all-beyond t ss h, undo-beyond t 0 h))
+      (le? (t .start) (length (t .log)))
 
   -- so the next run goes as it would have gone at first: the same answer, the same table, the same live log
   pub next-run : (s : List ℕ) → Same (runOf t s) (runOf (undoneBy (runAll t ss .last) (runAll t ss .done)) s)
   next-run s =
-      let a : Alike (t .start) (t .log) (runAll t ss .last .log) =
-      (⊎-elim (λ h. sym (all-back h .same-length)) (λ h. rw (all-beyond t ss h)) (le? (t .start) (length (t .log))), sym (undo-exact .log)) in
+      let a : Alike (t .start) (t .log) (runAll t ss .last .log) = (
+        ⊎-elim (λ h. sym (all-back h .same-length)) (λ h. rw (all-beyond t ss h)) (le? (t .start) (length (t .log))),
+        sym (undo-exact .log),
+      ) in
       rw undone-first (same-run t (runAll t ss .last .log) s a)
 
 -- ---- undo of any log
@@ -110,15 +117,19 @@ undo-early t m n l h =
     let sh = shapeOf (t .links) in
     let e = undo-entered t n h in
     let s : n ≡ m + (n - m) = omega arith in
-    let z = subst (λ (u : Undid). u .answer .refusal ≡ 0) (undo-in t n e ∙ ap (λ j. undoFrom j sh (t .log) (t .start) 0 (t .links) (t .points)) s) h in
-    subst (λ (u : Undid). u .answer .refusal ≡ 0) (sym (undo-in t m e)) (undo-fewer sh (t .log) (n - m) m (t .start) 0 (t .links) (t .points) z)
+    let z = subst (λ (u : Undid). u .answer .refusal ≡ 0) (undo-in t n e
+    ∙ ap (λ j. undoFrom j sh (t .log) (t .start) 0 (t .links) (t .points)) s) h in
+    subst (λ (u : Undid). u .answer .refusal ≡ 0) (sym (undo-in t m e))
+    (undo-fewer sh (t .log) (n - m) m (t .start) 0 (t .links) (t .points) z)
 
 -- a sound table stays sound when it is undone, whatever the log holds
-pub undo-sound : (t : State) (n : ℕ) → checkOf (t .links) (t .points) .refusal ≡ 0 → checkOf (undoOf t n .links) (undoOf t n .points) .refusal ≡ 0
+pub undo-sound : (t : State) (n : ℕ) → checkOf (t .links) (t .points) .refusal ≡ 0
+    → checkOf (undoOf t n .links) (undoOf t n .points) .refusal ≡ 0
 undo-sound t n s = split (entry t .refusal) 0 (λ h. rw (good-checked (undo-kept t n h .0))) (λ d. rw (undo-out t n d) s)
 
 -- UNDO IN TWO PARTS: the first m of n, if that is not refused, and then the others, is undo of n
-pub undo-parts : (t : State) (m n : ℕ) → m ≤ n → undoOf t m .answer .refusal ≡ 0 → undoOf t n ≡ counted m (undoOf (undoneBy t m) (n - m))
+pub undo-parts : (t : State) (m n : ℕ) → m ≤ n → undoOf t m .answer .refusal ≡ 0
+    → undoOf t n ≡ counted m (undoOf (undoneBy t m) (n - m))
 undo-parts t m n l h =
     let sh = shapeOf (t .links) in
     let e = undo-entered t m h in
@@ -127,8 +138,10 @@ undo-parts t m n l h =
     let w = good-entry (undoneBy t m) (g .0) (g .1) in
     let z = subst (λ (u : Undid). u .answer .refusal ≡ 0) i h in
     let s : n ≡ m + (n - m) = omega arith in
-    let c : undoOf t m .answer .undone ≡ m + 0 = ap (λ (u : Undid). u .answer .undone) i ∙ undo-full sh (t .log) m (t .start) 0 (t .links) (t .points) z ∙ omega arith in
-    let two : undoOf (undoneBy t m) (n - m) ≡ undoFrom (n - m) sh (t .log) (undoOf t m .answer .start) 0 (undoOf t m .links) (undoOf t m .points) =
+    let c : undoOf t m .answer .undone ≡ m + 0 = ap (λ (u : Undid). u .answer .undone) i
+    ∙ undo-full sh (t .log) m (t .start) 0 (t .links) (t .points) z ∙ omega arith in
+    let two : undoOf (undoneBy t m) (n - m)
+    ≡ undoFrom (n - m) sh (t .log) (undoOf t m .answer .start) 0 (undoOf t m .links) (undoOf t m .points) =
     undo-in (undoneBy t m) (n - m) (rw w) ∙ rw (← g .0 .shape) in
     undo-in t n e ∙ ap (λ j. undoFrom j sh (t .log) (t .start) 0 (t .links) (t .points)) s
     ∙ undo-add sh (t .log) (n - m) m (t .start) 0 (t .links) (t .points) z
@@ -138,8 +151,10 @@ undo-parts t m n l h =
     ∙ sym (ap (counted m) two)
 
 -- so what was run can be undone in any two parts: the second ends where undo of all does
-pub undone-apart : (t : State) (ss : List (List ℕ)) → checkOf (t .links) (t .points) .refusal ≡ 0 → t .start ≤ length (t .log) → (m : ℕ) → m ≤ runAll t ss .done
-    → counted m (undoOf (undoneBy (runAll t ss .last) m) (runAll t ss .done - m)) ≡ undid 0 (runAll t ss .done) (t .start) (t .links) (t .points)
+pub undone-apart : (t : State) (ss : List (List ℕ)) → checkOf (t .links) (t .points) .refusal ≡ 0
+    → t .start ≤ length (t .log) → (m : ℕ) → m ≤ runAll t ss .done
+    → counted m (undoOf (undoneBy (runAll t ss .last) m) (runAll t ss .done - m))
+    ≡ undid 0 (runAll t ss .done) (t .start) (t .links) (t .points)
 undone-apart t ss sound h m l =
     let e = all-undone t ss sound h in
     let z = undo-early (runAll t ss .last) m (runAll t ss .done) l (ap (λ (u : Undid). u .answer .refusal) e) in

@@ -1,5 +1,5 @@
--- Reading meets executing: an operator that is read from a script or log is in range of the table, and one that the table accepts,
--- written anywhere, is read from there.
+-- Reading meets executing: an operator that is read from a script or log is in range of the table, and one that the
+-- table accepts, written anywhere, is read from there.
 use mathlib.Core.Path.{_≡_, refl, sym, ap, _∙_, subst}
 use mathlib.Core.Bool.{true}
 use mathlib.Core.List.{List, _++_}
@@ -63,15 +63,18 @@ taken sh x s at h =
 -- ---- what is accepted is read where it was written
 
 -- the two parts of an acceptance
-pub in-range : (sh : Shape) (x : List ℕ) (o : Operator) → refusalOf sh x o ≡ 0 → (rangeRefusal sh o ≡ 0) × (admitOf sh x o ≡ 0)
+pub in-range : (sh : Shape) (x : List ℕ) (o : Operator) → refusalOf sh x o ≡ 0 → (rangeRefusal sh o ≡ 0)
+    × (admitOf sh x o ≡ 0)
 unfolding refusalOf
 in-range sh x o h = first-zero (rangeRefusal sh o) (admitOf sh x o) h
 
 -- two answers of the same operator and the same place behind it
-same-answer : {m n : ℕ} {i o : Operator} → m ≡ n → i ≡ o → _≡_ {A = ReadAnswer} (record { refusal = 0; next = m; op = i }) (record { refusal = 0; next = n; op = o })
+same-answer : {m n : ℕ} {i o : Operator} → m ≡ n → i ≡ o
+    → _≡_ {A = ReadAnswer} (record { refusal = 0; next = m; op = i }) (record { refusal = 0; next = n; op = o })
 same-answer e f = rw (e, f)
 
-module _ {sh : Shape} {x : List ℕ} (v : Within (limits sh)) (o : Operator) (len : length (o .args) ≡ 8) (b : Accepted sh x o) where
+module _ {sh : Shape} {x : List ℕ} (v : Within (limits sh)) (o : Operator) (len : length (o .args) ≡ 8)
+    (b : Accepted sh x o) where
   -- an operator that a table accepts can be written
   pub range-writable : Writable o
   unfolding operatorRefusal
@@ -80,7 +83,8 @@ module _ {sh : Shape} {x : List ℕ} (v : Within (limits sh)) (o : Operator) (le
     not-refused = rw (
       b .code,
       b .count,
-      ranges-wider (largests (limits sh)) (largests widest) (within-largest (limits sh) v) (pattern (o .code) .kinds) (numbersOf o) (b .range),
+      ranges-wider (largests (limits sh)) (largests widest) (within-largest (limits sh) v) (pattern
+          (o .code) .kinds) (numbersOf o) (b .range),
     );
   }
 
@@ -92,7 +96,8 @@ module _ {sh : Shape} {x : List ℕ} (v : Within (limits sh)) (o : Operator) (le
       let a = accepted widest s at (ap (λ (r : ReadAnswer). r .refusal) e) in
       let same : o ≡ operatorIs (a .code) (a .numbers) = sym (ap (λ (r : ReadAnswer). r .op) e) ∙ a .op-is in
       let l = operands-length (pattern (a .code) .kinds) s (a .from) (a .numbers) _ (a .read) in
-      let f = subst (λ (i : Operator). inRanges (largests (limits sh)) (pattern (i .code) .kinds) (numbersOf i) ≡ true) same (b .range) in
+      let f = subst (λ (i : Operator). inRanges (largests (limits sh)) (pattern (i .code) .kinds) (numbersOf i)
+      ≡ true) same (b .range) in
       let g : inRanges (largests (limits sh)) (pattern (a .code) .kinds) (a .numbers) ≡ true =
       rw (wires-unwires (pattern (a .code) .kinds) (a .numbers) l) at f in
       read-accepted (limits sh) s at (a .code) (a .from) (a .numbers) _ (a .code-read) (a .is-code) (a .read) g

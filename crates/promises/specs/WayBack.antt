@@ -1,5 +1,6 @@
--- Undoing leads back. `Back sh n t₀ t`: the first n operators of t's live log are the written inverses, newest first, of what was done
--- since t₀, and behind them stands t₀'s live log. Each step of a run adds one; a refusal changes nothing.
+-- Undoing leads back. `Back sh n t₀ t`: the first n operators of t's live log are the written inverses, newest first,
+-- of what was done since t₀, and behind them stands t₀'s live log. Each step of a run adds one; a refusal changes
+-- nothing.
 use mathlib.Core.Path.{_≡_, refl, sym, _∙_, subst}
 use mathlib.Core.Bool.{Bool, true, false}
 use mathlib.Core.List.{List, [], _∷_}
@@ -35,19 +36,30 @@ pub record Back (sh : Shape) (n : ℕ) (t₀ t : State) : Type 0 where
   pub fits : t₀ .start ≤ length (t₀ .log)
   pub same-length : length (t .log) ≡ length (t₀ .log)
   pub rest : drop (t₀ .start) (t .log) ≡ drop (t₀ .start) (t₀ .log)
-  pub leads : Leads sh (t₀ .links) (t₀ .points) (drop (t₀ .start) (t₀ .log)) n (t .links) (t .points) (drop (t .start) (t .log))
+  pub leads : Leads sh (t₀ .links) (t₀ .points) (drop (t₀ .start) (t₀ .log)) n (t .links) (t .points)
+      (drop (t .start) (t .log))
 
 -- a good state whose start is not beyond the log leads to itself
 pub back-none : {sh : Shape} (t : State) → Good sh (t .links) (t .points) → t .start ≤ length (t .log) → Back sh 0 t t
-back-none t g h = record { good = g; below = omega arith; fits = h; same-length = refl; rest = refl; leads = none refl refl refl }
+back-none t g h = record {
+  good = g;
+  below = omega arith;
+  fits = h;
+  same-length = refl;
+  rest = refl;
+  leads =
+      none refl refl refl;
+}
 
 -- what undo by n answers and leaves then
 pub back-undo : {sh : Shape} {n : ℕ} (t₀ t : State) → Back sh n t₀ t
     → undoFrom n sh (t .log) (t .start) 0 (t .links) (t .points) ≡ undid 0 n (t₀ .start) (t₀ .links) (t₀ .points)
 back-undo {n} t₀ t b =
     let l = length-drop (t₀ .start) (t₀ .log) in
-    let e : length (t .log) - length (drop (t₀ .start) (t₀ .log)) ≡ t₀ .start = omega (arith, l, b .fits, b .same-length) in
-    leads-undo (good-within (b .good)) (b .leads) (t .log) (t .start) 0 (omega (arith, b .below, b .fits, b .same-length)) refl ∙ rw (e, zero-add n)
+    let e : length (t .log) - length (drop (t₀ .start) (t₀ .log)) ≡ t₀ .start =
+    omega (arith, l, b .fits, b .same-length) in
+    leads-undo (good-within (b .good)) (b .leads) (t .log) (t .start) 0 (omega
+    (arith, b .below, b .fits, b .same-length)) refl ∙ rw (e, zero-add n)
 
 -- an operator that is carried out is admitted, and its inverse has room
 pub carries : (sh : Shape) (t : State) (o : Operator) → carryRefusal sh t o ≡ 0
@@ -75,7 +87,8 @@ abbrev After : Shape → ℕ → State → Ran → Type 0
 After sh c t₀ r = Back sh (c + r .answer .done) t₀ (leftBy r)
 
 -- an accepted operator adds one
-pub back-stepped : {sh : Shape} {n : ℕ} (t₀ t : State) (o : Operator) → Back sh n t₀ t → length (o .args) ≡ 8 → refusalOf sh (t .links) o ≡ 0
+pub back-stepped : {sh : Shape} {n : ℕ} (t₀ t : State) (o : Operator) → Back sh n t₀ t → length (o .args) ≡ 8
+    → refusalOf sh (t .links) o ≡ 0
     → length (inverseBytes sh t o) ≤ t .start → Back sh (suc n) t₀ (stepped sh t o)
 unfolding stepped inverseBytes
 back-stepped {sh} {n} t₀ t o b len acc room =
@@ -88,19 +101,23 @@ back-stepped {sh} {n} t₀ t o b len acc room =
       fits = b .fits;
       same-length = put-length (t .log) (t .start) (operatorBytes i) room f ∙ b .same-length;
       rest = put-rest (t .log) (t .start) (operatorBytes i) room f (t₀ .start) (b .below) ∙ b .rest;
-      leads = first {n = n} {p = pointsAfter sh (t .links) (t .points) o} i (drop (t .start) (t .log)) (put-live (t .log) (t .start) (operatorBytes i) room f) (inverse-eight sh (t .links) (t .points) o) (h .1 .accepted)
+      leads = first {n = n} {p = pointsAfter sh (t .links) (t .points) o} i (drop (t .start) (t .log))
+          (put-live (t .log) (t .start) (operatorBytes i) room f) (inverse-eight sh (t .links) (t .points) o)
+          (h .1 .accepted)
           (rw (h .1 .links, h .1 .points) (b .leads));
     }
 
 -- a step of a run that is not refused adds one
-pub back-step : {sh : Shape} {n : ℕ} (t₀ t : State) (s : List ℕ) (at : ℕ) → Back sh n t₀ t → runRefusal sh t s at ≡ 0 → Back sh (suc n) t₀ (stepped sh t (readAt sh s at .op))
+pub back-step : {sh : Shape} {n : ℕ} (t₀ t : State) (s : List ℕ) (at : ℕ) → Back sh n t₀ t → runRefusal sh t s at ≡ 0
+    → Back sh (suc n) t₀ (stepped sh t (readAt sh s at .op))
 back-step {sh} t₀ t s at b h =
     let r = steps sh t s at h in
     let a = taken sh (t .links) s at (r .0) in
     back-stepped t₀ t (readAt sh s at .op) b (a .eight) (a .admitted) (r .1)
 
 -- a run, from any place of its script on, adds as many as it does
-back-from : {sh : Shape} (c : ℕ) (t₀ : State) (s : List ℕ) (n at done : ℕ) (t : State) → Back sh (c + done) t₀ t → After sh c t₀ (runFrom n sh s at done t)
+back-from : {sh : Shape} (c : ℕ) (t₀ : State) (s : List ℕ) (n at done : ℕ) (t : State) → Back sh (c + done) t₀ t
+    → After sh c t₀ (runFrom n sh s at done t)
 back-from {sh} c t₀ s zero at done t b = subst (After sh c t₀) (sym (run-none sh s at done t)) b
 back-from {sh} c t₀ s (suc n) at done t b =
     let e : suc (c + done) ≡ c + (done + 1) = omega arith in
@@ -113,14 +130,16 @@ back-from {sh} c t₀ s (suc n) at done t b =
     (λ l. b))
 
 -- a whole run does
-pub back-run : {sh : Shape} {n : ℕ} (t₀ t : State) (s : List ℕ) → Back sh n t₀ t → Back sh (n + runOf t s .answer .done) t₀ (leftBy (runOf t s))
+pub back-run : {sh : Shape} {n : ℕ} (t₀ t : State) (s : List ℕ) → Back sh n t₀ t
+    → Back sh (n + runOf t s .answer .done) t₀ (leftBy (runOf t s))
 unfolding runOf
 back-run {sh} {n} t₀ t s b =
     let f : t .start ≤ length (t .log) = omega (arith, b .below, b .fits, b .same-length) in
     rw (good-entry t (b .good) f, ← b .good .shape) (back-from n t₀ s (length s) 0 0 t (rw (add-zero n) b))
 
 -- and so does a list of runs
-pub back-all : {sh : Shape} {n : ℕ} (t₀ t : State) (ss : List (List ℕ)) → Back sh n t₀ t → Back sh (n + runAll t ss .done) t₀ (runAll t ss .last)
+pub back-all : {sh : Shape} {n : ℕ} (t₀ t : State) (ss : List (List ℕ)) → Back sh n t₀ t
+    → Back sh (n + runAll t ss .done) t₀ (runAll t ss .last)
 unfolding runAll
 back-all {n} t₀ t [] b = rw (add-zero n) b
 back-all {sh} {n} t₀ t (s ∷ ss) b =

@@ -48,7 +48,8 @@ digits-first : (k n : ℕ) → 0 < n → n < k → 48 < getD (digits k n) 0 0
 unfolding digits
 digits-first zero n z h = absurd (omega arith)
 digits-first (suc k) n z h =
-    ⊎-elim (λ l. rw (le-ltb n 10 l) (first-append (digits k (n / 10)) ((48 + n % 10) ∷ []) (digits-first k (n / 10) (omega arith) (omega arith))))
+    ⊎-elim (λ l. rw (le-ltb n 10 l)
+    (first-append (digits k (n / 10)) ((48 + n % 10) ∷ []) (digits-first k (n / 10) (omega arith) (omega arith))))
     (λ l. rw (lt-ltb n 10 l) (omega arith))
     (le? 10 n)
 

@@ -1,4 +1,5 @@
--- What the program prints: two lines on a run and the table it leaves, or one line on an input that is too long. Texts are lists of bytes.
+-- What the program prints: two lines on a run and the table it leaves, or one line on an input that is too long. Texts
+-- are lists of bytes.
 use Prim.Native.Nat.{ℕ, zero, suc, _+_, _/_, _%_}
 use mathlib.Core.List.{List, [], _∷_, _++_}
 use lib.Dec.{ltb}
@@ -69,7 +70,8 @@ answerLine refusal done used = field refusalLabel refusal ++ field doneLabel don
 -- the second line: what the table has in use, its rings and its holes
 unfoldable pub countLine : CountAnswer → List ℕ
 countLine c =
-    field solidsLabel (c .solids) ++ field facesLabel (c .faces) ++ field loopsLabel (c .loops) ++ field edgesLabel (c .edges)
+    field solidsLabel (c .solids) ++ field facesLabel (c .faces) ++ field loopsLabel (c .loops)
+    ++ field edgesLabel (c .edges)
     ++ field verticesLabel (c .vertices) ++ field ringsLabel (c .rings) ++ field holesLabel (c .holes) ++ newline
 
 -- both lines

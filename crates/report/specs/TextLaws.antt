@@ -13,7 +13,9 @@ use Rattle.laws.specs.Bools.{le?}
 use Rattle.codec.specs.WriteLaws.{sets-append}
 use Rattle.table.specs.declared.count.CountAnswer.{CountAnswer}
 use Rattle.io.specs.Digits as io
-use Rattle.report.specs.Text.{digits, decimal, newline, refusalLabel, doneLabel, usedLabel, solidsLabel, facesLabel, loopsLabel, edgesLabel, verticesLabel, ringsLabel, holesLabel, field, answerLine, countLine, textOf}
+use Rattle.report.specs.Text.{digits, decimal, newline, refusalLabel, doneLabel, usedLabel, solidsLabel}
+use Rattle.report.specs.Text.{facesLabel, loopsLabel, edgesLabel, verticesLabel, ringsLabel, holesLabel, field}
+use Rattle.report.specs.Text.{answerLine, countLine, textOf}
 
 -- bytes copied one by one: the rest of the text, put where the copy stands, is the whole put at its place
 pub put-begin : (l : List ℕ) (at : ℕ) (text : List ℕ) → sets l (at + 0) text ≡ sets l at text
@@ -21,7 +23,8 @@ put-begin l at text = rw (add-zero at)
 
 module _ (l : List ℕ) (at i : ℕ) (text whole : List ℕ) (rest : sets l (at + i) (drop i text) ≡ whole) where
   pub put-turn : i < length text → sets (set l (at + i) (getD text i 0)) (at + (i + 1)) (drop (i + 1) text) ≡ whole
-  put-turn h = let n : at + (i + 1) ≡ suc (at + i) = omega arith in rw (n, add-one i) (rw (drop-cons text i 0 h) at rest)
+  put-turn h = let n : at + (i + 1) ≡ suc (at + i) = omega arith in
+      rw (n, add-one i) (rw (drop-cons text i 0 h) at rest)
 
   pub put-end : length text ≤ i → l ≡ whole
   put-end h = rw (drop-of-length-le text h) at rest
@@ -40,7 +43,8 @@ unfolding digits
 same-digits zero m n h g = absurd (omega arith)
 same-digits (suc k) zero n h g = absurd (omega arith)
 same-digits (suc k) (suc m) n h g =
-    ⊎-elim (λ l. rw (le-ltb n 10 l, same-digits k m (n / 10) (omega arith) (omega arith))) (λ l. rw (lt-ltb n 10 l)) (le? 10 n)
+    ⊎-elim (λ l. rw (le-ltb n 10 l, same-digits k m (n / 10) (omega arith) (omega arith))) (λ l. rw (lt-ltb n 10 l))
+    (le? 10 n)
 
 -- below 10, and from 10 on
 pub decimal-one : (n : ℕ) → n < 10 → decimal n ≡ (48 + n) ∷ []
@@ -54,7 +58,8 @@ decimal-more n h = rw (le-ltb n 10 h, same-digits n (suc (n / 10)) (n / 10) (ome
 -- the fewest digits that hold a number, as the library `io` finds them
 pub decimal-is : (k n : ℕ) → io.Fewest 10 1 n k → io.digits 10 k n ≡ decimal n
 decimal-is zero n (a, b, f) = absurd (omega arith)
-decimal-is (suc zero) n (a, b, f) = let m : n % 10 ≡ n = omega arith in rw (lt-ltb (n % 10) 10 (omega arith), decimal-one n b, m)
+decimal-is (suc zero) n (a, b, f) = let m : n % 10 ≡ n = omega arith in
+    rw (lt-ltb (n % 10) 10 (omega arith), decimal-one n b, m)
 decimal-is (suc (suc k)) n (a, b, f) =
     let p : 10 ^ suc (suc k) ≡ 10 * 10 ^ suc k = pow-succ' 10 (suc k) in
     let q : 10 ^ suc k ≡ 10 * 10 ^ k = pow-succ' 10 k in
@@ -62,7 +67,11 @@ decimal-is (suc (suc k)) n (a, b, f) =
     let o : 1 ≤ 10 ^ k = one-le-pow k 10 (omega arith) in
     let v : 10 ^ k ≤ n / 10 = omega arith in
     let w : 10 ^ (suc k - 1) ≤ n / 10 = subst (λ (j : ℕ). 10 ^ j ≤ n / 10) (omega arith) v in
-    rw (lt-ltb (n % 10) 10 (omega arith), decimal-more n (omega arith), decimal-is (suc k) (n / 10) (omega arith, omega arith, λ g. w))
+    rw (
+      lt-ltb (n % 10) 10 (omega arith),
+      decimal-more n (omega arith),
+      decimal-is (suc k) (n / 10) (omega arith, omega arith, λ g. w),
+    )
 
 -- a number of 64 bits has at most 20 digits
 pub few-digits : (k n : ℕ) → io.Fewest 10 1 n k → n < 2 ^ 64 → k ≤ 20
@@ -76,19 +85,23 @@ few-digits k n (a, b, f) h =
     (le? 21 k)
 
 -- the digits that `io` finds are put
-pub put-digits : (x y t : List ℕ) (a b k n : ℕ) → io.Fewest 10 1 n k → take k t ≡ io.digits 10 k n → Put x a (take k t) b y → Put x a (decimal n) b y
+pub put-digits : (x y t : List ℕ) (a b k n : ℕ) → io.Fewest 10 1 n k → take k t ≡ io.digits 10 k n
+    → Put x a (take k t) b y → Put x a (decimal n) b y
 put-digits x y t a b k n f e p = rw (e ∙ decimal-is k n f) at p
 
 -- a label, then its number
-pub put-field : (x y z label : List ℕ) (a b d n : ℕ) → Put x a label b y → Put y b (decimal n) d z → Put x a (field label n) d z
+pub put-field : (x y z label : List ℕ) (a b d n : ℕ) → Put x a label b y → Put y b (decimal n) d z
+    → Put x a (field label n) d z
 unfolding field
 put-field x y z label a b d n p q = then x y z a b d label (decimal n) p q
 
 -- four texts, and eight
 pub put-4 : (x x1 x2 x3 x4 : List ℕ) (a a1 a2 a3 a4 : ℕ) (t1 t2 t3 t4 : List ℕ)
-    → Put x a t1 a1 x1 → Put x1 a1 t2 a2 x2 → Put x2 a2 t3 a3 x3 → Put x3 a3 t4 a4 x4 → Put x a (t1 ++ t2 ++ t3 ++ t4) a4 x4
+    → Put x a t1 a1 x1 → Put x1 a1 t2 a2 x2 → Put x2 a2 t3 a3 x3 → Put x3 a3 t4 a4 x4
+    → Put x a (t1 ++ t2 ++ t3 ++ t4) a4 x4
 put-4 x x1 x2 x3 x4 a a1 a2 a3 a4 t1 t2 t3 t4 p1 p2 p3 p4 =
-    then x x3 x4 a a3 a4 (t1 ++ t2 ++ t3) t4 (then x x2 x3 a a2 a3 (t1 ++ t2) t3 (then x x1 x2 a a1 a2 t1 t2 p1 p2) p3) p4
+    then x x3 x4 a a3 a4 (t1 ++ t2 ++ t3) t4 (then x x2 x3 a a2 a3 (t1 ++ t2) t3 (then x x1 x2 a a1 a2 t1 t2 p1 p2) p3)
+    p4
 
 pub put-8 : (x x1 x2 x3 x4 x5 x6 x7 x8 : List ℕ) (a a1 a2 a3 a4 a5 a6 a7 a8 : ℕ) (t1 t2 t3 t4 t5 t6 t7 t8 : List ℕ)
     → Put x a t1 a1 x1 → Put x1 a1 t2 a2 x2 → Put x2 a2 t3 a3 x3 → Put x3 a3 t4 a4 x4
@@ -96,7 +109,8 @@ pub put-8 : (x x1 x2 x3 x4 x5 x6 x7 x8 : List ℕ) (a a1 a2 a3 a4 a5 a6 a7 a8 : 
     → Put x a (t1 ++ t2 ++ t3 ++ t4 ++ t5 ++ t6 ++ t7 ++ t8) a8 x8
 put-8 x x1 x2 x3 x4 x5 x6 x7 x8 a a1 a2 a3 a4 a5 a6 a7 a8 t1 t2 t3 t4 t5 t6 t7 t8 p1 p2 p3 p4 p5 p6 p7 p8 =
     then x x7 x8 a a7 a8 (t1 ++ t2 ++ t3 ++ t4 ++ t5 ++ t6 ++ t7) t8
-    (put-4 x x4 x5 x6 x7 a a4 a5 a6 a7 (t1 ++ t2 ++ t3 ++ t4) t5 t6 t7 (put-4 x x1 x2 x3 x4 a a1 a2 a3 a4 t1 t2 t3 t4 p1 p2 p3 p4) p5 p6 p7) p8
+    (put-4 x x4 x5 x6 x7 a a4 a5 a6 a7 (t1 ++ t2 ++ t3 ++ t4) t5 t6 t7
+    (put-4 x x1 x2 x3 x4 a a1 a2 a3 a4 t1 t2 t3 t4 p1 p2 p3 p4) p5 p6 p7) p8
 
 -- at the front of the buffer the place behind a text is its length
 pub put-front : (x y t : List ℕ) (b : ℕ) → Put x 0 t b y → (b ≡ length t) × (y ≡ sets x 0 t)
@@ -104,12 +118,15 @@ put-front x y t b (e, f) = (omega arith, f)
 
 -- the first line
 pub put-answer : (x x1 x2 x3 x4 : List ℕ) (a1 a2 a3 a4 refusal done used : ℕ)
-    → Put x 0 (field refusalLabel refusal) a1 x1 → Put x1 a1 (field doneLabel done) a2 x2 → Put x2 a2 (field usedLabel used) a3 x3
-    → Put x3 a3 newline a4 x4 → (a4 ≡ length (answerLine refusal done used)) × (x4 ≡ sets x 0 (answerLine refusal done used))
+    → Put x 0 (field refusalLabel refusal) a1 x1 → Put x1 a1 (field doneLabel done) a2 x2
+    → Put x2 a2 (field usedLabel used) a3 x3
+    → Put x3 a3 newline a4 x4 → (a4 ≡ length (answerLine refusal done used))
+    × (x4 ≡ sets x 0 (answerLine refusal done used))
 unfolding answerLine
 put-answer x x1 x2 x3 x4 a1 a2 a3 a4 refusal done used p1 p2 p3 p4 =
     put-front x x4 (field refusalLabel refusal ++ field doneLabel done ++ field usedLabel used ++ newline) a4
-    (put-4 x x1 x2 x3 x4 0 a1 a2 a3 a4 (field refusalLabel refusal) (field doneLabel done) (field usedLabel used) newline p1 p2 p3 p4)
+    (put-4 x x1 x2 x3 x4 0 a1 a2 a3 a4 (field refusalLabel refusal) (field doneLabel done)
+    (field usedLabel used) newline p1 p2 p3 p4)
 
 -- the second line
 pub put-counts : (x x1 x2 x3 x4 x5 x6 x7 x8 : List ℕ) (a a1 a2 a3 a4 a5 a6 a7 a8 : ℕ) (c : CountAnswer)
@@ -119,14 +136,17 @@ pub put-counts : (x x1 x2 x3 x4 x5 x6 x7 x8 : List ℕ) (a a1 a2 a3 a4 a5 a6 a7 
     → Put x6 a6 (field holesLabel (c .holes)) a7 x7 → Put x7 a7 newline a8 x8 → Put x a (countLine c) a8 x8
 unfolding countLine
 put-counts x x1 x2 x3 x4 x5 x6 x7 x8 a a1 a2 a3 a4 a5 a6 a7 a8 c =
-    put-8 x x1 x2 x3 x4 x5 x6 x7 x8 a a1 a2 a3 a4 a5 a6 a7 a8 (field solidsLabel (c .solids)) (field facesLabel (c .faces))
-    (field loopsLabel (c .loops)) (field edgesLabel (c .edges)) (field verticesLabel (c .vertices)) (field ringsLabel (c .rings))
+    put-8 x x1 x2 x3 x4 x5 x6 x7 x8 a a1 a2 a3 a4 a5 a6 a7 a8 (field solidsLabel (c .solids))
+    (field facesLabel (c .faces))
+    (field loopsLabel (c .loops)) (field edgesLabel (c .edges)) (field verticesLabel (c .vertices))
+    (field ringsLabel (c .rings))
     (field holesLabel (c .holes)) newline
 
 -- both
 pub put-text : (x y z : List ℕ) (a b refusal done used : ℕ) (c : CountAnswer)
     → (a ≡ length (answerLine refusal done used)) × (y ≡ sets x 0 (answerLine refusal done used))
-    → Put y a (countLine c) b z → (b ≡ length (textOf refusal done used c)) × (z ≡ sets x 0 (textOf refusal done used c))
+    → Put y a (countLine c) b z → (b ≡ length (textOf refusal done used c))
+    × (z ≡ sets x 0 (textOf refusal done used c))
 unfolding textOf
 put-text x y z a b refusal done used c (e, f) q =
     put-front x z (answerLine refusal done used ++ countLine c) b

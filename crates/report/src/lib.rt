@@ -9,7 +9,8 @@ use table::count::CountAnswer;
 // The bytes of a text, from `at` on; the place behind them.
 fn put_bytes(out: &mut [u8; 256], at: usize, text: &[u8]) -> usize
     requires { ⌜ at + length (now text) ≤ 256 ⌝ }
-    ensures { λ r. ⌜ (r ≡ at + length (now (text .entry))) × (now (out .exit) ≡ sets (now (out .entry)) at (now (text .entry))) ⌝ }
+    ensures { λ r. ⌜ (r ≡ at + length (now (text .entry)))
+        × (now (out .exit) ≡ sets (now (out .entry)) at (now (text .entry))) ⌝ }
 {
     let mut i: usize = 0;
     while i < text.len() {
@@ -33,7 +34,8 @@ fn put_number(out: &mut [u8; 256], at: usize, n: usize) -> usize
 // A label and its number, from `at` on; the place behind them.
 fn put_field(out: &mut [u8; 256], at: usize, label: &[u8], n: usize) -> usize
     requires { ⌜ at + length (now label) ≤ 236 ⌝ }
-    ensures { λ r. ⌜ (r ≡ at + length (field (now (label .entry)) n)) × (now (out .exit) ≡ sets (now (out .entry)) at (field (now (label .entry)) n)) ⌝ }
+    ensures { λ r. ⌜ (r ≡ at + length (field (now (label .entry)) n))
+        × (now (out .exit) ≡ sets (now (out .entry)) at (field (now (label .entry)) n)) ⌝ }
     ensures { λ r. ⌜ r ≤ at + length (now (label .entry)) + 20 ⌝ }
 {
     let behind = put_bytes(out, at, label);
@@ -42,7 +44,8 @@ fn put_field(out: &mut [u8; 256], at: usize, label: &[u8], n: usize) -> usize
 
 // The first line, at the front; the place behind it.
 fn put_answer_line(out: &mut [u8; 256], refusal: u8, done: usize, used: usize) -> usize
-    ensures { λ r. ⌜ (r ≡ length (answerLine refusal done used)) × (now (out .exit) ≡ sets (now (out .entry)) 0 (answerLine refusal done used)) ⌝ }
+    ensures { λ r. ⌜ (r ≡ length (answerLine refusal done used))
+        × (now (out .exit) ≡ sets (now (out .entry)) 0 (answerLine refusal done used)) ⌝ }
     ensures { λ r. ⌜ r ≤ 81 ⌝ }
 {
     let a = put_field(out, 0, b"refusal ", refusal as usize);
@@ -67,10 +70,11 @@ fn put_count_line(out: &mut [u8; 256], at: usize, c: CountAnswer) -> usize
     put_bytes(out, h, b"\n")
 }
 
-// The two lines on a run and the table it left, at the front; how long they are. Ten numbers of at most twenty digits and 42 bytes of
-// labels always fit, and what stands behind them stays.
+// The two lines on a run and the table it left, at the front; how long they are. Ten numbers of at most twenty digits
+// and 42 bytes of labels always fit, and what stands behind them stays.
 pub fn text(out: &mut [u8; 256], refusal: u8, done: usize, used: usize, c: CountAnswer) -> usize
-    ensures { λ r. ⌜ (r ≡ length (textOf refusal done used c)) × (now (out .exit) ≡ sets (now (out .entry)) 0 (textOf refusal done used c)) ⌝ }
+    ensures { λ r. ⌜ (r ≡ length (textOf refusal done used c))
+        × (now (out .exit) ≡ sets (now (out .entry)) 0 (textOf refusal done used c)) ⌝ }
     ensures { λ r. ⌜ r ≤ 256 ⌝ }
 {
     let at = put_answer_line(out, refusal, done, used);

@@ -14,7 +14,8 @@ use Rattle.layout.specs.declared.shape.Shape.{Shape}
 use Rattle.layout.specs.Layout.{shapeOf}
 use Rattle.euler.specs.Exec.{linksAfter, pointsAfter}
 use Rattle.table.specs.Check.{checkOf}
-use Rattle.runs.specs.Run.{State, readAt, refusalAt, runRefusal, stepped, ran, runFrom, notRun, entry, runOf, undid, undoFrom, notUndone, undoOf}
+use Rattle.runs.specs.Run.{State, readAt, refusalAt, runRefusal, stepped, ran, runFrom, notRun, entry, runOf}
+use Rattle.runs.specs.Run.{undid, undoFrom, notUndone, undoOf}
 
 -- what holds of each value where its test says so holds of the one taken
 pub pick-by : {X : Type 0} (P : X → Type 0) (b : Bool) (u w : X) → (b ≡ true → P u) → (b ≡ false → P w) → P (pick b u w)
@@ -37,15 +38,18 @@ unfolding runFrom
 run-some n sh s at done t = refl
 
 -- undo of no operators
-pub undo-none : (sh : Shape) (log : List ℕ) (at k : ℕ) (x : List ℕ) (p : List ℤ) → undoFrom 0 sh log at k x p ≡ undid 0 k at x p
+pub undo-none : (sh : Shape) (log : List ℕ) (at k : ℕ) (x : List ℕ) (p : List ℤ) → undoFrom 0 sh log at k x p
+    ≡ undid 0 k at x p
 unfolding undoFrom
 undo-none sh log at k x p = refl
 
 -- undo of one more
-pub undo-some : (n : ℕ) (sh : Shape) (log : List ℕ) (at k : ℕ) (x : List ℕ) (p : List ℤ) → undoFrom (suc n) sh log at k x p
+pub undo-some : (n : ℕ) (sh : Shape) (log : List ℕ) (at k : ℕ) (x : List ℕ) (p : List ℤ)
+    → undoFrom (suc n) sh log at k x p
     ≡ pick (ltb at (length log))
     (pick (eqb (refusalAt sh x log at) 0)
-    (undoFrom n sh log (readAt sh log at .next) (k + 1) (linksAfter sh x (readAt sh log at .op)) (pointsAfter sh x p (readAt sh log at .op)))
+    (undoFrom n sh log (readAt sh log at .next) (k + 1) (linksAfter sh x (readAt sh log at .op))
+    (pointsAfter sh x p (readAt sh log at .op)))
     (undid (refusalAt sh x log at) k at x p))
     (undid 11 k at x p)
 unfolding undoFrom
@@ -54,7 +58,8 @@ undo-some n sh log at k x p = refl
 -- ---- who is let in
 
 -- a run that is let in
-pub run-in : (t : State) (s : List ℕ) → entry t .refusal ≡ 0 → runOf t s ≡ runFrom (length s) (shapeOf (t .links)) s 0 0 t
+pub run-in : (t : State) (s : List ℕ) → entry t .refusal ≡ 0
+    → runOf t s ≡ runFrom (length s) (shapeOf (t .links)) s 0 0 t
 unfolding runOf
 run-in t s h = rw (eqb-same h)
 
@@ -64,7 +69,8 @@ unfolding runOf
 run-out t s h = rw (eqb-other h)
 
 -- undo that is let in
-pub undo-in : (t : State) (n : ℕ) → entry t .refusal ≡ 0 → undoOf t n ≡ undoFrom n (shapeOf (t .links)) (t .log) (t .start) 0 (t .links) (t .points)
+pub undo-in : (t : State) (n : ℕ) → entry t .refusal ≡ 0
+    → undoOf t n ≡ undoFrom n (shapeOf (t .links)) (t .log) (t .start) 0 (t .links) (t .points)
 unfolding undoOf
 undo-in t n h = rw (eqb-same h)
 
@@ -79,11 +85,14 @@ unfolding entry
 entry-beyond t h = rw (lt-leb (t .start) (length (t .log)) h)
 
 -- a start that is not leaves it to the check
-entry-checked : (t : State) → t .start ≤ length (t .log) → entry t .refusal ≡ 0 → checkOf (t .links) (t .points) .refusal ≡ 0
+entry-checked : (t : State) → t .start ≤ length (t .log) → entry t .refusal ≡ 0
+    → checkOf (t .links) (t .points) .refusal ≡ 0
 unfolding entry
 entry-checked t l h = rw (le-leb (t .start) (length (t .log)) l) at h
 
 -- what is let in has its start not beyond the log, and passes the check
-pub entry-passed : (t : State) → entry t .refusal ≡ 0 → (t .start ≤ length (t .log)) × (checkOf (t .links) (t .points) .refusal ≡ 0)
+pub entry-passed : (t : State) → entry t .refusal ≡ 0 → (t .start ≤ length (t .log))
+    × (checkOf (t .links) (t .points) .refusal ≡ 0)
 entry-passed t h =
-    ⊎-elim (λ l. (l, entry-checked t l h)) (λ l. absurd (let z : _≡_ {A = ℕ} 1 0 = rw (entry-beyond t l) at h in omega arith)) (le? (t .start) (length (t .log)))
+    ⊎-elim (λ l. (l, entry-checked t l h)) (λ l. absurd (let z : _≡_ {A = ℕ} 1 0 = rw (entry-beyond t l) at h in
+    omega arith)) (le? (t .start) (length (t .log)))

@@ -1,5 +1,5 @@
--- Running a script and undoing (document 01, "Scripts and the log"). An operator is read (3, 4, 5) and admitted (6, 7, 8); a run also needs
--- room for the inverse in front of the log's start (9); undo needs a log that has not ended (11).
+-- Running a script and undoing (document 01, "Scripts and the log"). An operator is read (3, 4, 5) and admitted (6, 7,
+-- 8); a run also needs room for the inverse in front of the log's start (9); undo needs a log that has not ended (11).
 use Prim.Native.Nat.{ℕ, zero, suc, _+_, _-_}
 use mathlib.Core.List.{List}
 use lib.Dec.{eqb, leb, ltb}
@@ -118,7 +118,8 @@ Ran = Leaves RunAnswer
 -- stopped with a refusal, 0 for none, after `done` operators that took `used` bytes
 abbrev pub ran : ℕ → ℕ → ℕ → State → Ran
 ran refusal done used t =
-    leaves (record { refusal = refusal; rule = 0; done = done; used = used; start = t .start }) (t .links) (t .points) (t .log)
+    leaves (record { refusal = refusal; rule = 0; done = done; used = used; start = t .start }) (t .links) (t .points)
+    (t .log)
 
 -- from a place of the script on, `done` operators done; at most n more, since each takes a byte
 unfoldable pub runFrom : ℕ → Shape → List ℕ → ℕ → ℕ → State → Ran
@@ -133,7 +134,8 @@ runFrom (suc n) sh s at done t =
 -- refused before the first operator, with 1, or with 2 and the rule
 abbrev pub notRun : ℕ → ℕ → State → Ran
 notRun refusal rule t =
-    leaves (record { refusal = refusal; rule = rule; done = 0; used = 0; start = t .start }) (t .links) (t .points) (t .log)
+    leaves (record { refusal = refusal; rule = rule; done = 0; used = 0; start = t .start }) (t .links) (t .points)
+    (t .log)
 
 -- the start is not beyond the log, and the table passes the check: 1, or 2 with the rule
 unfoldable pub entry : State → CheckAnswer
@@ -166,7 +168,8 @@ undoFrom zero sh log at undone x p = undid 0 undone at x p
 undoFrom (suc n) sh log at undone x p =
     pick (ltb at (length log))
     (pick (eqb (refusalAt sh x log at) 0)
-    (undoFrom n sh log (readAt sh log at .next) (undone + 1) (linksAfter sh x (readAt sh log at .op)) (pointsAfter sh x p (readAt sh log at .op)))
+    (undoFrom n sh log (readAt sh log at .next) (undone + 1) (linksAfter sh x (readAt sh log at .op))
+    (pointsAfter sh x p (readAt sh log at .op)))
     (undid (refusalAt sh x log at) undone at x p))
     (undid 11 undone at x p)
 

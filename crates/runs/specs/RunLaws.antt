@@ -102,7 +102,8 @@ module _ (sh : Shape) (t : State) (s : List ℕ) (at : ℕ) where
   module _ (q : Stepped) (e : q ≡ stepOf sh t s at) where
     -- a step answers 0 just where it is not refused
     step-zero : q .refusal ≡ 0 → runRefusal sh t s at ≡ 0
-    step-zero z = ⊎-elim (λ r. r) (λ r. sym (ap (λ u. u .refusal) (e ∙ step-kept r)) ∙ z) (same? (runRefusal sh t s at) 0)
+    step-zero z = ⊎-elim (λ r. r) (λ r. sym (ap (λ u. u .refusal) (e ∙ step-kept r)) ∙ z)
+        (same? (runRefusal sh t s at) 0)
 
     step-some : q .refusal ≢ 0 → runRefusal sh t s at ≢ 0
     step-some z r = z (ap (λ u. u .refusal) (e ∙ step-taken r))
@@ -115,25 +116,30 @@ module _ (sh : Shape) (t : State) (s : List ℕ) (at : ℕ) where
         subst (λ n. (at < n) × (n ≤ length s)) (sym (ap (λ u. u .next) (e ∙ step-taken r))) g
 
 -- past the script's end nothing is done
-pub run-ended : (sh : Shape) (s : List ℕ) (n at done : ℕ) (t : State) → length s ≤ at → runFrom n sh s at done t ≡ ran 0 done at t
+pub run-ended : (sh : Shape) (s : List ℕ) (n at done : ℕ) (t : State) → length s ≤ at → runFrom n sh s at done t
+    ≡ ran 0 done at t
 unfolding runFrom
 run-ended sh s zero at done t h = refl
 run-ended sh s (suc n) at done t h = rw (le-ltb at (length s) h)
 
 -- as it begins, all is left
-pub run-begins : (sh : Shape) (s : List ℕ) (t : State) → runFrom (length s - 0) sh s 0 0 t ≡ runFrom (length s) sh s 0 0 t
+pub run-begins : (sh : Shape) (s : List ℕ) (t : State) → runFrom (length s - 0) sh s 0 0 t
+    ≡ runFrom (length s) sh s 0 0 t
 run-begins sh s t = let e : length s - 0 ≡ length s = omega arith in ap (λ n. runFrom n sh s 0 0 t) e
 
-pub undo-begins : (sh : Shape) (log : List ℕ) (n at : ℕ) (x : List ℕ) (p : List ℤ) → undoFrom (n - 0) sh log at 0 x p ≡ undoFrom n sh log at 0 x p
+pub undo-begins : (sh : Shape) (log : List ℕ) (n at : ℕ) (x : List ℕ) (p : List ℤ) → undoFrom (n - 0) sh log at 0 x p
+    ≡ undoFrom n sh log at 0 x p
 undo-begins sh log n at x p = let e : n - 0 ≡ n = omega arith in ap (λ n. undoFrom n sh log at 0 x p) e
 
 -- a run: what is left of it is the whole; as it stops at a refusal, goes on, ends
-module _ (sh : Shape) (s : List ℕ) (n at done : ℕ) (t : State) (whole : Ran) (rest : runFrom n sh s at done t ≡ whole) where
+module _ (sh : Shape) (s : List ℕ) (n at done : ℕ) (t : State) (whole : Ran) (rest : runFrom n sh s at done t
+    ≡ whole) where
   pub run-end : length s ≤ at → ran 0 done at t ≡ whole
   run-end h = sym (run-ended sh s n at done t h) ∙ rest
 
   module _ (h : at < length s) (m : 0 < n) (q : Stepped) (e : q ≡ stepOf sh t s at) where
-    turn : pick (eqb (runRefusal sh t s at) 0) (runFrom (n - 1) sh s (readAt sh s at .next) (done + 1) (stepped sh t (readAt sh s at .op))) (ran (runRefusal sh t s at) done at t) ≡ whole
+    turn : pick (eqb (runRefusal sh t s at) 0) (runFrom (n - 1) sh s (readAt sh s at .next) (done + 1)
+        (stepped sh t (readAt sh s at .op))) (ran (runRefusal sh t s at) done at t) ≡ whole
     unfolding runFrom
     turn = let k : n ≡ suc (n - 1) = omega (arith, m) in rw (k, lt-ltb at (length s) h) at rest
 
@@ -148,7 +154,8 @@ module _ (sh : Shape) (s : List ℕ) (n at done : ℕ) (t : State) (whole : Ran)
         rw (ek, e ∙ step-taken sh t s at r) (rw (eq-eqb (runRefusal sh t s at) 0 r) at turn)
 
 -- an undo: none is due, the log has ended, a refusal, one undone
-module _ (sh : Shape) (log : List ℕ) (n at k : ℕ) (x : List ℕ) (p : List ℤ) (whole : Undid) (rest : undoFrom n sh log at k x p ≡ whole) where
+module _ (sh : Shape) (log : List ℕ) (n at k : ℕ) (x : List ℕ) (p : List ℤ) (whole : Undid)
+    (rest : undoFrom n sh log at k x p ≡ whole) where
   pub undo-end : n ≤ 0 → undid 0 k at x p ≡ whole
   unfolding undoFrom
   undo-end h = let z : n ≡ 0 = omega (arith, h) in rw z at rest
@@ -157,18 +164,22 @@ module _ (sh : Shape) (log : List ℕ) (n at k : ℕ) (x : List ℕ) (p : List �
   unfolding undoFrom
   undo-past m h = let e : n ≡ suc (n - 1) = omega (arith, m) in rw (e, le-ltb at (length log) h) at rest
 
-  module _ (m : 0 < n) (h : at < length log) (lim : Limits) (el : lim ≡ limits sh) (rd : ReadAnswer) (er : rd ≡ readOperator lim log at) (a : ℕ) (ea : a ≡ admitRead sh x rd) where
+  module _ (m : 0 < n) (h : at < length log) (lim : Limits) (el : lim ≡ limits sh) (rd : ReadAnswer)
+      (er : rd ≡ readOperator lim log at) (a : ℕ) (ea : a ≡ admitRead sh x rd) where
     here : rd ≡ readAt sh log at
     here = er ∙ ap (λ l. readOperator l log at) el
 
-    due : pick (eqb (refusalAt sh x log at) 0) (undoFrom (n - 1) sh log (readAt sh log at .next) (k + 1) (linksAfter sh x (readAt sh log at .op)) (pointsAfter sh x p (readAt sh log at .op))) (undid (refusalAt sh x log at) k at x p) ≡ whole
+    due : pick (eqb (refusalAt sh x log at) 0) (undoFrom (n - 1) sh log (readAt sh log at .next) (k + 1)
+        (linksAfter sh x (readAt sh log at .op)) (pointsAfter sh x p (readAt sh log at .op))) (undid
+        (refusalAt sh x log at) k at x p) ≡ whole
     unfolding undoFrom
     due = let e : n ≡ suc (n - 1) = omega (arith, m) in rw (e, lt-ltb at (length log) h) at rest
 
     pub undo-stop : a ≢ 0 → undid a k at x p ≡ whole
     undo-stop z = rw (← here, ← ea, ne-eqb a 0 z) at due
 
-    pub undo-turn : a ≡ 0 → (y : List ℕ) → y ≡ linksAfter sh x (rd .op) → (q : List ℤ) → q ≡ pointsAfter sh x p (rd .op) → (j : ℕ) → j ≡ n - 1 → undoFrom j sh log (rd .next) (k + 1) y q ≡ whole
+    pub undo-turn : a ≡ 0 → (y : List ℕ) → y ≡ linksAfter sh x (rd .op) → (q : List ℤ) → q ≡ pointsAfter sh x p (rd .op)
+        → (j : ℕ) → j ≡ n - 1 → undoFrom j sh log (rd .next) (k + 1) y q ≡ whole
     undo-turn z y ey q eq j ej = rw (ej, ey, eq) (rw (← here, ← ea, eq-eqb a 0 z) at due)
 
 -- the way in: the start is beyond the log, or the check answers
@@ -185,10 +196,12 @@ module _ (x : List ℕ) (p : List ℤ) (log : List ℕ) (start : ℕ) where
   enter-checked h a e = rw (le-leb start (length log) h) e
 
   module _ (a : CheckAnswer) (e : a ≡ entry (state x p log start)) where
-    pub run-refused : (s : List ℕ) → a .refusal ≢ 0 → notRun (a .refusal) (a .rule) (state x p log start) ≡ runOf (state x p log start) s
+    pub run-refused : (s : List ℕ) → a .refusal ≢ 0 → notRun (a .refusal) (a .rule) (state x p log start)
+        ≡ runOf (state x p log start) s
     run-refused s z = rw e (sym (run-out held s (λ h. z (ap (λ c. c .refusal) e ∙ h))))
 
-    pub undo-refused : (n : ℕ) → a .refusal ≢ 0 → notUndone (a .refusal) (a .rule) (state x p log start) ≡ undoOf (state x p log start) n
+    pub undo-refused : (n : ℕ) → a .refusal ≢ 0 → notUndone (a .refusal) (a .rule) (state x p log start)
+        ≡ undoOf (state x p log start) n
     undo-refused n z = rw e (sym (undo-out held n (λ h. z (ap (λ c. c .refusal) e ∙ h))))
 
     module _ (z : a .refusal ≡ 0) (sh : Shape) (h : sh ≡ shapeOf x) where
@@ -199,7 +212,8 @@ module _ (x : List ℕ) (p : List ℤ) (log : List ℕ) (start : ℕ) where
       pub entered-small : Small sh
       entered-small = rw h (fits-small x p (checked-fits x p (entry-passed held let-in .1)))
 
-      pub run-entered : (s : List ℕ) (r : Ran) → r ≡ runFrom (length s) sh s 0 0 (state x p log start) → r ≡ runOf (state x p log start) s
+      pub run-entered : (s : List ℕ) (r : Ran) → r ≡ runFrom (length s) sh s 0 0 (state x p log start)
+          → r ≡ runOf (state x p log start) s
       run-entered s r g = rw h at g ∙ sym (run-in held s let-in)
 
       pub undo-entered : (n : ℕ) (r : Undid) → r ≡ undoFrom n sh log start 0 x p → r ≡ undoOf (state x p log start) n

@@ -1,6 +1,6 @@
 // What a run and an undo answer.
-// What a run answers: the refusal, 0 for none; with refusal 2 the broken rule; the operators done, the script bytes they took, and the
-// log's new start.
+// What a run answers: the refusal, 0 for none; with refusal 2 the broken rule; the operators done, the script bytes
+// they took, and the log's new start.
 #[repr(C)]
 pub struct RunAnswer {
     pub refusal: u8,
@@ -10,7 +10,8 @@ pub struct RunAnswer {
     pub start: usize,
 }
 
-// What undo answers: the refusal, 0 for none; with refusal 2 the broken rule; the operators undone and the log's new start.
+// What undo answers: the refusal, 0 for none; with refusal 2 the broken rule; the operators undone and the log's new
+// start.
 #[repr(C)]
 pub struct UndoAnswer {
     pub refusal: u8,

@@ -1,5 +1,5 @@
-// Running a script: operator after operator up to the script's end or the first refusal, each with its inverse in the log. The loops
-// of each face are counted once, and kept up from there.
+// Running a script: operator after operator up to the script's end or the first refusal, each with its inverse in the
+// log. The loops of each face are counted once, and kept up from there.
 ghost use mathlib.Core.Path.{_≡_};
 ghost use Prim.Native.Nat.{ℕ, _≤_};
 ghost use lib.ListN.{length};

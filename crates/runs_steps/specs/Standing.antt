@@ -1,5 +1,5 @@
--- What a run and an undo stand on from one operator to the next: the table is good, and the numbers of loops beside it are right.
--- Both begin with the check and the count, and each operator that is carried out keeps them.
+-- What a run and an undo stand on from one operator to the next: the table is good, and the numbers of loops beside it
+-- are right. Both begin with the check and the count, and each operator that is carried out keeps them.
 use mathlib.Core.Path.{_≡_, sym, _∙_}
 use mathlib.Core.Logic.{_≢_}
 use mathlib.Core.List.{List}
@@ -29,7 +29,14 @@ pub record Standing (sh : Shape) (x : List ℕ) (p : List ℤ) (c : List ℕ) : 
 pub standing-small : {sh : Shape} {x : List ℕ} {p : List ℤ} {c : List ℕ} → Standing sh x p c → Small sh
 standing-small s =
     let a = s .good .capacities in
-    record { solids = a .solids .1; faces = a .faces .1; loops = a .loops .1; edges = a .edges .1; vertices = a .vertices .1 }
+    record {
+      solids = a .solids .1;
+      faces = a .faces .1;
+      loops = a .loops .1;
+      edges = a .edges .1;
+      vertices =
+          a .vertices .1;
+    }
 
 -- an operator that is read and admitted keeps all this
 pub standing-after : {sh : Shape} {x : List ℕ} {p : List ℤ} {c : List ℕ} → Standing sh x p c → (s : List ℕ) (at : ℕ)
@@ -65,7 +72,8 @@ module _ (sh : Shape) (x : List ℕ) (p : List ℤ) (log : List ℕ) (at r : ℕ
   unfolding backOf
   back-refused z = rw (← er, eqb-other z)
 
-  pub back-done : r ≡ 0 → (o : Operator) → o ≡ readAt sh log at .op → (y : List ℕ) → y ≡ linksAfter sh x o → (q : List ℤ) → q ≡ pointsAfter sh x p o
+  pub back-done : r ≡ 0 → (o : Operator) → o ≡ readAt sh log at .op → (y : List ℕ) → y ≡ linksAfter sh x o
+      → (q : List ℤ) → q ≡ pointsAfter sh x p o
       → record { links = y; points = q } ≡ backOf sh x p log at
   unfolding backOf
   back-done z o eo y ey q eq = rw (← er, eqb-same z, ← eo, ey, eq)

@@ -1,5 +1,5 @@
--- The ways through one operator of a run, over plain variables: what stands at a place of the script is refused; there is no room for
--- its inverse in front of the log's start; it is carried out.
+-- The ways through one operator of a run, over plain variables: what stands at a place of the script is refused; there
+-- is no room for its inverse in front of the log's start; it is carried out.
 use mathlib.Core.Path.{_≡_, refl, sym, ap, _∙_}
 use mathlib.Core.Logic.{_≢_}
 use mathlib.Core.Bool.{Bool, true, false}

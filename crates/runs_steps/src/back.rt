@@ -14,7 +14,8 @@ pub struct Back {
     pub next: usize,
 }
 
-// One step of an undo: the operator at a place of the log carried out, unlogged; or refused with 3 to 8, and nothing changes.
+// One step of an undo: the operator at a place of the log carried out, unlogged; or refused with 3 to 8, and nothing
+// changes.
 pub fn undo_step(
     links: &mut [u16],
     points: &mut [i32],

@@ -1,5 +1,5 @@
-// One operator of a script: read, admitted, carried out, its inverse logged. What refuses and what finds the inverse only reads, so that a refused
-// operator changes nothing.
+// One operator of a script: read, admitted, carried out, its inverse logged. What refuses and what finds the inverse
+// only reads, so that a refused operator changes nothing.
 ghost use mathlib.Core.Path.{_≡_};
 ghost use Prim.Native.Nat.{ℕ, _-_, _≤_, _<_};
 ghost use lib.Dec.{leb};
@@ -25,7 +25,8 @@ pub struct Step {
     pub start: usize,
 }
 
-// Do the operator's bytes fit in front of `end`? None takes more than 27, so that near the log's front alone they are counted.
+// Do the operator's bytes fit in front of `end`? None takes more than 27, so that near the log's front alone they are
+// counted.
 fn fits_before(op: Operator, end: usize) -> bool
     ensures { λ r. ⌜ r ≡ leb (length (operatorBytes op)) end ⌝ }
 {
@@ -35,8 +36,8 @@ fn fits_before(op: Operator, end: usize) -> bool
     operator_size(op) <= end
 }
 
-// One step of a run: the operator at a place of the script carried out, its inverse written just below the log's start; or
-// refused with 3 to 8, then 9, and nothing changes.
+// One step of a run: the operator at a place of the script carried out, its inverse written just below the log's start;
+// or refused with 3 to 8, then 9, and nothing changes.
 pub fn run_step(
     links: &mut [u16],
     points: &mut [i32],

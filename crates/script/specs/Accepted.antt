@@ -1,5 +1,5 @@
--- What an accepted operator says of the bytes: the code, the numbers behind it, their ranges. From it: reading goes forward and
--- stays within the script, and an operator read within the limits of a table is the one read without.
+-- What an accepted operator says of the bytes: the code, the numbers behind it, their ranges. From it: reading goes
+-- forward and stays within the script, and an operator read within the limits of a table is the one read without.
 use mathlib.Core.Path.{_≡_, refl, sym, ap, _∙_}
 use mathlib.Core.Logic.{⊎-elim}
 use Prim.Native.Nat.{ℕ, zero, suc, _+_, _*_, _≤_, _<_}
@@ -42,9 +42,11 @@ not-0 : {X : Type 0} (n at : ℕ) → 0 < n → refused n at .refusal ≡ 0 → 
 not-0 n at h e = absurd (omega arith)
 
 module _ (lim : Limits) (s : List ℕ) (at : ℕ) where
-  ranged : (code from : ℕ) (ns : List ℕ) (next : ℕ) (t : Bool) (r : ReadAnswer) → readNumber s at ≡ Got code from → (pattern code .count ≡ 0 → ⊥)
+  ranged : (code from : ℕ) (ns : List ℕ) (next : ℕ) (t : Bool) (r : ReadAnswer) → readNumber s at ≡ Got code from
+      → (pattern code .count ≡ 0 → ⊥)
       → readOperands (pattern code .kinds) s from ≡ Read ns next → inRanges (largests lim) (pattern code .kinds) ns ≡ t
-      → r ≡ pick t (record { refusal = 0; next = next; op = operatorIs code ns }) (refused 5 at) → r .refusal ≡ 0 → Accepted lim s at r
+      → r ≡ pick t (record { refusal = 0; next = next; op = operatorIs code ns }) (refused 5 at) → r .refusal ≡ 0
+      → Accepted lim s at r
   ranged code from ns next true r a b d e f z =
       record {
         code = code;
@@ -58,22 +60,26 @@ module _ (lim : Limits) (s : List ℕ) (at : ℕ) where
       }
   ranged code from ns next false r a b d e f z = not-0 5 at (omega arith) (rw f at z)
 
-  numbered : (code from : ℕ) (x : Numbers) (r : ReadAnswer) → readNumber s at ≡ Got code from → (pattern code .count ≡ 0 → ⊥)
+  numbered : (code from : ℕ) (x : Numbers) (r : ReadAnswer) → readNumber s at ≡ Got code from
+      → (pattern code .count ≡ 0 → ⊥)
       → readOperands (pattern code .kinds) s from ≡ x
-      → r ≡ onNumbers x (λ ns next. pick (inRanges (largests lim) (pattern code .kinds) ns) (record { refusal = 0; next = next; op = operatorIs code ns }) (refused 5 at)) (refused 3 at)
+      → r ≡ onNumbers x (λ ns next. pick (inRanges (largests lim) (pattern code .kinds) ns)
+      (record { refusal = 0; next = next; op = operatorIs code ns }) (refused 5 at)) (refused 3 at)
       → r .refusal ≡ 0 → Accepted lim s at r
   numbered code from (Read ns next) r a b d e z =
       ranged code from ns next (inRanges (largests lim) (pattern code .kinds) ns) r a b d refl e z
   numbered code from Cut r a b d e z = not-0 3 at (omega arith) (rw e at z)
 
-  coded : (code from : ℕ) (r : ReadAnswer) → readNumber s at ≡ Got code from → r ≡ readBehind lim s at code from → r .refusal ≡ 0 → Accepted lim s at r
+  coded : (code from : ℕ) (r : ReadAnswer) → readNumber s at ≡ Got code from → r ≡ readBehind lim s at code from
+      → r .refusal ≡ 0 → Accepted lim s at r
   unfolding readBehind
   coded code from r a e z =
       ⊎-elim (λ t. not-0 4 at (omega arith) (rw (rw t at e) at z))
       (λ t. numbered code from (readOperands (pattern code .kinds) s from) r a (eqb-false _ 0 t) refl (rw t at e) z)
       (ask (eqb (pattern code .count) 0))
 
-  begun : (x : Num) (r : ReadAnswer) → readNumber s at ≡ x → r ≡ onNum x (readBehind lim s at) (refused 3 at) → r .refusal ≡ 0 → Accepted lim s at r
+  begun : (x : Num) (r : ReadAnswer) → readNumber s at ≡ x → r ≡ onNum x (readBehind lim s at) (refused 3 at)
+      → r .refusal ≡ 0 → Accepted lim s at r
   begun (Got code from) r a e z = coded code from r a e z
   begun Bad r a e z = not-0 3 at (omega arith) (rw e at z)
 
@@ -82,8 +88,10 @@ module _ (lim : Limits) (s : List ℕ) (at : ℕ) where
   accepted z = begun (readNumber s at) (readOperator lim s at) refl refl z
 
   -- and back: what is so is read
-  pub read-accepted : (code from : ℕ) (ns : List ℕ) (next : ℕ) → readNumber s at ≡ Got code from → (pattern code .count ≡ 0 → ⊥)
-      → readOperands (pattern code .kinds) s from ≡ Read ns next → inRanges (largests lim) (pattern code .kinds) ns ≡ true
+  pub read-accepted : (code from : ℕ) (ns : List ℕ) (next : ℕ) → readNumber s at ≡ Got code from
+      → (pattern code .count ≡ 0 → ⊥)
+      → readOperands (pattern code .kinds) s from ≡ Read ns next → inRanges (largests lim) (pattern code .kinds) ns
+      ≡ true
       → readOperator lim s at ≡ record { refusal = 0; next = next; op = operatorIs code ns }
   unfolding readOperator readBehind
   read-accepted code from ns next a b d e = rw (a, ne-eqb (pattern code .count) 0 b, d, e)

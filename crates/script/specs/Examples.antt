@@ -24,7 +24,8 @@ same (m ∷ ms) (n ∷ ns) = eqb m n && same ms ns
 -- signed numbers are the same when they travel as the same
 unfoldable pub sameOperator : Operator → Operator → Bool
 unfolding zig
-sameOperator a b = eqb (a .code) (b .code) && (eqb (a .count) (b .count) && same (map zig (a .args)) (map zig (b .args)))
+sameOperator a b = eqb (a .code) (b .code)
+    && (eqb (a .count) (b .count) && same (map zig (a .args)) (map zig (b .args)))
 
 unfoldable pub sameAnswer : ReadAnswer → ReadAnswer → Bool
 unfolding sameOperator
@@ -47,7 +48,8 @@ refuses bytes refusal = record { bytes = bytes; answer = refused refusal 0 }
 
 -- and an operator that is accepted is written as these bytes
 unfoldable pub holds : Row → Bool
-unfolding sameAnswer readNumber groups pattern inRange inRanges zag wire unwire readOperand readOperands readBehind readOperator operandBytes operandsBytes operatorBytes operatorRefusal
+unfolding sameAnswer readNumber groups pattern inRange inRanges zag wire unwire readOperand readOperands readBehind
+    readOperator operandBytes operandsBytes operatorBytes operatorRefusal
 holds row =
     sameAnswer (readOperator widest (row .bytes) 0) (row .answer)
     && pick (eqb (row .answer .refusal) 0)

@@ -1,4 +1,5 @@
--- An operator is its code and its operands, as numbers one behind the other. Reading one gives 3, 4 or 5; writing one 4, 5, then 9.
+-- An operator is its code and its operands, as numbers one behind the other. Reading one gives 3, 4 or 5; writing one
+-- 4, 5, then 9.
 use Prim.Native.Nat.{ℕ, zero, suc, _+_}
 use mathlib.Core.List.{List, [], _∷_, _++_}
 use lib.ListN.{length, getD, set, replicate}
@@ -67,7 +68,8 @@ operatorBytes op = groups (op .code) ++ operandsBytes (pattern (op .code) .kinds
 unfoldable pub operatorRefusal : Operator → ℕ
 operatorRefusal op =
     pick (eqb (pattern (op .code) .count) 0) 4
-    (pick (eqb (op .count) (pattern (op .code) .count)) (pick (inRanges (largests widest) (pattern (op .code) .kinds) (numbersOf op)) 0 5) 5)
+    (pick (eqb (op .count) (pattern (op .code) .count))
+    (pick (inRanges (largests widest) (pattern (op .code) .kinds) (numbersOf op)) 0 5) 5)
 
 -- the bytes at `at`, if they fit; else nothing changes
 unfoldable pub putBytes : List ℕ → ℕ → List ℕ → List ℕ

@@ -39,11 +39,13 @@ module _ (op : Operator) (p : Pattern) (e : p ≡ pattern (op .code)) where
   refusal-count z n = rw (← e, ne-eqb (p .count) 0 z, ne-eqb (op .count) (p .count) n)
 
   module _ (ns : List ℕ) (f : ns ≡ wires (p .kinds) (op .args)) where
-    pub refusal-range : (p .count ≡ 0 → ⊥) → op .count ≡ p .count → (most : List ℕ) → most ≡ largests widest → inRanges most (p .kinds) ns ≡ false → 5 ≡ operatorRefusal op
+    pub refusal-range : (p .count ≡ 0 → ⊥) → op .count ≡ p .count → (most : List ℕ) → most ≡ largests widest
+        → inRanges most (p .kinds) ns ≡ false → 5 ≡ operatorRefusal op
     unfolding operatorRefusal
     refusal-range z n most m t = rw (← e, ne-eqb (p .count) 0 z, eq-eqb (op .count) (p .count) n, ← f, ← m, t)
 
-    pub refusal-none : (p .count ≡ 0 → ⊥) → op .count ≡ p .count → (most : List ℕ) → most ≡ largests widest → inRanges most (p .kinds) ns ≡ true → 0 ≡ operatorRefusal op
+    pub refusal-none : (p .count ≡ 0 → ⊥) → op .count ≡ p .count → (most : List ℕ) → most ≡ largests widest
+        → inRanges most (p .kinds) ns ≡ true → 0 ≡ operatorRefusal op
     unfolding operatorRefusal
     refusal-none z n most m t = rw (← e, ne-eqb (p .count) 0 z, eq-eqb (op .count) (p .count) n, ← f, ← m, t)
 
@@ -54,11 +56,14 @@ module _ (op : Operator) (p : Pattern) (e : p ≡ pattern (op .code)) where
     pub size-is : length (operatorBytes op) ≡ length (groups (op .code)) + length (operandsBytes (p .kinds) ns)
     size-is = rw bytes-are (length-append (groups (op .code)) (operandsBytes (p .kinds) ns))
 
-    pub put-done : (l y z : List ℕ) (at behind : ℕ) → at + length (operatorBytes op) ≤ length l → y ≡ sets l at (groups (op .code))
-        → behind ≡ at + length (groups (op .code)) → z ≡ sets y behind (operandsBytes (p .kinds) ns) → z ≡ putBytes l at (operatorBytes op)
+    pub put-done : (l y z : List ℕ) (at behind : ℕ) → at + length (operatorBytes op) ≤ length l
+        → y ≡ sets l at (groups (op .code))
+        → behind ≡ at + length (groups (op .code)) → z ≡ sets y behind (operandsBytes (p .kinds) ns)
+        → z ≡ putBytes l at (operatorBytes op)
     unfolding putBytes
     put-done l y z at behind h a b d =
-        rw (le-leb (at + length (operatorBytes op)) (length l) h, bytes-are, d, b, a) (sym (sets-append l at (groups (op .code)) (operandsBytes (p .kinds) ns)))
+        rw (le-leb (at + length (operatorBytes op)) (length l) h, bytes-are, d, b, a)
+        (sym (sets-append l at (groups (op .code)) (operandsBytes (p .kinds) ns)))
 
 -- written from the last operand to the code, the bytes end before `end`
 module _ (op : Operator) (p : Pattern) (e : p ≡ pattern (op .code)) where
@@ -99,13 +104,15 @@ module _ (op : Operator) (out : List ℕ) (r : ℕ) (e : r ≡ operatorRefusal o
     unfolding writeOperator
     write-short h = rw (← e, eq-eqb r 0 z, ← f, lt-leb size (length out) h) refl
 
-    pub write-done : size ≤ length out → (y : List ℕ) → y ≡ putBytes out 0 (operatorBytes op) → written (record { refusal = 0; length = size }) y ≡ writeOperator op out
+    pub write-done : size ≤ length out → (y : List ℕ) → y ≡ putBytes out 0 (operatorBytes op)
+        → written (record { refusal = 0; length = size }) y ≡ writeOperator op out
     unfolding writeOperator putBytes
     write-done h y g =
         let k : length (operatorBytes op) ≤ length out = omega arith in
         let n : 0 + length (operatorBytes op) ≡ length (operatorBytes op) = omega arith in
         rw (← e, eq-eqb r 0 z, f, le-leb (length (operatorBytes op)) (length out) k)
-        (ap (λ (l : List ℕ). written (record { refusal = 0; length = length (operatorBytes op) }) l) (rw (n, le-leb (length (operatorBytes op)) (length out) k) at g))
+        (ap (λ (l : List ℕ). written (record { refusal = 0; length = length (operatorBytes op) }) l)
+        (rw (n, le-leb (length (operatorBytes op)) (length out) k) at g))
 
 -- an operand as a number that is not negative
 pub natOf-pos : (z : ℤ) (n : ℕ) → z ≡ pos n → n ≡ natOf z

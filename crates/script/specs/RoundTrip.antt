@@ -18,11 +18,13 @@ use Rattle.script.specs.declared.ReadAnswer.{ReadAnswer}
 use Rattle.codec.specs.Number.{readNumber, groups}
 use Rattle.codec.specs.Operands.{pattern, widest, largests, inRanges, wire, unwire, wires, unwires}
 use Rattle.codec.specs.OperandBytes.{Read, readOperands, operandsBytes}
-use Rattle.script.specs.Operator.{readOperator, numbersOf, operatorBytes, operatorRefusal, writeScript, Script, scriptIs, before, readFrom, readScript}
+use Rattle.script.specs.Operator.{readOperator, numbersOf, operatorBytes, operatorRefusal, writeScript, Script}
+use Rattle.script.specs.Operator.{scriptIs, before, readFrom, readScript}
 use Rattle.codec.specs.WriteLaws.{groups-size}
 use Rattle.codec.specs.NumberTrip.{Bytes, number-written, written-number, number-next}
 use Rattle.codec.specs.Ranges.{Within, within-largest, ranges-wider, eight, code-between}
-use Rattle.codec.specs.OperandTrip.{operands-written, written-operands, operands-next, wires-unwires, unwires-wires, each-length}
+use Rattle.codec.specs.OperandTrip.{operands-written, written-operands, operands-next, wires-unwires, unwires-wires}
+use Rattle.codec.specs.OperandTrip.{each-length}
 use Rattle.script.specs.Accepted.{Accepted, accepted, read-accepted, operatorIs}
 
 -- an operator that can be written: a record of eight operands that writing does not refuse
@@ -46,12 +48,18 @@ pub parts : (op : Operator) → operatorRefusal op ≡ 0 → Parts op
 unfolding operatorRefusal
 parts op e =
     let t =
-    tests (eqb (pattern (op .code) .count) 0) (eqb (op .count) (pattern (op .code) .count)) (inRanges (largests widest) (pattern (op .code) .kinds) (numbersOf op)) e in
+    tests (eqb (pattern (op .code) .count) 0) (eqb (op .count) (pattern (op .code) .count))
+    (inRanges (largests widest) (pattern (op .code) .kinds) (numbersOf op)) e in
     record { is-code = eqb-false _ 0 (t .0); count-is = eqb-true _ _ (t .1); ranges = t .2 }
 
 whole : (op : Operator) → Parts op → operatorRefusal op ≡ 0
 unfolding operatorRefusal
-whole op p = rw (ne-eqb (pattern (op .code) .count) 0 (p .is-code), eq-eqb (op .count) (pattern (op .code) .count) (p .count-is), p .ranges)
+whole op p =
+    rw (
+      ne-eqb (pattern (op .code) .count) 0 (p .is-code),
+      eq-eqb (op .count) (pattern (op .code) .count) (p .count-is),
+      p .ranges,
+    )
 
 -- the operator is made of its numbers
 same-operator : (op : Operator) → length (op .args) ≡ 8 → Parts op → operatorIs (op .code) (numbersOf op) ≡ op
@@ -60,7 +68,8 @@ same-operator op l p =
     rw (unwires-wires (pattern (op .code) .kinds) (op .args) (omega arith) (p .ranges), ← p .count-is)
 
 -- WRITE, THEN READ: an operator written anywhere comes back the same, and `next` is the place behind its bytes
-pub operator-written : (op : Operator) → Writable op → (s : List ℕ) (at : ℕ) (q : List ℕ) → drop at s ≡ operatorBytes op ++ q
+pub operator-written : (op : Operator) → Writable op → (s : List ℕ) (at : ℕ) (q : List ℕ) → drop at s ≡ operatorBytes op
+    ++ q
     → readOperator widest s at ≡ record { refusal = 0; next = at + length (operatorBytes op); op = op }
 unfolding operatorBytes
 operator-written op w s at q e =
@@ -70,17 +79,27 @@ operator-written op w s at q e =
     let l = w .eight-args in
     let f : drop at s ≡ groups (op .code) ++ (operandsBytes (pattern (op .code) .kinds) (numbersOf op) ++ q) =
     e ∙ append-assoc (groups (op .code)) (operandsBytes (pattern (op .code) .kinds) (numbersOf op)) q in
-    let a = number-written s at (op .code) (operandsBytes (pattern (op .code) .kinds) (numbersOf op) ++ q) (omega arith) f in
+    let a = number-written s at (op .code) (operandsBytes (pattern (op .code) .kinds) (numbersOf op) ++ q)
+    (omega arith) f in
     let g : drop (at + length (groups (op .code))) s ≡ operandsBytes (pattern (op .code) .kinds) (numbersOf op) ++ q =
-    sym (drop-drop (length (groups (op .code))) at s) ∙ ap (drop (length (groups (op .code)))) f ∙ drop-append-seam (groups (op .code)) _ in
-    let n : length (numbersOf op) ≡ length (pattern (op .code) .kinds) = each-length wire (pattern (op .code) .kinds) (op .args) (omega arith) in
-    let b = operands-written (pattern (op .code) .kinds) (numbersOf op) s (at + length (groups (op .code))) q (sym n) (p .ranges) g in
+    sym (drop-drop (length (groups (op .code))) at s) ∙ ap (drop (length (groups (op .code)))) f
+    ∙ drop-append-seam (groups (op .code)) _ in
+    let n : length (numbersOf op) ≡ length (pattern (op .code) .kinds) =
+    each-length wire (pattern (op .code) .kinds) (op .args) (omega arith) in
+    let b = operands-written (pattern (op .code) .kinds) (numbersOf op) s (at + length (groups (op .code))) q (sym n)
+    (p .ranges) g in
     read-accepted widest s at (op .code) _ _ _ a (p .is-code) b (p .ranges)
-    ∙ rw (same-operator op l p, length-append (groups (op .code)) (operandsBytes (pattern (op .code) .kinds) (numbersOf op)), add-assoc at (length (groups (op .code))) (length (operandsBytes (pattern (op .code) .kinds) (numbersOf op))))
+    ∙ rw (
+      same-operator op l p,
+      length-append (groups (op .code)) (operandsBytes (pattern (op .code) .kinds) (numbersOf op)),
+      add-assoc at (length (groups (op .code))) (length (operandsBytes (pattern (op .code) .kinds) (numbersOf op))),
+    )
 
 pub read-written : (op : Operator) → Writable op → (p q : List ℕ)
-    → readOperator widest (p ++ (operatorBytes op ++ q)) (length p) ≡ record { refusal = 0; next = length p + length (operatorBytes op); op = op }
-read-written op w p q = operator-written op w (p ++ (operatorBytes op ++ q)) (length p) q (drop-append-seam p (operatorBytes op ++ q))
+    → readOperator widest (p ++ (operatorBytes op ++ q)) (length p)
+    ≡ record { refusal = 0; next = length p + length (operatorBytes op); op = op }
+read-written op w p q = operator-written op w (p ++ (operatorBytes op ++ q)) (length p) q
+    (drop-append-seam p (operatorBytes op ++ q))
 
 -- READ, THEN WRITE
 module _ (lim : Limits) (s : List ℕ) (at : ℕ) (z : readOperator lim s at .refusal ≡ 0) where
@@ -89,7 +108,8 @@ module _ (lim : Limits) (s : List ℕ) (at : ℕ) (z : readOperator lim s at .re
   read-next =
       let a = accepted lim s at z in
       let b = number-next s at (a .code) (a .from) (a .code-read) in
-      let c = operands-next (pattern (a .code) .kinds) s (a .from) (a .numbers) (readOperator lim s at .next) (b .1) (a .read) in
+      let c = operands-next (pattern (a .code) .kinds) s (a .from) (a .numbers) (readOperator lim s at .next) (b .1)
+      (a .read) in
       (omega arith, c .1)
 
   -- the bytes read are the bytes that the operator is written as
@@ -99,11 +119,14 @@ module _ (lim : Limits) (s : List ℕ) (at : ℕ) (z : readOperator lim s at .re
   written-read w =
       let a = accepted lim s at z in
       let b = written-number s at (a .code) (a .from) w (a .code-read) in
-      let c = written-operands (pattern (a .code) .kinds) s (a .from) (a .numbers) (readOperator lim s at .next) w (a .read) in
-      let u : numbersOf (operatorIs (a .code) (a .numbers)) ≡ a .numbers = wires-unwires (pattern (a .code) .kinds) (a .numbers) (c .2) in
+      let c = written-operands (pattern (a .code) .kinds) s (a .from) (a .numbers) (readOperator lim s at .next) w
+      (a .read) in
+      let u : numbersOf (operatorIs (a .code) (a .numbers)) ≡ a .numbers =
+      wires-unwires (pattern (a .code) .kinds) (a .numbers) (c .2) in
       rw (a .op-is, u, length-append (groups (a .code)) (operandsBytes (pattern (a .code) .kinds) (a .numbers))) (
         omega arith,
-        b .1 ∙ ap (λ (l : List ℕ). groups (a .code) ++ l) (c .1) ∙ sym (append-assoc (groups (a .code)) (operandsBytes (pattern (a .code) .kinds) (a .numbers)) (drop (readOperator lim s at .next) s)),
+        b .1 ∙ ap (λ (l : List ℕ). groups (a .code) ++ l) (c .1) ∙ sym (append-assoc (groups (a .code))
+            (operandsBytes (pattern (a .code) .kinds) (a .numbers)) (drop (readOperator lim s at .next) s)),
       )
 
   module _ (v : Within lim) where
@@ -111,7 +134,8 @@ module _ (lim : Limits) (s : List ℕ) (at : ℕ) (z : readOperator lim s at .re
     pub read-widest : readOperator lim s at ≡ readOperator widest s at
     read-widest =
         let a = accepted lim s at z in
-        let r = ranges-wider (largests lim) (largests widest) (within-largest lim v) (pattern (a .code) .kinds) (a .numbers) (a .ranges) in
+        let r = ranges-wider (largests lim) (largests widest) (within-largest lim v) (pattern (a .code) .kinds)
+        (a .numbers) (a .ranges) in
         read-accepted lim s at (a .code) (a .from) (a .numbers) _ (a .code-read) (a .is-code) (a .read) (a .ranges)
         ∙ sym (read-accepted widest s at (a .code) (a .from) (a .numbers) _ (a .code-read) (a .is-code) (a .read) r)
 
@@ -119,12 +143,21 @@ module _ (lim : Limits) (s : List ℕ) (at : ℕ) (z : readOperator lim s at .re
     pub read-writable : Bytes s → Writable (readOperator lim s at .op)
     read-writable w =
         let a = accepted lim s at z in
-        let c = written-operands (pattern (a .code) .kinds) s (a .from) (a .numbers) (readOperator lim s at .next) w (a .read) in
+        let c = written-operands (pattern (a .code) .kinds) s (a .from) (a .numbers) (readOperator lim s at .next) w
+        (a .read) in
         let k = eight (a .code) in
-        let r = ranges-wider (largests lim) (largests widest) (within-largest lim v) (pattern (a .code) .kinds) (a .numbers) (a .ranges) in
-        let u : numbersOf (operatorIs (a .code) (a .numbers)) ≡ a .numbers = wires-unwires (pattern (a .code) .kinds) (a .numbers) (c .2) in
+        let r = ranges-wider (largests lim) (largests widest) (within-largest lim v) (pattern (a .code) .kinds)
+        (a .numbers) (a .ranges) in
+        let u : numbersOf (operatorIs (a .code) (a .numbers)) ≡ a .numbers =
+        wires-unwires (pattern (a .code) .kinds) (a .numbers) (c .2) in
         rw (a .op-is)
         (record {
           eight-args = each-length unwire (pattern (a .code) .kinds) (a .numbers) (c .2) ∙ k;
-          not-refused = whole (operatorIs (a .code) (a .numbers)) (record { is-code = a .is-code; count-is = refl; ranges = rw u r });
+          not-refused =
+              whole (operatorIs (a .code) (a .numbers)) (record {
+                is-code = a .is-code;
+                count-is = refl;
+                ranges =
+                    rw u r;
+              });
         })

@@ -16,7 +16,8 @@ use Rattle.codec.specs.Number.{groups}
 use Rattle.codec.specs.NumberLaws.{size-1, size-2, size-3}
 use Rattle.codec.specs.Operands.{unused, row, rows, pattern, widest, largests, inRanges, wire}
 use Rattle.codec.specs.OperandBytes.{operandBytes, operandsBytes}
-use Rattle.script.specs.Operator.{readOperator, numbersOf, operatorBytes, operatorRefusal, writeScript, Script, scriptIs, before, readFrom, readScript}
+use Rattle.script.specs.Operator.{readOperator, numbersOf, operatorBytes, operatorRefusal, writeScript, Script}
+use Rattle.script.specs.Operator.{scriptIs, before, readFrom, readScript}
 use Rattle.codec.specs.WriteLaws.{groups-size, size-unused, size-number}
 use Rattle.codec.specs.NumberTrip.{Bytes}
 use Rattle.codec.specs.Ranges.{not-true, range-between, ranges-cons, each-row, eight, code-between}
@@ -29,7 +30,8 @@ groups-more : (m n : ℕ) → m ≤ n → length (groups m) ≤ length (groups n
 groups-more m n h =
     ⊎-elim (λ a. let e = size-3 n a in let f = groups-size m in omega arith)
     (λ a. ⊎-elim
-    (λ b. let e = size-2 n b a in ⊎-elim (λ c. let f = size-2 m c (omega arith) in omega arith) (λ c. let f = size-1 m c in omega arith) (le? 128 m))
+    (λ b. let e = size-2 n b a in ⊎-elim (λ c. let f = size-2 m c (omega arith) in omega arith) (λ c. let f =
+    size-1 m c in omega arith) (le? 128 m))
     (λ b. let e = size-1 n b in let f = size-1 m (omega arith) in omega arith)
     (le? 128 n))
     (le? 16384 n)
@@ -42,7 +44,8 @@ operand-more k m n h = ⊎-elim (λ t. rw t (omega arith)) (λ t. rw t (groups-m
 abbrev most : List ℕ → List ℕ
 most ks = map (λ k. getD (largests widest) k 0) ks
 
-operands-most : (ks ns : List ℕ) → inRanges (largests widest) ks ns ≡ true → length (operandsBytes ks ns) ≤ length (operandsBytes ks (most ks))
+operands-most : (ks ns : List ℕ) → inRanges (largests widest) ks ns ≡ true
+    → length (operandsBytes ks ns) ≤ length (operandsBytes ks (most ks))
 unfolding operandsBytes
 operands-most [] ns e = omega arith
 operands-most (k ∷ ks) [] e = omega arith
@@ -51,7 +54,10 @@ operands-most (k ∷ ks) (n ∷ ns) e =
     let b = range-between (largests widest) k n (a .0) in
     let c = operand-more k n (getD (largests widest) k 0) (b .1) in
     let d = operands-most ks ns (a .1) in
-    rw (length-append (operandBytes k n) (operandsBytes ks ns), length-append (operandBytes k (getD (largests widest) k 0)) (operandsBytes ks (most ks)))
+    rw (
+      length-append (operandBytes k n) (operandsBytes ks ns),
+      length-append (operandBytes k (getD (largests widest) k 0)) (operandsBytes ks (most ks)),
+    )
     (omega arith)
 
 -- that is 18 at most; and where there are operands, the first is used
@@ -102,10 +108,14 @@ operator-size op w =
     let l = w .eight-args in
     let one = size-1 (op .code) (omega arith) in
     let high = operands-most (pattern (op .code) .kinds) (numbersOf op) (p .ranges) in
-    let full : length (operandsBytes (pattern (op .code) .kinds) (most (pattern (op .code) .kinds))) ≤ 18 = leb-true _ 18 (each-row sized none-sized all-sized (op .code)) in
-    let n : length (numbersOf op) ≡ length (pattern (op .code) .kinds) = each-length wire (pattern (op .code) .kinds) (op .args) (omega arith) in
-    let low = some (pattern (op .code) .kinds) (numbersOf op) (omega arith) (sym n) (first-used (op .code) (p .is-code)) in
-    rw (length-append (groups (op .code)) (operandsBytes (pattern (op .code) .kinds) (numbersOf op))) (omega arith, omega arith)
+    let full : length (operandsBytes (pattern (op .code) .kinds) (most (pattern (op .code) .kinds))) ≤ 18 =
+    leb-true _ 18 (each-row sized none-sized all-sized (op .code)) in
+    let n : length (numbersOf op) ≡ length (pattern (op .code) .kinds) =
+    each-length wire (pattern (op .code) .kinds) (op .args) (omega arith) in
+    let low = some (pattern (op .code) .kinds) (numbersOf op) (omega arith) (sym n)
+    (first-used (op .code) (p .is-code)) in
+    rw (length-append (groups (op .code)) (operandsBytes (pattern (op .code) .kinds) (numbersOf op)))
+    (omega arith, omega arith)
 
 -- SCRIPTS
 -- all operators of a script can be written
@@ -121,7 +131,8 @@ count-bytes (op ∷ ops) w =
     let b = count-bytes ops (w .1) in
     rw (length-append (operatorBytes op) (writeScript ops)) (omega arith)
 
-from-written : (ops : List Operator) (fuel : ℕ) (p : List ℕ) → AllWritable ops → length ops ≤ fuel → readFrom fuel (p ++ writeScript ops) (length p) ≡ scriptIs 0 ops
+from-written : (ops : List Operator) (fuel : ℕ) (p : List ℕ) → AllWritable ops → length ops ≤ fuel
+    → readFrom fuel (p ++ writeScript ops) (length p) ≡ scriptIs 0 ops
 unfolding readFrom writeScript
 from-written [] zero p w h = refl
 from-written [] (suc n) p w h = rw (append-nil p, le-ltb (length p) (length p) (omega arith))
@@ -129,8 +140,11 @@ from-written (op ∷ ops) zero p w h = absurd (omega arith)
 from-written (op ∷ ops) (suc n) p w h =
     let a = operator-size op (w .0) in
     let s : List ℕ = p ++ (operatorBytes op ++ writeScript ops) in
-    let l : length p < length s = rw (length-append p (operatorBytes op ++ writeScript ops), length-append (operatorBytes op) (writeScript ops)) (omega arith) in
-    let r = operator-written op (w .0) s (length p) (writeScript ops) (drop-append-seam p (operatorBytes op ++ writeScript ops)) in
+    let l : length p < length s =
+    rw (length-append p (operatorBytes op ++ writeScript ops), length-append (operatorBytes op) (writeScript ops))
+    (omega arith) in
+    let r = operator-written op (w .0) s (length p) (writeScript ops)
+    (drop-append-seam p (operatorBytes op ++ writeScript ops)) in
     let i = from-written ops n (p ++ operatorBytes op) (w .1) (omega arith) in
     let j = rw (append-assoc p (operatorBytes op) (writeScript ops), length-append p (operatorBytes op)) at i in
     rw (lt-ltb (length p) (length s) l, r, j)
@@ -141,10 +155,15 @@ unfolding readScript
 script-written ops w = from-written ops (length (writeScript ops)) [] w (count-bytes ops w)
 
 -- one operator of a script that was read, by its tests
-turn-back : (s : List ℕ) (at : ℕ) (rest : Script) (a b : Bool) → Bytes s → ltb at (length s) ≡ a → eqb (readOperator widest s at .refusal) 0 ≡ b
-    → (readOperator widest s at .refusal ≡ 0 → rest .refusal ≡ 0 → writeScript (rest .operators) ≡ drop (readOperator widest s at .next) s)
-    → pick a (pick b (before (readOperator widest s at .op) rest) (scriptIs (readOperator widest s at .refusal) [])) (scriptIs 0 []) .refusal ≡ 0
-    → writeScript (pick a (pick b (before (readOperator widest s at .op) rest) (scriptIs (readOperator widest s at .refusal) [])) (scriptIs 0 []) .operators) ≡ drop at s
+turn-back : (s : List ℕ) (at : ℕ) (rest : Script) (a b : Bool) → Bytes s → ltb at (length s) ≡ a
+    → eqb (readOperator widest s at .refusal) 0 ≡ b
+    → (readOperator widest s at .refusal ≡ 0 → rest .refusal ≡ 0 → writeScript (rest .operators)
+    ≡ drop (readOperator widest s at .next) s)
+    → pick a (pick b (before (readOperator widest s at .op) rest) (scriptIs (readOperator widest s at .refusal) []))
+    (scriptIs 0 []) .refusal ≡ 0
+    → writeScript (pick a
+    (pick b (before (readOperator widest s at .op) rest) (scriptIs (readOperator widest s at .refusal) []))
+    (scriptIs 0 []) .operators) ≡ drop at s
 unfolding writeScript
 turn-back s at rest true true w t u i e =
     let y = written-read widest s at (eqb-true _ 0 u) w in
@@ -152,11 +171,13 @@ turn-back s at rest true true w t u i e =
 turn-back s at rest true false w t u i e = absurd (eqb-false _ 0 u e)
 turn-back s at rest false b w t u i e = let l : length s ≤ at = ltb-false at (length s) t in sym (drop-of-length-le s l)
 
-written-from : (n : ℕ) (s : List ℕ) (at : ℕ) → Bytes s → length s ≤ at + n → readFrom n s at .refusal ≡ 0 → writeScript (readFrom n s at .operators) ≡ drop at s
+written-from : (n : ℕ) (s : List ℕ) (at : ℕ) → Bytes s → length s ≤ at + n → readFrom n s at .refusal ≡ 0
+    → writeScript (readFrom n s at .operators) ≡ drop at s
 unfolding readFrom writeScript
 written-from zero s at w k e = let l : length s ≤ at = omega arith in sym (drop-of-length-le s l)
 written-from (suc n) s at w k e =
-    turn-back s at (readFrom n s (readOperator widest s at .next)) (ltb at (length s)) (eqb (readOperator widest s at .refusal) 0) w refl refl
+    turn-back s at (readFrom n s (readOperator widest s at .next)) (ltb at (length s))
+    (eqb (readOperator widest s at .refusal) 0) w refl refl
     (λ z f. let x = read-next widest s at z in written-from n s (readOperator widest s at .next) w (omega arith) f)
     e
 

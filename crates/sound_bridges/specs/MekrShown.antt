@@ -135,7 +135,8 @@ module _ {sh : Shape} {x : List ℕ} {p : List ℤ} (g : Good sh x p) {B : Bridg
   run-agree : (F : Field) (i : ℕ) → i ≤ capOf sh F
       → runColumns e₀ (d Next k) (run .0) l F i ≡ withColumn e₀ Loop (joinedLoops c B) F i
   run-agree = by-fields (Loop ∷ [])
-      (λ F. (i : ℕ) → i ≤ capOf sh F → runColumns e₀ (d Next k) (run .0) l F i ≡ withColumn e₀ Loop (joinedLoops c B) F i)
+      (λ F. (i : ℕ) → i ≤ capOf sh F → runColumns e₀ (d Next k) (run .0) l F i
+      ≡ withColumn e₀ Loop (joinedLoops c B) F i)
       (loop-agree, tt)
       (λ F q i h. let f = among-off (Loop ∷ []) Loop F refl q in
       run-other e₀ (run .0) (d Next k) l F f i ∙ sym (column-off e₀ Loop (joinedLoops c B) F f i))

@@ -80,7 +80,12 @@ apart {sh} b F n m h u d e =
     -- a kind behind them begins later
     behind : loopKind < groupOf F → ⊥
     behind g =
-        omega (arith, e, among, chain-apart (groups sh) 0 (b .last) loopKind (groupOf F) (b .chain) (field-in sh F .1) g)
+        omega (
+          arith,
+          e,
+          among,
+          chain-apart (groups sh) 0 (b .last) loopKind (groupOf F) (b .chain) (field-in sh F .1) g,
+        )
 
     -- among the loops it is another record or another word
     inside : groupOf F ≡ loopKind → ⊥

@@ -1,5 +1,5 @@
--- The two theorems about the operators, for all thirteen: a valid table stays valid, and the inverse of an accepted operator gives
--- everything back. (An operator has eight operands, as the record of the code has; unused ones are 0.)
+-- The two theorems about the operators, for all thirteen: a valid table stays valid, and the inverse of an accepted
+-- operator gives everything back. (An operator has eight operands, as the record of the code has; unused ones are 0.)
 use mathlib.Core.Path.{_≡_, sym, ap, _∙_, subst}
 use mathlib.Core.Bool.{false≢true}
 use mathlib.Core.List.{List}
@@ -29,10 +29,12 @@ use Rattle.sound_splits.specs.Exact.{semv-holds, jekv-holds}
 
 -- an accepted operator has one of the thirteen codes
 no-other : (sh : Shape) (x : List ℕ) (o : Operator) → refusalOf sh x o ≡ 0 → NoneOf 13 (o .code) → ⊥
-no-other sh x o h n = false≢true (sym (accepted sh x o h .code) ∙ ap (λ p. eqb (p .count) 0) (sym (pattern-none (o .code) n)))
+no-other sh x o h n =
+    false≢true (sym (accepted sh x o h .code) ∙ ap (λ p. eqb (p .count) 0) (sym (pattern-none (o .code) n)))
 
 -- whichever it is, the table stays good and the inverse undoes it
-pub all-hold : (sh : Shape) (x : List ℕ) (p : List ℤ) (o : Operator) → Good sh x p → length (o .args) ≡ 8 → refusalOf sh x o ≡ 0 → Kept sh x p o × Undone sh x p o
+pub all-hold : (sh : Shape) (x : List ℕ) (p : List ℤ) (o : Operator) → Good sh x p → length (o .args) ≡ 8
+    → refusalOf sh x o ≡ 0 → Kept sh x p o × Undone sh x p o
 all-hold sh x p o g len h =
     split (o .code) 1 (λ e. mvsf-holds sh x p o g len e h) (λ d1.
     split (o .code) 2 (λ e. kvsf-holds sh x p o g len e h) (λ d2.
@@ -47,18 +49,23 @@ all-hold sh x p o g len h =
     split (o .code) 11 (λ e. semv-holds sh x p o g len e h) (λ d11.
     split (o .code) 12 (λ e. jekv-holds sh x p o g len e h) (λ d12.
     split (o .code) 13 (λ e. rmov-holds sh x p o g len e h) (λ d13.
-    absurd (no-other sh x o h (d13, (d12, (d11, (d10, (d9, (d8, (d7, (d6, (d5, (d4, (d3, (d2, (d1, tt)))))))))))))))))))))))))))
+    absurd (no-other sh x o h
+    (d13, (d12, (d11, (d10, (d9, (d8, (d7, (d6, (d5, (d4, (d3, (d2, (d1, tt)))))))))))))))))))))))))))
 
 -- a valid table stays valid
-pub valid-kept : (x : List ℕ) (p : List ℤ) (o : Operator) → Valid x p → length (o .args) ≡ 8 → refusalOf (shapeOf x) x o ≡ 0
+pub valid-kept : (x : List ℕ) (p : List ℤ) (o : Operator) → Valid x p → length (o .args) ≡ 8
+    → refusalOf (shapeOf x) x o ≡ 0
     → Valid (linksAfter (shapeOf x) x o) (pointsAfter (shapeOf x) x p o)
 valid-kept x p o v len h =
     let k = all-hold (shapeOf x) x p o (valid-good x p v) len h .0 in
     good-valid _ _ (subst (λ sh. Good sh (linksAfter (shapeOf x) x o) (pointsAfter (shapeOf x) x p o)) (k .shape) k)
 
--- the inverse is accepted on what the operator left, gives back every word of links and points, and has the operator for its own inverse
-pub inverse-exact : (t : Table) (o : Operator) → Valid (t .links) (t .points) → length (o .args) ≡ 8 → refusalOf (shapeOf (t .links)) (t .links) o ≡ 0
-    → exec (shapeOf (t .links)) (exec (shapeOf (t .links)) o t .inverse) (exec (shapeOf (t .links)) o t .table) ≡ record { refusal = 0; inverse = o; table = t }
+-- the inverse is accepted on what the operator left, gives back every word of links and points, and has the operator
+-- for its own inverse
+pub inverse-exact : (t : Table) (o : Operator) → Valid (t .links) (t .points) → length (o .args) ≡ 8
+    → refusalOf (shapeOf (t .links)) (t .links) o ≡ 0
+    → exec (shapeOf (t .links)) (exec (shapeOf (t .links)) o t .inverse) (exec (shapeOf (t .links)) o t .table)
+    ≡ record { refusal = 0; inverse = o; table = t }
 inverse-exact t o v len h =
     let sh = shapeOf (t .links) in
     undone-exec sh t o h (all-hold sh (t .links) (t .points) o (valid-good (t .links) (t .points) v) len h .1)

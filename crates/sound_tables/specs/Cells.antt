@@ -43,7 +43,8 @@ chain-in (κ ∷ κs) from to (suc i) c h = let r = chain-in κs (from + κ .wid
     (omega (arith, r .0), r .1)
 
 -- and ends before the next ones begin
-pub chain-apart : (κs : List Kind) (from to i j : ℕ) → Chained from κs to → j < length κs → i < j → end (nth κs i) ≤ nth κs j .base
+pub chain-apart : (κs : List Kind) (from to i j : ℕ) → Chained from κs to → j < length κs → i < j
+    → end (nth κs i) ≤ nth κs j .base
 chain-apart [] from to i j c h l = absurd (omega arith)
 chain-apart (κ ∷ κs) from to i zero c h l = absurd (omega arith)
 chain-apart (κ ∷ κs) from to zero (suc j) c h l =
@@ -78,7 +79,8 @@ module _ (sh : Shape) (x : List ℕ) (fit : Chained 0 (groups sh) (length x)) (g
   put-same lk n = col-store (groupAt sh g) w x (chain-in (groups sh) 0 (length x) g fit hg .1) hw k v n lk uk
 
   -- another column of the kind
-  put-word : (w′ : ℕ) → w′ < groupAt sh g .width → w′ ≢ w → (n : ℕ) → cell sh g w′ (putCell sh g w x k v) n ≡ cell sh g w′ x n
+  put-word : (w′ : ℕ) → w′ < groupAt sh g .width → w′ ≢ w → (n : ℕ) → cell sh g w′ (putCell sh g w x k v) n
+      ≡ cell sh g w′ x n
   put-word w′ hw′ d n = col-store-other 0 (groupAt sh g) w′ w x hw′ hw d k v n
 
   -- a column of another kind

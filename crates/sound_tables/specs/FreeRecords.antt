@@ -1,4 +1,5 @@
--- "A free record is all zero" (document 01), over the table of fields: what tells whether a record is in use is its first word.
+-- "A free record is all zero" (document 01), over the table of fields: what tells whether a record is in use is its
+-- first word.
 use mathlib.Core.Path.{_≡_, sym, ap, _∙_, subst}
 use mathlib.Core.Bool.{false, _&&_}
 use mathlib.Core.List.{List}
@@ -8,7 +9,8 @@ use lib.Dec.{eqb}
 use lib.IntN.{ℤ}
 use Rattle.laws.specs.Bools.{split, eqb-same, true-T, false-T}
 use Rattle.layout.specs.declared.shape.Shape.{Shape}
-use Rattle.layout.specs.Fields.{Field, Capacity, SolidUsed, Solid, Outer, Face, First, Isolated, Start, Loop, Next, Prev, VertexUsed}
+use Rattle.layout.specs.Fields.{Field, Capacity, SolidUsed, Solid, Outer, Face, First, Isolated, Start, Loop, Next}
+use Rattle.layout.specs.Fields.{Prev, VertexUsed}
 use Rattle.layout.specs.Fields.{Columns, groupOf, wordOf, groupAt, capOf, fieldAt, field-in, sameField}
 use Rattle.sound_tables.specs.Sound.{In, Sound}
 
@@ -27,7 +29,8 @@ of-record sh F e = split (groupOf F) 0
     zero-below h = omega arith
 
 -- every word of a free record is 0
-pub free-zero : {sh : Shape} {p : List ℤ} {c : Columns} → Sound sh p c → (F : Field) → 1 ≤ groupOf F → (n : ℕ) → In (capOf sh F) n
+pub free-zero : {sh : Shape} {p : List ℤ} {c : Columns} → Sound sh p c → (F : Field) → 1 ≤ groupOf F → (n : ℕ)
+    → In (capOf sh F) n
     → c (headOf F) n ≡ 0 → c F n ≡ 0
 free-zero s Capacity h n i z = absurd (omega arith)
 free-zero s SolidUsed h n i z = z

@@ -1,4 +1,5 @@
--- The operators' common steps, seen through the columns: whole records, an edge in, an edge out, a loop's first anew, a sweep over the faces.
+-- The operators' common steps, seen through the columns: whole records, an edge in, an edge out, a loop's first anew, a
+-- sweep over the faces.
 use mathlib.Core.Path.{_≡_, refl, ap, _∙_}
 use mathlib.Core.Logic.{_≢_}
 use mathlib.Core.Bool.{false}
@@ -56,20 +57,23 @@ abbrev pub withFirst : Columns → ℕ → ℕ → ℕ → Columns
 withFirst c l k v = change (change c First l k) Isolated l v
 
 -- where it has no half-edge, it is isolated at u
-pub shows-isolated : {sh : Shape} {x : List ℕ} {c : Columns} → Shows sh x c → (l low u : ℕ) → In (sh .loops) l → Shows sh (renew sh x l low 0 u) (withFirst c l 0 u)
+pub shows-isolated : {sh : Shape} {x : List ℕ} {c : Columns} → Shows sh x c → (l low u : ℕ) → In (sh .loops) l
+    → Shows sh (renew sh x l low 0 u) (withFirst c l 0 u)
 unfolding renew seek
 shows-isolated s l low u i =
     let z : 0 - low ≡ 0 = omega arith in
     rw z (shows-put (shows-put s First l 0 (i .0) (i .1)) Isolated l u (i .0) (i .1))
 
 -- where its half-edges are the cycle of k, none of them below `low`, first is the least that names it
-pub shows-first : {sh : Shape} {x : List ℕ} {c : Columns} {U : ℕ → Type 0} → Shows sh x c → (l low k u : ℕ) → In (sh .loops) l → Cycles (2 * sh .edges) U (c Next) (c Loop) → U k → c Loop k ≡ l
+pub shows-first : {sh : Shape} {x : List ℕ} {c : Columns} {U : ℕ → Type 0} → Shows sh x c → (l low k u : ℕ)
+    → In (sh .loops) l → Cycles (2 * sh .edges) U (c Next) (c Loop) → U k → c Loop k ≡ l
     → ((i : ℕ) → In (2 * sh .edges) i → c Loop i ≡ l → U i) → ((i : ℕ) → In (2 * sh .edges) i → c Loop i ≡ l → low ≤ i)
     → Shows sh (renew sh x l low k u) (withFirst c l (firstOf sh c l) 0)
 unfolding renew
 shows-first {sh} {x} {c} {U} s l low k u i y w e all from =
     let d : k ≢ 0 = λ z. omega (arith, y .perm .low k w, z) in
-    let q : firstFrom sh x l low k ≡ firstOf sh c l = seek-first sh x c U l low k (k - low) s y (i .0) w e all from (omega arith) in
+    let q : firstFrom sh x l low k ≡ firstOf sh c l =
+    seek-first sh x c U l low k (k - low) s y (i .0) w e all from (omega arith) in
     rw (eqb-other d, q) (shows-put (shows-put s First l (firstOf sh c l) (i .0) (i .1)) Isolated l 0 (i .0) (i .1))
 
 -- ---- a sweep over the faces: each solid becomes g of the face and of what it was
@@ -103,7 +107,8 @@ sweep-at c (suc n) g f i = split f (suc n)
     (λ d. upd-off _ _ d ∙ sweep-at c n g f (i .0, omega (arith, i .1, d)))
 
 -- and the other columns stay
-pub sweep-other : (c : Columns) (n : ℕ) (g : ℕ → ℕ → ℕ) (F : Field) → sameField Solid F ≡ false → (k : ℕ) → sweepColumns c n g F k ≡ c F k
+pub sweep-other : (c : Columns) (n : ℕ) (g : ℕ → ℕ → ℕ) (F : Field) → sameField Solid F ≡ false → (k : ℕ)
+    → sweepColumns c n g F k ≡ c F k
 unfolding sweepColumns
 sweep-other c zero g F e k = refl
 sweep-other c (suc n) g F e k = rw e (sweep-other c n g F e k)

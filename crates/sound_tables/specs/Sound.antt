@@ -12,7 +12,8 @@ use Rattle.laws.specs.Linked.{link, map-linked}
 use Rattle.layout.specs.declared.shape.Shape.{Shape}
 use Rattle.layout.specs.Mate.{mate}
 use Rattle.layout.specs.Points.{pointWidth, coordinate, inRange}
-use Rattle.layout.specs.Fields.{Field, SolidUsed, Solid, Outer, Face, First, Isolated, Start, Loop, Next, Prev, VertexUsed, Columns, capOf}
+use Rattle.layout.specs.Fields.{Field, SolidUsed, Solid, Outer, Face, First, Isolated, Start, Loop, Next, Prev}
+use Rattle.layout.specs.Fields.{VertexUsed, Columns, capOf}
 use Rattle.sound_tables.specs.EdgeIn.{Halves, Rules}
 use Rattle.sound_tables.specs.Dummies.{agree-rules}
 use Rattle.sound_tables.specs.Solids.{Solids}

@@ -37,4 +37,5 @@ module _ (x : List ℕ) (p : List ℤ) (b : Bool) (h : b ≡ tableFits x p) wher
 -- a check that does not refuse has found that the lengths fit
 pub checked-fits : (x : List ℕ) (p : List ℤ) → checkOf x p .refusal ≡ 0 → tableFits x p ≡ true
 unfolding checkOf
-checked-fits x p e = ⊎-elim (λ t. t) (λ f. let z : _≡_ {A = ℕ} 1 0 = rw f at e in absurd (omega arith)) (ask (tableFits x p))
+checked-fits x p e = ⊎-elim (λ t. t) (λ f. let z : _≡_ {A = ℕ} 1 0 = rw f at e in absurd (omega arith))
+    (ask (tableFits x p))

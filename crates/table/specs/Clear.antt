@@ -34,4 +34,5 @@ cleared refusal start x p = record { answer = record { refusal = refusal; start 
 -- an empty table and a log that starts at its end; or refusal 1, and nothing is changed
 unfoldable pub clearOf : List ℕ → List ℤ → ℕ → ℕ → ℕ → ℕ → ℕ → ℕ → Cleared
 clearOf x p log s f l e v =
-    pick (sizesFit (length x) (length p) s f l e v) (cleared 0 log (emptyLinks s f l e v) (emptyPoints v)) (cleared 1 log x p)
+    pick (sizesFit (length x) (length p) s f l e v) (cleared 0 log (emptyLinks s f l e v) (emptyPoints v))
+    (cleared 1 log x p)

@@ -33,20 +33,24 @@ module _ {A : Type 0} (z : A) where
   -- all of them
   pub filled-all : (l : List A) (n i : ℕ) → length l ≡ n → n ≤ i → Filled z l i → l ≡ replicate n z
   filled-all l n i e h f =
-      ext-getD z l (replicate n z) (e ∙ sym (length-replicate n z)) (λ j k. f .at j (omega arith) ∙ sym (getD-replicate n j z z (omega arith)))
+      ext-getD z l (replicate n z) (e ∙ sym (length-replicate n z)) (λ j k. f .at j (omega arith)
+      ∙ sym (getD-replicate n j z z (omega arith)))
 
 -- zeros with the capacities in front are the empty links
-pub capacities-first : (s f l e v : ℕ) → withCapacities (replicate (linksLength s f l e v) 0) s f l e v ≡ emptyLinks s f l e v
+pub capacities-first : (s f l e v : ℕ) → withCapacities (replicate (linksLength s f l e v) 0) s f l e v
+    ≡ emptyLinks s f l e v
 capacities-first s f l e v =
     let n : linksLength s f l e v ≡ suc (suc (suc (suc (suc (linksLength s f l e v - head))))) = omega arith in
     ap (λ k. withCapacities (replicate k 0) s f l e v) n
 
-module _ (x : List ℕ) (p : List ℤ) (log s f l e v : ℕ) (b : Bool) (h : b ≡ sizesFit (length x) (length p) s f l e v) where
+module _ (x : List ℕ) (p : List ℤ) (log s f l e v : ℕ) (b : Bool)
+    (h : b ≡ sizesFit (length x) (length p) s f l e v) where
   pub clear-refused : not b ≡ true → cleared 1 log x p ≡ clearOf x p log s f l e v
   unfolding clearOf
   clear-refused n = rw (sym h ∙ not-true b n)
 
-  pub clear-done : not b ≡ false → (x1 x2 : List ℕ) (q : List ℤ) → x1 ≡ replicate (length x) 0 → x2 ≡ withCapacities x1 s f l e v
+  pub clear-done : not b ≡ false → (x1 x2 : List ℕ) (q : List ℤ) → x1 ≡ replicate (length x) 0
+      → x2 ≡ withCapacities x1 s f l e v
       → q ≡ replicate (length p) (pos 0) → cleared 0 log x2 q ≡ clearOf x p log s f l e v
   unfolding clearOf
   clear-done n x1 x2 q e1 e2 eq =

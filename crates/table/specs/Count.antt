@@ -32,14 +32,25 @@ itemUsed Ring sh x n = ringUsed sh x n
 abbrev pub usedTo : Item → Shape → List ℕ → ℕ → ℕ
 usedTo item sh x n = countTo n (itemUsed item sh x)
 
--- the holes by Euler's formula, v − e + f = 2 (s − h) + r. Of a sound table that number is whole and not negative, so that nothing is cut
--- off here: theorem `count-holes` of crate inversion.
+-- the holes by Euler's formula, v − e + f = 2 (s − h) + r. Of a sound table that number is whole and not negative, so
+-- that nothing is cut off here: theorem `count-holes` of crate inversion.
 abbrev pub holesOf : ℕ → ℕ → ℕ → ℕ → ℕ → ℕ
 holesOf s f e v r = (e + r + 2 * s - (v + f)) / 2
 
 abbrev pub counts : ℕ → ℕ → ℕ → ℕ → ℕ → ℕ → ℕ → ℕ → ℕ → CountAnswer
 counts refusal rule s f l e v r h =
-    record { refusal = refusal; rule = rule; solids = s; faces = f; loops = l; edges = e; vertices = v; rings = r; holes = h }
+    record {
+      refusal = refusal;
+      rule = rule;
+      solids = s;
+      faces = f;
+      loops = l;
+      edges = e;
+      vertices = v;
+      rings =
+          r;
+      holes = h;
+    }
 
 -- nothing counted
 abbrev pub noCounts : ℕ → ℕ → CountAnswer
@@ -51,7 +62,8 @@ withHoles s f l e v r = counts 0 0 s f l e v r (holesOf s f e v r)
 -- the counts of a table
 unfoldable pub tallyOf : Shape → List ℕ → CountAnswer
 tallyOf sh x =
-    withHoles (usedTo Solid sh x (sh .solids)) (usedTo Face sh x (sh .faces)) (usedTo Loop sh x (sh .loops)) (usedTo Edge sh x (sh .edges))
+    withHoles (usedTo Solid sh x (sh .solids)) (usedTo Face sh x (sh .faces)) (usedTo Loop sh x (sh .loops))
+    (usedTo Edge sh x (sh .edges))
     (usedTo Vertex sh x (sh .vertices)) (usedTo Ring sh x (sh .loops))
 
 -- what the check refuses is not counted

@@ -22,7 +22,8 @@ use Rattle.table.specs.CheckLaws.{checked-fits}
 use Rattle.table.specs.Count.{itemUsed, usedTo, holesOf, counts, noCounts, tallyOf, countOf}
 
 -- the arm that was taken is the kind's own
-pub by-item : (item t : Item) → item ≡ t → (sh : Shape) (x : List ℕ) (n : ℕ) (r : Bool) → r ≡ itemUsed t sh x n → r ≡ itemUsed item sh x n
+pub by-item : (item t : Item) → item ≡ t → (sh : Shape) (x : List ℕ) (n : ℕ) (r : Bool) → r ≡ itemUsed t sh x n
+    → r ≡ itemUsed item sh x n
 by-item item t e sh x n r h = rw e h
 
 module _ (item : Item) (sh : Shape) (x : List ℕ) where
@@ -32,13 +33,15 @@ module _ (item : Item) (sh : Shape) (x : List ℕ) where
   count-start = refl
 
   -- one more item
-  pub count-turn : (k total : ℕ) (b : Bool) (one : ℕ) → total ≡ countTo k (itemUsed item sh x) → one ≡ bit b → b ≡ itemUsed item sh x (k + 1)
+  pub count-turn : (k total : ℕ) (b : Bool) (one : ℕ) → total ≡ countTo k (itemUsed item sh x) → one ≡ bit b
+      → b ≡ itemUsed item sh x (k + 1)
       → total + one ≡ countTo (k + 1) (itemUsed item sh x)
   unfolding sumTo
   count-turn k total b one h e g = rw (add-one k) (omega (arith, ap bit (rw (add-one k) at g)))
 
   -- all of them
-  pub count-end : (k n total : ℕ) → k ≤ n → n ≤ k → total ≡ countTo k (itemUsed item sh x) → total ≡ countTo n (itemUsed item sh x)
+  pub count-end : (k n total : ℕ) → k ≤ n → n ≤ k → total ≡ countTo k (itemUsed item sh x)
+      → total ≡ countTo n (itemUsed item sh x)
   count-end k n total a b h = let e : n ≡ k = omega arith in rw e h
 
 -- ---- the ways out of counting
@@ -57,7 +60,8 @@ module _ (x : List ℕ) (p : List ℤ) (a : CheckAnswer) (h : a ≡ checkOf x p)
     count-done r e = rw (← h, eq-eqb (a .refusal) 0 z, ← s) e
 
 -- the counts one by one
-pub tally-is : (sh : Shape) (x : List ℕ) (s f l e v r h : ℕ) → s ≡ usedTo Solid sh x (sh .solids) → f ≡ usedTo Face sh x (sh .faces)
+pub tally-is : (sh : Shape) (x : List ℕ) (s f l e v r h : ℕ) → s ≡ usedTo Solid sh x (sh .solids)
+    → f ≡ usedTo Face sh x (sh .faces)
     → l ≡ usedTo Loop sh x (sh .loops) → e ≡ usedTo Edge sh x (sh .edges) → v ≡ usedTo Vertex sh x (sh .vertices)
     → r ≡ usedTo Ring sh x (sh .loops) → h ≡ holesOf s f e v r → counts 0 0 s f l e v r h ≡ tallyOf sh x
 unfolding tallyOf

@@ -26,7 +26,8 @@ pub record Sizes (m n s f l e v : ℕ) : Type 0 where
   pub points : n ≡ pointsLength v
 
 capacity-is : (n : ℕ) → T (capacity n) → Capacity n
-capacity-is n t = let h = and-T (leb 1 n) (leb n mostItems) t in record { low = leb→le 1 n (h .0); high = leb→le n mostItems (h .1) }
+capacity-is n t = let h = and-T (leb 1 n) (leb n mostItems) t in
+    record { low = leb→le 1 n (h .0); high = leb→le n mostItems (h .1) }
 
 pub sizes-are : (m n s f l e v : ℕ) → sizesFit m n s f l e v ≡ true → Sizes m n s f l e v
 unfolding sizesFit

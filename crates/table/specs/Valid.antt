@@ -45,7 +45,8 @@ unfolding checkOf brokenRule
 valid-parts x p v =
     let f = checked-fits x p (ap (λ a. a .refusal) v) in
     let n = ruled-none (brokenRule (shapeOf x) x p) (ap (λ a. a .refusal) (rw f at v)) in
-    let h = all-hold (rule1 (shapeOf x) x p) (rule2 (shapeOf x) x) (rule3 (shapeOf x) x) (rule4 (shapeOf x) x) (rule5 (shapeOf x) x) (rule6 (shapeOf x) x) n in
+    let h = all-hold (rule1 (shapeOf x) x p) (rule2 (shapeOf x) x) (rule3 (shapeOf x) x) (rule4 (shapeOf x) x)
+    (rule5 (shapeOf x) x) (rule6 (shapeOf x) x) n in
     record { fits = f; first = h .0; second = h .1; third = h .2; fourth = h .3; fifth = h .4; sixth = h .5 }
 
 pub parts-valid : (x : List ℕ) (p : List ℤ) → Parts x p → Valid x p

@@ -11,8 +11,8 @@ pub struct CheckAnswer {
     pub rule: u8,
 }
 
-// Refusal 1 for a capacity that is not 1 to 4,096 or a slice that is not exactly as long as the capacities say; then 2 with the lowest
-// broken rule; 0 for a sound table. The rule is 0 unless the refusal is 2.
+// Refusal 1 for a capacity that is not 1 to 4,096 or a slice that is not exactly as long as the capacities say; then 2
+// with the lowest broken rule; 0 for a sound table. The rule is 0 unless the refusal is 2.
 pub fn check(links: &[u16], points: &[i32]) -> CheckAnswer
     ensures { λ r. ⌜ r ≡ checkOf (now (links .entry)) (now (points .entry)) ⌝ }
 {

@@ -44,9 +44,10 @@ fn put_capacities(links: &mut [u16], s: usize, f: usize, l: usize, e: usize, v: 
     put(links, 4, v);
 }
 
-// The table of these capacities with nothing in use, and a log that starts at its end; of the log only its length is handed in, so no
-// byte of it can change. Refusal 1 for a capacity that is not 1 to 4,096 or a slice that is not as long as they say: nothing is written.
-// What start a refusal answers is left free by document 01: it is the log's length here too.
+// The table of these capacities with nothing in use, and a log that starts at its end; of the log only its length is
+// handed in, so no byte of it can change. Refusal 1 for a capacity that is not 1 to 4,096 or a slice that is not as
+// long as they say: nothing is written. What start a refusal answers is left free by document 01: it is the log's
+// length here too.
 pub fn clear(
     links: &mut [u16],
     points: &mut [i32],
@@ -57,7 +58,8 @@ pub fn clear(
     e: u16,
     v: u16,
 ) -> ClearAnswer
-    ensures { λ r. ⌜ cleared (r .refusal) (r .start) (now (links .exit)) (now (points .exit)) ≡ clearOf (now (links .entry)) (now (points .entry)) log s f l e v ⌝ }
+    ensures { λ r. ⌜ cleared (r .refusal) (r .start) (now (links .exit)) (now (points .exit))
+        ≡ clearOf (now (links .entry)) (now (points .entry)) log s f l e v ⌝ }
 {
     let cs = s as usize;
     let cf = f as usize;

@@ -47,8 +47,20 @@ crossed-at sh x k h =
     let a = any-at (sh .edges) (λ e. either (between sh x k (2 * e - 1)) (between sh x k (2 * e))) (true-T h) in
     let e = a .0 in
     ⊎-elim
-    (λ q. record { j = 2 * e - 1; range = (omega (arith, a .1), omega (arith, a .2)); inside = q .0; outside = ap (between sh x k) (mate-low e (a .1)) ∙ q .1 })
-    (λ q. record { j = 2 * e; range = (omega (arith, a .1), omega (arith, a .2)); inside = q .1; outside = ap (between sh x k) (mate-high e (a .1)) ∙ q .0 })
+    (λ q. record {
+      j = 2 * e - 1;
+      range = (omega (arith, a .1), omega (arith, a .2));
+      inside = q .0;
+      outside =
+          ap (between sh x k) (mate-low e (a .1)) ∙ q .1;
+    })
+    (λ q. record {
+      j = 2 * e;
+      range = (omega (arith, a .1), omega (arith, a .2));
+      inside = q .1;
+      outside =
+          ap (between sh x k) (mate-high e (a .1)) ∙ q .0;
+    })
     (either-one (between sh x k (2 * e - 1)) (between sh x k (2 * e)) (T-true (a .3)))
 
 -- and if there is one, it passes
@@ -69,10 +81,12 @@ at-crossed sh x k c = T-true (by (c .j % 2) refl)
         let je : c .j ≡ 2 * e - 1 = omega (arith, o, c .range) in
         let l : 1 ≤ e = omega (arith, o, c .range) in
         pick-e e l (omega (arith, o, c .range))
-        (not-either _ _ (ap (between sh x k) (sym je) ∙ c .inside) (ap (between sh x k) (sym (mate-low e l) ∙ ap mate (sym je)) ∙ c .outside)))
+        (not-either _ _ (ap (between sh x k) (sym je) ∙ c .inside)
+        (ap (between sh x k) (sym (mate-low e l) ∙ ap mate (sym je)) ∙ c .outside)))
         (λ o.
         let e : ℕ = c .j / 2 in
         let je : c .j ≡ 2 * e = omega (arith, o, c .range) in
         let l : 1 ≤ e = omega (arith, o, c .range) in
         pick-e e l (omega (arith, o, c .range))
-        (either-not _ _ (ap (between sh x k) (sym (mate-high e l) ∙ ap mate (sym je)) ∙ c .outside) (ap (between sh x k) (sym je) ∙ c .inside)))
+        (either-not _ _ (ap (between sh x k) (sym (mate-high e l) ∙ ap mate (sym je)) ∙ c .outside)
+        (ap (between sh x k) (sym je) ∙ c .inside)))

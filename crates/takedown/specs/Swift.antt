@@ -282,5 +282,6 @@ swiftOf t =
     pick (eqb (entry t .refusal) 0)
     (pick (noneFree (shapeOf (t .links)) (t .links)) (inverted 10 0 (begin t))
     (pick (shortLog (shapeOf (t .links)) t) (inverted 9 0 (begin t))
-    (inverted 0 0 (swiftBy (turns (shapeOf (t .links))) (shapeOf (t .links)) (entered (shapeOf (t .links)) 1 (begin t))))))
+    (inverted 0 0 (swiftBy (turns (shapeOf (t .links))) (shapeOf (t .links))
+    (entered (shapeOf (t .links)) 1 (begin t))))))
     (inverted (entry t .refusal) (entry t .rule) (begin t))

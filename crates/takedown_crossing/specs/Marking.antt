@@ -105,7 +105,8 @@ marked-run : (sh : Shape) (n : ℕ) (x : List ℕ) (k stop : ℕ) (marks : List 
 unfolding markRun onRun
 marked-run sh zero x k stop marks j h = or-false (marked marks j)
 marked-run sh (suc n) x k stop marks j h =
-    run-step (eqb k stop) (eqb k j) marks (markRun sh n x (nextOf sh x k) stop (set marks k 1)) j (onRun sh n x (nextOf sh x k) stop j)
+    run-step (eqb k stop) (eqb k j) marks (markRun sh n x (nextOf sh x k) stop (set marks k 1)) j
+    (onRun sh n x (nextOf sh x k) stop j)
     (marked-run sh n x (nextOf sh x k) stop (set marks k 1) j (rw (length-set marks k 1) h)
     ∙ ap (λ b. b || onRun sh n x (nextOf sh x k) stop j) (mark-one marks k j h))
 
@@ -164,7 +165,8 @@ unpaired-says n marks j u =
 says-unpaired : (n : ℕ) (marks : List ℕ) (j : ℕ) → 1 ≤ j → j ≤ n → marked marks (mate j) ≡ false
     → T (unpaired n marks j)
 says-unpaired n marks j lo hi m =
-    let e : unpaired n marks j ≡ true = rw (le-ltb j 1 lo, le-ltb n j hi) (not-false (eqb (getD marks (mate j) 0) 0) m) in
+    let e : unpaired n marks j ≡ true =
+    rw (le-ltb j 1 lo, le-ltb n j hi) (not-false (eqb (getD marks (mate j) 0) 0) m) in
     true-T e
 
 -- from no marks on, what is marked lies between k and its mate
@@ -173,7 +175,8 @@ module _ (sh : Shape) (x : List ℕ) (k : ℕ) (small : sh .edges ≤ 4096) (mar
   marked-between : (j : ℕ) → j ≤ 8193 → marked marks j ≡ between sh x k j
   marked-between j h =
       ap (λ m. marked m j) e
-      ∙ marked-run sh (2 * sh .edges) x (nextOf sh x k) (mate k) (replicate 8194 0) j (omega (arith, h, length-replicate {A = ℕ} 8194 0))
+      ∙ marked-run sh (2 * sh .edges) x (nextOf sh x k) (mate k) (replicate 8194 0) j (omega
+      (arith, h, length-replicate {A = ℕ} 8194 0))
       ∙ ap (λ b. b || between sh x k j) (ap (λ n. not (eqb n 0)) (zeros-at 8194 j))
 
   -- so what is found by the second walk crosses k
@@ -199,10 +202,12 @@ module _ (sh : Shape) (x : List ℕ) (k : ℕ) (small : sh .edges ≤ 4096) (mar
       → r ≡ crossed sh x k
   crossed-is r q =
       q ∙ same-T
-      (λ t. let f = found sh (2 * sh .edges) (2 * sh .edges) x (nextOf sh x k) (mate k) marks t in unpaired-crosses (f .0) (f .1) (f .2))
+      (λ t. let f = found sh (2 * sh .edges) (2 * sh .edges) x (nextOf sh x k) (mate k) marks t in
+      unpaired-crosses (f .0) (f .1) (f .2))
       (λ t.
       let c = crossed-at sh x k (T-true t) in
-      finds sh (2 * sh .edges) (2 * sh .edges) x (nextOf sh x k) (mate k) marks (c .j) (true-T (c .inside)) (crosses-unpaired c))
+      finds sh (2 * sh .edges) (2 * sh .edges) x (nextOf sh x k) (mate k) marks (c .j) (true-T (c .inside))
+      (crosses-unpaired c))
 
 -- the walk begins behind k and stops at its mate
 pub crossed-steps : (sh : Shape) (x : List ℕ) (k : ℕ) → sh .edges ≤ 4096 → (from stop n : ℕ) → from ≡ nextOf sh x k

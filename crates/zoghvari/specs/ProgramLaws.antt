@@ -16,19 +16,24 @@ use Rattle.report.specs.Text.{textOf, tooLong}
 use Rattle.zoghvari.specs.Program.{empty, reportOf, programOf}
 
 -- clearing the program's memory is not refused
-cleared-is : clearOf (replicate 965 0) (replicate 192 (pos 0)) 40960 64 64 64 64 64 ≡ cleared 0 40960 (emptyLinks 64 64 64 64 64) (emptyPoints 64)
+cleared-is : clearOf (replicate 965 0) (replicate 192 (pos 0)) 40960 64 64 64 64 64
+    ≡ cleared 0 40960 (emptyLinks 64 64 64 64 64) (emptyPoints 64)
 unfolding clearOf sizesFit
 cleared-is = refl
 
 -- it makes the empty table
-pub cleared-empty : (refusal start : ℕ) (x : List ℕ) (p : List ℤ) → cleared refusal start x p ≡ clearOf (replicate 965 0) (replicate 192 (pos 0)) 40960 64 64 64 64 64
+pub cleared-empty : (refusal start : ℕ) (x : List ℕ) (p : List ℤ)
+    → cleared refusal start x p ≡ clearOf (replicate 965 0) (replicate 192 (pos 0)) 40960 64 64 64 64 64
     → state x p (replicate 40960 0) start ≡ empty
 unfolding empty
-cleared-empty refusal start x p e = ap (λ (c : Cleared). state (c .links) (c .points) (replicate 40960 0) (c .answer .start)) (e ∙ cleared-is)
+cleared-empty refusal start x p e =
+    ap (λ (c : Cleared). state (c .links) (c .points) (replicate 40960 0) (c .answer .start)) (e ∙ cleared-is)
 
 -- the text of its run
-pub reported : (s : List ℕ) (t : State) (r : Ran) (c : CountAnswer) (x y : List ℕ) (n : ℕ) → t ≡ empty → r ≡ runOf t s → c ≡ countOf (r .links) (r .points)
-    → (n ≡ length (textOf (r .answer .refusal) (r .answer .done) (r .answer .used) c)) × (y ≡ sets x 0 (textOf (r .answer .refusal) (r .answer .done) (r .answer .used) c))
+pub reported : (s : List ℕ) (t : State) (r : Ran) (c : CountAnswer) (x y : List ℕ) (n : ℕ) → t ≡ empty → r ≡ runOf t s
+    → c ≡ countOf (r .links) (r .points)
+    → (n ≡ length (textOf (r .answer .refusal) (r .answer .done) (r .answer .used) c))
+    × (y ≡ sets x 0 (textOf (r .answer .refusal) (r .answer .done) (r .answer .used) c))
     → (n ≡ length (reportOf (runOf empty s))) × (y ≡ sets x 0 (reportOf (runOf empty s)))
 unfolding reportOf
 reported s t r c x y n e f g h = rw (← e, ← f, ← g) h
@@ -47,7 +52,8 @@ module _ (s : List ℕ) (n : ℕ) where
   program-long e h = let k = length-take n s in rw (lt-leb (length (take n s)) 4096 (omega arith))
 
 -- the front of the buffer that holds the text
-pub shown : (s x y : List ℕ) (n : ℕ) → length x ≡ 256 → (n ≡ length (programOf s)) × (y ≡ sets x 0 (programOf s)) → n ≤ 256
+pub shown : (s x y : List ℕ) (n : ℕ) → length x ≡ 256 → (n ≡ length (programOf s)) × (y ≡ sets x 0 (programOf s))
+    → n ≤ 256
     → (n ≤ length y) × (n ≡ length (take n y))
 shown s x y n e (f, g) h =
     let l : length y ≡ 256 = ap length g ∙ length-sets x 0 (programOf s) ∙ e in

@@ -4,8 +4,8 @@ mod program;
 use libc::STDIN_FILENO;
 use libc::STDOUT_FILENO;
 
-// `read_full` goes on until the input ends, however small the pieces in which it comes, or until the buffer is full. A read that fails
-// counts as the end of the input: what came before it is run.
+// `read_full` goes on until the input ends, however small the pieces in which it comes, or until the buffer is full. A
+// read that fails counts as the end of the input: what came before it is run.
 fn main() {
     let mut input = [0u8; 4097];
     let n = io::read_full(STDIN_FILENO, &mut input);

@@ -22,7 +22,8 @@ const LOG: usize = 40960;
 
 // The script's run on an empty table, as text at the front of `out`; how long it is.
 fn report_run(script: &[u8], out: &mut [u8; 256]) -> usize
-    ensures { λ r. ⌜ (r ≡ length (reportOf (runOf empty (now (script .entry))))) × (now (out .exit) ≡ sets (now (out .entry)) 0 (reportOf (runOf empty (now (script .entry))))) ⌝ }
+    ensures { λ r. ⌜ (r ≡ length (reportOf (runOf empty (now (script .entry)))))
+        × (now (out .exit) ≡ sets (now (out .entry)) 0 (reportOf (runOf empty (now (script .entry))))) ⌝ }
     ensures { λ r. ⌜ r ≤ 256 ⌝ }
 {
     let mut links = [0u16; WORDS];
@@ -34,10 +35,11 @@ fn report_run(script: &[u8], out: &mut [u8; 256]) -> usize
     text(out, ran.refusal, ran.done, ran.used, counts)
 }
 
-// What the program prints for an input of n bytes, at the front of `out`; how long it is. What stands behind it stays. The buffer of the
-// input has room for one byte more than may be run: where that byte came too, the input is too long.
+// What the program prints for an input of n bytes, at the front of `out`; how long it is. What stands behind it stays.
+// The buffer of the input has room for one byte more than may be run: where that byte came too, the input is too long.
 pub fn program(input: [u8; 4097], n: usize, out: &mut [u8; 256]) -> usize
-    ensures { λ r. ⌜ (r ≡ length (programOf (take n input))) × (now (out .exit) ≡ sets (now (out .entry)) 0 (programOf (take n input))) ⌝ }
+    ensures { λ r. ⌜ (r ≡ length (programOf (take n input)))
+        × (now (out .exit) ≡ sets (now (out .entry)) 0 (programOf (take n input))) ⌝ }
     ensures { λ r. ⌜ r ≤ 256 ⌝ }
 {
     if n > LONGEST {

@@ -29,7 +29,13 @@ put-bytes-requires : tie.Need-put-bytes-requires
 put-bytes-requires c κs = search needs
 
 returns : tie.Need-returns
-returns c = (put-answer _ _ _ _ _ _ _ _ _ _ _ _ (c .before .before .before .before .before .before .before .before .before .put-field .ensures .0) (c .before .before .before .before .before .before .put-field2 .ensures .0) (c .before .before .before .put-field3 .ensures .0) (c .put-bytes .ensures), omega arith)
+returns c = (
+  put-answer _ _ _ _ _ _ _ _ _ _ _ _
+      (c .before .before .before .before .before .before .before .before .before .put-field .ensures .0)
+      (c .before .before .before .before .before .before .put-field2 .ensures .0)
+      (c .before .before .before .put-field3 .ensures .0) (c .put-bytes .ensures),
+  omega arith,
+)
 
 pub put-answer-line-spec : {M : Type 1} → statement M
 put-answer-line-spec =

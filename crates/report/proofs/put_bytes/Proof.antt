@@ -9,7 +9,8 @@ use Rattle.report.proofs.put_bytes.Statement.{statement}
 use Rattle.report.proofs.put_bytes.Tie as tie
 
 abbrev Inv-loop : tie.InvT-loop
-Inv-loop out₀ at text i₀ out i = (i ≤ length text) × (at + length text ≤ 256) × (sets out (at + i) (drop i text) ≡ sets out₀ at text)
+Inv-loop out₀ at text i₀ out i = (i ≤ length text) × (at + length text ≤ 256)
+    × (sets out (at + i) (drop i text) ≡ sets out₀ at text)
 
 abbrev μ-loop : tie.MeasureT-loop
 μ-loop out₀ at text i₀ out i = length text - i
@@ -33,13 +34,22 @@ loop-less : tie.Need-loop-less Inv-loop μ-loop
 loop-less c = search needs
 
 loop-again : tie.Need-loop-again Inv-loop μ-loop
-loop-again c = (omega arith, c .before .before .loop .inv .1, put-turn (c .before .before .loop .out) (c .before .before .before .args .at) (c .before .before .loop .i) (c .before .before .before .args .text .now) _ (c .before .before .loop .inv .2) (omega arith))
+loop-again c = (
+  omega arith,
+  c .before .before .loop .inv .1,
+  put-turn (c .before .before .loop .out) (c .before .before .before .args .at) (c .before .before .loop .i)
+      (c .before .before .before .args .text .now) _ (c .before .before .loop .inv .2) (omega arith),
+)
 
 add-result : tie.Need-add-result Inv-loop μ-loop
 add-result c = search needs
 
 returns : tie.Need-returns Inv-loop μ-loop
-returns c = (omega arith, put-end (c .before .loop .out) (c .before .before .args .at) (c .before .loop .i) (c .before .before .args .text .now) _ (c .before .loop .inv .2) (omega arith))
+returns c = (
+  omega arith,
+  put-end (c .before .loop .out) (c .before .before .args .at) (c .before .loop .i)
+      (c .before .before .args .text .now) _ (c .before .loop .inv .2) (omega arith),
+)
 
 pub put-bytes-spec : {M : Type 1} → statement M
 put-bytes-spec =

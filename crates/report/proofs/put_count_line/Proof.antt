@@ -50,10 +50,53 @@ slice-aggregate-put-bytes : tie.Need-slice-aggregate-put-bytes
 slice-aggregate-put-bytes c = search needs
 
 put-bytes-requires : tie.Need-put-bytes-requires
-put-bytes-requires c κs = omega (arith, c .before .before .before .before .before .before .before .before .before .before .before .before .before .before .before .before .before .before .before .before .before .before .before .pre, c .before .before .before .before .before .before .before .before .before .before .before .before .before .before .before .before .before .before .before .before .put-field .ensures .1, c .before .before .before .before .before .before .before .before .before .before .before .before .before .before .before .before .before .put-field2 .ensures .1, c .before .before .before .before .before .before .before .before .before .before .before .before .before .before .put-field3 .ensures .1, c .before .before .before .before .before .before .before .before .before .before .before .put-field4 .ensures .1, c .before .before .before .before .before .before .before .before .put-field5 .ensures .1, c .before .before .before .before .before .put-field6 .ensures .1, c .before .before .put-field7 .ensures .1)
+put-bytes-requires c κs =
+    omega (
+      arith,
+      c .before .before .before .before .before .before .before .before .before .before .before .before .before .before
+          .before .before .before .before .before .before .before .before .before .pre,
+      c .before .before .before .before .before .before .before .before .before .before .before .before .before .before
+          .before .before .before .before .before .before .put-field .ensures .1,
+      c .before .before .before .before .before .before .before .before .before .before .before .before .before .before
+          .before .before .before .put-field2 .ensures .1,
+      c .before .before .before .before .before .before .before .before .before .before .before .before .before
+          .before .put-field3 .ensures .1,
+      c .before .before .before .before .before .before .before .before .before .before .before .put-field4 .ensures .1,
+      c .before .before .before .before .before .before .before .before .put-field5 .ensures .1,
+      c .before .before .before .before .before .put-field6 .ensures .1,
+      c .before .before .put-field7 .ensures .1,
+    )
 
 returns : tie.Need-returns
-returns c = (put-counts _ _ _ _ _ _ _ _ _ _ _ _ _ _ _ _ _ _ _ (c .before .before .before .before .before .before .before .before .before .before .before .before .before .before .before .before .before .before .before .before .before .put-field .ensures .0) (c .before .before .before .before .before .before .before .before .before .before .before .before .before .before .before .before .before .before .put-field2 .ensures .0) (c .before .before .before .before .before .before .before .before .before .before .before .before .before .before .before .put-field3 .ensures .0) (c .before .before .before .before .before .before .before .before .before .before .before .before .put-field4 .ensures .0) (c .before .before .before .before .before .before .before .before .before .put-field5 .ensures .0) (c .before .before .before .before .before .before .put-field6 .ensures .0) (c .before .before .before .put-field7 .ensures .0) (c .put-bytes .ensures), omega (arith, c .put-bytes .ensures .0, c .before .before .before .before .before .before .before .before .before .before .before .before .before .before .before .before .before .before .before .before .before .put-field .ensures .1, c .before .before .before .before .before .before .before .before .before .before .before .before .before .before .before .before .before .before .put-field2 .ensures .1, c .before .before .before .before .before .before .before .before .before .before .before .before .before .before .before .put-field3 .ensures .1, c .before .before .before .before .before .before .before .before .before .before .before .before .put-field4 .ensures .1, c .before .before .before .before .before .before .before .before .before .put-field5 .ensures .1, c .before .before .before .before .before .before .put-field6 .ensures .1, c .before .before .before .put-field7 .ensures .1))
+returns c = (
+  put-counts _ _ _ _ _ _ _ _ _ _ _ _ _ _ _ _ _ _ _
+      (c .before .before .before .before .before .before .before .before .before .before .before .before .before .before
+      .before .before .before .before .before .before .before .put-field .ensures .0)
+      (c .before .before .before .before .before .before .before .before .before .before .before .before .before .before
+      .before .before .before .before .put-field2 .ensures .0)
+      (c .before .before .before .before .before .before .before .before .before .before .before .before .before .before
+      .before .put-field3 .ensures .0)
+      (c .before .before .before .before .before .before .before .before .before .before .before
+      .before .put-field4 .ensures .0)
+      (c .before .before .before .before .before .before .before .before .before .put-field5 .ensures .0)
+      (c .before .before .before .before .before .before .put-field6 .ensures .0)
+      (c .before .before .before .put-field7 .ensures .0) (c .put-bytes .ensures),
+  omega (
+    arith,
+    c .put-bytes .ensures .0,
+    c .before .before .before .before .before .before .before .before .before .before .before .before .before .before
+        .before .before .before .before .before .before .before .put-field .ensures .1,
+    c .before .before .before .before .before .before .before .before .before .before .before .before .before .before
+        .before .before .before .before .put-field2 .ensures .1,
+    c .before .before .before .before .before .before .before .before .before .before .before .before .before .before
+        .before .put-field3 .ensures .1,
+    c .before .before .before .before .before .before .before .before .before .before .before
+        .before .put-field4 .ensures .1,
+    c .before .before .before .before .before .before .before .before .before .put-field5 .ensures .1,
+    c .before .before .before .before .before .before .put-field6 .ensures .1,
+    c .before .before .before .put-field7 .ensures .1,
+  ),
+)
 
 pub put-count-line-spec : {M : Type 1} → statement M
 put-count-line-spec =

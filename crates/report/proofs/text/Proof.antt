@@ -11,7 +11,10 @@ put-count-line-requires : tie.Need-put-count-line-requires
 put-count-line-requires c κs = search needs
 
 returns : tie.Need-returns
-returns c = (put-text _ _ _ _ _ _ _ _ _ (c .before .before .put-answer-line .ensures .0) (c .put-count-line .ensures .0), omega arith)
+returns c = (
+  put-text _ _ _ _ _ _ _ _ _ (c .before .before .put-answer-line .ensures .0) (c .put-count-line .ensures .0),
+  omega arith,
+)
 
 pub text-spec : {M : Type 1} → statement M
 text-spec = tie.close (tie.spec put-answer-line-requires put-count-line-requires returns)

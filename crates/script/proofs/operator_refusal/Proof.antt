@@ -12,7 +12,8 @@ returns : tie.Need-returns
 returns c = refusal-code _ _ (c .before .before .pattern-of .ensures) (c .if1 .taken)
 
 returns-2 : tie.Need-returns-2
-returns-2 c = refusal-count _ _ (c .before .before .before .before .before .pattern-of .ensures) (c .before .before .before .if1 .left) (c .if2 .taken)
+returns-2 c = refusal-count _ _ (c .before .before .before .before .before .pattern-of .ensures)
+    (c .before .before .before .if1 .left) (c .if2 .taken)
 
 to-wires-requires : tie.Need-to-wires-requires
 to-wires-requires c κs = search needs
@@ -28,12 +29,22 @@ in-ranges-requires c κs = search needs
 
 returns-3 : tie.Need-returns-3
 returns-3 c =
-    refusal-none _ _ (c .before .before .before .before .before .before .before .before .before .before .before .before .before .pattern-of .ensures) _ (c .before .before .before .before .before .to-wires .ensures) (c .before .before .before .before .before .before .before .before .before .before .before .if1 .left) (c .before .before .before .before .before .before .before .before .if2 .left) _ (c .before .before .before .largest .ensures ∙ ap largests (c .before .before .before .before .widest .ensures))
+    refusal-none _ _
+    (c .before .before .before .before .before .before .before .before .before .before .before .before
+    .before .pattern-of .ensures) _ (c .before .before .before .before .before .to-wires .ensures)
+    (c .before .before .before .before .before .before .before .before .before .before .before .if1 .left)
+    (c .before .before .before .before .before .before .before .before .if2 .left) _
+    (c .before .before .before .largest .ensures ∙ ap largests (c .before .before .before .before .widest .ensures))
     (sym (c .before .in-ranges .ensures) ∙ c .if3 .taken)
 
 returns-4 : tie.Need-returns-4
 returns-4 c =
-    refusal-range _ _ (c .before .before .before .before .before .before .before .before .before .before .before .before .before .pattern-of .ensures) _ (c .before .before .before .before .before .to-wires .ensures) (c .before .before .before .before .before .before .before .before .before .before .before .if1 .left) (c .before .before .before .before .before .before .before .before .if2 .left) _ (c .before .before .before .largest .ensures ∙ ap largests (c .before .before .before .before .widest .ensures))
+    refusal-range _ _
+    (c .before .before .before .before .before .before .before .before .before .before .before .before
+    .before .pattern-of .ensures) _ (c .before .before .before .before .before .to-wires .ensures)
+    (c .before .before .before .before .before .before .before .before .before .before .before .if1 .left)
+    (c .before .before .before .before .before .before .before .before .if2 .left) _
+    (c .before .before .before .largest .ensures ∙ ap largests (c .before .before .before .before .widest .ensures))
     (sym (c .before .in-ranges .ensures) ∙ c .if3 .left)
 
 pub operator-refusal-spec : {M : Type 1} → statement M

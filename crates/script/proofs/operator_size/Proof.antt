@@ -24,7 +24,10 @@ add-result : tie.Need-add-result
 add-result c = omega (arith, groups-size (c .before .before .before .before .before .before .before .args .op .code))
 
 returns : tie.Need-returns
-returns c = let e = size-is (c .before .before .before .before .before .before .before .args .op) _ (c .before .before .before .before .before .before .pattern-of .ensures) _ (c .before .before .before .to-wires .ensures) in omega (arith, groups-size (c .before .before .before .before .before .before .before .args .op .code))
+returns c = let e = size-is (c .before .before .before .before .before .before .before .args .op) _
+    (c .before .before .before .before .before .before .pattern-of .ensures) _
+    (c .before .before .before .to-wires .ensures) in
+    omega (arith, groups-size (c .before .before .before .before .before .before .before .args .op .code))
 
 pub operator-size-spec : {M : Type 1} → statement M
 operator-size-spec =

@@ -23,17 +23,32 @@ cast-write-number : tie.Need-cast-write-number
 cast-write-number c = search needs
 
 write-number-requires : tie.Need-write-number-requires
-write-number-requires c κs = let e = size-is (c .before .before .before .before .before .before .before .before .before .before .args .op) _ (c .before .before .before .before .before .pattern-of .ensures) _ (c .before .before .to-wires .ensures) in omega arith
+write-number-requires c κs = let e =
+    size-is (c .before .before .before .before .before .before .before .before .before .before .args .op) _
+    (c .before .before .before .before .before .pattern-of .ensures) _ (c .before .before .to-wires .ensures) in
+    omega arith
 
 write-operands-requires : tie.Need-write-operands-requires
-write-operands-requires c κs = let e = size-is (c .before .before .before .before .before .before .before .before .before .before .before .before .before .before .args .op) _ (c .before .before .before .before .before .before .before .before .before .pattern-of .ensures) _ (c .before .before .before .before .before .before .to-wires .ensures) in omega arith
+write-operands-requires c κs = let e =
+    size-is (c .before .before .before .before .before .before .before .before .before .before .before .before .before
+    .before .args .op) _
+    (c .before .before .before .before .before .before .before .before .before .pattern-of .ensures) _
+    (c .before .before .before .before .before .before .to-wires .ensures) in omega arith
 
 same-length : tie.Need-same-length
 same-length c = search needs
 
 returns-3 : tie.Need-returns-3
 returns-3 c =
-    put-done (c .before .before .before .before .before .before .before .before .before .before .before .before .before .before .before .before .before .args .op) _ (c .before .before .before .before .before .before .before .before .before .before .before .before .pattern-of .ensures) _ (c .before .before .before .before .before .before .before .before .before .to-wires .ensures) _ _ _ _ _ (omega arith) (c .before .before .before .before .before .before .write-number .ensures .1) (c .before .before .before .before .before .before .write-number .ensures .0) (c .before .before .write-operands .ensures)
+    put-done
+    (c .before .before .before .before .before .before .before .before .before .before .before .before .before
+    .before .before .before .before .args .op) _
+    (c .before .before .before .before .before .before .before .before .before .before .before
+    .before .pattern-of .ensures) _
+    (c .before .before .before .before .before .before .before .before .before .to-wires .ensures) _ _ _ _ _
+    (omega arith) (c .before .before .before .before .before .before .write-number .ensures .1)
+    (c .before .before .before .before .before .before .write-number .ensures .0)
+    (c .before .before .write-operands .ensures)
 
 pub put-operator-spec : {M : Type 1} → statement M
 put-operator-spec =

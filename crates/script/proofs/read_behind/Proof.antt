@@ -52,7 +52,8 @@ returns-3 c =
     (not-true _ (c .before .if3 .taken)) r
 
 from-wires-requires : tie.Need-from-wires-requires
-from-wires-requires c κs = small-read _ _ _ _ (c .before .before .before .before .before .before .before .read-operands .ensures)
+from-wires-requires c κs =
+    small-read _ _ _ _ (c .before .before .before .before .before .before .before .read-operands .ensures)
 
 returns-4 : tie.Need-returns-4
 returns-4 c =

@@ -15,7 +15,8 @@ refused-requires : tie.Need-refused-requires
 refused-requires c κs = search needs
 
 returns : tie.Need-returns
-returns c = operator-none _ _ _ _ _ _ (sym (c .before .before .before .before .before .read-number .ensures) ∙ c .before .before .before .x .given .1) (omega arith) (c .refused .ensures)
+returns c = operator-none _ _ _ _ _ _ (sym (c .before .before .before .before .before .read-number .ensures)
+    ∙ c .before .before .before .x .given .1) (omega arith) (c .refused .ensures)
 
 cast-read-behind : tie.Need-cast-read-behind
 cast-read-behind c = search needs
@@ -30,7 +31,8 @@ refused-requires-2 : tie.Need-refused-requires-2
 refused-requires-2 c κs = search needs
 
 returns-2 : tie.Need-returns-2
-returns-2 c = operator-behind _ _ _ _ _ _ (sym (c .before .before .before .before .before .read-number .ensures) ∙ c .before .before .before .x .given .1) (c .read-behind .ensures)
+returns-2 c = operator-behind _ _ _ _ _ _ (sym (c .before .before .before .before .before .read-number .ensures)
+    ∙ c .before .before .before .x .given .1) (c .read-behind .ensures)
 
 returns-3 : tie.Need-returns-3
 returns-3 c = operator-bad _ _ _ _ (cc) (c .refused2 .ensures)

@@ -14,7 +14,8 @@ operator-size-requires : tie.Need-operator-size-requires
 operator-size-requires c κs = search needs
 
 returns-2 : tie.Need-returns-2
-returns-2 c = write-short _ _ _ (c .before .before .before .operator-refusal .ensures) (c .before .before .if1 .left) _ (c .before .operator-size .ensures .0) (c .if2 .taken)
+returns-2 c = write-short _ _ _ (c .before .before .before .operator-refusal .ensures) (c .before .before .if1 .left) _
+    (c .before .operator-size .ensures .0) (c .if2 .taken)
 
 put-operator-requires : tie.Need-put-operator-requires
 put-operator-requires c κs = search needs
@@ -23,7 +24,10 @@ same-length : tie.Need-same-length
 same-length c = search needs
 
 returns-3 : tie.Need-returns-3
-returns-3 c = write-done _ _ _ (c .before .before .before .before .before .before .before .operator-refusal .ensures) (c .before .before .before .before .before .before .if1 .left) _ (c .before .before .before .before .before .operator-size .ensures .0) (c .before .before .before .before .if2 .left) _ (c .before .before .put-operator .ensures)
+returns-3 c = write-done _ _ _ (c .before .before .before .before .before .before .before .operator-refusal .ensures)
+    (c .before .before .before .before .before .before .if1 .left) _
+    (c .before .before .before .before .before .operator-size .ensures .0)
+    (c .before .before .before .before .if2 .left) _ (c .before .before .put-operator .ensures)
 
 pub write-operator-spec : {M : Type 1} → statement M
 write-operator-spec =

@@ -15,10 +15,12 @@ program-requires : tie.Need-program-requires
 program-requires c κs = search needs
 
 array-share-prefix-out : tie.Need-array-share-prefix-out
-array-share-prefix-out c = shown _ (replicate 256 0) _ _ (length-replicate {A = ℕ} 256 0) (c .program .ensures .0) (c .program .ensures .1) .0
+array-share-prefix-out c = shown _ (replicate 256 0) _ _ (length-replicate {A = ℕ} 256 0) (c .program .ensures .0)
+    (c .program .ensures .1) .0
 
 slice-aggregate-write-all : tie.Need-slice-aggregate-write-all
-slice-aggregate-write-all c = shown _ (replicate 256 0) _ _ (length-replicate {A = ℕ} 256 0) (c .before .program .ensures .0) (c .before .program .ensures .1) .1
+slice-aggregate-write-all c = shown _ (replicate 256 0) _ _ (length-replicate {A = ℕ} 256 0)
+    (c .before .program .ensures .0) (c .before .program .ensures .1) .1
 
 write-all-requires : tie.Need-write-all-requires
 write-all-requires c κs = search needs

@@ -32,7 +32,8 @@ half-marked-requires c κs = search needs
 
 returns : tie.Need-returns Inv-loop μ-loop
 unfolding allMarked
-returns c = all-fail _ _ _ (c .before .before .before .loop .inv .1) (omega arith) _ (c .before .half-marked .ensures) (c .if1 .taken)
+returns c = all-fail _ _ _ (c .before .before .before .loop .inv .1) (omega arith) _ (c .before .half-marked .ensures)
+    (c .if1 .taken)
 
 sub-k : tie.Need-sub-k Inv-loop μ-loop
 sub-k c = search needs
@@ -42,7 +43,11 @@ loop-less c = search needs
 
 loop-again : tie.Need-loop-again Inv-loop μ-loop
 unfolding allMarked
-loop-again c = (omega arith, all-turn _ _ _ (c .before .before .before .loop .inv .1) (omega arith) _ (c .before .half-marked .ensures) (c .if1 .left))
+loop-again c = (
+  omega arith,
+  all-turn _ _ _ (c .before .before .before .loop .inv .1) (omega arith) _ (c .before .half-marked .ensures)
+      (c .if1 .left),
+)
 
 returns-2 : tie.Need-returns-2 Inv-loop μ-loop
 unfolding allMarked

@@ -38,13 +38,17 @@ element-copy-out-r : tie.Need-element-copy-out-r Inv-loop μ-loop
 element-copy-out-r c = search needs
 
 mark-rep-requires : tie.Need-mark-rep-requires Inv-loop μ-loop
-mark-rep-requires c κs = reps-long _ _ _ _ _ _ (c .before .before .before .loop .inv .1) _ (c .before .before .before .before .before .before .pre .2)
+mark-rep-requires c κs = reps-long _ _ _ _ _ _ (c .before .before .before .loop .inv .1) _
+    (c .before .before .before .before .before .before .pre .2)
 
 loop-less : tie.Need-loop-less Inv-loop μ-loop
 loop-less c = search needs
 
 loop-again : tie.Need-loop-again Inv-loop μ-loop
-loop-again c = (omega arith, reps-turn _ _ _ _ _ _ (c .before .before .before .before .loop .inv .1) _ _ refl (c .mark-rep .ensures))
+loop-again c = (
+  omega arith,
+  reps-turn _ _ _ _ _ _ (c .before .before .before .before .loop .inv .1) _ _ refl (c .mark-rep .ensures),
+)
 
 returns : tie.Need-returns Inv-loop μ-loop
 returns c = reps-out _ _ _ _ _ _ (c .before .loop .inv .1) _ (omega arith) (omega arith)

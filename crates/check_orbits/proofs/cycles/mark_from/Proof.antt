@@ -30,7 +30,8 @@ mark-at-requires : tie.Need-mark-at-requires Inv-loop μ-loop
 mark-at-requires c κs = search needs
 
 returns : tie.Need-returns Inv-loop μ-loop
-returns c = walk-stop _ _ _ _ _ (c .before .before .before .before .loop .inv .2) _ (c .before .mark-at .ensures) (c .if1 .taken)
+returns c = walk-stop _ _ _ _ _ (c .before .before .before .before .loop .inv .2) _ (c .before .mark-at .ensures)
+    (c .if1 .taken)
 
 put-mark-requires : tie.Need-put-mark-requires Inv-loop μ-loop
 put-mark-requires c κs = search needs
@@ -50,7 +51,8 @@ loop-again c =
     let e = c .before .put-mark .ensures in (
       c .step-of .ensures .1,
       long-set (c .before .before .before .before .before .before .before .loop .marks) _ _ _ _ (inv .1) e,
-      walk-turn _ _ _ _ _ (inv .2) (omega arith) _ (c .before .before .before .before .mark-at .ensures) (omega arith) _ e _ (c .step-of .ensures .0),
+      walk-turn _ _ _ _ _ (inv .2) (omega arith) _ (c .before .before .before .before .mark-at .ensures) (omega
+          arith) _ e _ (c .step-of .ensures .0),
     )
 
 returns-2 : tie.Need-returns-2 Inv-loop μ-loop

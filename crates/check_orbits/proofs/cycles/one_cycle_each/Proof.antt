@@ -21,7 +21,8 @@ returns : tie.Need-returns
 unfolding oneCycleEach
 returns c =
     let a = c .before .before .before .before .before .args in
-    c .all-marked .ensures ∙ ap (allMarked (2 * a .sh .edges) (halfUsed (a .sh) (a .links .now))) (c .before .before .mark-all .ensures)
+    c .all-marked .ensures
+    ∙ ap (allMarked (2 * a .sh .edges) (halfUsed (a .sh) (a .links .now))) (c .before .before .mark-all .ensures)
 
 pub one-cycle-each-spec : {M : Type 1} → statement M
 one-cycle-each-spec = tie.close (tie.spec mark-all-requires all-marked-requires returns)

@@ -4,7 +4,8 @@ use native.Mathlib.Omega.{arith}
 use lib.ListN.{length}
 use Rattle.layout.specs.Layout.{loopIsolated}
 use Rattle.check_orbits.specs.Labels.{blank, tally}
-use Rattle.check_orbits.specs.LabelsLaws.{down-turn, down-out, long-set, blank-long, AtMost, blank-most, most-bump}
+use Rattle.check_orbits.specs.LabelsLaws.{down-turn, down-out, long-set, blank-long, AtMost, blank-most}
+use Rattle.check_orbits.specs.LabelsLaws.{most-bump}
 use borrow.Author.Needs.{needs}
 use Rattle.check_orbits.proofs.labels.isolated_counts.Statement.{statement}
 use Rattle.check_orbits.proofs.labels.isolated_counts.Tie as tie
@@ -15,7 +16,8 @@ use Rattle.check_orbits.proofs.labels.bump.Reads as bump-reads
 
 abbrev Inv-loop : tie.InvT-loop
 Inv-loop links sh counts₀ l₀ counts l =
-    (l ≤ sh .loops) × (length counts ≡ 4097) × (tally (loopIsolated sh links) l counts ≡ tally (loopIsolated sh links) (sh .loops) blank)
+    (l ≤ sh .loops) × (length counts ≡ 4097)
+    × (tally (loopIsolated sh links) l counts ≡ tally (loopIsolated sh links) (sh .loops) blank)
     × ((done : ℕ) × (done + l ≤ sh .loops) × AtMost done counts)
 
 abbrev μ-loop : tie.MeasureT-loop
@@ -27,14 +29,21 @@ cast-l c = search needs
 loop-holds : tie.Need-loop-holds Inv-loop μ-loop
 loop-holds c =
     let a = c .before .before .args in
-    let e = c .before .before .pre .1 in
-    (omega arith, blank-long _ e, ap (tally (loopIsolated (a .sh) (a .links .now)) (a .sh .loops)) e, (0, omega arith, blank-most _ e))
+    let e = c .before .before .pre .1 in (
+      omega arith,
+      blank-long _ e,
+      ap (tally (loopIsolated (a .sh) (a .links .now)) (a .sh .loops)) e,
+      (0, omega arith, blank-most _ e),
+    )
 
 loop-isolated-requires : tie.Need-loop-isolated-requires Inv-loop μ-loop
 loop-isolated-requires c κs = search needs
 
 bump-requires : tie.Need-bump-requires Inv-loop μ-loop
-bump-requires c κs = (c .before .before .before .loop .inv .1, omega (arith, c .before .before .before .loop .inv .3 .2 .at (c .before .loop-isolated .result)))
+bump-requires c κs = (
+  c .before .before .before .loop .inv .1,
+  omega (arith, c .before .before .before .loop .inv .3 .2 .at (c .before .loop-isolated .result)),
+)
 
 sub-l : tie.Need-sub-l Inv-loop μ-loop
 sub-l c = search needs

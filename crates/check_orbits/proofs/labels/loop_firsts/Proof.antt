@@ -15,7 +15,8 @@ use Rattle.check_orbits.proofs.labels.put_entry.Reads as put-entry-read
 
 abbrev Inv-loop : tie.InvT-loop
 Inv-loop links sh firsts₀ l₀ firsts l =
-    (l ≤ sh .loops) × (length firsts ≡ 4097) × (copied (loopFirst sh links) l firsts ≡ copied (loopFirst sh links) (sh .loops) blank)
+    (l ≤ sh .loops) × (length firsts ≡ 4097)
+    × (copied (loopFirst sh links) l firsts ≡ copied (loopFirst sh links) (sh .loops) blank)
 
 abbrev μ-loop : tie.MeasureT-loop
 μ-loop links sh firsts₀ l₀ firsts l = l
@@ -43,8 +44,11 @@ loop-less c = search needs
 
 loop-again : tie.Need-loop-again Inv-loop μ-loop
 loop-again c =
-    let inv = c .before .before .before .before .loop .inv in
-    (omega arith, long-set (c .before .before .before .before .loop .firsts) _ _ _ _ (inv .1) (c .put-entry .ensures), down-turn _ _ _ _ _ (inv .2) (omega arith) (cc))
+    let inv = c .before .before .before .before .loop .inv in (
+      omega arith,
+      long-set (c .before .before .before .before .loop .firsts) _ _ _ _ (inv .1) (c .put-entry .ensures),
+      down-turn _ _ _ _ _ (inv .2) (omega arith) (cc),
+    )
 
 returns : tie.Need-returns Inv-loop μ-loop
 returns c = down-out _ _ _ _ (c .before .loop .inv .2) (omega arith)

@@ -37,7 +37,10 @@ loop-less : tie.Need-loop-less Inv-loop μ-loop
 loop-less c = search needs
 
 loop-again : tie.Need-loop-again Inv-loop μ-loop
-loop-again c = (omega arith, all-turn _ _ _ (c .before .before .before .loop .inv .1) (c .before .label-test .ensures) (c .if1 .left))
+loop-again c = (
+  omega arith,
+  all-turn _ _ _ (c .before .before .before .loop .inv .1) (c .before .label-test .ensures) (c .if1 .left),
+)
 
 returns-2 : tie.Need-returns-2 Inv-loop μ-loop
 returns-2 c = all-end _ _ _ (c .before .loop .inv .0) (c .loop-test .left) (c .before .loop .inv .1)

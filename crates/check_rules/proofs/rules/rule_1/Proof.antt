@@ -40,7 +40,11 @@ all-items-requires-5 : tie.Need-all-items-requires-5
 all-items-requires-5 c κs = search needs
 
 returns : tie.Need-returns
-returns c = rule1-is _ _ _ _ _ _ _ _ (c .before .before .before .before .before .before .before .before .all-items .ensures) (c .before .before .before .before .before .before .all-items2 .ensures) (c .before .before .before .before .all-items3 .ensures) (c .before .before .all-items4 .ensures) (c .all-items5 .ensures)
+returns c =
+    rule1-is _ _ _ _ _ _ _ _ (c .before .before .before .before .before .before .before .before .all-items .ensures)
+    (c .before .before .before .before .before .before .all-items2 .ensures)
+    (c .before .before .before .before .all-items3 .ensures) (c .before .before .all-items4 .ensures)
+    (c .all-items5 .ensures)
 
 pub rule-1-spec : {M : Type 1} → statement M
 rule-1-spec =

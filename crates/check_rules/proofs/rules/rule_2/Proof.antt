@@ -17,8 +17,14 @@ solids-of-faces-requires : tie.Need-solids-of-faces-requires
 solids-of-faces-requires c κs = search needs
 
 least-naming-requires : tie.Need-least-naming-requires
-least-naming-requires c κs =
-    (omega (arith, ap (λ (k : Column). k .count) (c .before .solids-of-faces .ensures), c .before .before .before .pre .faces), search needs)
+least-naming-requires c κs = (
+  omega (
+    arith,
+    ap (λ (k : Column). k .count) (c .before .solids-of-faces .ensures),
+    c .before .before .before .pre .faces,
+  ),
+  search needs,
+)
 
 cast-all-items : tie.Need-cast-all-items
 cast-all-items c = search needs
@@ -45,13 +51,30 @@ cast-all-labels : tie.Need-cast-all-labels
 cast-all-labels c = search needs
 
 all-labels-requires : tie.Need-all-labels-requires
-all-labels-requires c κs = c .before .before .before .before .before .before .before .before .before .before .before .before .before .pre .solids
+all-labels-requires c κs =
+    c .before .before .before .before .before .before .before .before .before .before .before .before
+    .before .pre .solids
 
 returns : tie.Need-returns
 returns c =
-    rule2-is (c .before .before .before .before .before .before .before .before .before .before .before .before .before .before .args .sh) (c .before .before .before .before .before .before .before .before .before .before .before .before .before .before .args .links .now) (c .before .before .before .before .before .before .before .before .before .before .before .before .before .before .args .points .now) _ _ _ _ _ (c .before .before .before .before .before .before .before .before .before .before .before .before .before .before .pre .solids)
-    (named-by (c .before .before .before .before .before .before .before .before .before .before .before .before .before .before .args .sh) _ Solid (c .before .before .before .before .before .before .before .before .before .before .before .before .solids-of-faces .ensures) (c .before .before .before .before .before .before .before .before .before .before .least-naming .ensures))
-    (c .before .before .before .before .before .before .before .before .all-items .ensures) (c .before .before .before .before .before .before .all-items2 .ensures) (c .before .before .before .before .all-items3 .ensures) (c .all-labels .ensures)
+    rule2-is
+    (c .before .before .before .before .before .before .before .before .before .before .before .before .before
+    .before .args .sh)
+    (c .before .before .before .before .before .before .before .before .before .before .before .before .before
+    .before .args .links .now)
+    (c .before .before .before .before .before .before .before .before .before .before .before .before .before
+    .before .args .points .now) _ _ _ _ _
+    (c .before .before .before .before .before .before .before .before .before .before .before .before .before
+    .before .pre .solids)
+    (named-by
+    (c .before .before .before .before .before .before .before .before .before .before .before .before .before
+    .before .args .sh) _ Solid
+    (c .before .before .before .before .before .before .before .before .before .before .before
+    .before .solids-of-faces .ensures)
+    (c .before .before .before .before .before .before .before .before .before .before .least-naming .ensures))
+    (c .before .before .before .before .before .before .before .before .all-items .ensures)
+    (c .before .before .before .before .before .before .all-items2 .ensures)
+    (c .before .before .before .before .all-items3 .ensures) (c .all-labels .ensures)
 
 pub rule-2-spec : {M : Type 1} → statement M
 rule-2-spec =

@@ -24,7 +24,11 @@ all-items-requires-2 : tie.Need-all-items-requires-2
 all-items-requires-2 c κs = search needs
 
 returns : tie.Need-returns
-returns c = rule4-not (c .before .before .before .before .before .before .args .sh) (c .before .before .before .before .before .before .args .links .now) (c .before .before .before .before .before .before .args .points .now) (c .before .before .before .before .before .before .pre) _ _ (c .before .before .before .all-items .ensures) (c .before .all-items2 .ensures) (c .if1 .taken)
+returns c = rule4-not (c .before .before .before .before .before .before .args .sh)
+    (c .before .before .before .before .before .before .args .links .now)
+    (c .before .before .before .before .before .before .args .points .now)
+    (c .before .before .before .before .before .before .pre) _ _ (c .before .before .before .all-items .ensures)
+    (c .before .all-items2 .ensures) (c .if1 .taken)
 
 loop-firsts-requires : tie.Need-loop-firsts-requires
 loop-firsts-requires c κs = search needs
@@ -37,7 +41,14 @@ one-cycle-each-requires c κs = search needs
 
 returns-2 : tie.Need-returns-2
 returns-2 c =
-    rule4-is (c .before .before .before .before .before .before .before .before .before .before .before .args .sh) (c .before .before .before .before .before .before .before .before .before .before .before .args .links .now) (c .before .before .before .before .before .before .before .before .before .before .before .args .points .now) (c .before .before .before .before .before .before .before .before .before .before .before .pre) _ _ (c .before .before .before .before .before .before .before .before .all-items .ensures) (c .before .before .before .before .before .before .all-items2 .ensures) (c .before .before .before .before .before .if1 .left) _ _ (c .before .before .before .loop-firsts .ensures) (c .one-cycle-each .ensures)
+    rule4-is (c .before .before .before .before .before .before .before .before .before .before .before .args .sh)
+    (c .before .before .before .before .before .before .before .before .before .before .before .args .links .now)
+    (c .before .before .before .before .before .before .before .before .before .before .before .args .points .now)
+    (c .before .before .before .before .before .before .before .before .before .before .before .pre) _ _
+    (c .before .before .before .before .before .before .before .before .all-items .ensures)
+    (c .before .before .before .before .before .before .all-items2 .ensures)
+    (c .before .before .before .before .before .if1 .left) _ _ (c .before .before .before .loop-firsts .ensures)
+    (c .one-cycle-each .ensures)
 
 pub rule-4-spec : {M : Type 1} → statement M
 rule-4-spec =

@@ -21,8 +21,14 @@ starts-of-halves-requires : tie.Need-starts-of-halves-requires
 starts-of-halves-requires c κs = search needs
 
 least-naming-requires : tie.Need-least-naming-requires
-least-naming-requires c κs =
-    (omega (arith, ap (λ (k : Column). k .count) (c .before .starts-of-halves .ensures), c .before .before .before .before .before .pre .0 .small .edges), search needs)
+least-naming-requires c κs = (
+  omega (
+    arith,
+    ap (λ (k : Column). k .count) (c .before .starts-of-halves .ensures),
+    c .before .before .before .before .before .pre .0 .small .edges,
+  ),
+  search needs,
+)
 
 cast-all-labels : tie.Need-cast-all-labels
 cast-all-labels c = search needs
@@ -34,12 +40,29 @@ cast-one-cycle-each : tie.Need-cast-one-cycle-each
 cast-one-cycle-each c = search needs
 
 one-cycle-each-requires : tie.Need-one-cycle-each-requires
-one-cycle-each-requires c κs = let small = c .before .before .before .before .before .before .before .before .before .before .before .before .pre .0 .small in (small .edges, small .vertices)
+one-cycle-each-requires c κs = let small =
+    c .before .before .before .before .before .before .before .before .before .before .before .before .pre .0 .small in
+    (small .edges, small .vertices)
 
 returns : tie.Need-returns
 returns c =
-    rule5-is (c .before .before .before .before .before .before .before .before .before .before .before .before .before .args .sh) (c .before .before .before .before .before .before .before .before .before .before .before .before .before .args .links .now) (c .before .before .before .before .before .before .before .before .before .before .before .before .before .args .points .now) (c .before .before .before .before .before .before .before .before .before .before .before .before .before .pre .0) (c .before .before .before .before .before .before .before .before .before .before .before .before .before .pre .1) _ _ _ _ (c .before .before .before .before .before .before .before .before .before .before .isolated-counts .ensures)
-    (named-by (c .before .before .before .before .before .before .before .before .before .before .before .before .before .args .sh) _ Start (c .before .before .before .before .before .before .before .before .before .starts-of-halves .ensures) (c .before .before .before .before .before .before .before .least-naming .ensures))
+    rule5-is
+    (c .before .before .before .before .before .before .before .before .before .before .before .before
+    .before .args .sh)
+    (c .before .before .before .before .before .before .before .before .before .before .before .before
+    .before .args .links .now)
+    (c .before .before .before .before .before .before .before .before .before .before .before .before
+    .before .args .points .now)
+    (c .before .before .before .before .before .before .before .before .before .before .before .before
+    .before .pre .0)
+    (c .before .before .before .before .before .before .before .before .before .before .before .before
+    .before .pre .1) _ _ _ _
+    (c .before .before .before .before .before .before .before .before .before .before .isolated-counts .ensures)
+    (named-by
+    (c .before .before .before .before .before .before .before .before .before .before .before .before
+    .before .args .sh) _ Start
+    (c .before .before .before .before .before .before .before .before .before .starts-of-halves .ensures)
+    (c .before .before .before .before .before .before .before .least-naming .ensures))
     (c .before .before .before .all-labels .ensures) (c .one-cycle-each .ensures)
 
 pub rule-5-spec : {M : Type 1} → statement M

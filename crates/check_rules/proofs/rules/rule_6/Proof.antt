@@ -18,8 +18,14 @@ solids-of-faces-requires : tie.Need-solids-of-faces-requires
 solids-of-faces-requires c κs = search needs
 
 least-naming-requires : tie.Need-least-naming-requires
-least-naming-requires c κs =
-    (omega (arith, ap (λ (k : Column). k .count) (c .before .solids-of-faces .ensures), c .before .before .before .pre .small .faces), search needs)
+least-naming-requires c κs = (
+  omega (
+    arith,
+    ap (λ (k : Column). k .count) (c .before .solids-of-faces .ensures),
+    c .before .before .before .pre .small .faces,
+  ),
+  search needs,
+)
 
 cast-all-items : tie.Need-cast-all-items
 cast-all-items c = search needs
@@ -31,12 +37,24 @@ all-items-requires : tie.Need-all-items-requires
 all-items-requires c κs = search needs
 
 shells-whole-requires : tie.Need-shells-whole-requires
-shells-whole-requires c κs =
-    (c .before .before .before .before .before .before .before .pre .small .faces, c .before .before .before .before .before .before .before .pre .small .edges, leaders-long (faceSolid (c .before .before .before .before .before .before .before .args .sh) (c .before .before .before .before .before .before .before .args .links .now)) _ _ (named-by (c .before .before .before .before .before .before .before .args .sh) _ Solid (c .before .before .before .before .before .solids-of-faces .ensures) (c .before .before .before .least-naming .ensures)))
+shells-whole-requires c κs = (
+  c .before .before .before .before .before .before .before .pre .small .faces,
+  c .before .before .before .before .before .before .before .pre .small .edges,
+  leaders-long (faceSolid (c .before .before .before .before .before .before .before .args .sh)
+      (c .before .before .before .before .before .before .before .args .links .now)) _ _
+      (named-by (c .before .before .before .before .before .before .before .args .sh) _ Solid
+      (c .before .before .before .before .before .solids-of-faces .ensures)
+      (c .before .before .before .least-naming .ensures)),
+)
 
 returns : tie.Need-returns
-returns c = rule6-is (c .before .before .before .before .before .before .before .before .args .sh) (c .before .before .before .before .before .before .before .before .args .links .now) (c .before .before .before .before .before .before .before .before .args .points .now) (c .before .before .before .before .before .before .before .before .pre) _ _ _
-    (named-by (c .before .before .before .before .before .before .before .before .args .sh) _ Solid (c .before .before .before .before .before .before .solids-of-faces .ensures) (c .before .before .before .before .least-naming .ensures))
+returns c = rule6-is (c .before .before .before .before .before .before .before .before .args .sh)
+    (c .before .before .before .before .before .before .before .before .args .links .now)
+    (c .before .before .before .before .before .before .before .before .args .points .now)
+    (c .before .before .before .before .before .before .before .before .pre) _ _ _
+    (named-by (c .before .before .before .before .before .before .before .before .args .sh) _ Solid
+    (c .before .before .before .before .before .before .solids-of-faces .ensures)
+    (c .before .before .before .before .least-naming .ensures))
     (c .before .before .all-items .ensures) (c .shells-whole .ensures)
 
 pub rule-6-spec : {M : Type 1} → statement M

@@ -13,7 +13,8 @@ face-solid-requires : tie.Need-face-solid-requires
 face-solid-requires c κs = search needs
 
 returns : tie.Need-returns
-returns c = (whole-free _ _ _ _ (sym (c .before .face-solid .ensures .0) ∙ c .if1 .taken), c .before .before .before .pre .1)
+returns c =
+    (whole-free _ _ _ _ (sym (c .before .face-solid .ensures .0) ∙ c .if1 .taken), c .before .before .before .pre .1)
 
 leader-of-requires : tie.Need-leader-of-requires
 leader-of-requires c κs = search needs
@@ -23,8 +24,12 @@ same-shell-requires c κs = search needs
 
 returns-2 : tie.Need-returns-2
 returns-2 c =
-    let r = c .same-shell .ensures in
-    (whole-asked _ _ _ _ (c .before .before .before .before .before .before .pre .1) _ _ (c .before .before .before .before .face-solid .ensures .0) (c .before .before .before .if1 .left) (c .before .before .leader-of .ensures) (r .0), shells-short (c .before .before .before .before .before .before .pre .1) (r .1))
+    let r = c .same-shell .ensures in (
+      whole-asked _ _ _ _ (c .before .before .before .before .before .before .pre .1) _ _
+          (c .before .before .before .before .face-solid .ensures .0) (c .before .before .before .if1 .left)
+          (c .before .before .leader-of .ensures) (r .0),
+      shells-short (c .before .before .before .before .before .before .pre .1) (r .1),
+    )
 
 pub face-whole-spec : {M : Type 1} → statement M
 face-whole-spec =

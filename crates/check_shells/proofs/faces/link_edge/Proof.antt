@@ -18,7 +18,8 @@ edge-joins-requires : tie.Need-edge-joins-requires
 edge-joins-requires c κs = search needs
 
 returns : tie.Need-returns
-returns c = joined-skip _ (sym (c .before .edge-joins .ensures) ∙ not-true _ (c .if1 .taken)) (c .before .before .before .pre .1)
+returns c = joined-skip _ (sym (c .before .edge-joins .ensures) ∙ not-true _ (c .if1 .taken))
+    (c .before .before .before .pre .1)
 
 mul-side-as : tie.Need-mul-side-as
 mul-side-as c = search needs
@@ -37,13 +38,22 @@ side-as-requires-2 c κs = search needs
 
 unite-requires : tie.Need-unite-requires
 unite-requires c κs =
-    let low = joins-low _ _ _ _ (sym (c .before .before .before .before .edge-joins .ensures) ∙ not-false _ (c .before .before .before .if1 .left)) (c .before .before .before .before .before .before .pre .0 .0) in
-    (c .before .before .before .before .before .before .pre .1 .forest, (omega (arith, c .before .before .side-as .ensures .0), omega (arith, c .before .side-as2 .ensures .0)))
+    let low = joins-low _ _ _ _ (sym (c .before .before .before .before .edge-joins .ensures)
+    ∙ not-false _ (c .before .before .before .if1 .left))
+    (c .before .before .before .before .before .before .pre .0 .0) in (
+      c .before .before .before .before .before .before .pre .1 .forest,
+      (omega (arith, c .before .before .side-as .ensures .0), omega (arith, c .before .side-as2 .ensures .0)),
+    )
 
 returns-2 : tie.Need-returns-2
 returns-2 c =
-    joined-edge _ (sym (c .before .before .before .before .before .edge-joins .ensures) ∙ not-false _ (c .before .before .before .before .if1 .left)) (c .before .before .before .before .before .before .before .pre .1)
-    (rw (c .before .before .before .side-as .ensures .0, c .before .before .side-as2 .ensures .0) at (c .unite .ensures))
+    joined-edge _ (sym (c .before .before .before .before .before .edge-joins .ensures)
+    ∙ not-false _ (c .before .before .before .before .if1 .left))
+    (c .before .before .before .before .before .before .before .pre .1)
+    (rw (
+      c .before .before .before .side-as .ensures .0,
+      c .before .before .side-as2 .ensures .0,
+    ) at (c .unite .ensures))
 
 pub link-edge-spec : {M : Type 1} → statement M
 link-edge-spec =

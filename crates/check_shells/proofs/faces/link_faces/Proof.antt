@@ -27,7 +27,14 @@ loop-holds : tie.Need-loop-holds Inv-loop μ-loop
 loop-holds c = (omega arith, joined-start (c .before .separate .ensures) (c .before .before .before .before .pre .0 .0))
 
 link-edge-requires : tie.Need-link-edge-requires Inv-loop μ-loop
-link-edge-requires c κs = ((c .before .before .before .before .before .before .before .pre .0 .0, c .before .before .before .before .before .before .before .pre .0 .2, omega arith), c .before .before .loop .inv .1)
+link-edge-requires c κs = (
+  (
+    c .before .before .before .before .before .before .before .pre .0 .0,
+    c .before .before .before .before .before .before .before .pre .0 .2,
+    omega arith,
+  ),
+  c .before .before .loop .inv .1,
+)
 
 add-k : tie.Need-add-k Inv-loop μ-loop
 add-k c = omega arith

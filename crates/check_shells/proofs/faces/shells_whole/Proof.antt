@@ -24,7 +24,8 @@ abbrev μ-loop : tie.MeasureT-loop
 μ-loop links sh leaders parent₀ n k₀ parent k = n - k
 
 link-faces-requires : tie.Need-link-faces-requires Inv-loop μ-loop
-link-faces-requires c κs = ((c .before .before .pre .0, c .before .before .pre .1, omega arith), length-replicate {A = ℕ} 4097 0)
+link-faces-requires c κs =
+    ((c .before .before .pre .0, c .before .before .pre .1, omega arith), length-replicate {A = ℕ} 4097 0)
 
 cast-n : tie.Need-cast-n Inv-loop μ-loop
 cast-n c = search needs
@@ -36,10 +37,18 @@ add-face-whole : tie.Need-add-face-whole Inv-loop μ-loop
 add-face-whole c = omega arith
 
 face-whole-requires : tie.Need-face-whole-requires Inv-loop μ-loop
-face-whole-requires c κs = ((c .before .before .before .before .before .before .before .pre .0, omega arith, c .before .before .before .before .before .before .before .pre .2), c .before .before .loop .inv .1)
+face-whole-requires c κs = (
+  (
+    c .before .before .before .before .before .before .before .pre .0,
+    omega arith,
+    c .before .before .before .before .before .before .before .pre .2,
+  ),
+  c .before .before .loop .inv .1,
+)
 
 returns : tie.Need-returns Inv-loop μ-loop
-returns c = all-fail _ _ _ _ (c .before .before .before .loop-test .taken) (c .before .face-whole .ensures .0) (c .if1 .taken)
+returns c = all-fail _ _ _ _ (c .before .before .before .loop-test .taken) (c .before .face-whole .ensures .0)
+    (c .if1 .taken)
 
 add-k : tie.Need-add-k Inv-loop μ-loop
 add-k c = omega arith

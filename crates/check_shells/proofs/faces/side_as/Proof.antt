@@ -21,8 +21,11 @@ loop-face-requires c κs = search needs
 
 returns-2 : tie.Need-returns-2
 returns-2 c =
-    let a = c .before .before .before .before .args in
-    (side-left (a .sh) (a .links .now) (a .l) (a .t) (a .k) _ (c .before .before .loop-of .ensures .0) (c .before .if1 .left) _ (c .loop-face .ensures .0), c .loop-face .ensures .1)
+    let a = c .before .before .before .before .args in (
+      side-left (a .sh) (a .links .now) (a .l) (a .t) (a .k) _ (c .before .before .loop-of .ensures .0)
+          (c .before .if1 .left) _ (c .loop-face .ensures .0),
+      c .loop-face .ensures .1,
+    )
 
 pub side-as-spec : {M : Type 1} → statement M
 side-as-spec = tie.close (tie.spec loop-of-requires returns loop-face-requires returns-2)

@@ -44,22 +44,42 @@ wide-requires-2 : tie.Need-wide-requires-2 Inv-loop μ-loop
 wide-requires-2 c κs = search needs
 
 mul-wide-2 : tie.Need-mul-wide-2 Inv-loop μ-loop
-mul-wide-2 c = omega (arith, climb-less (c .before .before .before .loop .inv .1) _ _ (c .before .before .before .loop .inv .0) (c .before .before .loop-test .taken) (c .wide2 .ensures))
+mul-wide-2 c =
+    omega (
+      arith,
+      climb-less (c .before .before .before .loop .inv .1) _ _ (c .before .before .before .loop .inv .0)
+          (c .before .before .loop-test .taken) (c .wide2 .ensures),
+    )
 
 element-copy-out-wide-2 : tie.Need-element-copy-out-wide-2 Inv-loop μ-loop
-element-copy-out-wide-2 c = omega (arith, climb-less (c .before .before .before .loop .inv .1) _ _ (c .before .before .before .loop .inv .0) (c .before .before .loop-test .taken) (c .wide2 .ensures))
+element-copy-out-wide-2 c =
+    omega (
+      arith,
+      climb-less (c .before .before .before .loop .inv .1) _ _ (c .before .before .before .loop .inv .0)
+          (c .before .before .loop-test .taken) (c .wide2 .ensures),
+    )
 
 wide-requires-3 : tie.Need-wide-requires-3 Inv-loop μ-loop
 wide-requires-3 c κs = search needs
 
 loop-less : tie.Need-loop-less Inv-loop μ-loop
-loop-less c = climb-less (c .before .before .before .before .before .loop .inv .1) _ _ (c .before .before .before .before .before .loop .inv .0) (c .before .before .before .before .loop-test .taken) (c .before .before .wide2 .ensures)
+loop-less c = climb-less (c .before .before .before .before .before .loop .inv .1) _ _
+    (c .before .before .before .before .before .loop .inv .0) (c .before .before .before .before .loop-test .taken)
+    (c .before .before .wide2 .ensures)
 
 loop-again : tie.Need-loop-again Inv-loop μ-loop
-loop-again c = (c .wide3 .ensures, climb-turn (c .before .before .before .before .before .loop .inv .1) _ _ (c .before .before .before .before .before .loop .inv .0) (c .before .before .wide2 .ensures))
+loop-again c = (
+  c .wide3 .ensures,
+  climb-turn (c .before .before .before .before .before .loop .inv .1) _ _
+      (c .before .before .before .before .before .loop .inv .0) (c .before .before .wide2 .ensures),
+)
 
 returns : tie.Need-returns Inv-loop μ-loop
-returns c = (climb-end (c .before .loop .inv .1) (sym (c .before .loop .inv .0) ∙ c .loop-test .left), c .before .loop .inv .1 .low, c .before .loop .inv .1 .kept)
+returns c = (
+  climb-end (c .before .loop .inv .1) (sym (c .before .loop .inv .0) ∙ c .loop-test .left),
+  c .before .loop .inv .1 .low,
+  c .before .loop .inv .1 .kept,
+)
 
 pub find-root-spec : {M : Type 1} → statement M
 find-root-spec =

@@ -22,7 +22,10 @@ element-write-parent : tie.Need-element-write-parent
 element-write-parent c = search needs
 
 returns : tie.Need-returns
-returns c = hung-low (c .before .before .before .before .before .pre .0) (c .before .before .before .find-root .ensures .2) (c .before .find-root2 .ensures .2) _ _ _ _ (c .before .before .before .before .before .pre .1 .0) (c .before .before .before .before .before .pre .1 .1) (c .before .before .before .find-root .ensures .0) (c .before .find-root2 .ensures .0) (c .if1 .taken)
+returns c = hung-low (c .before .before .before .before .before .pre .0)
+    (c .before .before .before .find-root .ensures .2) (c .before .find-root2 .ensures .2) _ _ _ _
+    (c .before .before .before .before .before .pre .1 .0) (c .before .before .before .before .before .pre .1 .1)
+    (c .before .before .before .find-root .ensures .0) (c .before .find-root2 .ensures .0) (c .if1 .taken)
 
 cast-parent-2 : tie.Need-cast-parent-2
 cast-parent-2 c = search needs
@@ -34,7 +37,10 @@ element-write-parent-2 : tie.Need-element-write-parent-2
 element-write-parent-2 c = search needs
 
 returns-2 : tie.Need-returns-2
-returns-2 c = hung-high (c .before .before .before .before .before .pre .0) (c .before .before .before .find-root .ensures .2) (c .before .find-root2 .ensures .2) _ _ _ _ (c .before .before .before .before .before .pre .1 .0) (c .before .before .before .before .before .pre .1 .1) (c .before .before .before .find-root .ensures .0) (c .before .find-root2 .ensures .0) (c .if1 .left)
+returns-2 c = hung-high (c .before .before .before .before .before .pre .0)
+    (c .before .before .before .find-root .ensures .2) (c .before .find-root2 .ensures .2) _ _ _ _
+    (c .before .before .before .before .before .pre .1 .0) (c .before .before .before .before .before .pre .1 .1)
+    (c .before .before .before .find-root .ensures .0) (c .before .find-root2 .ensures .0) (c .if1 .left)
 
 pub unite-spec : {M : Type 1} → statement M
 unite-spec =

@@ -12,7 +12,10 @@ number-size-requires : tie.Need-number-size-requires
 number-size-requires c κs = search needs
 
 returns-2 : tie.Need-returns-2
-returns-2 c = (c .number-size .ensures ∙ sym (size-number _ _ (c .before .if1 .left)), omega (arith, groups-size (c .before .before .args .n)))
+returns-2 c = (
+  c .number-size .ensures ∙ sym (size-number _ _ (c .before .if1 .left)),
+  omega (arith, groups-size (c .before .before .args .n)),
+)
 
 pub operand-size-spec : {M : Type 1} → statement M
 operand-size-spec = tie.close (tie.spec returns number-size-requires returns-2)

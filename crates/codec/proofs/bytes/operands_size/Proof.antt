@@ -9,7 +9,8 @@ use Rattle.codec.proofs.bytes.operands_size.Statement.{statement}
 use Rattle.codec.proofs.bytes.operands_size.Tie as tie
 
 abbrev Inv-loop : tie.InvT-loop
-Inv-loop kinds numbers size₀ i₀ size i = (i ≤ 8) × (length kinds ≡ 8) × (length numbers ≡ 8) × (size ≤ 3 * i) × (size + length (operandsBytes (drop i kinds) (drop i numbers)) ≡ length (operandsBytes kinds numbers))
+Inv-loop kinds numbers size₀ i₀ size i = (i ≤ 8) × (length kinds ≡ 8) × (length numbers ≡ 8) × (size ≤ 3 * i)
+    × (size + length (operandsBytes (drop i kinds) (drop i numbers)) ≡ length (operandsBytes kinds numbers))
 
 abbrev μ-loop : tie.MeasureT-loop
 μ-loop kinds numbers size₀ i₀ size i = 8 - i
@@ -39,10 +40,14 @@ loop-less : tie.Need-loop-less Inv-loop μ-loop
 loop-less c = search needs
 
 loop-again : tie.Need-loop-again Inv-loop μ-loop
-loop-again c = let v = c .before .before .loop .inv in let e = size-next (c .before .before .before .args .t1) (c .before .before .before .args .t2) (c .before .before .loop .i) (v .1) (v .2) (c .before .loop-test .taken) in (omega arith, v .1, v .2, omega arith, omega arith)
+loop-again c = let v = c .before .before .loop .inv in
+    let e = size-next (c .before .before .before .args .t1) (c .before .before .before .args .t2)
+    (c .before .before .loop .i) (v .1) (v .2) (c .before .loop-test .taken) in
+    (omega arith, v .1, v .2, omega arith, omega arith)
 
 returns : tie.Need-returns Inv-loop μ-loop
-returns c = let v = c .before .loop .inv in let e = size-end (c .before .before .args .t1) (c .before .before .args .t2) (c .before .loop .i) (v .1) (v .2) (c .loop-test .left) in (omega arith, omega arith)
+returns c = let v = c .before .loop .inv in let e = size-end (c .before .before .args .t1) (c .before .before .args .t2)
+    (c .before .loop .i) (v .1) (v .2) (c .loop-test .left) in (omega arith, omega arith)
 
 pub operands-size-spec : {M : Type 1} → statement M
 operands-size-spec =

@@ -9,7 +9,8 @@ use Rattle.codec.proofs.bytes.read_operands.Statement.{statement}
 use Rattle.codec.proofs.bytes.read_operands.Tie as tie
 
 abbrev Inv-loop : tie.InvT-loop
-Inv-loop s at kinds numbers₀ i₀ p₀ numbers i p = (i ≤ 8) × (length kinds ≡ 8) × (length numbers ≡ 8) × (front (take i numbers) (readOperands (drop i kinds) s p) ≡ readOperands kinds s at)
+Inv-loop s at kinds numbers₀ i₀ p₀ numbers i p = (i ≤ 8) × (length kinds ≡ 8) × (length numbers ≡ 8)
+    × (front (take i numbers) (readOperands (drop i kinds) s p) ≡ readOperands kinds s at)
 
 abbrev μ-loop : tie.MeasureT-loop
 μ-loop s at kinds numbers₀ i₀ p₀ numbers i p = 8 - i
@@ -36,7 +37,8 @@ enum-told : tie.Need-enum-told Inv-loop μ-loop
 enum-told c = search needs
 
 returns : tie.Need-returns Inv-loop μ-loop
-returns c = let v = c .before .before .before .before .loop .inv in operands-cut _ _ _ _ _ (v .1) (v .2) _ (v .3) _ (c .before .before .before .loop-test .taken) (cc)
+returns c = let v = c .before .before .before .before .loop .inv in
+    operands-cut _ _ _ _ _ (v .1) (v .2) _ (v .3) _ (c .before .before .before .loop-test .taken) (cc)
 
 add-i : tie.Need-add-i Inv-loop μ-loop
 add-i c = search needs
@@ -45,7 +47,12 @@ loop-less : tie.Need-loop-less Inv-loop μ-loop
 loop-less c = search needs
 
 loop-again : tie.Need-loop-again Inv-loop μ-loop
-loop-again c = let v = c .before .before .before .before .before .loop .inv in (omega arith, v .1, simp length-set (v .2), operands-turn _ _ _ _ _ (v .1) (v .2) _ (v .3) _ _ (c .before .before .before .before .loop-test .taken) (cc))
+loop-again c = let v = c .before .before .before .before .before .loop .inv in (
+  omega arith,
+  v .1,
+  simp length-set (v .2),
+  operands-turn _ _ _ _ _ (v .1) (v .2) _ (v .3) _ _ (c .before .before .before .before .loop-test .taken) (cc),
+)
 
 returns-2 : tie.Need-returns-2 Inv-loop μ-loop
 returns-2 c = let v = c .before .loop .inv in operands-end _ _ _ _ _ (v .1) (v .2) _ (v .3) _ (c .loop-test .left)

@@ -15,7 +15,9 @@ same-length : tie.Need-same-length
 same-length c = search needs
 
 returns-2 : tie.Need-returns-2
-returns-2 c = rw (bytes-number _ (c .before .before .before .before .before .before .args .n) (c .before .before .before .before .if1 .left)) (c .before .before .write-number .ensures)
+returns-2 c =
+    rw (bytes-number _ (c .before .before .before .before .before .before .args .n)
+    (c .before .before .before .before .if1 .left)) (c .before .before .write-number .ensures)
 
 pub write-operand-spec : {M : Type 1} → statement M
 write-operand-spec = tie.close (tie.spec returns write-number-requires same-length returns-2)

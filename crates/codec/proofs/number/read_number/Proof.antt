@@ -1,5 +1,6 @@
 use borrow.Author.Needs.{needs}
-use Rattle.codec.specs.NumberLaws.{bad-0, got-1, bad-1, bad-1-zero, got-2, bad-2, bad-2-zero, got-3, bad-3, joined}
+use Rattle.codec.specs.NumberLaws.{bad-0, got-1, bad-1, bad-1-zero, got-2, bad-2, bad-2-zero, got-3, bad-3}
+use Rattle.codec.specs.NumberLaws.{joined}
 use native.Mathlib.Omega.{arith}
 use Rattle.codec.proofs.number.read_number.Statement.{statement}
 use Rattle.codec.proofs.number.read_number.Tie as tie
@@ -79,7 +80,8 @@ returns-8 c =
     let at-b1 = at-b2 .before .before .before .before .before in
     let at-b0 = at-b1 .before .before .before .before in
     got-3 _ _ _ (omega arith) (omega arith) (omega arith) (omega arith) (omega arith)
-    (joined _ _ _ _ _ _ _ _ (c .join3 .ensures) (c .before .join2 .ensures) (at-b0 .wide .ensures) (at-b1 .wide2 .ensures) (at-b2 .wide3 .ensures))
+    (joined _ _ _ _ _ _ _ _ (c .join3 .ensures) (c .before .join2 .ensures) (at-b0 .wide .ensures)
+    (at-b1 .wide2 .ensures) (at-b2 .wide3 .ensures))
 
 returns-9 : tie.Need-returns-9
 returns-9 c = bad-3 _ _ (omega arith) (omega arith) (omega arith) (omega arith)

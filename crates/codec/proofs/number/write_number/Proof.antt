@@ -18,7 +18,8 @@ same-length : tie.Need-same-length
 same-length c = search needs
 
 returns : tie.Need-returns
-returns c = (omega (arith, size-1 _ (c .before .if1 .taken)), wrote-1 _ _ _ _ (c .before .if1 .taken) (c .low-group .ensures))
+returns c =
+    (omega (arith, size-1 _ (c .before .if1 .taken)), wrote-1 _ _ _ _ (c .before .if1 .taken) (c .low-group .ensures))
 
 more-group-requires : tie.Need-more-group-requires
 more-group-requires c κs = search needs
@@ -33,7 +34,8 @@ add-out : tie.Need-add-out
 add-out c = search needs
 
 slice-write-out-3 : tie.Need-slice-write-out-3
-slice-write-out-3 c = simp length-set (omega (arith, size-2 _ (c .before .before .before .if1 .left) (c .before .before .if2 .taken)))
+slice-write-out-3 c =
+    simp length-set (omega (arith, size-2 _ (c .before .before .before .if1 .left) (c .before .before .if2 .taken)))
 
 add-result-2 : tie.Need-add-result-2
 add-result-2 c = search needs
@@ -42,7 +44,11 @@ same-length-2 : tie.Need-same-length-2
 same-length-2 c = search needs
 
 returns-2 : tie.Need-returns-2
-returns-2 c = (omega (arith, size-2 _ (c .before .before .before .if1 .left) (c .before .before .if2 .taken)), wrote-2 _ _ _ _ _ (c .before .before .before .if1 .left) (c .before .before .if2 .taken) (c .before .more-group .ensures) (c .low-group2 .ensures))
+returns-2 c = (
+  omega (arith, size-2 _ (c .before .before .before .if1 .left) (c .before .before .if2 .taken)),
+  wrote-2 _ _ _ _ _ (c .before .before .before .if1 .left) (c .before .before .if2 .taken)
+      (c .before .more-group .ensures) (c .low-group2 .ensures),
+)
 
 more-group-requires-2 : tie.Need-more-group-requires-2
 more-group-requires-2 c κs = search needs
@@ -75,7 +81,11 @@ same-length-3 : tie.Need-same-length-3
 same-length-3 c = search needs
 
 returns-3 : tie.Need-returns-3
-returns-3 c = (omega (arith, size-3 _ (c .before .before .before .if2 .left)), wrote-3 _ _ _ _ _ _ (c .before .before .before .if2 .left) (c .before .before .more-group2 .ensures) (c .before .more-group3 .ensures) (c .low-group3 .ensures))
+returns-3 c = (
+  omega (arith, size-3 _ (c .before .before .before .if2 .left)),
+  wrote-3 _ _ _ _ _ _ (c .before .before .before .if2 .left) (c .before .before .more-group2 .ensures)
+      (c .before .more-group3 .ensures) (c .low-group3 .ensures),
+)
 
 pub write-number-spec : {M : Type 1} → statement M
 write-number-spec =

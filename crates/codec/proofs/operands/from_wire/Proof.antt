@@ -12,7 +12,8 @@ unzigzag-requires c κs = search needs
 
 returns : tie.Need-returns
 returns c =
-    rw (toZ-ofZ {w = w32} {z = c .unzigzag .result} (record { sfits = c .unzigzag .ok })) (unwire-coordinate _ _ (c .before .if1 .taken) _ (c .unzigzag .ensures))
+    rw (toZ-ofZ {w = w32} {z = c .unzigzag .result} (record { sfits = c .unzigzag .ok }))
+    (unwire-coordinate _ _ (c .before .if1 .taken) _ (c .unzigzag .ensures))
 
 cast-result : tie.Need-cast-result
 cast-result c = search needs

@@ -13,7 +13,8 @@ use Rattle.codec.proofs.operands.from_wires.Statement.{statement}
 use Rattle.codec.proofs.operands.from_wires.Tie as tie
 
 abbrev Inv-loop : tie.InvT-loop
-Inv-loop kinds numbers args₀ i₀ args i = (i ≤ 8) × (length kinds ≡ 8) × (length numbers ≡ 8) × (length args ≡ 8) × (take i args ++ unwires (drop i kinds) (drop i numbers) ≡ unwires kinds numbers) × Small numbers
+Inv-loop kinds numbers args₀ i₀ args i = (i ≤ 8) × (length kinds ≡ 8) × (length numbers ≡ 8) × (length args ≡ 8)
+    × (take i args ++ unwires (drop i kinds) (drop i numbers) ≡ unwires kinds numbers) × Small numbers
 
 abbrev μ-loop : tie.MeasureT-loop
 μ-loop kinds numbers args₀ i₀ args i = 8 - i
@@ -48,8 +49,15 @@ loop-less c = search needs
 loop-again : tie.Need-loop-again Inv-loop μ-loop
 loop-again c =
     let v = c .before .before .loop .inv in
-    rw (toZ-ofZ {w = w32} {z = c .from-wire .result} (record { sfits = c .from-wire .ok }))
-    (omega arith, v .1, v .2, length-set (c .before .before .loop .args) (c .before .before .loop .i) (c .from-wire .result) ∙ v .3, each-turn unwire _ _ 0 _ (v .1) (v .2) _ (v .3) _ (v .4) (c .before .loop-test .taken) _ (c .from-wire .ensures), v .5)
+    rw (toZ-ofZ {w = w32} {z = c .from-wire .result} (record { sfits = c .from-wire .ok })) (
+      omega arith,
+      v .1,
+      v .2,
+      length-set (c .before .before .loop .args) (c .before .before .loop .i) (c .from-wire .result) ∙ v .3,
+      each-turn unwire _ _ 0 _ (v .1) (v .2) _ (v .3) _ (v .4) (c .before .loop-test .taken) _
+          (c .from-wire .ensures),
+      v .5,
+    )
 
 returns : tie.Need-returns Inv-loop μ-loop
 returns c = let v = c .before .loop .inv in each-end unwire _ _ 0 _ (v .1) (v .2) _ (v .3) _ (v .4) (c .loop-test .left)

@@ -10,7 +10,8 @@ use Rattle.codec.proofs.operands.in_ranges.Statement.{statement}
 use Rattle.codec.proofs.operands.in_ranges.Tie as tie
 
 abbrev Inv-loop : tie.InvT-loop
-Inv-loop most kinds numbers i₀ i = (i ≤ 8) × (length kinds ≡ 8) × (length numbers ≡ 8) × (inRanges most (drop i kinds) (drop i numbers) ≡ inRanges most kinds numbers)
+Inv-loop most kinds numbers i₀ i = (i ≤ 8) × (length kinds ≡ 8) × (length numbers ≡ 8)
+    × (inRanges most (drop i kinds) (drop i numbers) ≡ inRanges most kinds numbers)
 
 abbrev μ-loop : tie.MeasureT-loop
 μ-loop most kinds numbers i₀ i = 8 - i
@@ -31,7 +32,9 @@ in-range-requires : tie.Need-in-range-requires Inv-loop μ-loop
 in-range-requires c κs = search needs
 
 returns : tie.Need-returns Inv-loop μ-loop
-returns c = let v = c .before .before .before .loop .inv in ranges-stop _ _ _ _ (v .1) (v .2) _ (v .3) (c .before .before .loop-test .taken) _ (c .before .in-range .ensures) (not-true _ (c .if1 .taken))
+returns c = let v = c .before .before .before .loop .inv in
+    ranges-stop _ _ _ _ (v .1) (v .2) _ (v .3) (c .before .before .loop-test .taken) _ (c .before .in-range .ensures)
+    (not-true _ (c .if1 .taken))
 
 add-i : tie.Need-add-i Inv-loop μ-loop
 add-i c = search needs
@@ -40,7 +43,13 @@ loop-less : tie.Need-loop-less Inv-loop μ-loop
 loop-less c = search needs
 
 loop-again : tie.Need-loop-again Inv-loop μ-loop
-loop-again c = let v = c .before .before .before .loop .inv in (omega arith, v .1, v .2, ranges-turn _ _ _ _ (v .1) (v .2) _ (v .3) (c .before .before .loop-test .taken) _ (c .before .in-range .ensures) (not-false _ (c .if1 .left)))
+loop-again c = let v = c .before .before .before .loop .inv in (
+  omega arith,
+  v .1,
+  v .2,
+  ranges-turn _ _ _ _ (v .1) (v .2) _ (v .3) (c .before .before .loop-test .taken) _ (c .before .in-range .ensures)
+      (not-false _ (c .if1 .left)),
+)
 
 returns-2 : tie.Need-returns-2 Inv-loop μ-loop
 returns-2 c = let v = c .before .loop .inv in ranges-end _ _ _ _ (v .1) (v .2) _ (v .3) (c .loop-test .left)

@@ -12,7 +12,8 @@ use Rattle.codec.proofs.operands.to_wires.Statement.{statement}
 use Rattle.codec.proofs.operands.to_wires.Tie as tie
 
 abbrev Inv-loop : tie.InvT-loop
-Inv-loop kinds args numbers₀ i₀ numbers i = (i ≤ 8) × (length kinds ≡ 8) × (length args ≡ 8) × (length numbers ≡ 8) × (take i numbers ++ wires (drop i kinds) (drop i args) ≡ wires kinds args)
+Inv-loop kinds args numbers₀ i₀ numbers i = (i ≤ 8) × (length kinds ≡ 8) × (length args ≡ 8) × (length numbers ≡ 8)
+    × (take i numbers ++ wires (drop i kinds) (drop i args) ≡ wires kinds args)
 
 abbrev μ-loop : tie.MeasureT-loop
 μ-loop kinds args numbers₀ i₀ numbers i = 8 - i
@@ -47,11 +48,17 @@ loop-less c = search needs
 loop-again : tie.Need-loop-again Inv-loop μ-loop
 loop-again c =
     let v = c .before .before .before .loop .inv in
-    let e = rw (toZ-ofZ (record { sfits = c .before .to-wire-arg .given })) at (c .to-wire .ensures) in
-    (omega arith, v .1, v .2, simp length-set (v .3), each-turn wire _ _ (pos 0) _ (v .1) (v .2) _ (v .3) _ (v .4) (c .before .before .loop-test .taken) _ e)
+    let e = rw (toZ-ofZ (record { sfits = c .before .to-wire-arg .given })) at (c .to-wire .ensures) in (
+      omega arith,
+      v .1,
+      v .2,
+      simp length-set (v .3),
+      each-turn wire _ _ (pos 0) _ (v .1) (v .2) _ (v .3) _ (v .4) (c .before .before .loop-test .taken) _ e,
+    )
 
 returns : tie.Need-returns Inv-loop μ-loop
-returns c = let v = c .before .loop .inv in each-end wire _ _ (pos 0) _ (v .1) (v .2) _ (v .3) _ (v .4) (c .loop-test .left)
+returns c = let v = c .before .loop .inv in
+    each-end wire _ _ (pos 0) _ (v .1) (v .2) _ (v .3) _ (v .4) (c .loop-test .left)
 
 pub to-wires-spec : {M : Type 1} → statement M
 to-wires-spec =

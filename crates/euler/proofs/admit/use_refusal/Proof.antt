@@ -18,13 +18,15 @@ when-free-requires : tie.Need-when-free-requires
 when-free-requires c κs = search needs
 
 returns-2 : tie.Need-returns-2
-returns-2 c = use-free _ _ _ _ (c .before .before .before .if1 .left) _ (c .before .before .use-word .ensures) (c .before .if2 .taken) _ (c .when-free .ensures)
+returns-2 c = use-free _ _ _ _ (c .before .before .before .if1 .left) _ (c .before .before .use-word .ensures)
+    (c .before .if2 .taken) _ (c .when-free .ensures)
 
 when-used-requires : tie.Need-when-used-requires
 when-used-requires c κs = search needs
 
 returns-3 : tie.Need-returns-3
-returns-3 c = use-used _ _ _ _ (c .before .before .before .if1 .left) _ (c .before .before .use-word .ensures) (c .before .if2 .left) _ (c .when-used .ensures)
+returns-3 c = use-used _ _ _ _ (c .before .before .before .if1 .left) _ (c .before .before .use-word .ensures)
+    (c .before .if2 .left) _ (c .when-used .ensures)
 
 pub use-refusal-spec : {M : Type 1} → statement M
 use-refusal-spec =

@@ -50,7 +50,8 @@ returns-5 : tie.Need-returns-5
 returns-5 c = word-two _ _ _ _ 6 _ _ (omega arith) (omega arith) refl refl (c .loop-face .ensures .0)
 
 returns-6 : tie.Need-returns-6
-returns-6 c = let k = c .before .before .before .before .before .before .match .rest .0 .1 in word-two _ _ _ _ 9 _ _ (omega arith) (omega arith) refl refl (c .start-of2 .ensures .0)
+returns-6 c = let k = c .before .before .before .before .before .before .match .rest .0 .1 in
+    word-two _ _ _ _ 9 _ _ (omega arith) (omega arith) refl refl (c .start-of2 .ensures .0)
 
 returns-7 : tie.Need-returns-7
 returns-7 c = word-none _ _ _ _ (inl (c .if1 .taken))

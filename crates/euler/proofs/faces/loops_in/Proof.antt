@@ -17,7 +17,8 @@ count-naming-requires c κs = column-short (c .before .before .args .sh) Face (c
 
 returns : tie.Need-returns
 returns c = (
-  count-by (c .before .before .before .args .sh) Face (c .before .faces-of-loops .ensures) _ _ _ (c .count-naming .ensures .0),
+  count-by (c .before .before .before .args .sh) Face (c .before .faces-of-loops .ensures) _ _ _
+      (c .count-naming .ensures .0),
   c .count-naming .ensures .1,
 )
 

@@ -36,10 +36,14 @@ element-set-from-next : tie.Need-element-set-from-next
 element-set-from-next c = search needs
 
 returns-2 : tie.Need-returns-2
-returns-2 c = read-coordinate (c .before .before .before .args .op) (c .before .before .before .args .i) (c .before .before .before .args .points .now) (c .before .before .before .args .v) (c .before .before .before .args .j) (search needs) (c .before .before .if1 .left)
+returns-2 c = read-coordinate (c .before .before .before .args .op) (c .before .before .before .args .i)
+    (c .before .before .before .args .points .now) (c .before .before .before .args .v)
+    (c .before .before .before .args .j) (search needs) (c .before .before .if1 .left)
 
 returns-3 : tie.Need-returns-3
-returns-3 c = no-coordinate (c .before .before .args .op) (c .before .before .args .i) (c .before .before .args .points .now) (c .before .before .args .v) (c .before .before .args .j) (c .if2 .left) (c .before .if1 .left)
+returns-3 c = no-coordinate (c .before .before .args .op) (c .before .before .args .i)
+    (c .before .before .args .points .now) (c .before .before .args .v) (c .before .before .args .j) (c .if2 .left)
+    (c .before .if1 .left)
 
 pub with-coordinate-spec : {M : Type 1} → statement M
 with-coordinate-spec =

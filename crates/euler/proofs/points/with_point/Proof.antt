@@ -22,7 +22,9 @@ with-coordinate-requires-3 : tie.Need-with-coordinate-requires-3
 with-coordinate-requires-3 c κs = search needs
 
 returns : tie.Need-returns
-returns c = point-steps (c .before .before .before .args .op) (c .before .before .before .args .i) (c .before .before .before .args .points .now) (c .before .before .before .args .v) _ _ _ (c .before .before .with-coordinate .ensures) (c .before .with-coordinate2 .ensures) (c .with-coordinate3 .ensures)
+returns c = point-steps (c .before .before .before .args .op) (c .before .before .before .args .i)
+    (c .before .before .before .args .points .now) (c .before .before .before .args .v) _ _ _
+    (c .before .before .with-coordinate .ensures) (c .before .with-coordinate2 .ensures) (c .with-coordinate3 .ensures)
 
 pub with-point-spec : {M : Type 1} → statement M
 with-point-spec =

@@ -40,12 +40,17 @@ loop-less c = search needs
 loop-again : tie.Need-loop-again Inv-loop μ-loop
 loop-again c =
     let turn =
-    count-turn (c .before .before .before .before .before .before .args .column) _ _ _ _ (c .before .before .before .before .loop .inv .1) _ _ (c .before .cell .ensures .0)
+    count-turn (c .before .before .before .before .before .before .args .column) _ _ _ _
+    (c .before .before .before .before .loop .inv .1) _ _ (c .before .cell .ensures .0)
     (c .choose .ensures .0) in
     (omega arith, turn .0, turn .1)
 
 returns : tie.Need-returns Inv-loop μ-loop
-returns c = (count-end (c .before .before .before .before .args .column) _ _ _ _ (c .before .before .loop .inv .1) _ (omega arith) (omega arith), omega arith)
+returns c = (
+  count-end (c .before .before .before .before .args .column) _ _ _ _ (c .before .before .loop .inv .1) _ (omega
+      arith) (omega arith),
+  omega arith,
+)
 
 pub count-naming-spec : {M : Type 1} → statement M
 count-naming-spec =

@@ -13,7 +13,8 @@ use Rattle.layout.proofs.cells.cell.Reads as cell-reads
 abbrev Inv-loop : tie.InvT-loop
 Inv-loop links column label i₀ i =
     (1 ≤ i) × (i ≤ column .count + 1)
-    × (leastFrom (column .count + 1 - i) i (naming column links label) ≡ least (column .count) (naming column links label))
+    × (leastFrom (column .count + 1 - i) i (naming column links label)
+    ≡ least (column .count) (naming column links label))
 
 abbrev μ-loop : tie.MeasureT-loop
 μ-loop links column label i₀ i = column .count + 1 - i
@@ -26,7 +27,8 @@ cell-requires c κs = search needs
 
 returns : tie.Need-returns Inv-loop μ-loop
 returns c = (
-  least-here (c .before .before .before .before .before .before .args .column) _ _ _ _ _ (c .before .before .before .before .loop .inv .2) (omega arith) _ (c .before .cell .ensures .0)
+  least-here (c .before .before .before .before .before .before .args .column) _ _ _ _ _
+      (c .before .before .before .before .loop .inv .2) (omega arith) _ (c .before .cell .ensures .0)
       (c .if2 .taken),
   omega arith,
 )
@@ -41,12 +43,17 @@ loop-again : tie.Need-loop-again Inv-loop μ-loop
 loop-again c = (
   omega arith,
   omega arith,
-  least-on (c .before .before .before .before .before .before .args .column) _ _ _ _ _ (c .before .before .before .before .loop .inv .2) (omega arith) _ (c .before .cell .ensures .0)
+  least-on (c .before .before .before .before .before .before .args .column) _ _ _ _ _
+      (c .before .before .before .before .loop .inv .2) (omega arith) _ (c .before .cell .ensures .0)
       (c .if2 .left),
 )
 
 returns-2 : tie.Need-returns-2 Inv-loop μ-loop
-returns-2 c = (least-past (c .before .before .before .before .args .column) _ _ _ _ _ (c .before .before .loop .inv .2) (omega arith), omega arith)
+returns-2 c = (
+  least-past (c .before .before .before .before .args .column) _ _ _ _ _ (c .before .before .loop .inv .2) (omega
+      arith),
+  omega arith,
+)
 
 pub least-naming-one-spec : {M : Type 1} → statement M
 least-naming-one-spec =

@@ -13,7 +13,8 @@ use Rattle.layout.proofs.columns.loop_of.Reads as loop-of-reads
 use Rattle.layout.proofs.columns.next_of.Reads as next-of-reads
 
 abbrev Inv-loop : tie.InvT-loop
-Inv-loop links sh l low k at₀ best₀ j₀ at best j = (at < 65536) × (best < 65536) × (seek sh (k - j) links l j at k best ≡ firstFrom sh links l low k)
+Inv-loop links sh l low k at₀ best₀ j₀ at best j = (at < 65536) × (best < 65536)
+    × (seek sh (k - j) links l j at k best ≡ firstFrom sh links l low k)
 
 abbrev μ-loop : tie.MeasureT-loop
 μ-loop links sh l low k at₀ best₀ j₀ at best j = k - j
@@ -29,10 +30,18 @@ loop-of-requires : tie.Need-loop-of-requires Inv-loop μ-loop
 loop-of-requires c κs = search needs
 
 returns : tie.Need-returns Inv-loop μ-loop
-returns c = (seek-here _ _ _ _ _ _ _ _ _ (c .before .before .before .loop .inv .2) (omega arith) _ (c .before .loop-of .ensures .0) (c .if1 .taken), omega arith)
+returns c = (
+  seek-here _ _ _ _ _ _ _ _ _ (c .before .before .before .loop .inv .2) (omega
+      arith) _ (c .before .loop-of .ensures .0) (c .if1 .taken),
+  omega arith,
+)
 
 returns-2 : tie.Need-returns-2 Inv-loop μ-loop
-returns-2 c = (seek-stop _ _ _ _ _ _ _ _ _ (c .before .before .before .before .loop .inv .2) (omega arith) _ (c .before .before .loop-of .ensures .0) (c .before .if1 .left) (c .if2 .taken), omega arith)
+returns-2 c = (
+  seek-stop _ _ _ _ _ _ _ _ _ (c .before .before .before .before .loop .inv .2) (omega
+      arith) _ (c .before .before .loop-of .ensures .0) (c .before .if1 .left) (c .if2 .taken),
+  omega arith,
+)
 
 choose-requires : tie.Need-choose-requires Inv-loop μ-loop
 choose-requires c κs = search needs
@@ -47,7 +56,13 @@ loop-less : tie.Need-loop-less Inv-loop μ-loop
 loop-less c = search needs
 
 loop-again : tie.Need-loop-again Inv-loop μ-loop
-loop-again c = (omega arith, omega arith, seek-turn _ _ _ _ _ _ _ _ _ (c .before .before .before .before .before .before .loop .inv .2) (omega arith) _ (c .before .before .before .before .loop-of .ensures .0) (c .before .before .before .if1 .left) (c .before .before .if2 .left) _ _ (c .before .choose .ensures .0) (c .next-of2 .ensures .0))
+loop-again c = (
+  omega arith,
+  omega arith,
+  seek-turn _ _ _ _ _ _ _ _ _ (c .before .before .before .before .before .before .loop .inv .2) (omega arith) _
+      (c .before .before .before .before .loop-of .ensures .0) (c .before .before .before .if1 .left)
+      (c .before .before .if2 .left) _ _ (c .before .choose .ensures .0) (c .next-of2 .ensures .0),
+)
 
 returns-3 : tie.Need-returns-3 Inv-loop μ-loop
 returns-3 c = (seek-out _ _ _ _ _ _ _ _ _ (c .before .loop .inv .2) (omega arith), omega arith)

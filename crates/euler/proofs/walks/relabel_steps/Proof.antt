@@ -13,7 +13,8 @@ use Rattle.layout.proofs.columns.next_of.Reads as next-of-reads
 use Rattle.layout.proofs.columns.set_loop.Reads as set-loop-reads
 
 abbrev Inv-loop : tie.InvT-loop
-Inv-loop links₀ sh fuel from stop l k₀ left₀ links k left = (k ≤ 65536) × (length links ≡ length links₀) × (relabel sh left links k stop l ≡ relabel sh fuel links₀ from stop l)
+Inv-loop links₀ sh fuel from stop l k₀ left₀ links k left = (k ≤ 65536) × (length links ≡ length links₀)
+    × (relabel sh left links k stop l ≡ relabel sh fuel links₀ from stop l)
 
 abbrev μ-loop : tie.MeasureT-loop
 μ-loop links₀ sh fuel from stop l k₀ left₀ links k left = left
@@ -40,7 +41,13 @@ loop-less : tie.Need-loop-less Inv-loop μ-loop
 loop-less c = search needs
 
 loop-again : tie.Need-loop-again Inv-loop μ-loop
-loop-again c = (omega arith, omega arith, relabel-turn _ _ _ _ _ _ _ (c .before .before .before .before .before .before .before .before .loop .inv .2) (omega arith) (c .before .before .before .before .before .before .if1 .left) _ _ (c .before .before .before .before .set-loop .ensures) (c .next-of .ensures .0))
+loop-again c = (
+  omega arith,
+  omega arith,
+  relabel-turn _ _ _ _ _ _ _ (c .before .before .before .before .before .before .before .before .loop .inv .2)
+      (omega arith) (c .before .before .before .before .before .before .if1 .left) _ _
+      (c .before .before .before .before .set-loop .ensures) (c .next-of .ensures .0),
+)
 
 same-length-2 : tie.Need-same-length-2 Inv-loop μ-loop
 same-length-2 c = search needs

@@ -26,8 +26,11 @@ same-length c = search needs
 
 returns : tie.Need-returns
 returns c =
-    renew-is _ _ _ _ _ _ _ _ _ _ (c .before .before .before .before .before .before .before .before .before .first-from .ensures .0) (c .before .before .before .before .before .before .before .before .choose .ensures .0)
-    (c .before .before .before .before .before .before .set-loop-first .ensures) (c .before .before .set-loop-isolated .ensures)
+    renew-is _ _ _ _ _ _ _ _ _ _
+    (c .before .before .before .before .before .before .before .before .before .first-from .ensures .0)
+    (c .before .before .before .before .before .before .before .before .choose .ensures .0)
+    (c .before .before .before .before .before .before .set-loop-first .ensures)
+    (c .before .before .set-loop-isolated .ensures)
 
 pub renew-loop-spec : {M : Type 1} → statement M
 renew-loop-spec =

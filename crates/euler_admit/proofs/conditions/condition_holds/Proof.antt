@@ -74,7 +74,8 @@ rmov-fits-requires : tie.Need-rmov-fits-requires
 rmov-fits-requires c κs = search needs
 
 returns : tie.Need-returns
-returns c = ⊎-elim (λ e. condition-at _ _ _ 1 _ _ e refl refl) (λ e. condition-at _ _ _ 11 _ _ e refl refl) (c .match .keys1)
+returns c = ⊎-elim (λ e. condition-at _ _ _ 1 _ _ e refl refl) (λ e. condition-at _ _ _ 11 _ _ e refl refl)
+    (c .match .keys1)
 
 returns-2 : tie.Need-returns-2
 returns-2 c = condition-at _ _ _ 2 _ _ (c .before .match .keys2) refl cc

@@ -43,7 +43,15 @@ with-three-requires-2 : tie.Need-with-three-requires-2
 with-three-requires-2 c κs = search needs
 
 returns : tie.Need-returns
-returns c = kemr-undone _ _ _ _ (c .before .before .before .before .before .before .before .before .before .before .before .mate-of .ensures .0) (c .before .before .before .before .before .before .before .before .before .before .half-at .ensures) (c .before .before .before .before .before .before .before .before .before .half-at2 .ensures) (c .before .before .before .before .before .before .before .choose .ensures .0) (c .before .before .before .before .before .choose2 .ensures .0) (c .before .before .before .before .edge-of .ensures .0) (c .before .before .before .way-of .ensures .0) (c .before .before .blank .ensures) (c .before .with-three .ensures) (c .with-three2 .ensures)
+returns c =
+    kemr-undone _ _ _ _
+    (c .before .before .before .before .before .before .before .before .before .before .before .mate-of .ensures .0)
+    (c .before .before .before .before .before .before .before .before .before .before .half-at .ensures)
+    (c .before .before .before .before .before .before .before .before .before .half-at2 .ensures)
+    (c .before .before .before .before .before .before .before .choose .ensures .0)
+    (c .before .before .before .before .before .choose2 .ensures .0)
+    (c .before .before .before .before .edge-of .ensures .0) (c .before .before .before .way-of .ensures .0)
+    (c .before .before .blank .ensures) (c .before .with-three .ensures) (c .with-three2 .ensures)
 
 pub kemr-inverse-spec : {M : Type 1} → statement M
 kemr-inverse-spec =

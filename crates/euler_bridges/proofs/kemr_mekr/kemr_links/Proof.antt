@@ -40,22 +40,108 @@ relabel-run-requires : tie.Need-relabel-run-requires
 relabel-run-requires c κs = search needs
 
 edge-out-requires : tie.Need-edge-out-requires
-edge-out-requires c κs = (omega (arith, c .before .before .before .before .before .before .before .before .before .before .before .before .before .before .before .before .before .before .before .pre), c .before .before .before .before .before .before .before .before .before .before .before .before .before .before .before .half-at .ensures .prev-small, c .before .before .before .before .before .before .before .before .before .before .before .before .before .half-at2 .ensures .next-small, c .before .before .before .before .before .before .before .before .before .before .before .before .before .half-at2 .ensures .prev-small, c .before .before .before .before .before .before .before .before .before .before .before .before .before .before .before .half-at .ensures .next-small)
+edge-out-requires c κs = (
+  omega (
+    arith,
+    c .before .before .before .before .before .before .before .before .before .before .before .before .before .before
+        .before .before .before .before .before .pre,
+  ),
+  c .before .before .before .before .before .before .before .before .before .before .before .before .before .before
+      .before .half-at .ensures .prev-small,
+  c .before .before .before .before .before .before .before .before .before .before .before .before
+      .before .half-at2 .ensures .next-small,
+  c .before .before .before .before .before .before .before .before .before .before .before .before
+      .before .half-at2 .ensures .prev-small,
+  c .before .before .before .before .before .before .before .before .before .before .before .before .before .before
+      .before .half-at .ensures .next-small,
+)
 
 put-loop-requires : tie.Need-put-loop-requires
-put-loop-requires c κs = (omega (arith, c .before .before .before .before .before .before .before .before .before .before .before .before .before .before .before .before .before .before .before .before .before .before .before .pre), omega (arith, c .before .before .before .before .before .before .before .before .before .before .before .before .before .before .before .loop-face .ensures .1), omega arith, omega arith)
+put-loop-requires c κs = (
+  omega (
+    arith,
+    c .before .before .before .before .before .before .before .before .before .before .before .before .before .before
+        .before .before .before .before .before .before .before .before .before .pre,
+  ),
+  omega (
+    arith,
+    c .before .before .before .before .before .before .before .before .before .before .before .before .before .before
+        .before .loop-face .ensures .1,
+  ),
+  omega arith,
+  omega arith,
+)
 
 renew-loop-requires : tie.Need-renew-loop-requires
-renew-loop-requires c κs = (omega (arith, c .before .before .before .before .before .before .before .before .before .before .before .before .before .before .before .before .before .before .before .before .before .before .before .before .before .before .before .pre), omega (arith, c .before .before .before .before .before .before .before .before .before .before .before .before .before .before .before .before .before .choose .ensures .1), omega (arith, c .before .before .before .before .before .before .before .before .before .before .before .before .before .before .before .before .before .before .before .before .before .half-at2 .ensures .start-small))
+renew-loop-requires c κs = (
+  omega (
+    arith,
+    c .before .before .before .before .before .before .before .before .before .before .before .before .before .before
+        .before .before .before .before .before .before .before .before .before .before .before .before .before .pre,
+  ),
+  omega (
+    arith,
+    c .before .before .before .before .before .before .before .before .before .before .before .before .before .before
+        .before .before .before .choose .ensures .1,
+  ),
+  omega (
+    arith,
+    c .before .before .before .before .before .before .before .before .before .before .before .before .before .before
+        .before .before .before .before .before .before .before .half-at2 .ensures .start-small,
+  ),
+)
 
 renew-loop-requires-2 : tie.Need-renew-loop-requires-2
-renew-loop-requires-2 c κs = (omega (arith, c .before .before .before .before .before .before .before .before .before .before .before .before .before .before .before .before .before .before .before .before .before .before .before .before .before .before .before .half-at .ensures .owner-small), omega (arith, c .before .before .before .before .before .before .before .before .before .before .before .before .before .before .before .before .before .before .before .choose2 .ensures .1), omega (arith, c .before .before .before .before .before .before .before .before .before .before .before .before .before .before .before .before .before .before .before .before .before .before .before .before .before .before .before .half-at .ensures .start-small))
+renew-loop-requires-2 c κs = (
+  omega (
+    arith,
+    c .before .before .before .before .before .before .before .before .before .before .before .before .before .before
+        .before .before .before .before .before .before .before .before .before .before .before .before
+        .before .half-at .ensures .owner-small,
+  ),
+  omega (
+    arith,
+    c .before .before .before .before .before .before .before .before .before .before .before .before .before .before
+        .before .before .before .before .before .choose2 .ensures .1,
+  ),
+  omega (
+    arith,
+    c .before .before .before .before .before .before .before .before .before .before .before .before .before .before
+        .before .before .before .before .before .before .before .before .before .before .before .before
+        .before .half-at .ensures .start-small,
+  ),
+)
 
 same-length : tie.Need-same-length
 same-length c = search needs
 
 returns : tie.Need-returns
-returns c = kemr-steps _ _ _ _ (c .before .before .before .before .before .before .before .before .before .before .before .before .before .before .before .before .before .before .before .before .before .before .before .before .before .before .before .before .before .before .before .before .mate-of .ensures .0) (c .before .before .before .before .before .before .before .before .before .before .before .before .before .before .before .before .before .before .before .before .before .before .before .before .before .before .before .before .before .before .half-at .ensures) (c .before .before .before .before .before .before .before .before .before .before .before .before .before .before .before .before .before .before .before .before .before .before .before .before .before .before .before .before .half-at2 .ensures) (c .before .before .before .before .before .before .before .before .before .before .before .before .before .before .before .before .before .before .before .before .before .before .before .before .before .before .loop-face .ensures .0) (c .before .before .before .before .before .before .before .before .before .before .before .before .before .before .before .before .before .before .before .before .before .before .before .before .choose .ensures .0) (c .before .before .before .before .before .before .before .before .before .before .before .before .before .before .before .before .before .before .before .before .before .before .choose2 .ensures .0) (c .before .before .before .before .before .before .before .before .before .before .before .before .before .before .before .before .before .before .before .before .loop-first .ensures .0) (c .before .before .before .before .before .before .before .before .before .before .before .before .before .before .before .before .before .before .relabel-run .ensures) (c .before .before .before .before .before .before .before .before .before .before .before .before .before .before .edge-out .ensures) (c .before .before .before .before .before .before .before .before .before .before .put-loop .ensures) (c .before .before .before .before .before .before .renew-loop .ensures) (c .before .before .renew-loop2 .ensures)
+returns c =
+    kemr-steps _ _ _ _
+    (c .before .before .before .before .before .before .before .before .before .before .before .before .before .before
+    .before .before .before .before .before .before .before .before .before .before .before .before .before .before
+    .before .before .before .before .mate-of .ensures .0)
+    (c .before .before .before .before .before .before .before .before .before .before .before .before .before .before
+    .before .before .before .before .before .before .before .before .before .before .before .before .before .before
+    .before .before .half-at .ensures)
+    (c .before .before .before .before .before .before .before .before .before .before .before .before .before .before
+    .before .before .before .before .before .before .before .before .before .before .before .before .before
+    .before .half-at2 .ensures)
+    (c .before .before .before .before .before .before .before .before .before .before .before .before .before .before
+    .before .before .before .before .before .before .before .before .before .before .before
+    .before .loop-face .ensures .0)
+    (c .before .before .before .before .before .before .before .before .before .before .before .before .before .before
+    .before .before .before .before .before .before .before .before .before .before .choose .ensures .0)
+    (c .before .before .before .before .before .before .before .before .before .before .before .before .before .before
+    .before .before .before .before .before .before .before .before .choose2 .ensures .0)
+    (c .before .before .before .before .before .before .before .before .before .before .before .before .before .before
+    .before .before .before .before .before .before .loop-first .ensures .0)
+    (c .before .before .before .before .before .before .before .before .before .before .before .before .before .before
+    .before .before .before .before .relabel-run .ensures)
+    (c .before .before .before .before .before .before .before .before .before .before .before .before .before
+    .before .edge-out .ensures)
+    (c .before .before .before .before .before .before .before .before .before .before .put-loop .ensures)
+    (c .before .before .before .before .before .before .renew-loop .ensures) (c .before .before .renew-loop2 .ensures)
 
 pub kemr-links-spec : {M : Type 1} → statement M
 kemr-links-spec =

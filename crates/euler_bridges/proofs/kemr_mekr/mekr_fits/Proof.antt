@@ -24,7 +24,9 @@ is-corner-requires-2 : tie.Need-is-corner-requires-2
 is-corner-requires-2 c κs = search needs
 
 returns : tie.Need-returns
-returns c = mekr-tests _ _ _ _ _ _ (c .before .before .before .before .loop-face .ensures .0) (c .before .before .before .loop-face2 .ensures .0) (c .before .before .is-ring .ensures) (c .before .is-corner .ensures) (c .is-corner2 .ensures)
+returns c = mekr-tests _ _ _ _ _ _ (c .before .before .before .before .loop-face .ensures .0)
+    (c .before .before .before .loop-face2 .ensures .0) (c .before .before .is-ring .ensures)
+    (c .before .is-corner .ensures) (c .is-corner2 .ensures)
 
 pub mekr-fits-spec : {M : Type 1} → statement M
 mekr-fits-spec =

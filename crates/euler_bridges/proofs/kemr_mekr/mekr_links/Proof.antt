@@ -45,13 +45,44 @@ put-loop-requires : tie.Need-put-loop-requires
 put-loop-requires c κs = search needs
 
 renew-loop-requires : tie.Need-renew-loop-requires
-renew-loop-requires c κs = (omega (arith, c .before .before .before .before .before .before .before .before .before .before .before .before .before .before .before .before .before .before .before .before .before .before .before .pre), omega (arith, c .before .before .before .before .before .before .before .before .before .before .before .before .before .before .before .before .before .before .before .before .before .before .before .pre), omega arith)
+renew-loop-requires c κs = (
+  omega (
+    arith,
+    c .before .before .before .before .before .before .before .before .before .before .before .before .before .before
+        .before .before .before .before .before .before .before .before .before .pre,
+  ),
+  omega (
+    arith,
+    c .before .before .before .before .before .before .before .before .before .before .before .before .before .before
+        .before .before .before .before .before .before .before .before .before .pre,
+  ),
+  omega arith,
+)
 
 same-length : tie.Need-same-length
 same-length c = search needs
 
 returns : tie.Need-returns
-returns c = mekr-steps _ _ _ _ _ _ _ (c .before .before .before .before .before .before .before .before .before .before .before .before .before .before .before .before .before .before .before .before .before .before .before .before .mate-of .ensures .0) (c .before .before .before .before .before .before .before .before .before .before .before .before .before .before .before .before .before .before .before .before .before .before .before .choose .ensures .0) (c .before .before .before .before .before .before .before .before .before .before .before .before .before .before .before .before .before .before .before .before .before .loop-first .ensures .0) (c .before .before .before .before .before .before .before .before .before .before .before .before .before .before .before .before .before .before .before .loop-first2 .ensures .0) (c .before .before .before .before .before .before .before .before .before .before .before .before .before .before .before .before .before .before .lower .ensures .0) (c .before .before .before .before .before .before .before .before .before .before .before .before .before .before .before .before .before .lower2 .ensures .0) (c .before .before .before .before .before .before .before .before .before .before .before .before .before .before .before .before .lower3 .ensures .0) (c .before .before .before .before .before .before .before .before .before .before .before .before .before .before .mekr-edge .ensures) (c .before .before .before .before .before .before .before .before .before .before .relabel-run .ensures) (c .before .before .before .before .before .before .put-loop .ensures) (c .before .before .renew-loop .ensures)
+returns c =
+    mekr-steps _ _ _ _ _ _ _
+    (c .before .before .before .before .before .before .before .before .before .before .before .before .before .before
+    .before .before .before .before .before .before .before .before .before .before .mate-of .ensures .0)
+    (c .before .before .before .before .before .before .before .before .before .before .before .before .before .before
+    .before .before .before .before .before .before .before .before .before .choose .ensures .0)
+    (c .before .before .before .before .before .before .before .before .before .before .before .before .before .before
+    .before .before .before .before .before .before .before .loop-first .ensures .0)
+    (c .before .before .before .before .before .before .before .before .before .before .before .before .before .before
+    .before .before .before .before .before .loop-first2 .ensures .0)
+    (c .before .before .before .before .before .before .before .before .before .before .before .before .before .before
+    .before .before .before .before .lower .ensures .0)
+    (c .before .before .before .before .before .before .before .before .before .before .before .before .before .before
+    .before .before .before .lower2 .ensures .0)
+    (c .before .before .before .before .before .before .before .before .before .before .before .before .before .before
+    .before .before .lower3 .ensures .0)
+    (c .before .before .before .before .before .before .before .before .before .before .before .before .before
+    .before .mekr-edge .ensures)
+    (c .before .before .before .before .before .before .before .before .before .before .relabel-run .ensures)
+    (c .before .before .before .before .before .before .put-loop .ensures) (c .before .before .renew-loop .ensures)
 
 pub mekr-links-spec : {M : Type 1} → statement M
 mekr-links-spec =

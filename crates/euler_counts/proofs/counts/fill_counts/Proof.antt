@@ -34,8 +34,11 @@ loop-less : tie.Need-loop-less Inv-loop μ-loop
 loop-less c = search needs
 
 loop-again : tie.Need-loop-again Inv-loop μ-loop
-loop-again c =
-    (omega arith, filled-next _ _ _ _ _ _ (omega arith) (c .before .before .before .before .loop .inv .1) (c .before .before .loop-face .ensures .0) (c .raise-count .ensures))
+loop-again c = (
+  omega arith,
+  filled-next _ _ _ _ _ _ (omega arith) (c .before .before .before .before .loop .inv .1)
+      (c .before .before .loop-face .ensures .0) (c .raise-count .ensures),
+)
 
 returns : tie.Need-returns Inv-loop μ-loop
 returns c =

@@ -30,7 +30,14 @@ same-length : tie.Need-same-length
 same-length c = search needs
 
 returns : tie.Need-returns
-returns c = kef-edge-steps _ _ _ _ _ (c .before .before .before .before .before .before .before .before .before .before .before .before .mate-of .ensures .0) (c .before .before .before .before .before .before .before .before .before .before .choose .ensures .0) (c .before .before .before .before .before .before .before .before .choose2 .ensures .0) (c .before .before .before .before .before .before .choose3 .ensures .0) (c .before .before .before .before .choose4 .ensures .0) (c .before .before .edge-out .ensures)
+returns c =
+    kef-edge-steps _ _ _ _ _
+    (c .before .before .before .before .before .before .before .before .before .before .before
+    .before .mate-of .ensures .0)
+    (c .before .before .before .before .before .before .before .before .before .before .choose .ensures .0)
+    (c .before .before .before .before .before .before .before .before .choose2 .ensures .0)
+    (c .before .before .before .before .before .before .choose3 .ensures .0)
+    (c .before .before .before .before .choose4 .ensures .0) (c .before .before .edge-out .ensures)
 
 pub kef-edge-spec : {M : Type 1} → statement M
 kef-edge-spec =

@@ -21,7 +21,8 @@ loops-kept-requires : tie.Need-loops-kept-requires
 loops-kept-requires c κs = search needs
 
 returns : tie.Need-returns
-returns c = kef-tests _ _ _ (c .before .before .before .mate-of .ensures .0) (c .before .before .side-of .ensures .0) (c .before .side-of2 .ensures .0) (c .loops-kept .ensures .0)
+returns c = kef-tests _ _ _ (c .before .before .before .mate-of .ensures .0) (c .before .before .side-of .ensures .0)
+    (c .before .side-of2 .ensures .0) (c .loops-kept .ensures .0)
 
 pub kef-fits-spec : {M : Type 1} → statement M
 kef-fits-spec =

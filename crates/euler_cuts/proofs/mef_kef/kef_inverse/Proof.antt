@@ -55,13 +55,53 @@ with-three-requires : tie.Need-with-three-requires
 with-three-requires c κs = search needs
 
 with-three-requires-2 : tie.Need-with-three-requires-2
-with-three-requires-2 c κs = (omega arith, omega (arith, c .before .before .edge-of .ensures .1), omega (arith, c .before .before .before .before .before .before .before .before .before .loop-face .ensures .1), omega (arith, c .before .before .before .before .before .before .before .before .before .before .before .half-at .ensures .owner-small))
+with-three-requires-2 c κs = (
+  omega arith,
+  omega (arith, c .before .before .edge-of .ensures .1),
+  omega (arith, c .before .before .before .before .before .before .before .before .before .loop-face .ensures .1),
+  omega (
+    arith,
+    c .before .before .before .before .before .before .before .before .before .before
+        .before .half-at .ensures .owner-small,
+  ),
+)
 
 with-number-requires : tie.Need-with-number-requires
-with-number-requires c κs = (omega arith, omega (arith, c .before .before .before .before .before .before .before .way-of .ensures .1, two-at-most (eqb (c .before .before .before .before .before .before .before .before .before .before .before .half-at2 .result .next) (c .before .before .before .before .before .before .before .before .before .before .before .before .before .mate-of .result) && not (eqb (c .before .before .before .before .before .before .before .before .before .before .before .before .half-at .result .next) (c .before .before .before .before .before .before .before .before .before .before .before .before .before .before .before .args .k))) _ (c .before .before .before .before .choose .ensures .0)))
+with-number-requires c κs = (
+  omega arith,
+  omega (
+    arith,
+    c .before .before .before .before .before .before .before .way-of .ensures .1,
+    two-at-most
+        (eqb (c .before .before .before .before .before .before .before .before .before .before
+        .before .half-at2 .result .next)
+        (c .before .before .before .before .before .before .before .before .before .before .before .before
+        .before .mate-of .result)
+        && not (eqb
+        (c .before .before .before .before .before .before .before .before .before .before .before
+        .before .half-at .result .next)
+        (c .before .before .before .before .before .before .before .before .before .before .before .before .before
+        .before
+        .before .args .k))) _ (c .before .before .before .before .choose .ensures .0),
+  ),
+)
 
 returns : tie.Need-returns
-returns c = kef-undone _ _ _ (c .before .before .before .before .before .before .before .before .before .before .before .before .before .before .mate-of .ensures .0) (c .before .before .before .before .before .before .before .before .before .before .before .before .before .half-at .ensures) (c .before .before .before .before .before .before .before .before .before .before .before .before .half-at2 .ensures) (c .before .before .before .before .before .before .before .before .before .before .before .loop-face .ensures .0) (c .before .before .before .before .before .before .before .before .before .before .rest-of .ensures .0) (c .before .before .before .before .before .before .before .before .before .rest-of2 .ensures .0) (c .before .before .before .before .before .before .before .before .way-of .ensures .0) (c .before .before .before .before .before .choose .ensures .0) (c .before .before .before .before .edge-of .ensures .0) (c .before .before .before .blank .ensures) (c .before .before .with-three .ensures) (c .before .with-three2 .ensures) (c .with-number .ensures)
+returns c =
+    kef-undone _ _ _
+    (c .before .before .before .before .before .before .before .before .before .before .before .before .before
+    .before .mate-of .ensures .0)
+    (c .before .before .before .before .before .before .before .before .before .before .before .before
+    .before .half-at .ensures)
+    (c .before .before .before .before .before .before .before .before .before .before .before
+    .before .half-at2 .ensures)
+    (c .before .before .before .before .before .before .before .before .before .before .before .loop-face .ensures .0)
+    (c .before .before .before .before .before .before .before .before .before .before .rest-of .ensures .0)
+    (c .before .before .before .before .before .before .before .before .before .rest-of2 .ensures .0)
+    (c .before .before .before .before .before .before .before .before .way-of .ensures .0)
+    (c .before .before .before .before .before .choose .ensures .0)
+    (c .before .before .before .before .edge-of .ensures .0) (c .before .before .before .blank .ensures)
+    (c .before .before .with-three .ensures) (c .before .with-three2 .ensures) (c .with-number .ensures)
 
 pub kef-inverse-spec : {M : Type 1} → statement M
 kef-inverse-spec =

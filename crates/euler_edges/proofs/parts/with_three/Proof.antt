@@ -22,7 +22,8 @@ with-number-requires-3 : tie.Need-with-number-requires-3
 with-number-requires-3 c κs = search needs
 
 returns : tie.Need-returns
-returns c = three-steps _ _ _ _ _ (c .before .before .with-number .ensures) (c .before .with-number2 .ensures) (c .with-number3 .ensures)
+returns c = three-steps _ _ _ _ _ (c .before .before .with-number .ensures) (c .before .with-number2 .ensures)
+    (c .with-number3 .ensures)
 
 pub with-three-spec : {M : Type 1} → statement M
 with-three-spec =

@@ -34,7 +34,16 @@ with-number-requires-3 : tie.Need-with-number-requires-3
 with-number-requires-3 c κs = search needs
 
 returns : tie.Need-returns
-returns c = rw (c .with-number3 .ensures, c .before .with-number2 .ensures, c .before .before .with-number .ensures, c .before .before .before .blank .ensures, c .before .before .before .before .choose .ensures .0, c .before .before .before .before .before .face-solid2 .ensures .0, c .before .before .before .before .before .before .face-solid .ensures .0, c .before .before .before .before .before .before .before .face-outer .ensures .0)
+returns c = rw (
+  c .with-number3 .ensures,
+  c .before .with-number2 .ensures,
+  c .before .before .with-number .ensures,
+  c .before .before .before .blank .ensures,
+  c .before .before .before .before .choose .ensures .0,
+  c .before .before .before .before .before .face-solid2 .ensures .0,
+  c .before .before .before .before .before .before .face-solid .ensures .0,
+  c .before .before .before .before .before .before .before .face-outer .ensures .0,
+)
 
 pub kfmrh-inverse-spec : {M : Type 1} → statement M
 kfmrh-inverse-spec =

@@ -20,7 +20,12 @@ with-number-requires-2 : tie.Need-with-number-requires-2
 with-number-requires-2 c κs = search needs
 
 returns : tie.Need-returns
-returns c = rw (c .with-number2 .ensures, c .before .with-number .ensures, c .before .before .blank .ensures, c .before .before .before .loop-face .ensures .0)
+returns c = rw (
+  c .with-number2 .ensures,
+  c .before .with-number .ensures,
+  c .before .before .blank .ensures,
+  c .before .before .before .loop-face .ensures .0,
+)
 
 pub mfkrh-inverse-spec : {M : Type 1} → statement M
 mfkrh-inverse-spec =

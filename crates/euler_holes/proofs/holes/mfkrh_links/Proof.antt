@@ -18,7 +18,8 @@ same-length c = search needs
 returns : tie.Need-returns
 returns c =
     let a = c .before .before .before .before .before .before .args in
-    mfkrh-stays (a .sh) (a .links .now) (a .l) (a .f) (a .s) (c .before .before .before .before .if1 .taken) _ (c .before .before .ring-face .ensures)
+    mfkrh-stays (a .sh) (a .links .now) (a .l) (a .f) (a .s) (c .before .before .before .before .if1 .taken) _
+    (c .before .before .ring-face .ensures)
 
 link-faces-requires : tie.Need-link-faces-requires
 link-faces-requires c κs = search needs
@@ -37,9 +38,16 @@ same-length-2 c = search needs
 
 returns-2 : tie.Need-returns-2
 returns-2 c =
-    let a = c .before .before .before .before .before .before .before .before .before .before .before .before .before .before .before .before .before .before .args in
-    mfkrh-leaves (a .sh) (a .links .now) (a .l) (a .f) (a .s) (c .before .before .before .before .before .before .before .before .before .before .before .before .before .before .before .before .if1 .left) _ (c .before .before .before .before .before .before .before .before .before .before .before .before .before .link-faces .ensures) _ _ _
-    (c .before .before .before .before .before .before .before .before .before .before .before .ring-face2 .ensures) (c .before .before .before .before .before .before .before .set-solid-used .ensures) (c .before .before .move-shell .ensures)
+    let a = c .before .before .before .before .before .before .before .before .before .before .before .before .before
+    .before .before .before .before .before .args in
+    mfkrh-leaves (a .sh) (a .links .now) (a .l) (a .f) (a .s)
+    (c .before .before .before .before .before .before .before .before .before .before .before .before .before
+    .before .before .before .if1 .left) _
+    (c .before .before .before .before .before .before .before .before .before .before .before .before
+    .before .link-faces .ensures) _ _ _
+    (c .before .before .before .before .before .before .before .before .before .before .before .ring-face2 .ensures)
+    (c .before .before .before .before .before .before .before .set-solid-used .ensures)
+    (c .before .before .move-shell .ensures)
 
 pub mfkrh-links-spec : {M : Type 1} → statement M
 mfkrh-links-spec =

@@ -16,7 +16,8 @@ use Rattle.layout.proofs.columns.face_solid.Reads as face-solid-reads
 use Rattle.layout.proofs.columns.set_face_solid.Reads as set-face-solid-reads
 
 abbrev Inv-loop : tie.InvT-loop
-Inv-loop links₀ sh s t n k₀ links k = (k ≤ n) × (length links ≡ length links₀) × (links ≡ sweepFaces sh k (λ f old. pick (eqb old s) t old) links₀)
+Inv-loop links₀ sh s t n k₀ links k = (k ≤ n) × (length links ≡ length links₀)
+    × (links ≡ sweepFaces sh k (λ f old. pick (eqb old s) t old) links₀)
 
 abbrev μ-loop : tie.MeasureT-loop
 μ-loop links₀ sh s t n k₀ links k = n - k
@@ -54,7 +55,16 @@ loop-less : tie.Need-loop-less Inv-loop μ-loop
 loop-less c = omega arith
 
 loop-again : tie.Need-loop-again Inv-loop μ-loop
-loop-again c = (omega arith, omega arith, sweep-more (c .before .before .before .before .before .before .before .before .before .before .before .before .args .sh) _ _ _ _ _ _ _ (c .before .before .before .before .before .before .before .before .loop .inv .2) (c .before .before .before .before .before .face-solid .ensures .0) (c .before .before .before .before .choose .ensures .0) (c .before .before .set-face-solid .ensures))
+loop-again c = (
+  omega arith,
+  omega arith,
+  sweep-more
+      (c .before .before .before .before .before .before .before .before .before .before .before .before .args .sh) _ _
+      _
+      _ _ _ _ (c .before .before .before .before .before .before .before .before .loop .inv .2)
+      (c .before .before .before .before .before .face-solid .ensures .0)
+      (c .before .before .before .before .choose .ensures .0) (c .before .before .set-face-solid .ensures),
+)
 
 same-length : tie.Need-same-length Inv-loop μ-loop
 same-length c = omega arith

@@ -18,7 +18,8 @@ mef-inverse-requires : tie.Need-mef-inverse-requires
 mef-inverse-requires c κs = search needs
 
 returns : tie.Need-returns
-returns c = mef-undone (c .before .before .before .args .e) (c .before .before .before .args .w) (c .before .before .half-by .ensures .0) (c .before .mate-of .ensures .0) (c .mef-inverse .ensures)
+returns c = mef-undone (c .before .before .before .args .e) (c .before .before .before .args .w)
+    (c .before .before .half-by .ensures .0) (c .before .mate-of .ensures .0) (c .mef-inverse .ensures)
 
 pub edge-again-spec : {M : Type 1} → statement M
 edge-again-spec =

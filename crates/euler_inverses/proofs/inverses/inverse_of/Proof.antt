@@ -95,7 +95,9 @@ returns : tie.Need-returns
 returns c = inverse-at _ _ _ _ 1 _ _ (c .before .match .keys1) refl cc
 
 returns-2 : tie.Need-returns-2
-returns-2 c = inverse-kvsf _ _ _ _ _ _ (c .before .match .keys2) (c .before .before .before .before .before .before .before .before .item-of .ensures .0) (c .solid-again .ensures)
+returns-2 c =
+    inverse-kvsf _ _ _ _ _ _ (c .before .match .keys2)
+    (c .before .before .before .before .before .before .before .before .item-of .ensures .0) (c .solid-again .ensures)
 
 returns-3 : tie.Need-returns-3
 returns-3 c = inverse-at _ _ _ _ 3 _ _ (c .before .before .match .keys3) refl cc
@@ -131,7 +133,42 @@ returns-13 : tie.Need-returns-13
 returns-13 c = inverse-at _ _ _ _ 13 _ _ (c .before .match .keys13) refl cc
 
 returns-14 : tie.Need-returns-14
-returns-14 c = let r = c .before .match .rest in inverse-none _ _ _ _ _ (r .1, (r .0 .1, (r .0 .0 .1, (r .0 .0 .0 .1, (r .0 .0 .0 .0 .1, (r .0 .0 .0 .0 .0 .1, (r .0 .0 .0 .0 .0 .0 .1, (r .0 .0 .0 .0 .0 .0 .0 .1, (r .0 .0 .0 .0 .0 .0 .0 .0 .1, (r .0 .0 .0 .0 .0 .0 .0 .0 .0 .1, (r .0 .0 .0 .0 .0 .0 .0 .0 .0 .0 .1, (r .0 .0 .0 .0 .0 .0 .0 .0 .0 .0 .0 .1, (r .0 .0 .0 .0 .0 .0 .0 .0 .0 .0 .0 .0 .1, tt))))))))))))) (c .blank .ensures)
+returns-14 c = let r = c .before .match .rest in
+    inverse-none _ _ _ _ _ (
+      r .1,
+      (
+        r .0 .1,
+        (
+          r .0 .0 .1,
+          (
+            r .0 .0 .0 .1,
+            (
+              r .0 .0 .0 .0 .1,
+              (
+                r .0 .0 .0 .0 .0 .1,
+                (
+                  r .0 .0 .0 .0 .0 .0 .1,
+                  (
+                    r .0 .0 .0 .0 .0 .0 .0 .1,
+                    (
+                      r .0 .0 .0 .0 .0 .0 .0 .0 .1,
+                      (
+                        r .0 .0 .0 .0 .0 .0 .0 .0 .0 .1,
+                        (
+                          r .0 .0 .0 .0 .0 .0 .0 .0 .0 .0 .1,
+                          (r .0 .0 .0 .0 .0 .0 .0 .0 .0 .0 .0 .1, (r .0 .0 .0 .0 .0 .0 .0 .0 .0 .0 .0 .0 .1, tt)),
+                        ),
+                      ),
+                    ),
+                  ),
+                ),
+              ),
+            ),
+          ),
+        ),
+      ),
+    )
+    (c .blank .ensures)
 
 pub inverse-of-spec : {M : Type 1} → statement M
 inverse-of-spec =

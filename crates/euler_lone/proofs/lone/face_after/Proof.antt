@@ -34,7 +34,8 @@ face-solid-requires c κs = omega arith
 
 returns : tie.Need-returns Inv-loop μ-loop
 returns c =
-    least-here (columnAt (c .before .before .before .before .before .before .args .sh) Solid) _ _ _ _ _ (c .before .before .before .loop .inv .1) (omega arith)
+    least-here (columnAt (c .before .before .before .before .before .before .args .sh) Solid) _ _ _ _ _
+    (c .before .before .before .loop .inv .1) (omega arith)
     _ (c .before .face-solid .ensures .0) (c .if1 .taken)
 
 add-g-2 : tie.Need-add-g-2 Inv-loop μ-loop
@@ -46,12 +47,14 @@ loop-less c = omega arith
 loop-again : tie.Need-loop-again Inv-loop μ-loop
 loop-again c = (
   omega arith,
-  least-on (columnAt (c .before .before .before .before .before .before .args .sh) Solid) _ _ _ _ _ (c .before .before .before .loop .inv .1) (omega arith)
+  least-on (columnAt (c .before .before .before .before .before .before .args .sh) Solid) _ _ _ _ _
+      (c .before .before .before .loop .inv .1) (omega arith)
       _ (c .before .face-solid .ensures .0) (c .if1 .left),
 )
 
 returns-2 : tie.Need-returns-2 Inv-loop μ-loop
-returns-2 c = least-past (columnAt (c .before .before .before .before .args .sh) Solid) _ _ _ _ _ (c .before .loop .inv .1) (omega arith)
+returns-2 c = least-past (columnAt (c .before .before .before .before .args .sh) Solid) _ _ _ _ _
+    (c .before .loop .inv .1) (omega arith)
 
 pub face-after-spec : {M : Type 1} → statement M
 face-after-spec =

@@ -13,11 +13,13 @@ solids-of-faces-requires : tie.Need-solids-of-faces-requires
 solids-of-faces-requires c κs = search needs
 
 count-naming-requires : tie.Need-count-naming-requires
-count-naming-requires c κs = column-short (c .before .before .args .sh) Solid (c .solids-of-faces .ensures) (omega arith)
+count-naming-requires c κs = column-short (c .before .before .args .sh) Solid (c .solids-of-faces .ensures)
+    (omega arith)
 
 returns : tie.Need-returns
 returns c = (
-  count-by (c .before .before .before .args .sh) Solid (c .before .solids-of-faces .ensures) _ _ _ (c .count-naming .ensures .0),
+  count-by (c .before .before .before .args .sh) Solid (c .before .solids-of-faces .ensures) _ _ _
+      (c .count-naming .ensures .0),
   c .count-naming .ensures .1,
 )
 

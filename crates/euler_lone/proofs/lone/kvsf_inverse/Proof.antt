@@ -26,7 +26,14 @@ with-point-requires : tie.Need-with-point-requires
 with-point-requires c κs = search needs
 
 returns : tie.Need-returns
-returns c = rw (c .with-point .ensures, c .before .with-number4 .ensures, c .before .before .with-number3 .ensures, c .before .before .before .with-number2 .ensures, c .before .before .before .before .with-number .ensures, c .before .before .before .before .before .blank .ensures)
+returns c = rw (
+  c .with-point .ensures,
+  c .before .with-number4 .ensures,
+  c .before .before .with-number3 .ensures,
+  c .before .before .before .with-number2 .ensures,
+  c .before .before .before .before .with-number .ensures,
+  c .before .before .before .before .before .blank .ensures,
+)
 
 pub kvsf-inverse-spec : {M : Type 1} → statement M
 kvsf-inverse-spec =

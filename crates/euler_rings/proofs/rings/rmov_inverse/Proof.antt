@@ -31,7 +31,15 @@ with-number-requires-2 : tie.Need-with-number-requires-2
 with-number-requires-2 c κs = search needs
 
 returns : tie.Need-returns
-returns c = rw (c .with-number2 .ensures, c .before .with-number .ensures, c .before .before .blank .ensures, c .before .before .before .choose2 .ensures .0, c .before .before .before .before .choose .ensures .0, c .before .before .before .before .before .face-outer .ensures .0, c .before .before .before .before .before .before .loop-face .ensures .0)
+returns c = rw (
+  c .with-number2 .ensures,
+  c .before .with-number .ensures,
+  c .before .before .blank .ensures,
+  c .before .before .before .choose2 .ensures .0,
+  c .before .before .before .before .choose .ensures .0,
+  c .before .before .before .before .before .face-outer .ensures .0,
+  c .before .before .before .before .before .before .loop-face .ensures .0,
+)
 
 pub rmov-inverse-spec : {M : Type 1} → statement M
 rmov-inverse-spec =

@@ -20,7 +20,9 @@ same-length c = search needs
 returns : tie.Need-returns
 returns c =
     let a = c .before .before .before .before .before .before .before .before .args in
-    rmov-within (a .sh) (a .links .now) (a .l) (a .f) _ _ (c .before .before .before .before .before .loop-face .ensures .0) (c .before .before .before .before .if1 .taken) (c .before .before .set-face-outer .ensures)
+    rmov-within (a .sh) (a .links .now) (a .l) (a .f) _ _
+    (c .before .before .before .before .before .loop-face .ensures .0)
+    (c .before .before .before .before .if1 .taken) (c .before .before .set-face-outer .ensures)
 
 set-loop-face-requires : tie.Need-set-loop-face-requires
 set-loop-face-requires c κs = search needs
@@ -31,7 +33,9 @@ same-length-2 c = search needs
 returns-2 : tie.Need-returns-2
 returns-2 c =
     let a = c .before .before .before .before .before .before .before .before .args in
-    rmov-over (a .sh) (a .links .now) (a .l) (a .f) _ _ (c .before .before .before .before .before .loop-face .ensures .0) (c .before .before .before .before .if1 .left) (c .before .before .set-loop-face .ensures)
+    rmov-over (a .sh) (a .links .now) (a .l) (a .f) _ _
+    (c .before .before .before .before .before .loop-face .ensures .0)
+    (c .before .before .before .before .if1 .left) (c .before .before .set-loop-face .ensures)
 
 pub rmov-links-spec : {M : Type 1} → statement M
 rmov-links-spec =

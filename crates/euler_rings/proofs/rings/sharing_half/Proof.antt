@@ -12,7 +12,8 @@ use Rattle.euler_rings.proofs.rings.sharing_half.Lts as lts
 use Rattle.euler_rings.proofs.rings.shares_outside.Reads as shares-outside-reads
 
 abbrev Inv-loop : tie.InvT-loop
-Inv-loop links sh l f n k₀ k = (1 ≤ k) × (k ≤ n + 1) × (leastFrom (n + 1 - k) k (sharesOutside sh links l f) ≡ least n (sharesOutside sh links l f))
+Inv-loop links sh l f n k₀ k = (1 ≤ k) × (k ≤ n + 1)
+    × (leastFrom (n + 1 - k) k (sharesOutside sh links l f) ≡ least n (sharesOutside sh links l f))
 
 abbrev μ-loop : tie.MeasureT-loop
 μ-loop links sh l f n k₀ k = n + 1 - k
@@ -30,7 +31,8 @@ shares-outside-requires : tie.Need-shares-outside-requires Inv-loop μ-loop
 shares-outside-requires c κs = search needs
 
 returns : tie.Need-returns Inv-loop μ-loop
-returns c = found-here _ _ _ _ (c .before .before .before .loop .inv .2) (omega arith) (sym (c .before .shares-outside .ensures) ∙ c .if1 .taken)
+returns c = found-here _ _ _ _ (c .before .before .before .loop .inv .2) (omega arith)
+    (sym (c .before .shares-outside .ensures) ∙ c .if1 .taken)
 
 add-k : tie.Need-add-k Inv-loop μ-loop
 add-k c = omega arith
@@ -39,7 +41,12 @@ loop-less : tie.Need-loop-less Inv-loop μ-loop
 loop-less c = omega arith
 
 loop-again : tie.Need-loop-again Inv-loop μ-loop
-loop-again c = (omega arith, omega arith, found-on _ _ _ _ (c .before .before .before .loop .inv .2) (omega arith) (sym (c .before .shares-outside .ensures) ∙ c .if1 .left))
+loop-again c = (
+  omega arith,
+  omega arith,
+  found-on _ _ _ _ (c .before .before .before .loop .inv .2) (omega arith) (sym (c .before .shares-outside .ensures)
+      ∙ c .if1 .left),
+)
 
 returns-2 : tie.Need-returns-2 Inv-loop μ-loop
 returns-2 c = found-none _ _ _ _ (c .before .loop .inv .2) (omega arith)

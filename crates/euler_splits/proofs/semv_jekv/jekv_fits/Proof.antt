@@ -27,7 +27,9 @@ edge-of-requires-2 : tie.Need-edge-of-requires-2
 edge-of-requires-2 c κs = search needs
 
 returns : tie.Need-returns
-returns c = jekv-tests _ _ _ (c .before .before .before .before .before .next-of .ensures .0) (c .before .before .before .before .mate-of .ensures .0) (c .before .before .before .mate-of2 .ensures .0) (c .before .before .next-of2 .ensures .0) (c .before .edge-of .ensures .0) (c .edge-of2 .ensures .0)
+returns c = jekv-tests _ _ _ (c .before .before .before .before .before .next-of .ensures .0)
+    (c .before .before .before .before .mate-of .ensures .0) (c .before .before .before .mate-of2 .ensures .0)
+    (c .before .before .next-of2 .ensures .0) (c .before .edge-of .ensures .0) (c .edge-of2 .ensures .0)
 
 pub jekv-fits-spec : {M : Type 1} → statement M
 jekv-fits-spec =

@@ -34,7 +34,15 @@ with-point-requires : tie.Need-with-point-requires
 with-point-requires c κs = search needs
 
 returns : tie.Need-returns
-returns c = jekv-undone (c .before .before .before .before .before .before .before .before .args .sh) (c .before .before .before .before .before .before .before .before .args .links .now) (c .before .before .before .before .before .before .before .before .args .points .now) (c .before .before .before .before .before .before .before .before .args .k) (c .before .before .before .before .before .before .before .before .args .n) (c .before .before .before .before .before .before .start-of .ensures .0) (c .before .before .before .before .before .edge-of .ensures .0) (c .before .before .before .before .way-of .ensures .0) (c .before .before .before .blank .ensures) (c .before .before .with-three .ensures) (c .before .with-number .ensures) (c .with-point .ensures)
+returns c = jekv-undone (c .before .before .before .before .before .before .before .before .args .sh)
+    (c .before .before .before .before .before .before .before .before .args .links .now)
+    (c .before .before .before .before .before .before .before .before .args .points .now)
+    (c .before .before .before .before .before .before .before .before .args .k)
+    (c .before .before .before .before .before .before .before .before .args .n)
+    (c .before .before .before .before .before .before .start-of .ensures .0)
+    (c .before .before .before .before .before .edge-of .ensures .0)
+    (c .before .before .before .before .way-of .ensures .0) (c .before .before .before .blank .ensures)
+    (c .before .before .with-three .ensures) (c .before .with-number .ensures) (c .with-point .ensures)
 
 pub jekv-inverse-spec : {M : Type 1} → statement M
 jekv-inverse-spec =

@@ -47,7 +47,26 @@ same-length : tie.Need-same-length
 same-length c = search needs
 
 returns : tie.Need-returns
-returns c = jekv-steps _ _ _ _ (c .before .before .before .before .before .before .before .before .before .before .before .before .before .before .before .before .before .before .before .before .before .before .before .before .before .before .mate-of .ensures .0) (c .before .before .before .before .before .before .before .before .before .before .before .before .before .before .before .before .before .before .before .before .before .before .before .before .loop-of .ensures .0) (c .before .before .before .before .before .before .before .before .before .before .before .before .before .before .before .before .before .before .before .before .before .before .loop-of2 .ensures .0) (c .before .before .before .before .before .before .before .before .before .before .before .before .before .before .before .before .before .before .before .before .start-of .ensures .0) (c .before .before .before .before .before .before .before .before .before .before .before .before .before .before .before .before .before .before .loop-first .ensures .0) (c .before .before .before .before .before .before .before .before .before .before .before .before .before .before .before .before .loop-first2 .ensures .0) (c .before .before .before .before .before .before .before .before .before .before .before .before .before .before .join-halves .ensures) (c .before .before .before .before .before .before .before .before .before .before .clear-edge .ensures) (c .before .before .before .before .before .before .renew-sides .ensures) (c .before .before .set-vertex-used .ensures)
+returns c =
+    jekv-steps _ _ _ _
+    (c .before .before .before .before .before .before .before .before .before .before .before .before .before .before
+    .before .before .before .before .before .before .before .before .before .before .before
+    .before .mate-of .ensures .0)
+    (c .before .before .before .before .before .before .before .before .before .before .before .before .before .before
+    .before .before .before .before .before .before .before .before .before .before .loop-of .ensures .0)
+    (c .before .before .before .before .before .before .before .before .before .before .before .before .before .before
+    .before .before .before .before .before .before .before .before .loop-of2 .ensures .0)
+    (c .before .before .before .before .before .before .before .before .before .before .before .before .before .before
+    .before .before .before .before .before .before .start-of .ensures .0)
+    (c .before .before .before .before .before .before .before .before .before .before .before .before .before .before
+    .before .before .before .before .loop-first .ensures .0)
+    (c .before .before .before .before .before .before .before .before .before .before .before .before .before .before
+    .before .before .loop-first2 .ensures .0)
+    (c .before .before .before .before .before .before .before .before .before .before .before .before .before
+    .before .join-halves .ensures)
+    (c .before .before .before .before .before .before .before .before .before .before .clear-edge .ensures)
+    (c .before .before .before .before .before .before .renew-sides .ensures)
+    (c .before .before .set-vertex-used .ensures)
 
 pub jekv-links-spec : {M : Type 1} → statement M
 jekv-links-spec =

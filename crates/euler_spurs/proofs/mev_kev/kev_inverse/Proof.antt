@@ -48,7 +48,18 @@ with-point-requires : tie.Need-with-point-requires
 with-point-requires c κs = search needs
 
 returns : tie.Need-returns
-returns c = kev-undone _ _ (c .before .before .before .before .before .before .before .before .before .before .before .before .before .args .points .now) _ (c .before .before .before .before .before .before .before .before .before .before .before .mate-of .ensures .0) (c .before .before .before .before .before .before .before .before .before .before .half-at .ensures) (c .before .before .before .before .before .before .before .before .before .half-at2 .ensures) (c .before .before .before .before .before .before .before .choose .ensures .0) (c .before .before .before .before .before .before .edge-of .ensures .0) (c .before .before .before .before .before .way-of .ensures .0) (c .before .before .before .before .blank .ensures) (c .before .before .before .with-three .ensures) (c .before .before .with-number .ensures) (c .before .with-number2 .ensures) (c .with-point .ensures)
+returns c =
+    kev-undone _ _
+    (c .before .before .before .before .before .before .before .before .before .before .before .before
+    .before .args .points .now) _
+    (c .before .before .before .before .before .before .before .before .before .before .before .mate-of .ensures .0)
+    (c .before .before .before .before .before .before .before .before .before .before .half-at .ensures)
+    (c .before .before .before .before .before .before .before .before .before .half-at2 .ensures)
+    (c .before .before .before .before .before .before .before .choose .ensures .0)
+    (c .before .before .before .before .before .before .edge-of .ensures .0)
+    (c .before .before .before .before .before .way-of .ensures .0) (c .before .before .before .before .blank .ensures)
+    (c .before .before .before .with-three .ensures) (c .before .before .with-number .ensures)
+    (c .before .with-number2 .ensures) (c .with-point .ensures)
 
 pub kev-inverse-spec : {M : Type 1} → statement M
 kev-inverse-spec =

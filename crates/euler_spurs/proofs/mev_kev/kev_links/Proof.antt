@@ -40,7 +40,21 @@ same-length : tie.Need-same-length
 same-length c = search needs
 
 returns : tie.Need-returns
-returns c = kev-steps _ _ _ (c .before .before .before .before .before .before .before .before .before .before .before .before .before .before .before .before .before .before .before .before .mate-of .ensures .0) (c .before .before .before .before .before .before .before .before .before .before .before .before .before .before .before .before .before .before .half-at .ensures) (c .before .before .before .before .before .before .before .before .before .before .before .before .before .before .before .before .half-at2 .ensures) (c .before .before .before .before .before .before .before .before .before .before .before .before .before .before .choose .ensures .0) (c .before .before .before .before .before .before .before .before .before .before .before .before .loop-first .ensures .0) (c .before .before .before .before .before .before .before .before .before .before .edge-out .ensures) (c .before .before .before .before .before .before .renew-loop .ensures) (c .before .before .set-vertex-used .ensures)
+returns c =
+    kev-steps _ _ _
+    (c .before .before .before .before .before .before .before .before .before .before .before .before .before .before
+    .before .before .before .before .before .before .mate-of .ensures .0)
+    (c .before .before .before .before .before .before .before .before .before .before .before .before .before .before
+    .before .before .before .before .half-at .ensures)
+    (c .before .before .before .before .before .before .before .before .before .before .before .before .before .before
+    .before .before .half-at2 .ensures)
+    (c .before .before .before .before .before .before .before .before .before .before .before .before .before
+    .before .choose .ensures .0)
+    (c .before .before .before .before .before .before .before .before .before .before .before
+    .before .loop-first .ensures .0)
+    (c .before .before .before .before .before .before .before .before .before .before .edge-out .ensures)
+    (c .before .before .before .before .before .before .renew-loop .ensures)
+    (c .before .before .set-vertex-used .ensures)
 
 pub kev-links-spec : {M : Type 1} → statement M
 kev-links-spec =

@@ -51,7 +51,27 @@ same-length : tie.Need-same-length
 same-length c = search needs
 
 returns : tie.Need-returns
-returns c = mev-steps _ _ _ _ _ _ (c .before .before .before .before .before .before .before .before .before .before .before .before .before .before .before .before .before .before .before .before .before .before .mate-of .ensures .0) (c .before .before .before .before .before .before .before .before .before .before .before .before .before .before .before .before .before .before .before .before .corner-vertex .ensures .0) (c .before .before .before .before .before .before .before .before .before .before .before .before .before .before .before .before .before .before .prev-of .ensures .0) (c .before .before .before .before .before .before .before .before .before .before .before .before .before .before .before .before .before .choose .ensures .0) (c .before .before .before .before .before .before .before .before .before .before .before .before .before .before .before .before .choose2 .ensures .0) (c .before .before .before .before .before .before .before .before .before .before .before .before .before .before .loop-first .ensures .0) (c .before .before .before .before .before .before .before .before .before .before .before .before .before .lower .ensures .0) (c .before .before .before .before .before .before .before .before .before .before .before .before .lower2 .ensures .0) (c .before .before .before .before .before .before .before .before .before .before .edge-in .ensures) (c .before .before .before .before .before .before .renew-loop .ensures) (c .before .before .set-vertex-used .ensures)
+returns c =
+    mev-steps _ _ _ _ _ _
+    (c .before .before .before .before .before .before .before .before .before .before .before .before .before .before
+    .before .before .before .before .before .before .before .before .mate-of .ensures .0)
+    (c .before .before .before .before .before .before .before .before .before .before .before .before .before .before
+    .before .before .before .before .before .before .corner-vertex .ensures .0)
+    (c .before .before .before .before .before .before .before .before .before .before .before .before .before .before
+    .before .before .before .before .prev-of .ensures .0)
+    (c .before .before .before .before .before .before .before .before .before .before .before .before .before .before
+    .before .before .before .choose .ensures .0)
+    (c .before .before .before .before .before .before .before .before .before .before .before .before .before .before
+    .before .before .choose2 .ensures .0)
+    (c .before .before .before .before .before .before .before .before .before .before .before .before .before
+    .before .loop-first .ensures .0)
+    (c .before .before .before .before .before .before .before .before .before .before .before .before
+    .before .lower .ensures .0)
+    (c .before .before .before .before .before .before .before .before .before .before .before
+    .before .lower2 .ensures .0)
+    (c .before .before .before .before .before .before .before .before .before .before .edge-in .ensures)
+    (c .before .before .before .before .before .before .renew-loop .ensures)
+    (c .before .before .set-vertex-used .ensures)
 
 pub mev-links-spec : {M : Type 1} → statement M
 mev-links-spec =

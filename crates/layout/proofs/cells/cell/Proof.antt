@@ -23,7 +23,8 @@ add-word : tie.Need-add-word
 add-word c = omega (arith, width-bound (c .before .before .args .width) (c .before .before .args .n - 1) (omega arith))
 
 add-word-2 : tie.Need-add-word-2
-add-word-2 c = omega (arith, width-bound (c .before .before .args .width) (c .before .before .args .n - 1) (omega arith))
+add-word-2 c =
+    omega (arith, width-bound (c .before .before .args .width) (c .before .before .args .n - 1) (omega arith))
 
 word-requires : tie.Need-word-requires
 word-requires c κs = search needs

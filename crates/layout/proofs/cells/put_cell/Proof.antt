@@ -17,13 +17,25 @@ sub-put : tie.Need-sub-put
 sub-put c = search needs
 
 mul-put : tie.Need-mul-put
-mul-put c = omega (arith, width-bound (c .before .before .before .args .width) (c .before .before .before .args .n - 1) (omega arith))
+mul-put c =
+    omega (
+      arith,
+      width-bound (c .before .before .before .args .width) (c .before .before .before .args .n - 1) (omega arith),
+    )
 
 add-put : tie.Need-add-put
-add-put c = omega (arith, width-bound (c .before .before .before .args .width) (c .before .before .before .args .n - 1) (omega arith))
+add-put c =
+    omega (
+      arith,
+      width-bound (c .before .before .before .args .width) (c .before .before .before .args .n - 1) (omega arith),
+    )
 
 add-put-2 : tie.Need-add-put-2
-add-put-2 c = omega (arith, width-bound (c .before .before .before .args .width) (c .before .before .before .args .n - 1) (omega arith))
+add-put-2 c =
+    omega (
+      arith,
+      width-bound (c .before .before .before .args .width) (c .before .before .before .args .n - 1) (omega arith),
+    )
 
 put-requires : tie.Need-put-requires
 put-requires c κs = search needs

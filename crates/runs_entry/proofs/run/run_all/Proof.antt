@@ -13,7 +13,8 @@ use Rattle.runs_entry.proofs.run.run_all.Lts as lts
 use Rattle.runs_steps.proofs.steps.run_step.Reads as run-step-reads
 
 abbrev Inv-loop : tie.InvT-loop
-Inv-loop links₀ points₀ log₀ counts₀ sh start script most args₀ at₀ done₀ from₀ links points log counts args at done from =
+Inv-loop links₀ points₀ log₀ counts₀ sh start script most args₀ at₀ done₀ from₀ links points log counts args at done
+    from =
     (length links ≡ length links₀) × (length points ≡ length points₀) × (length log ≡ length log₀) × (done ≤ at)
     × (at ≤ length script) × Standing sh links points counts × (from ≤ length log)
     × (runFrom (length script - done) sh script at done (state links points log from)
@@ -21,7 +22,8 @@ Inv-loop links₀ points₀ log₀ counts₀ sh start script most args₀ at₀ 
     × (length script < 18446744073709551616)
 
 abbrev μ-loop : tie.MeasureT-loop
-μ-loop links₀ points₀ log₀ counts₀ sh start script most args₀ at₀ done₀ from₀ links points log counts args at done from =
+μ-loop links₀ points₀ log₀ counts₀ sh start script most args₀ at₀ done₀ from₀ links points log counts args at done
+    from =
     length script - at
 
 loop-holds : tie.Need-loop-holds Inv-loop μ-loop
@@ -34,13 +36,15 @@ loop-holds c =
       omega arith,
       b .pre .0,
       b .pre .1 .1,
-      run-begins (b .args .sh) (b .args .script .now) (state (b .args .links .now) (b .args .points .now) (b .args .log .now) (b .args .start)),
+      run-begins (b .args .sh) (b .args .script .now) (state (b .args .links .now) (b .args .points .now)
+          (b .args .log .now) (b .args .start)),
       omega arith,
     )
 
 run-step-requires : tie.Need-run-step-requires Inv-loop μ-loop
 run-step-requires c κs =
-    let l = c .before .before .before .before .before .before .loop .inv in (l .5, (c .before .before .before .before .before .before .before .before .before .before .pre .1 .0, l .6))
+    let l = c .before .before .before .before .before .before .loop .inv in
+    (l .5, (c .before .before .before .before .before .before .before .before .before .before .pre .1 .0, l .6))
 
 same-length : tie.Need-same-length Inv-loop μ-loop
 same-length c = search needs
@@ -53,21 +57,33 @@ same-length-3 c = search needs
 
 returns : tie.Need-returns Inv-loop μ-loop
 returns c =
-    run-stop _ _ _ _ _ _ _ (c .before .before .before .before .before .before .before .before .before .before .before .before .before .before .loop .inv .7) (omega arith) (omega arith) _
+    run-stop _ _ _ _ _ _ _
+    (c .before .before .before .before .before .before .before .before .before .before .before .before .before
+    .before .loop .inv .7) (omega arith) (omega arith) _
     (c .before .before .before .before .before .before .before .run-step .ensures .0) (c .if1 .taken)
 
 add-done : tie.Need-add-done Inv-loop μ-loop
 add-done c =
-    let l = c .before .before .before .before .before .before .before .before .before .before .before .before .before .before .loop .inv in omega (arith, l .3, l .8, c .before .before .before .before .before .before .before .before .before .before .before .before .before .loop-test .taken)
+    let l = c .before .before .before .before .before .before .before .before .before .before .before .before .before
+    .before .loop .inv in
+    omega (
+      arith,
+      l .3,
+      l .8,
+      c .before .before .before .before .before .before .before .before .before .before .before .before
+          .before .loop-test .taken,
+    )
 
 loop-less : tie.Need-loop-less Inv-loop μ-loop
 loop-less c =
-    let n = step-next _ _ _ _ _ (c .before .before .before .before .before .before .before .run-step .ensures .0) (c .if1 .left) in omega (arith, n .0, n .1)
+    let n = step-next _ _ _ _ _ (c .before .before .before .before .before .before .before .run-step .ensures .0)
+    (c .if1 .left) in omega (arith, n .0, n .1)
 
 loop-again : tie.Need-loop-again Inv-loop μ-loop
 loop-again c =
     let r = c .before .before .before .before .before .before .before .run-step .ensures in
-    let l = c .before .before .before .before .before .before .before .before .before .before .before .before .before .before .loop .inv in
+    let l = c .before .before .before .before .before .before .before .before .before .before .before .before .before
+    .before .loop .inv in
     let n = step-next _ _ _ _ _ (r .0) (c .if1 .left) in (
       omega arith,
       omega arith,

@@ -34,7 +34,10 @@ returns : tie.Need-returns Inv-loop μ-loop
 returns c = undo-past _ _ _ _ _ _ _ _ (c .before .before .loop .inv .4) (omega arith) (omega arith)
 
 undo-step-requires : tie.Need-undo-step-requires Inv-loop μ-loop
-undo-step-requires c κs = (c .before .before .before .before .before .before .loop .inv .3, c .before .before .before .before .before .before .before .before .before .pre .1)
+undo-step-requires c κs = (
+  c .before .before .before .before .before .before .loop .inv .3,
+  c .before .before .before .before .before .before .before .before .before .pre .1,
+)
 
 same-length-3 : tie.Need-same-length-3 Inv-loop μ-loop
 same-length-3 c = search needs
@@ -45,7 +48,9 @@ same-length-4 c = search needs
 returns-2 : tie.Need-returns-2 Inv-loop μ-loop
 returns-2 c =
     let u = c .before .before .before .before .before .undo-step .ensures in
-    undo-stop _ _ _ _ _ _ _ _ (c .before .before .before .before .before .before .before .before .before .before .before .before .loop .inv .4) (omega arith) (omega arith) _ (u .0 .0) _ (u .1 .0) (c .if2 .taken)
+    undo-stop _ _ _ _ _ _ _ _
+    (c .before .before .before .before .before .before .before .before .before .before .before
+    .before .loop .inv .4) (omega arith) (omega arith) _ (u .0 .0) _ (u .1 .0) (c .if2 .taken)
 
 add-undone : tie.Need-add-undone Inv-loop μ-loop
 add-undone c = search needs
@@ -60,7 +65,9 @@ loop-again c =
       omega arith,
       omega arith,
       u .1 .1,
-      undo-turn _ _ _ _ _ _ _ _ (c .before .before .before .before .before .before .before .before .before .before .before .before .loop .inv .4) (omega arith) (omega arith) _ (u .0 .0) _ (u .1 .0) (c .if2 .left) _ (u .0 .1) _
+      undo-turn _ _ _ _ _ _ _ _
+          (c .before .before .before .before .before .before .before .before .before .before .before
+          .before .loop .inv .4) (omega arith) (omega arith) _ (u .0 .0) _ (u .1 .0) (c .if2 .left) _ (u .0 .1) _
           (omega arith),
     )
 

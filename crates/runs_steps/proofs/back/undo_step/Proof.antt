@@ -16,8 +16,13 @@ same-length c = search needs
 
 returns : tie.Need-returns
 returns c =
-    let t = c .before .before .take .ensures in
-    ((t .0, t .1 .0), (back-refused _ _ _ _ _ _ (t .0) (c .if1 .taken), c .before .before .before .before .before .before .before .before .pre .0))
+    let t = c .before .before .take .ensures in (
+      (t .0, t .1 .0),
+      (
+        back-refused _ _ _ _ _ _ (t .0) (c .if1 .taken),
+        c .before .before .before .before .before .before .before .before .pre .0,
+      ),
+    )
 
 perform-counted-requires : tie.Need-perform-counted-requires
 perform-counted-requires c κs = search needs
@@ -38,7 +43,8 @@ returns-2 c =
       (sym z ∙ t .0, t .1 .0),
       (
         back-done _ _ _ _ _ _ (t .0) z _ o _ (e .0 .0) _ (e .0 .1),
-        standing-kept (d .before .before .before .before .before .before .before .before .pre .0) _ _ _ (t .0) z _ o _ (e .0 .0) _ (e .0 .1) _ (e .1),
+        standing-kept (d .before .before .before .before .before .before .before .before .pre .0) _ _ _ (t .0) z _ o _
+            (e .0 .0) _ (e .0 .1) _ (e .1),
       ),
     )
 

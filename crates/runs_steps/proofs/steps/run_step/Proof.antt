@@ -22,8 +22,10 @@ same-length c = search needs
 
 returns : tie.Need-returns
 returns c =
-    let t = c .before .before .take .ensures in
-    (step-refused _ _ _ _ _ _ _ _ (t .0) _ (t .1 .0) (c .if1 .taken), (c .before .before .before .before .before .before .before .before .before .pre .0, omega arith))
+    let t = c .before .before .take .ensures in (
+      step-refused _ _ _ _ _ _ _ _ (t .0) _ (t .1 .0) (c .if1 .taken),
+      (c .before .before .before .before .before .before .before .before .before .pre .0, omega arith),
+    )
 
 inverse-of-requires : tie.Need-inverse-of-requires
 inverse-of-requires c κs = search needs
@@ -43,16 +45,25 @@ returns-2 c =
     let t = d .before .before .take .ensures in
     let z = d .if1 .left in
     let i = c .before .before .inverse-of .ensures ∙ inverse-by _ _ _ _ _ _ in (
-      step-full _ _ _ _ _ _ _ _ (t .0) _ (t .1 .0) z _ (t .1 .1 z) _ i (sym (c .before .fits-before .ensures) ∙ not-true _ (c .if2 .taken)),
+      step-full _ _ _ _ _ _ _ _ (t .0) _ (t .1 .0) z _ (t .1 .1 z) _ i (sym (c .before .fits-before .ensures)
+          ∙ not-true _ (c .if2 .taken)),
       (d .before .before .before .before .before .before .before .before .before .pre .0, omega arith),
     )
 
 perform-counted-requires : tie.Need-perform-counted-requires
-perform-counted-requires c κs = standing-small (c .before .before .before .before .before .before .before .before .before .before .before .before .before .before .before .before .before .before .before .pre .0)
+perform-counted-requires c κs =
+    standing-small
+    (c .before .before .before .before .before .before .before .before .before .before .before .before .before .before
+    .before .before .before .before .before .pre .0)
 
 put-before-requires : tie.Need-put-before-requires
-put-before-requires c κs =
-    (fits-room _ _ _ (c .before .before .before .before .before .before .before .before .before .before .fits-before .ensures) (not-false _ (c .before .before .before .before .before .before .before .before .before .if2 .left)), c .before .before .before .before .before .before .before .before .before .before .before .before .before .before .before .before .before .before .before .before .before .before .before .before .pre .1 .1)
+put-before-requires c κs = (
+  fits-room _ _ _
+      (c .before .before .before .before .before .before .before .before .before .before .fits-before .ensures)
+      (not-false _ (c .before .before .before .before .before .before .before .before .before .if2 .left)),
+  c .before .before .before .before .before .before .before .before .before .before .before .before .before
+      .before .before .before .before .before .before .before .before .before .before .before .pre .1 .1,
+)
 
 same-length-4 : tie.Need-same-length-4
 same-length-4 c = search needs
@@ -73,9 +84,14 @@ returns-3 c =
     let z = d .if1 .left in
     let o = t .1 .1 z in
     let i = f .before .before .inverse-of .ensures ∙ inverse-by _ _ _ _ _ _ in (
-      step-done _ _ _ _ _ _ _ _ (t .0) _ (t .1 .0) z _ o _ i (sym (f .before .fits-before .ensures) ∙ not-false _ (f .if2 .left))
+      step-done _ _ _ _ _ _ _ _ (t .0) _ (t .1 .0) z _ o _ i (sym (f .before .fits-before .ensures)
+          ∙ not-false _ (f .if2 .left))
           _ (e .0 .0) _ (e .0 .1) _ (w .0) _ (w .1),
-      (standing-kept (d .before .before .before .before .before .before .before .before .before .pre .0) _ _ _ (t .0) z _ o _ (e .0 .0) _ (e .0 .1) _ (e .1), omega (arith, w .0)),
+      (
+        standing-kept (d .before .before .before .before .before .before .before .before .before .pre .0) _ _ _
+            (t .0) z _ o _ (e .0 .0) _ (e .0 .1) _ (e .1),
+        omega (arith, w .0),
+      ),
     )
 
 pub run-step-spec : {M : Type 1} → statement M

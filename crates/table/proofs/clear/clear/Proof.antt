@@ -31,7 +31,13 @@ same-length-2 : tie.Need-same-length-2
 same-length-2 c = search needs
 
 returns-2 : tie.Need-returns-2
-returns-2 c = clear-done _ _ _ _ _ _ _ _ _ (c .before .before .before .before .before .before .before .before .before .before .before .before .sizes-fit .ensures) (c .before .before .before .before .before .before .before .before .before .before .before .if1 .left) _ _ _ (c .before .before .before .before .before .before .before .before .before .zero-words .ensures) (c .before .before .before .before .before .put-capacities .ensures) (c .before .zero-points .ensures)
+returns-2 c =
+    clear-done _ _ _ _ _ _ _ _ _
+    (c .before .before .before .before .before .before .before .before .before .before .before
+    .before .sizes-fit .ensures)
+    (c .before .before .before .before .before .before .before .before .before .before .before .if1 .left) _ _ _
+    (c .before .before .before .before .before .before .before .before .before .zero-words .ensures)
+    (c .before .before .before .before .before .put-capacities .ensures) (c .before .zero-points .ensures)
 
 pub clear-spec : {M : Type 1} → statement M
 clear-spec =

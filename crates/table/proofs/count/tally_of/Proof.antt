@@ -41,15 +41,24 @@ cast-used-to-6 : tie.Need-cast-used-to-6
 cast-used-to-6 c = search needs
 
 used-to-requires-6 : tie.Need-used-to-requires-6
-used-to-requires-6 c κs = c .before .before .before .before .before .before .before .before .before .before .before .before .pre .loops
+used-to-requires-6 c κs =
+    c .before .before .before .before .before .before .before .before .before .before .before .before .pre .loops
 
 holes-of-requires : tie.Need-holes-of-requires
 holes-of-requires c κs = search needs
 
 returns : tie.Need-returns
 returns c =
-    tally-is (c .before .before .before .before .before .before .before .before .before .before .before .before .before .before .args .sh) (c .before .before .before .before .before .before .before .before .before .before .before .before .before .before .args .links .now) _ _ _ _ _ _ _ (c .before .before .before .before .before .before .before .before .before .before .before .used-to .ensures .0) (c .before .before .before .before .before .before .before .before .before .used-to2 .ensures .0) (c .before .before .before .before .before .before .before .used-to3 .ensures .0)
-    (c .before .before .before .before .before .used-to4 .ensures .0) (c .before .before .before .used-to5 .ensures .0) (c .before .used-to6 .ensures .0) (c .holes-of .ensures)
+    tally-is
+    (c .before .before .before .before .before .before .before .before .before .before .before .before .before
+    .before .args .sh)
+    (c .before .before .before .before .before .before .before .before .before .before .before .before .before
+    .before .args .links .now) _ _ _ _ _ _ _
+    (c .before .before .before .before .before .before .before .before .before .before .before .used-to .ensures .0)
+    (c .before .before .before .before .before .before .before .before .before .used-to2 .ensures .0)
+    (c .before .before .before .before .before .before .before .used-to3 .ensures .0)
+    (c .before .before .before .before .before .used-to4 .ensures .0) (c .before .before .before .used-to5 .ensures .0)
+    (c .before .used-to6 .ensures .0) (c .holes-of .ensures)
 
 pub tally-of-spec : {M : Type 1} → statement M
 tally-of-spec =

@@ -46,7 +46,11 @@ is-capacity-requires-5 c κs = search needs
 returns-3 : tie.Need-returns-3
 returns-3 c =
     lengths-fit _ _ _ _ _ _ _ _ _ _ _ _
-    (omega (arith, c .before .before .before .before .before .before .before .links-length .ensures, ap lengthOf (c .before .before .before .before .before .before .before .before .shape-from .ensures)))
+    (omega (
+      arith,
+      c .before .before .before .before .before .before .before .links-length .ensures,
+      ap lengthOf (c .before .before .before .before .before .before .before .before .shape-from .ensures),
+    ))
     (omega arith)
     (c .before .before .before .before .is-capacity .ensures) (c .before .before .before .is-capacity2 .ensures)
     (c .before .before .is-capacity3 .ensures) (c .before .is-capacity4 .ensures) (c .is-capacity5 .ensures)

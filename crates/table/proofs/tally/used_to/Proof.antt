@@ -39,10 +39,18 @@ loop-less : tie.Need-loop-less Inv-loop μ-loop
 loop-less c = search needs
 
 loop-again : tie.Need-loop-again Inv-loop μ-loop
-loop-again c = (omega arith, omega arith, count-turn _ _ _ _ _ _ _ (c .before .before .before .loop .inv .2) (c .one-if .ensures .0) (c .before .item-used .ensures))
+loop-again c = (
+  omega arith,
+  omega arith,
+  count-turn _ _ _ _ _ _ _ (c .before .before .before .loop .inv .2) (c .one-if .ensures .0)
+      (c .before .item-used .ensures),
+)
 
 returns : tie.Need-returns Inv-loop μ-loop
-returns c = (count-end _ _ _ _ _ _ (c .before .loop .inv .0) (c .loop-test .left) (c .before .loop .inv .2), omega arith)
+returns c = (
+  count-end _ _ _ _ _ _ (c .before .loop .inv .0) (c .loop-test .left) (c .before .loop .inv .2),
+  omega arith,
+)
 
 pub used-to-spec : {M : Type 1} → statement M
 used-to-spec =

@@ -29,7 +29,15 @@ same-length-3 c = search needs
 
 returns : tie.Need-returns
 returns c = (
-  across-is (c .before .before .before .before .before .before .before .before .before .before .before .before .before .before .before .args .sh) _ (c .before .before .before .before .before .before .before .before .before .before .before .before .before .before .before .args .e) _ (c .before .before .before .before .before .before .before .before .before .before .before .passage-of .ensures .0) _ _ _ _ (c .before .before .before .before .before .before .before .pass .ensures .0) (c .before .before .before .before .before .before .before .pass .ensures .1) (c .across-ends .ensures .0),
+  across-is
+      (c .before .before .before .before .before .before .before .before .before .before .before .before .before .before
+      .before .args .sh) _
+      (c .before .before .before .before .before .before .before .before .before .before .before .before .before .before
+      .before .args .e) _
+      (c .before .before .before .before .before .before .before .before .before .before
+      .before .passage-of .ensures .0) _ _ _ _
+      (c .before .before .before .before .before .before .before .pass .ensures .0)
+      (c .before .before .before .before .before .before .before .pass .ensures .1) (c .across-ends .ensures .0),
   omega (arith, c .before .before .before .before .before .before .before .pass .ensures .2),
   c .across-ends .ensures .1,
 )

@@ -48,8 +48,20 @@ least-mate-requires c κs = search needs
 returns : tie.Need-returns
 unfolding passing lastOf
 returns c = (
-  passage-read (c .before .before .before .before .before .before .before .before .before .before .args .sh) _ (c .before .before .before .before .before .before .before .before .before .before .args .e) _ _ _ _ _ _ _ _ (c .before .before .before .before .before .before .before .before .seek .ensures .0) (c .before .before .before .before .before .before .before .loop-of .ensures .0) (c .before .before .before .before .before .before .is-ring .ensures) (c .before .before .before .before .before .stray-from .ensures .0) (c .before .before .before .before .next-of .ensures .0) (c .before .before .side-of .ensures .0) (c .before .choose .ensures .0) (c .least-mate .ensures),
-  record { half = omega (arith, c .before .before .before .before .before .before .before .before .seek .ensures .1); own = c .before .before .before .before .before .before .before .loop-of .ensures .1; face = c .before .before .side-of .ensures .1 },
+  passage-read (c .before .before .before .before .before .before .before .before .before .before .args .sh) _
+      (c .before .before .before .before .before .before .before .before .before .before .args .e) _ _ _ _ _ _ _ _
+      (c .before .before .before .before .before .before .before .before .seek .ensures .0)
+      (c .before .before .before .before .before .before .before .loop-of .ensures .0)
+      (c .before .before .before .before .before .before .is-ring .ensures)
+      (c .before .before .before .before .before .stray-from .ensures .0)
+      (c .before .before .before .before .next-of .ensures .0) (c .before .before .side-of .ensures .0)
+      (c .before .choose .ensures .0) (c .least-mate .ensures),
+  record {
+    half = omega (arith, c .before .before .before .before .before .before .before .before .seek .ensures .1);
+    own = c .before .before .before .before .before .before .before .loop-of .ensures .1;
+    face =
+        c .before .before .side-of .ensures .1;
+  },
 )
 
 pub passage-of-spec : {M : Type 1} → statement M

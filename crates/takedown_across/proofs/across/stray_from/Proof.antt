@@ -13,7 +13,11 @@ seek-requires c κs = search needs
 
 returns : tie.Need-returns
 unfolding passing lastOf
-returns c = (stray-found (c .before .before .before .args .sh) _ (c .before .before .before .args .e) _ (c .before .seek .ensures .0) (c .if1 .taken), omega (arith, c .before .seek .ensures .1))
+returns c = (
+  stray-found (c .before .before .before .args .sh) _ (c .before .before .before .args .e) _
+      (c .before .seek .ensures .0) (c .if1 .taken),
+  omega (arith, c .before .seek .ensures .1),
+)
 
 cast-result : tie.Need-cast-result
 cast-result c = search needs
@@ -23,7 +27,11 @@ add-result c = search needs
 
 returns-2 : tie.Need-returns-2
 unfolding passing lastOf
-returns-2 c = (stray-past (c .before .before .before .before .args .sh) _ (c .before .before .before .before .args .e) _ (c .before .before .seek .ensures .0) (c .before .if1 .left), omega arith)
+returns-2 c = (
+  stray-past (c .before .before .before .before .args .sh) _ (c .before .before .before .before .args .e) _
+      (c .before .before .seek .ensures .0) (c .before .if1 .left),
+  omega arith,
+)
 
 pub stray-from-spec : {M : Type 1} → statement M
 stray-from-spec = tie.close (tie.spec seek-requires returns cast-result add-result returns-2)

@@ -28,7 +28,14 @@ same-length-3 : tie.Need-same-length-3
 same-length-3 c = search needs
 
 returns : tie.Need-returns
-returns c = (outer-made _ _ _ _ _ (c .before .before .before .before .before .before .before .before .before .before .before .is-ring .ensures) (c .before .before .before .before .before .before .before .before .before .before .if1 .taken) _ (c .before .before .before .before .before .before .rmov .ensures) _ (c .before .before .before .before .before .act .ensures .0), omega (arith, c .before .before .before .before .before .act .ensures .1))
+returns c = (
+  outer-made _ _ _ _ _
+      (c .before .before .before .before .before .before .before .before .before .before .before .is-ring .ensures)
+      (c .before .before .before .before .before .before .before .before .before .before .if1 .taken) _
+      (c .before .before .before .before .before .before .rmov .ensures) _
+      (c .before .before .before .before .before .act .ensures .0),
+  omega (arith, c .before .before .before .before .before .act .ensures .1),
+)
 
 same-length-4 : tie.Need-same-length-4
 same-length-4 c = search needs

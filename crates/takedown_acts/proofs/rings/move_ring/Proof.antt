@@ -30,13 +30,30 @@ same-length-3 : tie.Need-same-length-3
 same-length-3 c = search needs
 
 returns : tie.Need-returns
-returns c = (ring-moved _ _ _ _ _ _ (c .before .before .before .before .before .before .before .before .before .before .before .is-ring-of .ensures) (c .before .before .before .before .before .before .before .before .before .before .if1 .taken) _ (c .before .before .before .before .before .before .rmov .ensures) _ (c .before .before .before .before .before .act .ensures .0), omega (arith, c .before .before .before .before .before .act .ensures .1))
+returns c = (
+  ring-moved _ _ _ _ _ _
+      (c .before .before .before .before .before .before .before .before .before .before .before .is-ring-of .ensures)
+      (c .before .before .before .before .before .before .before .before .before .before .if1 .taken) _
+      (c .before .before .before .before .before .before .rmov .ensures) _
+      (c .before .before .before .before .before .act .ensures .0),
+  omega (arith, c .before .before .before .before .before .act .ensures .1),
+)
 
 same-length-4 : tie.Need-same-length-4
 same-length-4 c = search needs
 
 returns-2 : tie.Need-returns-2
-returns-2 c = (ring-kept (c .before .before .before .before .before .args .sh) (c .before .before .before .before .before .args .i) (c .before .before .before .before .before .args .g) (c .before .before .before .before .before .args .r) (work (c .before .before .before .before .before .args .at .done) (state (c .before .before .before .before .before .args .links .now) (c .before .before .before .before .before .args .points .now) (c .before .before .before .before .before .args .log .now) (c .before .before .before .before .before .args .at .start))) _ (c .before .is-ring-of .ensures) (c .if1 .left), omega arith)
+returns-2 c = (
+  ring-kept (c .before .before .before .before .before .args .sh)
+      (c .before .before .before .before .before .args .i) (c .before .before .before .before .before .args .g)
+      (c .before .before .before .before .before .args .r) (work
+      (c .before .before .before .before .before .args .at .done)
+      (state (c .before .before .before .before .before .args .links .now)
+      (c .before .before .before .before .before .args .points .now)
+      (c .before .before .before .before .before .args .log .now)
+      (c .before .before .before .before .before .args .at .start))) _ (c .before .is-ring-of .ensures) (c .if1 .left),
+  omega arith,
+)
 
 pub move-ring-spec : {M : Type 1} → statement M
 move-ring-spec =

@@ -14,8 +14,10 @@ use Rattle.takedown_acts.proofs.rings.move_ring.Reads as move-ring-read
 
 abbrev Inv-loop : tie.InvT-loop
 Inv-loop links₀ points₀ log₀ sh low g r n i₀ done₀ start₀ links points log i done start =
-    (length links ≡ length links₀) × (length points ≡ length points₀) × (length log ≡ length log₀) × (n ≤ 4096) × (done + (n + 1 - i) ≤ done₀ + (n + 1 - low))
-    × (moveRings sh (n + 1 - i) i g r (work done (state links points log start)) ≡ moveRings sh (sh .loops + 1 - low) low g r (work done₀ (state links₀ points₀ log₀ start₀)))
+    (length links ≡ length links₀) × (length points ≡ length points₀) × (length log ≡ length log₀) × (n ≤ 4096)
+    × (done + (n + 1 - i) ≤ done₀ + (n + 1 - low))
+    × (moveRings sh (n + 1 - i) i g r (work done (state links points log start))
+    ≡ moveRings sh (sh .loops + 1 - low) low g r (work done₀ (state links₀ points₀ log₀ start₀)))
 
 abbrev μ-loop : tie.MeasureT-loop
 μ-loop links₀ points₀ log₀ sh low g r n i₀ done₀ start₀ links points log i done start = n + 1 - i
@@ -43,7 +45,9 @@ loop-again c =
       omega arith,
       omega arith,
       omega (arith, e .1),
-      rings-turn _ _ _ _ _ _ _ (c .before .before .before .before .before .before .before .before .before .before .loop .inv .5) (omega arith) _ (e .0) _ (omega arith),
+      rings-turn _ _ _ _ _ _ _
+          (c .before .before .before .before .before .before .before .before .before .before .loop .inv .5) (omega
+          arith) _ (e .0) _ (omega arith),
     )
 
 same-length : tie.Need-same-length Inv-loop μ-loop

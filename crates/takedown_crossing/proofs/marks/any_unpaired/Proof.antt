@@ -11,7 +11,8 @@ use Rattle.layout.proofs.columns.next_of.Reads as next-of-reads
 use Rattle.takedown_crossing.proofs.marks.is_unpaired.Reads as is-unpaired-reads
 
 abbrev Inv-loop : tie.InvT-loop
-Inv-loop links sh n from stop marks k₀ left₀ k left = (k < 65536) × (anyUnpaired sh n left links k stop marks ≡ anyUnpaired sh n n links from stop marks)
+Inv-loop links sh n from stop marks k₀ left₀ k left = (k < 65536)
+    × (anyUnpaired sh n left links k stop marks ≡ anyUnpaired sh n n links from stop marks)
 
 abbrev μ-loop : tie.MeasureT-loop
 μ-loop links sh n from stop marks k₀ left₀ k left = left
@@ -26,7 +27,8 @@ is-unpaired-requires : tie.Need-is-unpaired-requires Inv-loop μ-loop
 is-unpaired-requires c κs = search needs
 
 returns-2 : tie.Need-returns-2 Inv-loop μ-loop
-returns-2 c = any-here _ _ _ _ _ _ _ _ (c .before .before .before .before .loop .inv .1) (omega arith) (c .before .before .if1 .left) _ (c .before .is-unpaired .ensures) (c .if2 .taken)
+returns-2 c = any-here _ _ _ _ _ _ _ _ (c .before .before .before .before .loop .inv .1) (omega arith)
+    (c .before .before .if1 .left) _ (c .before .is-unpaired .ensures) (c .if2 .taken)
 
 next-of-requires : tie.Need-next-of-requires Inv-loop μ-loop
 next-of-requires c κs = search needs
@@ -38,7 +40,12 @@ loop-less : tie.Need-loop-less Inv-loop μ-loop
 loop-less c = search needs
 
 loop-again : tie.Need-loop-again Inv-loop μ-loop
-loop-again c = (omega arith, any-turn _ _ _ _ _ _ _ _ (c .before .before .before .before .before .loop .inv .1) (omega arith) (c .before .before .before .if1 .left) _ (c .before .before .is-unpaired .ensures) (c .before .if2 .left) _ (c .next-of .ensures .0))
+loop-again c = (
+  omega arith,
+  any-turn _ _ _ _ _ _ _ _ (c .before .before .before .before .before .loop .inv .1) (omega arith)
+      (c .before .before .before .if1 .left) _ (c .before .before .is-unpaired .ensures) (c .before .if2 .left) _
+      (c .next-of .ensures .0),
+)
 
 returns-3 : tie.Need-returns-3 Inv-loop μ-loop
 returns-3 c = any-out _ _ _ _ _ _ _ _ (c .before .loop .inv .1) (omega arith)

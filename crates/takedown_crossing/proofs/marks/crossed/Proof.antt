@@ -29,7 +29,10 @@ any-unpaired-requires : tie.Need-any-unpaired-requires
 any-unpaired-requires c κs = search needs
 
 returns : tie.Need-returns
-returns c = crossed-steps _ _ _ (c .before .before .before .before .before .before .before .before .pre .0 .edges) _ _ _ (c .before .before .before .before .before .before .next-of .ensures .0) (c .before .before .before .before .before .mate-of .ensures .0) refl _ (c .before .before .mark-run .ensures) _ (c .any-unpaired .ensures)
+returns c = crossed-steps _ _ _ (c .before .before .before .before .before .before .before .before .pre .0 .edges) _ _ _
+    (c .before .before .before .before .before .before .next-of .ensures .0)
+    (c .before .before .before .before .before .mate-of .ensures .0) refl _ (c .before .before .mark-run .ensures) _
+    (c .any-unpaired .ensures)
 
 pub crossed-spec : {M : Type 1} → statement M
 crossed-spec =

@@ -12,7 +12,8 @@ use Rattle.layout.proofs.columns.next_of.Reads as next-of-reads
 use Rattle.takedown_crossing.proofs.marks.put_mark.Reads as put-mark-reads
 
 abbrev Inv-loop : tie.InvT-loop
-Inv-loop links sh fuel from stop marks₀ k₀ left₀ marks k left = (k < 65536) × (length marks ≡ 8194) × (markRun sh left links k stop marks ≡ markRun sh fuel links from stop marks₀)
+Inv-loop links sh fuel from stop marks₀ k₀ left₀ marks k left = (k < 65536) × (length marks ≡ 8194)
+    × (markRun sh left links k stop marks ≡ markRun sh fuel links from stop marks₀)
 
 abbrev μ-loop : tie.MeasureT-loop
 μ-loop links sh fuel from stop marks₀ k₀ left₀ marks k left = left
@@ -41,7 +42,8 @@ loop-again c =
     let e = c .before .put-mark .ensures in (
       c .next-of .ensures .1,
       long-mark (c .before .before .before .before .before .loop .marks) _ _ (inv .1) e,
-      mark-turn _ _ _ _ _ _ _ (inv .2) (omega arith) (c .before .before .before .if1 .left) _ e _ (c .next-of .ensures .0),
+      mark-turn _ _ _ _ _ _ _ (inv .2) (omega arith) (c .before .before .before .if1 .left) _ e _
+          (c .next-of .ensures .0),
     )
 
 returns-2 : tie.Need-returns-2 Inv-loop μ-loop

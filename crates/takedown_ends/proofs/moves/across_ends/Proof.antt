@@ -14,13 +14,21 @@ ends-at-requires : tie.Need-ends-at-requires
 ends-at-requires c κs = search needs
 
 returns : tie.Need-returns
-returns c = (across-still (c .before .before .before .args .e) _ _ _ (c .before .before .less .ensures) _ (c .before .if1 .taken) _ (c .ends-at .ensures .0), c .ends-at .ensures .1)
+returns c = (
+  across-still (c .before .before .before .args .e) _ _ _ (c .before .before .less .ensures) _
+      (c .before .if1 .taken) _ (c .ends-at .ensures .0),
+  c .ends-at .ensures .1,
+)
 
 ends-at-requires-2 : tie.Need-ends-at-requires-2
 ends-at-requires-2 c κs = search needs
 
 returns-2 : tie.Need-returns-2
-returns-2 c = (across-moved (c .before .before .before .args .e) _ _ _ (c .before .before .less .ensures) _ (c .before .if1 .left) _ (c .ends-at2 .ensures .0), c .ends-at2 .ensures .1)
+returns-2 c = (
+  across-moved (c .before .before .before .args .e) _ _ _ (c .before .before .less .ensures) _
+      (c .before .if1 .left) _ (c .ends-at2 .ensures .0),
+  c .ends-at2 .ensures .1,
+)
 
 pub across-ends-spec : {M : Type 1} → statement M
 across-ends-spec =

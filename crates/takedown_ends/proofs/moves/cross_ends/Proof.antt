@@ -40,8 +40,21 @@ add-t11 c = search needs
 returns : tie.Need-returns
 returns c =
     let w = c .before .before .before .before .before .before .before .pre .1 in (
-      cross-ends-are (c .before .before .before .before .before .before .before .args .sh) _ (c .before .before .before .before .before .before .before .args .e) _ _ _ _ _ _ (c .before .before .before .before .mate-of .ensures .0) (c .before .before .before .prev-of .ensures .0) (c .before .before .prev-of2 .ensures .0) (c .before .next-of .ensures .0) (c .least-run .ensures),
-      record { solid = w .solid; root = w .root; spur = omega arith; tip = c .before .before .before .prev-of .ensures .1; tip2 = c .before .before .prev-of2 .ensures .1; tip3 = c .before .before .before .prev-of .ensures .1; tip4 = c .before .before .prev-of2 .ensures .1 },
+      cross-ends-are (c .before .before .before .before .before .before .before .args .sh) _
+          (c .before .before .before .before .before .before .before .args .e) _ _ _ _ _ _
+          (c .before .before .before .before .mate-of .ensures .0) (c .before .before .before .prev-of .ensures .0)
+          (c .before .before .prev-of2 .ensures .0) (c .before .next-of .ensures .0) (c .least-run .ensures),
+      record {
+        solid = w .solid;
+        root = w .root;
+        spur = omega arith;
+        tip =
+            c .before .before .before .prev-of .ensures .1;
+        tip2 = c .before .before .prev-of2 .ensures .1;
+        tip3 =
+            c .before .before .before .prev-of .ensures .1;
+        tip4 = c .before .before .prev-of2 .ensures .1;
+      },
     )
 
 pub cross-ends-spec : {M : Type 1} → statement M

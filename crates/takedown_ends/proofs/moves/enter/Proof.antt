@@ -25,7 +25,11 @@ ends-at-requires c κs = search needs
 
 returns : tie.Need-returns
 unfolding passing lastOf
-returns c = (entered-is _ _ _ _ _ _ _ (c .before .before .before .seek .ensures .0) (c .before .before .face-in .ensures .0) (c .before .faces-in .ensures .0) (c .ends-at .ensures .0), c .ends-at .ensures .1)
+returns c = (
+  entered-is _ _ _ _ _ _ _ (c .before .before .before .seek .ensures .0) (c .before .before .face-in .ensures .0)
+      (c .before .faces-in .ensures .0) (c .ends-at .ensures .0),
+  c .ends-at .ensures .1,
+)
 
 pub enter-spec : {M : Type 1} → statement M
 enter-spec =

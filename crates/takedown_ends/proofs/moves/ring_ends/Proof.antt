@@ -47,9 +47,27 @@ choose-requires-4 c κs = search needs
 
 returns : tie.Need-returns
 returns c =
-    let w = c .before .before .before .before .before .before .before .before .before .before .before .before .pre .1 in (
-      ring-ends-are (c .before .before .before .before .before .before .before .before .before .before .before .before .args .sh) _ (c .before .before .before .before .before .before .before .before .before .before .before .before .args .e) _ _ _ _ _ _ _ _ _ _ (c .before .before .before .before .before .before .before .before .prev-of .ensures .0) (c .before .before .before .before .before .before .before .mate-of .ensures .0) (c .before .before .before .before .before .before .prev-of2 .ensures .0) (c .before .before .before .before .before .lesser .ensures .0) (c .before .before .before .before .lesser2 .ensures .0) (c .before .before .before .choose .ensures .0) (c .before .before .choose2 .ensures .0) (c .before .choose3 .ensures .0) (c .choose4 .ensures .0),
-      record { solid = w .solid; root = w .root; spur = c .before .before .choose2 .ensures .1; tip = w .tip; tip2 = w .tip2; tip3 = c .before .choose3 .ensures .1; tip4 = c .choose4 .ensures .1 },
+    let first = c .before .before .before .before .before .before .before .before .before .before .before .before in
+    let w = first .pre .1 in (
+      ring-ends-are
+          (c .before .before .before .before .before .before .before .before .before .before .before .before .args .sh)
+          _ (c .before .before .before .before .before .before .before .before .before .before .before .before .args .e)
+          _ _ _ _ _ _ _ _ _ _ (c .before .before .before .before .before .before .before .before .prev-of .ensures .0)
+          (c .before .before .before .before .before .before .before .mate-of .ensures .0)
+          (c .before .before .before .before .before .before .prev-of2 .ensures .0)
+          (c .before .before .before .before .before .lesser .ensures .0)
+          (c .before .before .before .before .lesser2 .ensures .0) (c .before .before .before .choose .ensures .0)
+          (c .before .before .choose2 .ensures .0) (c .before .choose3 .ensures .0) (c .choose4 .ensures .0),
+      record {
+        solid = w .solid;
+        root = w .root;
+        spur = c .before .before .choose2 .ensures .1;
+        tip = w .tip;
+        tip2 =
+            w .tip2;
+        tip3 = c .before .choose3 .ensures .1;
+        tip4 = c .choose4 .ensures .1;
+      },
     )
 
 pub ring-ends-spec : {M : Type 1} → statement M

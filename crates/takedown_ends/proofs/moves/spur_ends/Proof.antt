@@ -35,8 +35,25 @@ choose-requires-3 c κs = search needs
 returns : tie.Need-returns
 returns c =
     let w = c .before .before .before .before .before .before .before .before .before .before .pre .1 in (
-      spur-ends-are (c .before .before .before .before .before .before .before .before .before .before .args .sh) _ (c .before .before .before .before .before .before .before .before .before .before .args .e) _ _ _ _ _ _ (c .before .before .before .before .before .before .before .prev-of .ensures .0) (c .before .before .before .before .before .before .greater .ensures .0) (c .before .before .before .before .choose .ensures .0) (c .before .before .choose2 .ensures .0) (c .choose3 .ensures .0),
-      record { solid = w .solid; root = w .root; spur = c .before .before .before .before .before .before .greater .ensures .1; tip = c .before .before .before .before .before .before .before .prev-of .ensures .1; tip2 = c .before .before .before .before .choose .ensures .1; tip3 = c .before .before .choose2 .ensures .1; tip4 = c .choose3 .ensures .1 },
+      spur-ends-are (c .before .before .before .before .before .before .before .before .before .before .args .sh) _
+          (c .before .before .before .before .before .before .before .before .before .before .args .e) _ _ _ _ _ _
+          (c .before .before .before .before .before .before .before .prev-of .ensures .0)
+          (c .before .before .before .before .before .before .greater .ensures .0)
+          (c .before .before .before .before .choose .ensures .0) (c .before .before .choose2 .ensures .0)
+          (c .choose3 .ensures .0),
+      record {
+        solid = w .solid;
+        root = w .root;
+        spur =
+            c .before .before .before .before .before .before .greater .ensures .1;
+        tip =
+            c .before .before .before .before .before .before .before .prev-of .ensures .1;
+        tip2 =
+            c .before .before .before .before .choose .ensures .1;
+        tip3 = c .before .before .choose2 .ensures .1;
+        tip4 =
+            c .choose3 .ensures .1;
+      },
     )
 
 pub spur-ends-spec : {M : Type 1} → statement M

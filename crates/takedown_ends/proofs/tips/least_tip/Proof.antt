@@ -29,7 +29,17 @@ with-tip-requires-4 : tie.Need-with-tip-requires-4
 with-tip-requires-4 c κs = search needs
 
 returns : tie.Need-returns
-returns c = (tips-tried _ _ _ _ _ _ _ (c .before .before .before .with-tip .ensures .0) (c .before .before .with-tip2 .ensures .0) (c .before .with-tip3 .ensures .0) (c .with-tip4 .ensures .0), omega (arith, c .before .before .before .with-tip .ensures .1, c .before .before .with-tip2 .ensures .1, c .before .with-tip3 .ensures .1, c .with-tip4 .ensures .1))
+returns c = (
+  tips-tried _ _ _ _ _ _ _ (c .before .before .before .with-tip .ensures .0)
+      (c .before .before .with-tip2 .ensures .0) (c .before .with-tip3 .ensures .0) (c .with-tip4 .ensures .0),
+  omega (
+    arith,
+    c .before .before .before .with-tip .ensures .1,
+    c .before .before .with-tip2 .ensures .1,
+    c .before .with-tip3 .ensures .1,
+    c .with-tip4 .ensures .1,
+  ),
+)
 
 pub least-tip-spec : {M : Type 1} → statement M
 least-tip-spec =

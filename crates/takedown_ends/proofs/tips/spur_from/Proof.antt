@@ -26,10 +26,16 @@ seek-requires c κs = search needs
 
 returns : tie.Need-returns
 unfolding passing lastOf
-returns c = (spur-sought _ _ _ _ (c .before .before .least-tip .ensures .0) (c .before .if1 .taken) _ (c .seek .ensures .0), omega (arith, c .seek .ensures .1))
+returns c = (
+  spur-sought _ _ _ _ (c .before .before .least-tip .ensures .0) (c .before .if1 .taken) _ (c .seek .ensures .0),
+  omega (arith, c .seek .ensures .1),
+)
 
 returns-2 : tie.Need-returns-2
-returns-2 c = (spur-tip _ _ _ _ (c .before .least-tip .ensures .0) (c .if1 .left), omega (arith, c .before .least-tip .ensures .1))
+returns-2 c = (
+  spur-tip _ _ _ _ (c .before .least-tip .ensures .0) (c .if1 .left),
+  omega (arith, c .before .least-tip .ensures .1),
+)
 
 pub spur-from-spec : {M : Type 1} → statement M
 spur-from-spec =

@@ -15,7 +15,11 @@ lesser-requires : tie.Need-lesser-requires
 lesser-requires c κs = search needs
 
 returns : tie.Need-returns
-returns c = (tip-taken _ _ _ _ _ _ (c .before .before .before .is-spur .ensures) (c .before .if1 .taken) _ (c .lesser .ensures .0), c .lesser .ensures .2)
+returns c = (
+  tip-taken _ _ _ _ _ _ (c .before .before .before .is-spur .ensures) (c .before .if1 .taken) _
+      (c .lesser .ensures .0),
+  c .lesser .ensures .2,
+)
 
 returns-2 : tie.Need-returns-2
 returns-2 c = (tip-left _ _ _ _ _ _ (c .before .before .is-spur .ensures) (c .if1 .left), omega arith)

@@ -13,7 +13,8 @@ use Rattle.layout.proofs.mates.mate_of.Reads as mate-of-reads
 use Rattle.takedown_ends.proofs.numbers.lesser.Reads as lesser-reads
 
 abbrev Inv-loop : tie.InvT-loop
-Inv-loop links sh fuel from stop best j₀ least₀ left₀ j least left = (j < 65536) × (leastMate sh left links j stop least ≡ leastMate sh fuel links from stop best)
+Inv-loop links sh fuel from stop best j₀ least₀ left₀ j least left = (j < 65536)
+    × (leastMate sh left links j stop least ≡ leastMate sh fuel links from stop best)
 
 abbrev μ-loop : tie.MeasureT-loop
 μ-loop links sh fuel from stop best j₀ least₀ left₀ j least left = left
@@ -40,7 +41,13 @@ loop-less : tie.Need-loop-less Inv-loop μ-loop
 loop-less c = search needs
 
 loop-again : tie.Need-loop-again Inv-loop μ-loop
-loop-again c = (c .next-of .ensures .1, mate-turn _ _ _ _ _ _ _ (c .before .before .before .before .before .loop .inv .1) (omega arith) (c .before .before .before .if1 .left) _ (c .before .before .mate-of .ensures .0) _ (c .before .lesser .ensures .0) _ (c .next-of .ensures .0))
+loop-again c = (
+  c .next-of .ensures .1,
+  mate-turn _ _ _ _ _ _ _ (c .before .before .before .before .before .loop .inv .1) (omega arith)
+      (c .before .before .before .if1 .left) _ (c .before .before .mate-of .ensures .0) _
+      (c .before .lesser .ensures .0)
+      _ (c .next-of .ensures .0),
+)
 
 returns-2 : tie.Need-returns-2 Inv-loop μ-loop
 returns-2 c = mate-out _ _ _ _ _ _ _ (c .before .loop .inv .1) (omega arith)

@@ -28,7 +28,15 @@ with-number-requires-6 : tie.Need-with-number-requires-6
 with-number-requires-6 c κs = search needs
 
 returns : tie.Need-returns
-returns c = rw (c .with-number6 .ensures, c .before .with-number5 .ensures, c .before .before .with-number4 .ensures, c .before .before .before .with-number3 .ensures, c .before .before .before .before .with-number2 .ensures, c .before .before .before .before .before .with-number .ensures, c .before .before .before .before .before .before .blank .ensures)
+returns c = rw (
+  c .with-number6 .ensures,
+  c .before .with-number5 .ensures,
+  c .before .before .with-number4 .ensures,
+  c .before .before .before .with-number3 .ensures,
+  c .before .before .before .before .with-number2 .ensures,
+  c .before .before .before .before .before .with-number .ensures,
+  c .before .before .before .before .before .before .blank .ensures,
+)
 
 pub mekr-spec : {M : Type 1} → statement M
 mekr-spec =

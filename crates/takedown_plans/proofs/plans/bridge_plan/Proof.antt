@@ -33,7 +33,14 @@ bare-ends-requires : tie.Need-bare-ends-requires
 bare-ends-requires c κs = search needs
 
 returns : tie.Need-returns
-returns c = (λ w. bridge-planned (c .before .before .before .before .before .before .before .args .sh) _ (c .before .before .before .before .before .before .before .args .e) _ _ _ _ w _ _ _ (c .before .before .before .before .before .face-outer .ensures .0) (c .before .before .before .before .free-edge .ensures .0) (c .before .before .before .mekr .ensures) (c .before .before .less .ensures) (c .before .kev .ensures) (c .bare-ends .ensures .0), c .bare-ends .ensures .1)
+returns c = (
+  λ w. bridge-planned (c .before .before .before .before .before .before .before .args .sh) _
+      (c .before .before .before .before .before .before .before .args .e) _ _ _ _ w _ _ _
+      (c .before .before .before .before .before .face-outer .ensures .0)
+      (c .before .before .before .before .free-edge .ensures .0) (c .before .before .before .mekr .ensures)
+      (c .before .before .less .ensures) (c .before .kev .ensures) (c .bare-ends .ensures .0),
+  c .bare-ends .ensures .1,
+)
 
 pub bridge-plan-spec : {M : Type 1} → statement M
 bridge-plan-spec =

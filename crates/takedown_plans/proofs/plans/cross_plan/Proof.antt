@@ -21,7 +21,12 @@ cross-ends-requires : tie.Need-cross-ends-requires
 cross-ends-requires c κs = search needs
 
 returns : tie.Need-returns
-returns c = (λ w. cross-planned (c .before .before .before .before .before .args .sh) _ (c .before .before .before .before .before .args .e) _ _ _ (c .before .kemr2 .result) w _ (c .before .before .before .free-loop .ensures .0) (c .before .before .kemr .ensures) (c .cross-ends .ensures .0), c .cross-ends .ensures .1)
+returns c = (
+  λ w. cross-planned (c .before .before .before .before .before .args .sh) _
+      (c .before .before .before .before .before .args .e) _ _ _ (c .before .kemr2 .result) w _
+      (c .before .before .before .free-loop .ensures .0) (c .before .before .kemr .ensures) (c .cross-ends .ensures .0),
+  c .cross-ends .ensures .1,
+)
 
 pub cross-plan-spec : {M : Type 1} → statement M
 cross-plan-spec =

@@ -23,7 +23,12 @@ ring-plan-requires c κs = search needs
 
 returns : tie.Need-returns
 unfolding passing lastOf
-returns c = (λ w. edges-ring (c .before .before .before .before .before .args .sh) _ (c .before .before .before .before .before .args .e) _ _ _ (c .before .before .before .with-half .ensures .0) (c .before .before .seek .ensures .0) w _ (c .before .if1 .taken) (c .ring-plan .ensures .0 w), c .ring-plan .ensures .1)
+returns c = (
+  λ w. edges-ring (c .before .before .before .before .before .args .sh) _
+      (c .before .before .before .before .before .args .e) _ _ _ (c .before .before .before .with-half .ensures .0)
+      (c .before .before .seek .ensures .0) w _ (c .before .if1 .taken) (c .ring-plan .ensures .0 w),
+  c .ring-plan .ensures .1,
+)
 
 spur-from-requires : tie.Need-spur-from-requires
 spur-from-requires c κs = search needs
@@ -33,7 +38,14 @@ spur-plan-requires c κs = search needs
 
 returns-2 : tie.Need-returns-2
 unfolding passing lastOf
-returns-2 c = (λ w. edges-spur (c .before .before .before .before .before .before .before .args .sh) _ (c .before .before .before .before .before .before .before .args .e) _ _ _ (c .before .before .before .before .before .with-half .ensures .0) (c .before .before .before .before .seek .ensures .0) w _ (c .before .before .before .if1 .left) _ (c .before .before .spur-from .ensures .0) (c .before .if2 .taken) (c .spur-plan .ensures .0 w), c .spur-plan .ensures .1)
+returns-2 c = (
+  λ w. edges-spur (c .before .before .before .before .before .before .before .args .sh) _
+      (c .before .before .before .before .before .before .before .args .e) _ _ _
+      (c .before .before .before .before .before .with-half .ensures .0)
+      (c .before .before .before .before .seek .ensures .0) w _ (c .before .before .before .if1 .left) _
+      (c .before .before .spur-from .ensures .0) (c .before .if2 .taken) (c .spur-plan .ensures .0 w),
+  c .spur-plan .ensures .1,
+)
 
 seek-requires-2 : tie.Need-seek-requires-2
 seek-requires-2 c κs = search needs
@@ -43,7 +55,15 @@ cross-plan-requires c κs = search needs
 
 returns-3 : tie.Need-returns-3
 unfolding passing lastOf
-returns-3 c = (λ w. edges-crossed (c .before .before .before .before .before .before .before .before .args .sh) _ (c .before .before .before .before .before .before .before .before .args .e) _ _ _ (c .before .before .before .before .before .before .with-half .ensures .0) (c .before .before .before .before .before .seek .ensures .0) w _ (c .before .before .before .before .if1 .left) _ (c .before .before .before .spur-from .ensures .0) (c .before .before .if2 .left) _ (c .before .seek2 .ensures .0) (c .cross-plan .ensures .0 w), c .cross-plan .ensures .1)
+returns-3 c = (
+  λ w. edges-crossed (c .before .before .before .before .before .before .before .before .args .sh) _
+      (c .before .before .before .before .before .before .before .before .args .e) _ _ _
+      (c .before .before .before .before .before .before .with-half .ensures .0)
+      (c .before .before .before .before .before .seek .ensures .0) w _ (c .before .before .before .before .if1 .left) _
+      (c .before .before .before .spur-from .ensures .0) (c .before .before .if2 .left) _ (c .before .seek2 .ensures .0)
+      (c .cross-plan .ensures .0 w),
+  c .cross-plan .ensures .1,
+)
 
 pub edges-plan-spec : {M : Type 1} → statement M
 edges-plan-spec =

@@ -26,7 +26,13 @@ ring-ends-requires : tie.Need-ring-ends-requires
 ring-ends-requires c κs = search needs
 
 returns : tie.Need-returns
-returns c = (λ w. ring-planned (c .before .before .before .before .before .before .args .sh) _ (c .before .before .before .before .before .before .args .e) _ _ _ _ w _ _ (c .before .before .before .before .loop-of .ensures .0) (c .before .before .before .free-face .ensures .0) (c .before .before .mfkrh .ensures) (c .before .kef .ensures) (c .ring-ends .ensures .0), c .ring-ends .ensures .1)
+returns c = (
+  λ w. ring-planned (c .before .before .before .before .before .before .args .sh) _
+      (c .before .before .before .before .before .before .args .e) _ _ _ _ w _ _
+      (c .before .before .before .before .loop-of .ensures .0) (c .before .before .before .free-face .ensures .0)
+      (c .before .before .mfkrh .ensures) (c .before .kef .ensures) (c .ring-ends .ensures .0),
+  c .ring-ends .ensures .1,
+)
 
 pub ring-plan-spec : {M : Type 1} → statement M
 ring-plan-spec =

@@ -17,7 +17,11 @@ spur-ends-requires : tie.Need-spur-ends-requires
 spur-ends-requires c κs = search needs
 
 returns : tie.Need-returns
-returns c = (λ w. spur-planned (c .before .before .before .before .args .sh) _ (c .before .before .before .before .args .e) _ _ _ (c .before .kev2 .result) w (c .before .before .kev .ensures) (c .spur-ends .ensures .0), c .spur-ends .ensures .1)
+returns c = (
+  λ w. spur-planned (c .before .before .before .before .args .sh) _ (c .before .before .before .before .args .e) _ _
+      _ (c .before .kev2 .result) w (c .before .before .kev .ensures) (c .spur-ends .ensures .0),
+  c .spur-ends .ensures .1,
+)
 
 pub spur-plan-spec : {M : Type 1} → statement M
 spur-plan-spec = tie.close (tie.spec kev-requires kev-requires-2 spur-ends-requires returns)

@@ -14,7 +14,9 @@ use Rattle.takedown_search.proofs.free.free_edge.Lts as lts
 use Rattle.layout.proofs.columns.start_of.Reads as start-of-reads
 
 abbrev Inv-loop : tie.InvT-loop
-Inv-loop links sh n e₀ e = (1 ≤ e) × (e ≤ n + 1) × (leastFrom (n + 1 - e) e (λ i. eqb (startOf sh links (2 * i)) 0) ≡ least n (λ i. eqb (startOf sh links (2 * i)) 0))
+Inv-loop links sh n e₀ e = (1 ≤ e) × (e ≤ n + 1)
+    × (leastFrom (n + 1 - e) e (λ i. eqb (startOf sh links (2 * i)) 0)
+    ≡ least n (λ i. eqb (startOf sh links (2 * i)) 0))
 
 abbrev μ-loop : tie.MeasureT-loop
 μ-loop links sh n e₀ e = n + 1 - e
@@ -32,7 +34,11 @@ start-of-requires : tie.Need-start-of-requires Inv-loop μ-loop
 start-of-requires c κs = search needs
 
 returns : tie.Need-returns Inv-loop μ-loop
-returns c = (found-here _ _ _ _ (c .before .before .before .loop .inv .2) (omega arith) (ap (λ u. eqb u 0) (sym (c .before .start-of .ensures .0)) ∙ c .if1 .taken), omega arith)
+returns c = (
+  found-here _ _ _ _ (c .before .before .before .loop .inv .2) (omega arith) (ap (λ u. eqb u 0) (sym
+      (c .before .start-of .ensures .0)) ∙ c .if1 .taken),
+  omega arith,
+)
 
 add-e : tie.Need-add-e Inv-loop μ-loop
 add-e c = search needs
@@ -41,7 +47,12 @@ loop-less : tie.Need-loop-less Inv-loop μ-loop
 loop-less c = search needs
 
 loop-again : tie.Need-loop-again Inv-loop μ-loop
-loop-again c = (omega arith, omega arith, found-on _ _ _ _ (c .before .before .before .loop .inv .2) (omega arith) (ap (λ u. eqb u 0) (sym (c .before .start-of .ensures .0)) ∙ c .if1 .left))
+loop-again c = (
+  omega arith,
+  omega arith,
+  found-on _ _ _ _ (c .before .before .before .loop .inv .2) (omega arith)
+      (ap (λ u. eqb u 0) (sym (c .before .start-of .ensures .0)) ∙ c .if1 .left),
+)
 
 returns-2 : tie.Need-returns-2 Inv-loop μ-loop
 returns-2 c = (found-none _ _ _ _ (c .before .loop .inv .2) (omega arith), omega arith)

@@ -13,11 +13,13 @@ solids-of-faces-requires : tie.Need-solids-of-faces-requires
 solids-of-faces-requires c κs = search needs
 
 least-naming-one-requires : tie.Need-least-naming-one-requires
-least-naming-one-requires c κs = column-short (c .before .before .args .sh) Solid (c .solids-of-faces .ensures) (omega (arith, c .before .before .pre .faces))
+least-naming-one-requires c κs = column-short (c .before .before .args .sh) Solid (c .solids-of-faces .ensures)
+    (omega (arith, c .before .before .pre .faces))
 
 returns : tie.Need-returns
 returns c = (
-  least-by (c .before .before .before .args .sh) Solid (c .before .solids-of-faces .ensures) _ _ _ (c .least-naming-one .ensures .0),
+  least-by (c .before .before .before .args .sh) Solid (c .before .solids-of-faces .ensures) _ _ _
+      (c .least-naming-one .ensures .0),
   c .least-naming-one .ensures .1,
 )
 

@@ -13,11 +13,13 @@ faces-of-loops-requires : tie.Need-faces-of-loops-requires
 faces-of-loops-requires c κs = search needs
 
 least-naming-one-requires : tie.Need-least-naming-one-requires
-least-naming-one-requires c κs = column-short (c .before .before .args .sh) Face (c .faces-of-loops .ensures) (omega (arith, c .before .before .pre .loops))
+least-naming-one-requires c κs = column-short (c .before .before .args .sh) Face (c .faces-of-loops .ensures)
+    (omega (arith, c .before .before .pre .loops))
 
 returns : tie.Need-returns
 returns c = (
-  least-by (c .before .before .before .args .sh) Face (c .before .faces-of-loops .ensures) _ _ _ (c .least-naming-one .ensures .0),
+  least-by (c .before .before .before .args .sh) Face (c .before .faces-of-loops .ensures) _ _ _
+      (c .least-naming-one .ensures .0),
   c .least-naming-one .ensures .1,
 )
 

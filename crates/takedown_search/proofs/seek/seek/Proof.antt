@@ -14,7 +14,9 @@ use Rattle.takedown_search.proofs.seek.last_of.Reads as last-of-reads
 use Rattle.takedown_search.proofs.seek.passes.Reads as passes-reads
 
 abbrev Inv-loop : tie.InvT-loop
-Inv-loop links sh what s root low n k₀ k = (n ≤ 8192) × (leastFrom (n + 1 - k) k (passing what sh links s root) ≡ swift.seek (lastOf what sh) low (passing what sh links s root))
+Inv-loop links sh what s root low n k₀ k = (n ≤ 8192)
+    × (leastFrom (n + 1 - k) k (passing what sh links s root)
+    ≡ swift.seek (lastOf what sh) low (passing what sh links s root))
 
 abbrev μ-loop : tie.MeasureT-loop
 μ-loop links sh what s root low n k₀ k = n + 1 - k
@@ -29,7 +31,11 @@ passes-requires : tie.Need-passes-requires Inv-loop μ-loop
 passes-requires c κs = search needs
 
 returns : tie.Need-returns Inv-loop μ-loop
-returns c = (found-here _ _ _ _ (c .before .before .before .loop .inv .1) (omega arith) (sym (c .before .passes .ensures) ∙ c .if1 .taken), omega arith)
+returns c = (
+  found-here _ _ _ _ (c .before .before .before .loop .inv .1) (omega arith) (sym (c .before .passes .ensures)
+      ∙ c .if1 .taken),
+  omega arith,
+)
 
 add-k : tie.Need-add-k Inv-loop μ-loop
 add-k c = search needs
@@ -38,7 +44,11 @@ loop-less : tie.Need-loop-less Inv-loop μ-loop
 loop-less c = search needs
 
 loop-again : tie.Need-loop-again Inv-loop μ-loop
-loop-again c = (omega arith, found-on _ _ _ _ (c .before .before .before .loop .inv .1) (omega arith) (sym (c .before .passes .ensures) ∙ c .if1 .left))
+loop-again c = (
+  omega arith,
+  found-on _ _ _ _ (c .before .before .before .loop .inv .1) (omega arith) (sym (c .before .passes .ensures)
+      ∙ c .if1 .left),
+)
 
 returns-2 : tie.Need-returns-2 Inv-loop μ-loop
 returns-2 c = (found-none _ _ _ _ (c .before .loop .inv .1) (omega arith), omega arith)

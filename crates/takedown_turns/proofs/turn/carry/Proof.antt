@@ -24,7 +24,20 @@ same-length-3 : tie.Need-same-length-3
 same-length-3 c = search needs
 
 returns : tie.Need-returns
-returns c = (carried-two _ _ _ _ (c .before .before .before .before .before .before .before .before .before .before .before .before .before .before .before .act .ensures .0) (c .before .before .before .before .before .before .before .before .before .if1 .taken) _ (c .before .before .before .before .before .act2 .ensures .0), omega (arith, c .before .before .before .before .before .before .before .before .before .before .before .before .before .before .before .act .ensures .1, c .before .before .before .before .before .act2 .ensures .1), refl)
+returns c = (
+  carried-two _ _ _ _
+      (c .before .before .before .before .before .before .before .before .before .before .before .before .before .before
+      .before .act .ensures .0) (c .before .before .before .before .before .before .before .before .before .if1 .taken)
+      _
+      (c .before .before .before .before .before .act2 .ensures .0),
+  omega (
+    arith,
+    c .before .before .before .before .before .before .before .before .before .before .before .before .before .before
+        .before .act .ensures .1,
+    c .before .before .before .before .before .act2 .ensures .1,
+  ),
+  refl,
+)
 
 same-length-4 : tie.Need-same-length-4
 same-length-4 c = search needs
@@ -36,7 +49,11 @@ same-length-6 : tie.Need-same-length-6
 same-length-6 c = search needs
 
 returns-2 : tie.Need-returns-2
-returns-2 c = (carried-one _ _ _ _ (c .before .before .before .before .before .before .act .ensures .0) (c .if1 .left), omega (arith, c .before .before .before .before .before .before .act .ensures .1), refl)
+returns-2 c = (
+  carried-one _ _ _ _ (c .before .before .before .before .before .before .act .ensures .0) (c .if1 .left),
+  omega (arith, c .before .before .before .before .before .before .act .ensures .1),
+  refl,
+)
 
 pub carry-spec : {M : Type 1} → statement M
 carry-spec =

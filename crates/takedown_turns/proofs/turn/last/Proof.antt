@@ -28,7 +28,12 @@ same-length-3 : tie.Need-same-length-3
 same-length-3 c = search needs
 
 returns : tie.Need-returns
-returns c = (last-is _ _ _ _ _ _ (c .before .before .before .before .before .before .before .before .kvsf .ensures) (c .before .before .before .before .before .before .before .act .ensures .0) (c .enter .ensures .0), omega (arith, c .before .before .before .before .before .before .before .act .ensures .1), c .enter .ensures .1)
+returns c = (
+  last-is _ _ _ _ _ _ (c .before .before .before .before .before .before .before .before .kvsf .ensures)
+      (c .before .before .before .before .before .before .before .act .ensures .0) (c .enter .ensures .0),
+  omega (arith, c .before .before .before .before .before .before .before .act .ensures .1),
+  c .enter .ensures .1,
+)
 
 pub last-spec : {M : Type 1} → statement M
 last-spec =

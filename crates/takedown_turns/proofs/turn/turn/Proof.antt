@@ -29,7 +29,12 @@ same-length-3 c = search needs
 
 returns : tie.Need-returns
 unfolding passing lastOf
-returns c = (turn-across _ _ _ _ _ (c .before .before .before .before .before .before .before .before .before .if1 .taken) (c .before .before .before .before .before .across .ensures .0), omega (arith, c .before .before .before .before .before .across .ensures .1), c .before .before .before .before .before .across .ensures .2)
+returns c = (
+  turn-across _ _ _ _ _ (c .before .before .before .before .before .before .before .before .before .if1 .taken)
+      (c .before .before .before .before .before .across .ensures .0),
+  omega (arith, c .before .before .before .before .before .across .ensures .1),
+  c .before .before .before .before .before .across .ensures .2,
+)
 
 seek-requires : tie.Need-seek-requires
 seek-requires c κs = search needs
@@ -52,9 +57,22 @@ same-length-6 c = search needs
 returns-2 : tie.Need-returns-2
 unfolding passing lastOf
 returns-2 c = (
-  turn-edges (c .before .before .before .before .before .before .before .before .before .before .before .before .before .before .before .before .before .before .args .sh) (c .before .before .before .before .before .before .before .before .before .before .before .before .before .before .before .before .before .before .args .e) _ _ _ (c .before .before .before .before .before .before .before .before .before .before .before .before .before .before .if1 .left) _ (c .before .before .before .before .before .before .before .before .before .before .before .before .seek .ensures .0) (c .before .before .before .before .before .before .before .before .before .before .before .if2 .taken) (c .before .before .before .before .before .carry .ensures .0 ∙ c .before .before .before .before .before .before .before .before .before .edges-plan .ensures .0 _),
+  turn-edges
+      (c .before .before .before .before .before .before .before .before .before .before .before .before .before .before
+      .before .before .before .before .args .sh)
+      (c .before .before .before .before .before .before .before .before .before .before .before .before .before .before
+      .before .before .before .before .args .e) _ _ _
+      (c .before .before .before .before .before .before .before .before .before .before .before .before .before
+      .before .if1 .left) _
+      (c .before .before .before .before .before .before .before .before .before .before .before
+      .before .seek .ensures .0)
+      (c .before .before .before .before .before .before .before .before .before .before .before .if2 .taken)
+      (c .before .before .before .before .before .carry .ensures .0
+      ∙ c .before .before .before .before .before .before .before .before .before .edges-plan .ensures .0 _),
   omega (arith, c .before .before .before .before .before .carry .ensures .1),
-  subst InWords (sym (c .before .before .before .before .before .carry .ensures .2)) (c .before .before .before .before .before .before .before .before .before .edges-plan .ensures .1),
+  subst InWords (sym
+      (c .before .before .before .before .before .carry .ensures .2))
+      (c .before .before .before .before .before .before .before .before .before .edges-plan .ensures .1),
 )
 
 seek-requires-2 : tie.Need-seek-requires-2
@@ -78,9 +96,26 @@ same-length-9 c = search needs
 returns-3 : tie.Need-returns-3
 unfolding passing lastOf
 returns-3 c = (
-  turn-bridge (c .before .before .before .before .before .before .before .before .before .before .before .before .before .before .before .before .before .before .before .before .before .args .sh) (c .before .before .before .before .before .before .before .before .before .before .before .before .before .before .before .before .before .before .before .before .before .args .e) _ _ _ (c .before .before .before .before .before .before .before .before .before .before .before .before .before .before .before .before .before .if1 .left) _ (c .before .before .before .before .before .before .before .before .before .before .before .before .before .before .before .seek .ensures .0) (c .before .before .before .before .before .before .before .before .before .before .before .before .before .before .if2 .left) _ (c .before .before .before .before .before .before .before .before .before .before .before .before .seek2 .ensures .0) (c .before .before .before .before .before .before .before .before .before .before .before .if3 .taken) (c .before .before .before .before .before .carry2 .ensures .0 ∙ c .before .before .before .before .before .before .before .before .before .bridge-plan .ensures .0 _),
+  turn-bridge
+      (c .before .before .before .before .before .before .before .before .before .before .before .before .before .before
+      .before .before .before .before .before .before .before .args .sh)
+      (c .before .before .before .before .before .before .before .before .before .before .before .before .before .before
+      .before .before .before .before .before .before .before .args .e) _ _ _
+      (c .before .before .before .before .before .before .before .before .before .before .before .before .before .before
+      .before .before .before .if1 .left) _
+      (c .before .before .before .before .before .before .before .before .before .before .before .before .before .before
+      .before .seek .ensures .0)
+      (c .before .before .before .before .before .before .before .before .before .before .before .before .before
+      .before .if2 .left) _
+      (c .before .before .before .before .before .before .before .before .before .before .before
+      .before .seek2 .ensures .0)
+      (c .before .before .before .before .before .before .before .before .before .before .before .if3 .taken)
+      (c .before .before .before .before .before .carry2 .ensures .0
+      ∙ c .before .before .before .before .before .before .before .before .before .bridge-plan .ensures .0 _),
   omega (arith, c .before .before .before .before .before .carry2 .ensures .1),
-  subst InWords (sym (c .before .before .before .before .before .carry2 .ensures .2)) (c .before .before .before .before .before .before .before .before .before .bridge-plan .ensures .1),
+  subst InWords (sym
+      (c .before .before .before .before .before .carry2 .ensures .2))
+      (c .before .before .before .before .before .before .before .before .before .bridge-plan .ensures .1),
 )
 
 last-requires : tie.Need-last-requires
@@ -98,7 +133,19 @@ same-length-12 c = search needs
 returns-4 : tie.Need-returns-4
 unfolding passing lastOf
 returns-4 c = (
-  turn-last (c .before .before .before .before .before .before .before .before .before .before .before .before .before .before .before .before .before .before .before .args .sh) (c .before .before .before .before .before .before .before .before .before .before .before .before .before .before .before .before .before .before .before .args .e) _ _ _ (c .before .before .before .before .before .before .before .before .before .before .before .before .before .before .before .if1 .left) _ (c .before .before .before .before .before .before .before .before .before .before .before .before .before .seek .ensures .0) (c .before .before .before .before .before .before .before .before .before .before .before .before .if2 .left) _ (c .before .before .before .before .before .before .before .before .before .before .seek2 .ensures .0) (c .before .before .before .before .before .before .before .before .before .if3 .left) (c .before .before .before .before .before .last .ensures .0),
+  turn-last
+      (c .before .before .before .before .before .before .before .before .before .before .before .before .before .before
+      .before .before .before .before .before .args .sh)
+      (c .before .before .before .before .before .before .before .before .before .before .before .before .before .before
+      .before .before .before .before .before .args .e) _ _ _
+      (c .before .before .before .before .before .before .before .before .before .before .before .before .before .before
+      .before .if1 .left) _
+      (c .before .before .before .before .before .before .before .before .before .before .before .before
+      .before .seek .ensures .0)
+      (c .before .before .before .before .before .before .before .before .before .before .before .before .if2 .left) _
+      (c .before .before .before .before .before .before .before .before .before .before .seek2 .ensures .0)
+      (c .before .before .before .before .before .before .before .before .before .if3 .left)
+      (c .before .before .before .before .before .last .ensures .0),
   omega (arith, c .before .before .before .before .before .last .ensures .1),
   c .before .before .before .before .before .last .ensures .2,
 )

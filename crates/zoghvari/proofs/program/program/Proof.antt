@@ -8,7 +8,8 @@ too-long-requires : tie.Need-too-long-requires
 too-long-requires c κs = search needs
 
 returns : tie.Need-returns
-returns c = rw (program-long _ _ (c .before .before .before .good .0 .1 .0 .1) (c .before .before .if1 .taken)) (c .too-long .ensures, omega arith)
+returns c = rw (program-long _ _ (c .before .before .before .good .0 .1 .0 .1) (c .before .before .if1 .taken))
+    (c .too-long .ensures, omega arith)
 
 array-share-prefix-input : tie.Need-array-share-prefix-input
 array-share-prefix-input c = search needs
@@ -20,7 +21,8 @@ report-run-requires : tie.Need-report-run-requires
 report-run-requires c κs = search needs
 
 returns-2 : tie.Need-returns-2
-returns-2 c = rw (program-runs (c .before .before .before .before .args .t1) _ (c .before .before .before .if1 .left)) (c .report-run .ensures)
+returns-2 c = rw (program-runs (c .before .before .before .before .args .t1) _ (c .before .before .before .if1 .left))
+    (c .report-run .ensures)
 
 pub program-spec : {M : Type 1} → statement M
 program-spec =

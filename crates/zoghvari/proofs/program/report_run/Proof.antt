@@ -37,7 +37,13 @@ text-requires : tie.Need-text-requires
 text-requires c κs = search needs
 
 returns : tie.Need-returns
-returns c = (reported _ _ _ _ _ _ _ (cleared-empty _ _ _ _ (c .before .before .before .before .before .before .before .before .before .before .before .before .before .before .clear .ensures)) (c .before .before .before .before .before .before .before .before .run .ensures) (c .before .before .count .ensures) (c .text .ensures .0), c .text .ensures .1)
+returns c = (
+  reported _ _ _ _ _ _ _ (cleared-empty _ _ _ _
+      (c .before .before .before .before .before .before .before .before .before .before .before .before .before
+      .before .clear .ensures)) (c .before .before .before .before .before .before .before .before .run .ensures)
+      (c .before .before .count .ensures) (c .text .ensures .0),
+  c .text .ensures .1,
+)
 
 pub report-run-spec : {M : Type 1} → statement M
 report-run-spec =
