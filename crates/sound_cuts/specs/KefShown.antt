@@ -7,7 +7,7 @@ use Prim.Native.Nat.{ℕ, _*_, _≤_}
 use native.Mathlib.Omega.{arith}
 use lib.Dec.{eqb}
 use lib.IntN.{ℤ}
-use Rattle.laws.specs.Bools.{pick, pick-ind, split, eqb-same, eqb-other}
+use Rattle.laws.specs.Bools.{pick, pick-ind, split, eqb-same}
 use Rattle.layout.specs.declared.shape.Shape.{Shape}
 use Rattle.layout.specs.Layout.{loopFirst}
 use Rattle.layout.specs.Fields.{Field, Solid, Outer, Face, First, Isolated, Start, Loop, Next, Prev, Columns, capOf}
@@ -20,10 +20,10 @@ use Rattle.sound_tables.specs.Sound.{In, HalfUsed, firstOf, Sound}
 use Rattle.sound_tables.specs.Names.{lone-used}
 use Rattle.sound_tables.specs.FirstLow.{lower-one, lower-other, first-low}
 use Rattle.sound_tables.specs.Shown.{withFirst, shows-first, shows-isolated}
-use Rattle.sound_cuts.specs.FieldLaws.{halfFields, patch, patch-other, outside, settled}
 use Rattle.sound_tables.specs.WriteLaws.{among-off, unwritten}
-use Rattle.sound_cuts.specs.Relation.{Spot, tieP, tieN, tieP′, tieN′, restOf, AtA, AtB, seat, off-a, off-b}
-use Rattle.sound_cuts.specs.Relation.{first-corner, cutFields, Cut, used-b, around}
+use Rattle.sound_cuts.specs.FieldLaws.{halfFields, patch, patch-other, outside, settled}
+use Rattle.sound_cuts.specs.Relation.{Spot, tieP, tieN, tieP′, tieN′, restOf, AtA, AtB, seat, off-a}
+use Rattle.sound_cuts.specs.Relation.{first-corner, cutFields, Cut, used-b, around, a-seated, b-seated}
 use Rattle.sound_cuts.specs.Round.{names-new, roundColumns, shows-round, round-other, round-in, round-off}
 
 -- the edge comes out: the ties, and both halves cleared
@@ -31,7 +31,7 @@ abbrev pub edgeOff : Spot → List Write
 edgeOff q =
     tied (tieP q) (tieN q) ++ (tied (tieP′ q) (tieN′ q) ++ (halfRecord (q .b) 0 0 0 0 ++ halfRecord (q .a) 0 0 0 0))
 
--- so does its face and its loop
+-- its face and its loop are cleared
 abbrev pub faceOff : Spot → List Write
 faceOff q = faceRecord (q .f) 0 0 ++ loopRecord (q .m) 0 0 0
 
@@ -48,11 +48,11 @@ module _ {sh : Shape} {c d : Columns} {q : Spot} (k : Cut sh c d q) where
     where
       -- in each case
       go : AtA sh c q → AtB sh c q → Follow (tieP q) (tieN q)
-      go (inr o) B = let e = eqb-other (off-a (k .site) (q .N) (o .after)) in
+      go (inr o) B = let e = a-seated (k .site) (o .after) in
           (λ x y. rw e (o .next), λ x y. rw e (o .prev))
       go (inl o) (inr r) =
           let e = eqb-same (o .after) in
-          let g = eqb-other (off-b (k .site) (q .M) (r .after)) in
+          let g = b-seated (k .site) (r .after) in
           (λ x y. rw (e, g) (r .next ∙ rw e), λ x y. rw (e, g) (ap (c Prev) (sym (rw e)) ∙ r .prev))
       go (inl o) (inl r) =
           let e = eqb-same (o .after) in
@@ -65,10 +65,10 @@ module _ {sh : Shape} {c d : Columns} {q : Spot} (k : Cut sh c d q) where
     where
       -- in each case
       go : AtA sh c q → AtB sh c q → Follow (tieP′ q) (tieN′ q)
-      go A (inr r) = let g = eqb-other (off-b (k .site) (q .M) (r .after)) in
+      go A (inr r) = let g = b-seated (k .site) (r .after) in
           (λ x y. rw g (r .next), λ x y. rw g (r .prev))
       go (inr o) (inl r) =
-          let e = eqb-other (off-a (k .site) (q .N) (o .after)) in
+          let e = a-seated (k .site) (o .after) in
           let g = eqb-same (r .after) in
           (λ x y. rw (e, g) (o .next ∙ rw g), λ x y. rw (e, g) (ap (c Prev) (sym (rw g)) ∙ o .prev))
       go (inl o) (inl r) =
@@ -78,23 +78,21 @@ module _ {sh : Shape} {c d : Columns} {q : Spot} (k : Cut sh c d q) where
 
   -- what is neither tied nor a does not stand before a
   off-P : (i : ℕ) → i ≢ tieP q → i ≢ q .a → i ≢ q .P
-  off-P i x e z = ⊎-elim (λ o. e (z ∙ o .before)) (λ o. x (z ∙ rw (eqb-other (off-a (k .site) (q .N) (o .after)))))
+  off-P i x e z = ⊎-elim (λ o. e (z ∙ o .before)) (λ o. x (z ∙ rw (a-seated (k .site) (o .after))))
       (k .site .near .at-a)
 
   -- nor after it
   off-N : (i : ℕ) → i ≢ tieN′ q → i ≢ q .a → i ≢ q .N
-  off-N i x e z = ⊎-elim (λ o. e (z ∙ o .after)) (λ o. x (z ∙ rw (eqb-other (off-a (k .site) (q .N) (o .after)))))
-      (k .site .near .at-a)
+  off-N i x e z = ⊎-elim (λ o. e (z ∙ o .after)) (λ o. x (z ∙ rw (a-seated (k .site) (o .after)))) (k .site .near .at-a)
 
   -- and so with b
   off-Q : (i : ℕ) → i ≢ tieP′ q → i ≢ q .b → i ≢ q .Q
-  off-Q i x e z = ⊎-elim (λ o. e (z ∙ o .before)) (λ o. x (z ∙ rw (eqb-other (off-b (k .site) (q .M) (o .after)))))
+  off-Q i x e z = ⊎-elim (λ o. e (z ∙ o .before)) (λ o. x (z ∙ rw (b-seated (k .site) (o .after))))
       (k .site .near .at-b)
 
   -- after it
   off-M : (i : ℕ) → i ≢ tieN q → i ≢ q .b → i ≢ q .M
-  off-M i x e z = ⊎-elim (λ o. e (z ∙ o .after)) (λ o. x (z ∙ rw (eqb-other (off-b (k .site) (q .M) (o .after)))))
-      (k .site .near .at-b)
+  off-M i x e z = ⊎-elim (λ o. e (z ∙ o .after)) (λ o. x (z ∙ rw (b-seated (k .site) (o .after)))) (k .site .near .at-b)
 
 module _ {sh : Shape} {p : List ℤ} {c d : Columns} {q : Spot} (k : Cut sh c d q) (s : Sound sh p c) (t : Sound sh p d)
     {x : List ℕ} (y : Shows sh x d) where

@@ -19,8 +19,8 @@ use Rattle.sound_tables.specs.Sound.{HalfUsed, Sound}
 use Rattle.sound_tables.specs.HalfNumbers.{way-small, half-is, mate-edge}
 use Rattle.sound_tables.specs.Good.{own}
 use Rattle.sound_tables.specs.CornerTest.{CornerAt}
-use Rattle.sound_cuts.specs.Relation.{Spot, tieN, tieN′, restOf, endOf, AtA, AtB, seat, off-a, off-b, Lone}
-use Rattle.sound_cuts.specs.Relation.{first-corner, second-corner, Cut}
+use Rattle.sound_cuts.specs.Relation.{Spot, tieN, tieN′, restOf, endOf, AtA, AtB, seat, Lone}
+use Rattle.sound_cuts.specs.Relation.{first-corner, second-corner, Cut, a-seated, b-seated}
 
 -- mef l h1 h2 e f l2 w
 abbrev pub mefOf : ℕ → ℕ → ℕ → ℕ → ℕ → ℕ → ℕ → Operator
@@ -118,19 +118,19 @@ module _ {sh : Shape} {c d : Columns} {q : Spot} (k : Cut sh c d q) {x : List �
           × ((not (eqb (q .N) (q .a) && not (eqb (q .M) (q .b)))
           || (eqb (restOf q) (endOf q) && not (eqb (restOf q) 0))) ≡ true)
       go (inr o) (inr r) = rw (
-        eqb-other (off-a (k .site) (q .N) (o .after)),
-        eqb-other (off-b (k .site) (q .M) (r .after)),
+        a-seated (k .site) (o .after),
+        b-seated (k .site) (r .after),
         eqb-other (λ (z : q .M ≡ q .N). k .site .near .N-M (sym z)),
       ) (refl, refl, refl)
       go (inr o) (inl r) = rw (
-        eqb-other (off-a (k .site) (q .N) (o .after)),
+        a-seated (k .site) (o .after),
         eqb-same (r .after),
         eqb-same {m = q .N} refl,
         eqb-other (λ (z : q .N ≡ 0). omega (arith, o .after .0, z)),
       ) (refl, refl, refl)
       go (inl o) (inr r) = rw (
         eqb-same (o .after),
-        eqb-other (off-b (k .site) (q .M) (r .after)),
+        b-seated (k .site) (r .after),
         eqb-same {m = q .M} refl,
         eqb-other (λ (z : q .M ≡ 0). omega (arith, r .after .0, z)),
       ) (refl, refl, refl)
@@ -145,14 +145,14 @@ module _ {sh : Shape} {c d : Columns} {q : Spot} (k : Cut sh c d q) {x : List �
     pub asks : Asks sh x q (restOf q) (endOf q) (wayBack q)
     asks = record {
       N-is = rw (flags .0) (⊎-elim (λ o. rw (eqb-same (o .after)) (sym (o .after)))
-          (λ o. rw (eqb-other (off-a (k .site) (q .N) (o .after)))) (k .site .near .at-a));
+          (λ o. rw (a-seated (k .site) (o .after))) (k .site .near .at-a));
       P-is = rw (flags .0) (⊎-elim (λ o. rw (eqb-same (o .after)) (sym (o .before)))
-          (λ o. rw (eqb-other (off-a (k .site) (q .N) (o .after))) (read-prev (tieN q) (q .P) (o .corner) (o .prev)))
+          (λ o. rw (a-seated (k .site) (o .after)) (read-prev (tieN q) (q .P) (o .corner) (o .prev)))
           (k .site .near .at-a));
       M-is = rw (flags .1) (⊎-elim (λ o. rw (eqb-same (o .after)) (sym (o .after)))
-          (λ o. rw (eqb-other (off-b (k .site) (q .M) (o .after)))) (k .site .near .at-b));
+          (λ o. rw (b-seated (k .site) (o .after))) (k .site .near .at-b));
       Q-is = rw (flags .1) (⊎-elim (λ o. rw (eqb-same (o .after)) (sym (o .before)))
-          (λ o. rw (eqb-other (off-b (k .site) (q .M) (o .after))) (read-prev (tieN′ q) (q .Q) (o .corner) (o .prev)))
+          (λ o. rw (b-seated (k .site) (o .after)) (read-prev (tieN′ q) (q .Q) (o .corner) (o .prev)))
           (k .site .near .at-b));
       u-is = ⊎-elim (λ o. read-start (restOf q) (q .u) (o .1 .corner) (o .1 .start))
           (λ o. read-isolated (restOf q) (q .u) (none₁ o) (o .2)) (first-corner (k .site));

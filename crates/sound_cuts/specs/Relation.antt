@@ -142,6 +142,14 @@ module _ {sh : Shape} {c : Columns} {q : Spot} (s : Site sh c q) where
   pub off-b : (i : ℕ) → HalfUsed sh c i → i ≢ q .b
   off-b i w e = w .2 (ap (c Start) e ∙ s .b-free)
 
+  -- where N is of c, a is not alone
+  pub a-seated : HalfUsed sh c (q .N) → eqb (q .N) (q .a) ≡ false
+  a-seated u = eqb-other (off-a (q .N) u)
+
+  -- where M is, b is not
+  pub b-seated : HalfUsed sh c (q .M) → eqb (q .M) (q .b) ≡ false
+  b-seated u = eqb-other (off-b (q .M) u)
+
   -- both halves are alone
   abbrev pub Lone : Type 0
   Lone = Alone q (q .a) (q .P) (q .N) × Alone q (q .b) (q .Q) (q .M) × (c Isolated (q .l) ≡ q .u)
@@ -153,10 +161,10 @@ module _ {sh : Shape} {c : Columns} {q : Spot} (s : Site sh c q) where
       -- in each case
       go : AtA sh c q → AtB sh c q
           → ((N : ℕ) × Seated sh c (q .l) (q .u) (seat q) N (restOf q) × (c Isolated (q .l) ≡ 0)) ⊎ Lone
-      go (inr o) B = let e = eqb-other (off-a (q .N) (o .after)) in inl (q .N, rw e o, s .near .isolated ∙ rw e)
+      go (inr o) B = let e = a-seated (o .after) in inl (q .N, rw e o, s .near .isolated ∙ rw e)
       go (inl o) (inr r) =
           let e = eqb-same (o .after) in
-          let g = eqb-other (off-b (q .M) (r .after)) in
+          let g = b-seated (r .after) in
           inl (
             q .M,
             rw (e, g, o .ends) (subst (Seated sh c (q .l) (q .v) (q .Q) (q .M)) (rw e) r),
@@ -171,11 +179,11 @@ module _ {sh : Shape} {c : Columns} {q : Spot} (s : Site sh c q) where
     where
       -- in each case
       go : AtA sh c q → AtB sh c q → ((P N : ℕ) × Seated sh c (q .l) (q .v) P N (endOf q)) ⊎ Lone
-      go A (inr o) = inl (q .Q, q .M, rw (eqb-other (off-b (q .M) (o .after))) o)
+      go A (inr o) = inl (q .Q, q .M, rw (b-seated (o .after)) o)
       go (inr o) (inl r) = inl (
         q .P,
         q .N,
-        rw (eqb-other (off-a (q .N) (o .after)))
+        rw (a-seated (o .after))
             (rw (← r .ends) (subst (Seated sh c (q .l) (q .u) (q .P) (q .N)) (rw (eqb-same (r .after))) o)),
       )
       go (inl o) (inl r) = inr (o, r, s .near .isolated ∙ rw (eqb-same (o .after), eqb-same (r .after)))

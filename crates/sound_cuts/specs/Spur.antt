@@ -17,7 +17,7 @@ use Rattle.layout.specs.Fields.{Start, Loop, Next, Columns}
 use Rattle.sound_tables.specs.Sound.{HalfUsed, Sound}
 use Rattle.sound_tables.specs.Names.{lone-unnamed}
 use Rattle.sound_cuts.specs.Relation.{Spot, AtA, AtB, seat, spur, restOf, Site, a-b, off-a, off-b, first-corner}
-use Rattle.sound_cuts.specs.Relation.{ba, Cut, With}
+use Rattle.sound_cuts.specs.Relation.{ba, Cut, With, a-seated, b-seated}
 use Rattle.sound_cuts.specs.Seats.{seat-in, turned}
 
 -- the loops with the spur
@@ -63,7 +63,7 @@ module _ {sh : Shape} {c : Columns} {q : Spot} (s : Site sh c q) where
   -- where b is not alone that is M
   spur-b : q .Q ≢ q .b → ins (c Next) (q .a) (seat q) (q .a) ≡ q .M
   spur-b h = ⊎-elim (λ o. absurd (h (o .before)))
-      (λ o. ⊎-elim (λ r. spur-end (r .1 .before) (r .1 .next) ∙ rw (eqb-other (off-b s (q .M) (o .after))))
+      (λ o. ⊎-elim (λ r. spur-end (r .1 .before) (r .1 .next) ∙ rw (b-seated s (o .after)))
       (λ r. absurd (h (r .1 .before))) (first-corner s))
       (s .near .at-b)
 
@@ -75,23 +75,22 @@ module _ {sh : Shape} {c : Columns} {q : Spot} (s : Site sh c q) where
       go : AtA sh c q → AtB sh c q
           → upd (ins (c Next) (q .a) (seat q)) (q .b) (ins (c Next) (q .a) (seat q) (q .a)) (q .Q) ≡ q .N
       go (inr o) (inr r) =
-          let A = eqb-other (off-a s (q .N) (o .after)) in
+          let A = a-seated s (o .after) in
           upd-off _ _ (off-b s (q .Q) (r .before)) ∙ upd-off _ _ (λ z. s .near .apart (sym (z ∙ rw A)))
           ∙ upd-off _ _ Q-a ∙ r .next ∙ rw A
       go (inr o) (inl r) =
-          let A = eqb-other (off-a s (q .N) (o .after)) in
+          let A = a-seated s (o .after) in
           upd-at _ _ (r .before) ∙ rw A (upd-off _ _ (λ z. off-a s (q .P) (o .before) (sym z)) ∙ upd-same _ (q .a) _
           ∙ o .next ∙ rw (eqb-same (r .after)))
       go (inl o) (inr r) =
           upd-off _ _ (off-b s (q .Q) (r .before))
-          ∙ upd-at _ _ (sym (rw (eqb-same (o .after), eqb-other (off-b s (q .M) (r .after))))) ∙ sym (o .after)
+          ∙ upd-at _ _ (sym (rw (eqb-same (o .after), b-seated s (r .after)))) ∙ sym (o .after)
       go (inl o) (inl r) =
           upd-at _ _ (r .before) ∙ upd-at _ _ (sym (rw (eqb-same (o .after), eqb-same (r .after)))) ∙ sym (o .after)
 
   -- P is the seat, or a
   seat-P : (i : ℕ) → i ≢ seat q → i ≢ q .a → i ≢ q .P
-  seat-P i e g z = ⊎-elim (λ o. g (z ∙ o .before)) (λ o. e (z ∙ rw (eqb-other (off-a s (q .N) (o .after)))))
-      (s .near .at-a)
+  seat-P i e g z = ⊎-elim (λ o. g (z ∙ o .before)) (λ o. e (z ∙ rw (a-seated s (o .after)))) (s .near .at-a)
 
   -- and the seat is P, or Q, or a
   P-seat : (i : ℕ) → i ≡ seat q → i ≢ q .Q → i ≢ q .a → i ≡ q .P
