@@ -10,7 +10,8 @@ use Rattle.laws.specs.Every.{every}
 use Rattle.layout.specs.declared.shape.Shape.{Shape}
 use Rattle.layout.specs.Layout.{faceSolid, loopFirst, startOf, loopOf, nextOf, prevOf, side}
 use Rattle.layout.specs.Mate.{mate}
-use Rattle.check_items.specs.Rules.{some, whereSome, halfLinks, firstNames, halfSides}
+use Rattle.layout.specs.Items.{some}
+use Rattle.check_items.specs.Rules.{whereSome, halfLinks, firstNames, halfSides}
 use Rattle.check_items.specs.Parts.{firstLow}
 
 module _ (sh : Shape) (x : List ℕ) (n : ℕ) where

@@ -8,7 +8,8 @@ use Rattle.laws.specs.Every.{every}
 use Rattle.layout.specs.declared.shape.Shape.{Shape}
 use Rattle.layout.specs.Layout.{solidUsed, faceSolid, faceOuter, loopFace, loopFirst, loopIsolated}
 use Rattle.layout.specs.Layout.{startOf, loopOf, nextOf, prevOf, vertexUsed}
-use Rattle.check_items.specs.Rules.{some, whereSome, faceNames, loopNames, halfNames, loopEither}
+use Rattle.layout.specs.Items.{some}
+use Rattle.check_items.specs.Rules.{whereSome, faceNames, loopNames, halfNames, loopEither}
 
 module _ (sh : Shape) (x : List ℕ) (n : ℕ) where
   pub face-names-is : (s u o b : ℕ) → s ≡ faceSolid sh x n → u ≡ solidUsed sh x s → o ≡ faceOuter sh x n

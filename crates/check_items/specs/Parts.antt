@@ -8,7 +8,8 @@ use Rattle.laws.specs.Every.{every}
 use Rattle.layout.specs.declared.shape.Shape.{Shape}
 use Rattle.layout.specs.Layout.{loopFirst, loopOf}
 use Rattle.layout.specs.Points.{inRange, isZero}
-use Rattle.check_items.specs.Rules.{some, onlyWith}
+use Rattle.layout.specs.Items.{some}
+use Rattle.check_items.specs.Rules.{onlyWith}
 
 -- b is there only where a is
 unfoldable pub goesWith : ℕ → ℕ → Bool

@@ -13,7 +13,8 @@ use Rattle.layout.specs.Layout.{solidUsed, faceSolid, faceOuter, loopFace, loop
 use Rattle.layout.specs.Layout.{startOf, loopOf, nextOf, prevOf, vertexUsed}
 use Rattle.layout.specs.Mate.{mate}
 use Rattle.layout.specs.Points.{inRange, isZero}
-use Rattle.check_items.specs.Rules.{some, together, solidRange, faceRange, loopRange, halfRange, vertexRange}
+use Rattle.layout.specs.Items.{some}
+use Rattle.check_items.specs.Rules.{together, solidRange, faceRange, loopRange, halfRange, vertexRange}
 use Rattle.check_items.specs.Parts.{goesWith, pointIn, pointFree}
 
 -- ---- the parts

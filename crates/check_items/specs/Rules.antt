@@ -1,11 +1,11 @@
 -- The six rules of a sound table (document 01, "Sound tables"), as tests that compute. Each item has a short list of
 -- small tests; a rule is that all items of each kind pass theirs. `sh` is the table's shape, `x` its links, `p` its
 -- points.
-use Prim.Native.Nat.{ℕ, zero, suc, _+_, _-_, _*_}
-use mathlib.Core.Bool.{Bool, true, false, not, _&&_, _||_}
+use Prim.Native.Nat.{ℕ, _-_, _*_}
+use mathlib.Core.Bool.{Bool, not, _&&_, _||_}
 use mathlib.Core.List.{List, [], _∷_}
 use lib.Dec.{eqb, leb}
-use lib.IntN.{ℤ, pos}
+use lib.IntN.{ℤ}
 use Rattle.laws.specs.Bools.{pick}
 use Rattle.laws.specs.Every.{every}
 use Rattle.laws.specs.Search.{allTo, least}
@@ -17,12 +17,9 @@ use Rattle.layout.specs.Layout.{solidUsed, faceSolid, faceOuter, loopFace, loop
 use Rattle.layout.specs.Layout.{nextOf, prevOf, vertexUsed, side}
 use Rattle.layout.specs.Mate.{mate}
 use Rattle.layout.specs.Points.{inRange, isZero}
+use Rattle.layout.specs.Items.{some, halfUsed, faceIn}
 
 -- ---- small tests
-
--- a number is there
-abbrev pub some : ℕ → Bool
-some n = not (eqb n 0)
 
 -- a and b are both 0, or neither is: a record is all zero or has no zero
 abbrev pub together : ℕ → ℕ → Bool
@@ -35,16 +32,6 @@ onlyWith a b = some a || eqb b 0
 -- where a is, t holds
 abbrev pub whereSome : ℕ → Bool → Bool
 whereSome a t = eqb a 0 || t
-
--- a face, a loop or a half-edge is in use when its first word is not 0
-abbrev pub faceUsed : Shape → List ℕ → ℕ → Bool
-faceUsed sh x f = some (faceSolid sh x f)
-
-abbrev pub loopUsed : Shape → List ℕ → ℕ → Bool
-loopUsed sh x l = some (loopFace sh x l)
-
-abbrev pub halfUsed : Shape → List ℕ → ℕ → Bool
-halfUsed sh x k = some (startOf sh x k)
 
 -- ---- rule 1: marks, numbers and coordinates are in range; free records are zero; both halves of an edge are in use or
 -- neither
@@ -89,10 +76,6 @@ rule1 sh x p =
 
 -- ---- rule 2: every number held names an item in use; a face's outer loop names that face; each solid in use has a
 -- face
-
--- the least face of solid s, or 0
-abbrev pub faceIn : Shape → List ℕ → ℕ → ℕ
-faceIn sh x s = least (sh .faces) (λ f. eqb (faceSolid sh x f) s)
 
 unfoldable pub solidNames : Shape → List ℕ → ℕ → Bool
 solidNames sh x s = whereSome (solidUsed sh x s) (some (faceIn sh x s))

@@ -1,22 +1,18 @@
 -- The steps from half-edge to half-edge, and the linear test that the half-edges of each label form one cycle.
 use Prim.Native.Nat.{ℕ, _*_}
-use mathlib.Core.Bool.{Bool, not}
+use mathlib.Core.Bool.{Bool}
 use mathlib.Core.List.{List}
-use lib.Dec.{eqb}
 use lib.ListN.{getD, replicate}
 use Rattle.laws.specs.Bools.{pick}
 use Rattle.laws.specs.Marks.{markTo, allMarked}
 use Rattle.layout.specs.declared.shape.Shape.{Shape}
-use Rattle.layout.specs.Layout.{startOf, nextOf}
+use Rattle.layout.specs.Layout.{nextOf}
 use Rattle.layout.specs.Mate.{mate}
+use Rattle.layout.specs.Items.{halfUsed}
 
 -- a list as a function; past its end it is 0
 abbrev pub entryOf : List ℕ → ℕ → ℕ
 entryOf a i = getD a i 0
-
--- half-edge k is in use
-abbrev pub halfUsed : Shape → List ℕ → ℕ → Bool
-halfUsed sh x k = not (eqb (startOf sh x k) 0)
 
 -- the half-edge after k: around its start, next of the mate; in its loop, next
 abbrev pub stepOf : Shape → List ℕ → Bool → ℕ → ℕ

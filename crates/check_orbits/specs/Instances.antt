@@ -12,8 +12,9 @@ use Rattle.laws.specs.Marks.{markFrom, markRep, markTo, allMarked}
 use Rattle.layout.specs.declared.shape.Shape.{Shape}
 use Rattle.layout.specs.Layout.{shapeOf, startOf, nextOf, loopOf, loopFirst, loopIsolated}
 use Rattle.layout.specs.Mate.{mate}
+use Rattle.layout.specs.Items.{halfUsed}
 use Rattle.check_orbits.specs.Labels.{blank, down, leastNaming, tally, copied}
-use Rattle.check_orbits.specs.Cycles.{halfUsed, oneCycleEach}
+use Rattle.check_orbits.specs.Cycles.{oneCycleEach}
 use Rattle.check_orbits.specs.OrbitsLaws.{Half, NextFacts, LoopFacts, VertexFacts, starter, loops-one-cycle}
 use Rattle.check_orbits.specs.OrbitsLaws.{vertices-one-cycle}
 

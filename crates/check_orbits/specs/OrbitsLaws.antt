@@ -17,9 +17,10 @@ use Rattle.layout.specs.declared.shape.Shape.{Shape}
 use Rattle.layout.specs.Layout.{startOf, loopOf, nextOf, prevOf, loopFirst}
 use Rattle.layout.specs.Mate.{mate}
 use Rattle.layout.specs.MateLaws.{mate-mate, mate-range}
+use Rattle.layout.specs.Items.{halfUsed}
 use Rattle.check_orbits.specs.Labels.{blank, leastNaming, copied}
 use Rattle.check_orbits.specs.LabelsLaws.{least-at, copied-at}
-use Rattle.check_orbits.specs.Cycles.{entryOf, halfUsed, stepOf, oneCycleEach}
+use Rattle.check_orbits.specs.Cycles.{entryOf, stepOf, oneCycleEach}
 
 -- the walks of the labels 1 to m look at the representatives of these labels only
 pub markTo-ext : (f : ℕ → ℕ) (n : ℕ) (rep rep′ : ℕ → ℕ) (m : ℕ) (marks : List ℕ)

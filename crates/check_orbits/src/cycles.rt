@@ -4,9 +4,10 @@
 ghost use mathlib.Core.Path.{_≡_};
 ghost use mathlib.Core.Bool.{not, _||_};
 ghost use Prim.Native.Nat.{_*_, _<_, _≤_};
+ghost use Rattle.layout.specs.Items.{halfUsed};
 ghost use lib.ListN.{length, getD, set};
 ghost use Rattle.laws.specs.Marks.{marked, markFrom, markRep, markTo, allMarked};
-ghost use Rattle.check_orbits.specs.Cycles.{entryOf, halfUsed, stepOf, oneCycleEach};
+ghost use Rattle.check_orbits.specs.Cycles.{entryOf, stepOf, oneCycleEach};
 use layout::columns::next_of;
 use layout::columns::start_of;
 use layout::mates::mate_of;

@@ -19,9 +19,10 @@ use Rattle.laws.specs.Closure.{Edge, linked-sound, linked-complete}
 use Rattle.layout.specs.declared.shape.Shape.{Shape}
 use Rattle.layout.specs.Layout.{faceSolid, loopFirst, startOf, loopOf, nextOf, vertexUsed, side}
 use Rattle.layout.specs.Mate.{mate}
+use Rattle.layout.specs.Items.{halfUsed, faceIn}
 use Rattle.check_orbits.specs.OrbitsLaws.{Half, loops-labelled, vertices-labelled}
 use Rattle.check_shells.specs.Shells.{edgeUsed, sideA, sideB}
-use Rattle.check_items.specs.Rules.{halfUsed, faceIn, halfLinks, firstNames, halfInLoop, rule4, starter, around}
+use Rattle.check_items.specs.Rules.{halfLinks, firstNames, halfInLoop, rule4, starter, around}
 use Rattle.check_items.specs.Rules.{vertexEither, halfAtVertex, rule5, halfSides, linked, faceLinked, rule6}
 use Rattle.check_rules.specs.Says.{Says, says-all, says-where, says-true}
 use Rattle.check_rules.specs.RulesSay.{Rule1, Rule2, HalfLinks, VertexEither, says-halfLinks, says-firstNames}

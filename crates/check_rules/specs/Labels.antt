@@ -6,7 +6,8 @@ use lib.Dec.{eqb}
 use lib.ListN.{getD}
 use Rattle.layout.specs.declared.shape.Shape.{Shape}
 use Rattle.layout.specs.Layout.{solidUsed, vertexUsed}
-use Rattle.check_items.specs.Rules.{some, whereSome}
+use Rattle.layout.specs.Items.{some}
+use Rattle.check_items.specs.Rules.{whereSome}
 use Rattle.check_rules.specs.declared.labels.LabelTest.{LabelTest}
 use Rattle.check_rules.specs.declared.labels.LabelTest.the-variants.{SolidNames, VertexEither}
 

@@ -9,7 +9,7 @@ use lib.ListN.{getD}
 use Rattle.laws.specs.Bools.{eqb-same, eqb-other}
 use Rattle.layout.specs.declared.shape.Shape.{Shape}
 use Rattle.layout.specs.Layout.{solidUsed, vertexUsed}
-use Rattle.check_items.specs.Rules.{some}
+use Rattle.layout.specs.Items.{some}
 use Rattle.check_rules.specs.declared.labels.LabelTest.{LabelTest}
 use Rattle.check_rules.specs.declared.labels.LabelTest.the-variants.{SolidNames, VertexEither}
 use Rattle.check_rules.specs.Labels.{labelTest}

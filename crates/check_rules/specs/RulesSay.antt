@@ -11,9 +11,10 @@ use Rattle.layout.specs.Layout.{solidUsed, faceSolid, faceOuter, loopFace, loop
 use Rattle.layout.specs.Layout.{nextOf, prevOf, vertexUsed, side}
 use Rattle.layout.specs.Mate.{mate}
 use Rattle.layout.specs.Points.{coordinate, rangeTest, zeroTest}
+use Rattle.layout.specs.Items.{faceIn}
 use Rattle.check_rules.specs.Says.{Says, reword, says-le, says-eq, says-some, says-leZ, says-and, says-or}
 use Rattle.check_rules.specs.Says.{says-where, says-all, last, more, says-every}
-use Rattle.check_items.specs.Rules.{together, onlyWith, faceIn, solidRange, faceRange, loopRange, halfRange}
+use Rattle.check_items.specs.Rules.{together, onlyWith, solidRange, faceRange, loopRange, halfRange}
 use Rattle.check_items.specs.Rules.{vertexRange, rule1, solidNames, faceNames, loopNames, halfNames, rule2, loopEither}
 use Rattle.check_items.specs.Rules.{rule3, halfLinks, firstNames, isolatedIn, starter, vertexEither, halfSides}
 

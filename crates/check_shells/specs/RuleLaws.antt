@@ -3,20 +3,20 @@
 use mathlib.Core.Path.{_≡_, refl}
 use mathlib.Core.Logic.{_≢_}
 use mathlib.Core.Bool.{Bool, true, false, _&&_, _||_}
-use Prim.Native.Nat.{ℕ, _-_, _*_, _≤_}
+use Prim.Native.Nat.{ℕ, _-_, _≤_}
 use native.Mathlib.Omega.{arith}
 use mathlib.Core.List.{List}
 use lib.Dec.{T, eqb}
 use lib.ListN.{getD}
 use borrow.Author.Tests.{eqb-false}
-use Rattle.laws.specs.Bools.{pick-ind, true-T, false-T, and-T, T-and, same-T, eqb-same}
+use Rattle.laws.specs.Bools.{true-T, false-T, and-T, T-and, same-T, eqb-same}
 use Rattle.laws.specs.Search.{allTo, all-ext, least, Least, none-is, one-is, leastFrom-is}
 use Rattle.laws.specs.Linked.{Linked, link, map-linked, carry}
 use Rattle.laws.specs.Walks.{Used}
 use Rattle.laws.specs.Closure.{Edge, linkedb, linked-sound, linked-complete}
 use Rattle.layout.specs.declared.shape.Shape.{Shape}
-use Rattle.layout.specs.Layout.{faceSolid, loopOf, side}
-use Rattle.check_shells.specs.Shells.{sideAs, sideA, sideB, edgeUsed, within, joins, Joins, Ends, Sided, linkedBy}
+use Rattle.layout.specs.Layout.{faceSolid, side}
+use Rattle.check_shells.specs.Shells.{sideA, sideB, edgeUsed, within, joins, Joins, Ends, Sided, linkedBy}
 use Rattle.check_shells.specs.Shells.{facesLinked, faceWhole, shellsWhole}
 use Rattle.check_shells.specs.ShellsLaws.{within-T, T-within, joins-T, T-joins, ends}
 
@@ -104,18 +104,6 @@ module _ (sh : Shape) (x : List ℕ) (s : ℕ → ℕ) (d : Sided sh x s) where
       by-chain c = let b = carry Face face-kept c .0 (l, u) in
           T-linked sh x s f g (T-within (sh .faces) f l u) (T-within (sh .faces) g (b .0) (b .1))
           (map-linked (λ k. k) (λ i j r. link (used-joins i j r)) c)
-
--- a loop that passes to a face leaves faces on both sides of every edge
-pub sided-as : (sh : Shape) (x : List ℕ) (l t : ℕ) → 1 ≤ t → t ≤ sh .faces → Sided sh x (side sh x)
-    → Sided sh x (sideAs sh x l t)
-sided-as sh x l t lo hi d = record {
-  at = λ e a b u. let n = d .at e a b u in let p = moved (2 * e - 1) (n .0) (n .1) in
-      let q = moved (2 * e) (n .2) (n .3) in (p .0, p .1, q .0, q .1);
-}
-  where
-    moved : (k : ℕ) → 1 ≤ side sh x k → side sh x k ≤ sh .faces → (1 ≤ sideAs sh x l t k)
-        × (sideAs sh x l t k ≤ sh .faces)
-    moved k a b = pick-ind (λ f. (1 ≤ f) × (f ≤ sh .faces)) (eqb (loopOf sh x k) l) t (side sh x k) (lo, hi) (a, b)
 
 module _ (sh : Shape) (x : List ℕ) (d : Sided sh x (side sh x)) where
   -- the least face of solid s, or 0

@@ -18,9 +18,10 @@ use Rattle.layout.specs.declared.shape.Shape.{Shape}
 use Rattle.layout.specs.Layout.{faceSolid, loopFace, loopFirst, startOf, loopOf, nextOf, prevOf, side}
 use Rattle.layout.specs.Mate.{mate, edgeOf}
 use Rattle.layout.specs.Fields.{Start, VertexUsed}
-use Rattle.euler.specs.Surgery.{some, wayOf, corner, cornerVertex, operator, operatorAt}
+use Rattle.layout.specs.Items.{some, isRing}
+use Rattle.euler.specs.Surgery.{wayOf, corner, cornerVertex, operator, operatorAt}
 use Rattle.euler.specs.Surgery.{faceRecord, loopRecord, halfRecord, tied, lower}
-use Rattle.euler.specs.Queries.{loopsIn, isRing, firstBy}
+use Rattle.euler.specs.Queries.{loopsIn, firstBy}
 use Rattle.euler.specs.Steps.{Step, Store, EdgeIn, EdgeOut, InsertAfter, InsertBefore, TieBefore, Relabel, Renew}
 use Rattle.euler.specs.Steps.{half, assign, after}
 

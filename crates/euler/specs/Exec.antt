@@ -14,8 +14,8 @@ use Rattle.script.specs.Operator.{numbersOf, blankOf}
 use Rattle.layout.specs.declared.shape.Shape.{Shape}
 use Rattle.layout.specs.Layout.{solidUsed, faceSolid, faceOuter, loopFace, loopIsolated, startOf, nextOf, vertexUsed}
 use Rattle.layout.specs.Mate.{mate}
+use Rattle.layout.specs.Items.{faceIn}
 use Rattle.euler.specs.Surgery.{itemOf, halfBy, putPoint, pointTo}
-use Rattle.euler.specs.Queries.{faceIn}
 use Rattle.euler.specs.EdgeOperators.{mevTest, mevLinks, mevInverse, kevTest, kevLinks, kevInverse, mefTest}
 use Rattle.euler.specs.EdgeOperators.{mefLinks, mefInverse, kefTest, kefLinks, kefInverse, kemrTest, kemrLinks}
 use Rattle.euler.specs.EdgeOperators.{kemrInverse, mekrTest, mekrLinks, mekrInverse, semvLinks, semvInverse}

@@ -13,9 +13,10 @@ use Rattle.layout.specs.declared.shape.Shape.{Shape}
 use Rattle.layout.specs.Layout.{faceSolid, faceOuter, loopFace, loopIsolated, startOf, loopOf, side}
 use Rattle.layout.specs.Mate.{mate}
 use Rattle.layout.specs.Fields.{SolidUsed, Solid, Outer, Face, VertexUsed}
+use Rattle.layout.specs.Items.{some, faceIn, isRing}
 use Rattle.check_shells.specs.Shells.{facesLinkedAs}
-use Rattle.euler.specs.Surgery.{some, operator, operatorAt, faceRecord, loopRecord}
-use Rattle.euler.specs.Queries.{faceIn, facesIn, loopsIn, isRing}
+use Rattle.euler.specs.Surgery.{operator, operatorAt, faceRecord, loopRecord}
+use Rattle.euler.specs.Queries.{facesIn, loopsIn}
 use Rattle.euler.specs.Steps.{Step, Store, Sweep, assign, does, after}
 
 -- ---- 1 mvsf s f l v x y z

@@ -1,16 +1,10 @@
 -- What the operators ask of a table: counts and neighbours.
 use Prim.Native.Nat.{ℕ}
-use mathlib.Core.Bool.{Bool, not}
 use mathlib.Core.List.{List}
 use lib.Dec.{eqb}
-use Rattle.laws.specs.Search.{least}
 use Rattle.laws.specs.Sums.{countTo}
 use Rattle.layout.specs.declared.shape.Shape.{Shape}
-use Rattle.layout.specs.Layout.{faceSolid, faceOuter, loopFace, loopFirst, loopOf}
-
--- the least face of solid s
-abbrev pub faceIn : Shape → List ℕ → ℕ → ℕ
-faceIn sh x s = least (sh .faces) (λ f. eqb (faceSolid sh x f) s)
+use Rattle.layout.specs.Layout.{faceSolid, loopFace, loopFirst, loopOf}
 
 -- how many faces solid s has
 abbrev pub facesIn : Shape → List ℕ → ℕ → ℕ
@@ -19,10 +13,6 @@ facesIn sh x s = countTo (sh .faces) (λ f. eqb (faceSolid sh x f) s)
 -- how many loops face f has
 abbrev pub loopsIn : Shape → List ℕ → ℕ → ℕ
 loopsIn sh x f = countTo (sh .loops) (λ l. eqb (loopFace sh x l) f)
-
--- a ring: a loop that is not its face's outer loop
-abbrev pub isRing : Shape → List ℕ → ℕ → Bool
-isRing sh x l = not (eqb (faceOuter sh x (loopFace sh x l)) l)
 
 -- the first of half-edge k's loop
 abbrev pub firstBy : Shape → List ℕ → ℕ → ℕ

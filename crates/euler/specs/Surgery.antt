@@ -2,7 +2,7 @@
 -- first anew.
 -- `sh` is the table's shape, `x` its links. Walks carry fuel; on a sound table that cuts nothing off.
 use Prim.Native.Nat.{ℕ, zero, suc, _+_, _-_, _*_, _%_}
-use mathlib.Core.Bool.{Bool, not, _&&_, _||_}
+use mathlib.Core.Bool.{Bool, _&&_, _||_}
 use mathlib.Core.List.{List, [], _∷_, _++_}
 use lib.Dec.{eqb, leb, ltb}
 use lib.IntN.{ℤ, pos}
@@ -11,17 +11,14 @@ use Rattle.laws.specs.Bools.{pick}
 use Rattle.script.specs.declared.Operator.{Operator}
 use Rattle.script.specs.Operator.{natOf, blankOf, withNumber}
 use Rattle.layout.specs.declared.shape.Shape.{Shape}
-use Rattle.layout.specs.Layout.{loopFirst, loopIsolated, startOf, loopOf, nextOf, setLoopFirst, setLoopIsolated}
+use Rattle.layout.specs.Layout.{loopIsolated, startOf, loopOf, nextOf, setLoopFirst, setLoopIsolated}
 use Rattle.layout.specs.Layout.{setLoop}
 use Rattle.layout.specs.Mate.{mate}
 use Rattle.layout.specs.Fields.{Solid, Outer, Face, First, Isolated, Start, Loop, Next, Prev}
 use Rattle.layout.specs.Writes.{Write, write, writes}
 use Rattle.layout.specs.Small.{mostHalves}
 use Rattle.layout.specs.Points.{coordinate, setCoordinate}
-
--- a number is there
-abbrev pub some : ℕ → Bool
-some n = not (eqb n 0)
+use Rattle.layout.specs.Items.{some}
 
 -- operand i of a list as the number of an item; past 8,192, the most that any table has, it names none
 abbrev pub itemIn : List ℤ → ℕ → ℕ

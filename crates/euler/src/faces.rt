@@ -1,7 +1,8 @@
 // What lies in which face: whether a loop is a ring, how many loops a face has.
 ghost use mathlib.Core.Path.{_≡_};
 ghost use Prim.Native.Nat.{ℕ, _<_, _≤_};
-ghost use Rattle.euler.specs.Queries.{isRing, loopsIn};
+ghost use Rattle.layout.specs.Items.{isRing};
+ghost use Rattle.euler.specs.Queries.{loopsIn};
 use crate::scans::count_naming;
 use layout::column::faces_of_loops;
 use layout::columns::face_outer;

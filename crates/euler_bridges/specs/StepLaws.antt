@@ -11,9 +11,9 @@ use Rattle.script.specs.Operator.{blankOf}
 use Rattle.layout.specs.declared.shape.Shape.{Shape}
 use Rattle.layout.specs.Layout.{loopFace, loopFirst, prevOf}
 use Rattle.layout.specs.Mate.{mate, edgeOf}
+use Rattle.layout.specs.Items.{isRing}
 use Rattle.euler.specs.declared.records.Half.{Half}
 use Rattle.euler.specs.Surgery.{wayOf, corner, cornerVertex, putLoop, edgeIn, edgeOut, relabelRun, lower, renew}
-use Rattle.euler.specs.Queries.{isRing}
 use Rattle.euler.specs.EdgeOperators.{kemrLinks, kemrInverse, mekrTest, mekrLinks}
 use Rattle.euler_edges.specs.Parts.{IsHalf, withThree}
 use Rattle.euler_bridges.specs.Parts.{mekrIn}

@@ -8,9 +8,9 @@ use lib.ListN.{getD}
 use Rattle.laws.specs.Bools.{split}
 use Rattle.layout.specs.declared.shape.Shape.{Shape}
 use Rattle.layout.specs.Layout.{loopFace, faceOuter}
+use Rattle.layout.specs.Items.{faceIn}
 use Rattle.euler.specs.ByCode.{by-code, by-none}
 use Rattle.euler.specs.Surgery.{itemIn}
-use Rattle.euler.specs.Queries.{faceIn}
 use Rattle.euler.specs.FaceOperators.{kvsfLinks}
 use Rattle.euler.specs.Exec.{operatorBy, onlyLoop, onlyVertex, linksAfter, clearPoint, pointsAfter}
 use Rattle.euler_points.specs.Chosen.{killed-kvsf, points-by, points-cleared}

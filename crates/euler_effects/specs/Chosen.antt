@@ -7,9 +7,9 @@ use lib.IntN.{ℤ}
 use lib.ListN.{getD}
 use Rattle.codec.specs.OperandLaws.{NoneOf}
 use Rattle.layout.specs.declared.shape.Shape.{Shape}
+use Rattle.layout.specs.Items.{faceIn}
 use Rattle.euler.specs.ByCode.{by-code, by-none}
 use Rattle.euler.specs.Surgery.{itemIn}
-use Rattle.euler.specs.Queries.{faceIn}
 use Rattle.euler.specs.FaceOperators.{kvsfLinks}
 use Rattle.euler.specs.Exec.{operatorBy, linksBy, linksAfter, onlyLoop, onlyVertex}
 

@@ -3,11 +3,11 @@
 ghost use mathlib.Core.Path.{_≡_};
 ghost use Prim.Native.Nat.{ℕ, _≤_, _<_};
 ghost use Rattle.layout.specs.Layout.{nextOf};
-ghost use Rattle.euler.specs.Queries.{faceIn};
 ghost use Rattle.euler.specs.EdgeOperators.{jekvLinks};
 ghost use Rattle.euler.specs.FaceOperators.{kvsfLinks};
 ghost use Rattle.euler.specs.Exec.{operatorBy, linksAfter, pointsAfter, onlyLoop, onlyVertex};
 ghost use Rattle.layout.specs.Small.{Small};
+ghost use Rattle.layout.specs.Items.{faceIn};
 ghost use Rattle.euler_effects.specs.Chosen.{linksAt};
 use euler::records::half_by;
 use euler::records::item_at;

@@ -14,9 +14,10 @@ use Rattle.laws.specs.Columns.{Kind, sweep}
 use Rattle.laws.specs.UnionFind.{SameRoots}
 use Rattle.layout.specs.declared.shape.Shape.{Shape}
 use Rattle.layout.specs.Layout.{faceSolid, faceOuter, loopFace, setSolidUsed, setFaceSolid}
+use Rattle.layout.specs.Items.{isRing}
 use Rattle.check_shells.specs.Shells.{sideAs, oneRoot, facesLinkedAs, Shells}
 use Rattle.check_shells.specs.ShellsLaws.{one-root-short}
-use Rattle.euler.specs.Queries.{loopsIn, isRing}
+use Rattle.euler.specs.Queries.{loopsIn}
 use Rattle.euler.specs.FaceOperators.{moveFaces, kfmrhTest, kfmrhLinks, linkedAfter, ringFace, mfkrhTest, mfkrhLinks}
 use Rattle.euler_holes.specs.Moves.{sweepFaces, byRoot, moveShell, joinSolids, giveLoop}
 

@@ -10,9 +10,9 @@ use Rattle.script.specs.Operator.{blankOf}
 use Rattle.codec.specs.OperandLaws.{NoneOf}
 use Rattle.layout.specs.declared.shape.Shape.{Shape}
 use Rattle.layout.specs.Mate.{mate}
+use Rattle.layout.specs.Items.{faceIn}
 use Rattle.euler.specs.ByCode.{by-code, by-none}
 use Rattle.euler.specs.Surgery.{itemOf, halfBy}
-use Rattle.euler.specs.Queries.{faceIn}
 use Rattle.euler.specs.EdgeOperators.{mefInverse}
 use Rattle.euler.specs.FaceOperators.{kvsfInverse}
 use Rattle.euler.specs.Exec.{onlyLoop, onlyVertex, inverses, inverse}

@@ -3,13 +3,13 @@
 ghost use mathlib.Core.Path.{_≡_};
 ghost use Prim.Native.Nat.{ℕ, _≤_, _<_};
 ghost use Rattle.layout.specs.Layout.{nextOf};
-ghost use Rattle.euler.specs.Queries.{faceIn};
 ghost use Rattle.euler.specs.EdgeOperators.{jekvInverse, mefInverse};
 ghost use Rattle.euler.specs.FaceOperators.{kvsfInverse};
 ghost use Rattle.euler.specs.Surgery.{halfBy};
 ghost use Rattle.layout.specs.Mate.{mate};
 ghost use Rattle.euler.specs.Exec.{inverse, onlyLoop, onlyVertex};
 ghost use Rattle.layout.specs.Small.{Small};
+ghost use Rattle.layout.specs.Items.{faceIn};
 use euler::records::half_by;
 use euler::records::item_of;
 use euler_bridges::kemr_mekr::kemr_inverse;

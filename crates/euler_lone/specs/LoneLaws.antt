@@ -12,8 +12,8 @@ use Rattle.laws.specs.Search.{Least, none-is, one-is, least, leastFrom, leastFr
 use Rattle.laws.specs.Sums.{bit, countTo, sum-ext, sum-zero, sum-lt, count-one}
 use Rattle.layout.specs.declared.shape.Shape.{Shape}
 use Rattle.layout.specs.Layout.{faceSolid, faceOuter, loopIsolated}
-use Rattle.euler.specs.Surgery.{some}
-use Rattle.euler.specs.Queries.{faceIn, facesIn, loopsIn}
+use Rattle.layout.specs.Items.{some, faceIn}
+use Rattle.euler.specs.Queries.{facesIn, loopsIn}
 use Rattle.euler.specs.FaceOperators.{kvsfTest}
 
 -- ---- one of 1 to n passes

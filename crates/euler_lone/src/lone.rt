@@ -2,7 +2,8 @@
 ghost use mathlib.Core.Path.{_≡_};
 ghost use Prim.Native.Nat.{ℕ, _<_, _≤_};
 ghost use Rattle.layout.specs.Small.{Small};
-ghost use Rattle.euler.specs.Queries.{faceIn, facesIn};
+ghost use Rattle.layout.specs.Items.{faceIn};
+ghost use Rattle.euler.specs.Queries.{facesIn};
 ghost use Rattle.euler.specs.FaceOperators.{mvsfLinks, mvsfInverse, kvsfTest, kvsfLinks, kvsfInverse};
 ghost use Rattle.euler_counts.specs.Counts.{Counted};
 ghost use Rattle.euler_lone.specs.LoneLaws.{faceAfter};

@@ -11,8 +11,7 @@ use Rattle.laws.specs.Search.{least}
 use Rattle.layout.specs.declared.shape.Shape.{Shape}
 use Rattle.layout.specs.Layout.{loopFace, startOf, loopOf, setFaceOuter, setLoopFace, side}
 use Rattle.layout.specs.Mate.{mate}
-use Rattle.euler.specs.Surgery.{some}
-use Rattle.euler.specs.Queries.{isRing}
+use Rattle.layout.specs.Items.{some, isRing}
 use Rattle.euler.specs.FaceOperators.{sharesOutside, rmovTest, rmovLinks}
 
 -- ---- half-edge k shares an edge with f

@@ -14,8 +14,9 @@ use Rattle.script.specs.declared.Operator.{Operator}
 use Rattle.layout.specs.declared.shape.Shape.{Shape}
 use Rattle.layout.specs.Layout.{faceOuter, loopFace, loopIsolated, startOf, loopOf, nextOf, side}
 use Rattle.layout.specs.Mate.{mate, edgeOf}
-use Rattle.euler.specs.Surgery.{some, itemOf, corner}
-use Rattle.euler.specs.Queries.{faceIn, facesIn, loopsIn, isRing}
+use Rattle.layout.specs.Items.{some, faceIn, isRing}
+use Rattle.euler.specs.Surgery.{itemOf, corner}
+use Rattle.euler.specs.Queries.{facesIn, loopsIn}
 use Rattle.euler.specs.EdgeOperators.{kevTest, mefTest, kefTest, kemrTest, mekrTest, jekvTest}
 use Rattle.euler.specs.FaceOperators.{linkedAfter, sharesOutside, kvsfTest, kfmrhTest, mfkrhTest, rmovTest}
 use Rattle.euler.specs.Exec.{conditions, condition}

@@ -10,7 +10,8 @@ use Rattle.laws.specs.Linked.{carry}
 use Rattle.layout.specs.declared.shape.Shape.{Shape}
 use Rattle.layout.specs.Layout.{solidUsed, faceSolid, faceOuter, loopFace, loopIsolated, loopOf, side}
 use Rattle.layout.specs.Mate.{mate}
-use Rattle.euler.specs.Queries.{faceIn, facesIn, loopsIn}
+use Rattle.layout.specs.Items.{faceIn}
+use Rattle.euler.specs.Queries.{facesIn, loopsIn}
 use Rattle.sound_tables.specs.Sound.{In, HalfUsed}
 use Rattle.sound_tables.specs.Labels.{LeastIs, label-found, label-some, none-label, many-one, one-many}
 use Rattle.sound_tables.specs.Good.{Good, own}

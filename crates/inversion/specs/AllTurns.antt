@@ -1,7 +1,8 @@
 -- Every kind of turn, put together.
 use mathlib.Core.Logic.{⊎-elim}
+use Rattle.layout.specs.Items.{faceIn}
 use Rattle.laws.specs.Bools.{split, ask}
-use Rattle.euler.specs.Queries.{faceIn, facesIn}
+use Rattle.euler.specs.Queries.{facesIn}
 use Rattle.takedown.specs.Inversion.{solidAt, edgesLeft, ringHalf, spurHalf, ringOf}
 use Rattle.inversion.specs.Turn.{TurnsMade}
 use Rattle.inversion.specs.TurnAcross.{turn-across}

@@ -13,10 +13,9 @@ use Rattle.laws.specs.Update.{upd-same, upd-off}
 use Rattle.script.specs.declared.Operator.{Operator}
 use Rattle.layout.specs.declared.shape.Shape.{Shape}
 use Rattle.layout.specs.Mate.{mate}
-use Rattle.euler.specs.Surgery.{some}
-use Rattle.euler.specs.Queries.{isRing, faceIn}
 use Rattle.euler.specs.Exec.{refusalOf, linksAfter}
 use Rattle.layout.specs.Fields.{change, SolidUsed, Solid, Outer, Face, Start, Loop, VertexUsed}
+use Rattle.layout.specs.Items.{some, isRing, faceIn}
 use Rattle.sound_tables.specs.Sound.{In, HalfUsed, side}
 use Rattle.sound_tables.specs.Cells.{Shows}
 use Rattle.sound_tables.specs.Good.{Good, own}

@@ -11,10 +11,10 @@ use Rattle.laws.specs.Columns.{Chained}
 use Rattle.layout.specs.declared.shape.Shape.{Shape}
 use Rattle.layout.specs.Points.{pointsLength}
 use Rattle.layout.specs.Layout.{linksLength}
-use Rattle.euler.specs.Surgery.{some}
 use Rattle.table.specs.Clear.{emptyLinks, emptyPoints}
 use Rattle.layout.specs.Fields.{Field, groupOf, groups, groupAt, capOf, head, fieldAt, field-in, sameField, by-fields}
 use Rattle.layout.specs.Fields.{Capacity, SolidUsed, Solid, Face, Start, Loop, VertexUsed}
+use Rattle.layout.specs.Items.{some}
 use Rattle.sound_tables.specs.FreeRecords.{of-record, free-zero}
 use Rattle.sound_tables.specs.Sound.{In, VertexSound, alone, joined}
 use Rattle.sound_tables.specs.Cells.{shows-own, shows-ext}

@@ -17,9 +17,9 @@ use Rattle.laws.specs.Walks.{walk-till, till-walk}
 use Rattle.layout.specs.declared.shape.Shape.{Shape}
 use Rattle.layout.specs.Mate.{mate}
 use Rattle.layout.specs.MateLaws.{mate-mate}
-use Rattle.euler.specs.Surgery.{some}
 use Rattle.euler.specs.Queries.{facesIn}
 use Rattle.layout.specs.Fields.{Columns, Solid, Outer, Face, Loop, Next}
+use Rattle.layout.specs.Items.{some}
 use Rattle.sound_tables.specs.Mates.{mate-other}
 use Rattle.sound_tables.specs.Sound.{In, HalfUsed, side}
 use Rattle.sound_tables.specs.Labels.{one-many}

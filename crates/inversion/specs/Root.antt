@@ -10,9 +10,8 @@ use lib.IntN.{ℤ}
 use Rattle.laws.specs.Bools.{split, T-true, eqb-same, eqb-other}
 use Rattle.laws.specs.Search.{least}
 use Rattle.layout.specs.declared.shape.Shape.{Shape}
-use Rattle.euler.specs.Surgery.{some}
-use Rattle.euler.specs.Queries.{isRing, faceIn}
 use Rattle.layout.specs.Fields.{SolidUsed, Solid, Outer, Face, First, Isolated, Loop, VertexUsed}
+use Rattle.layout.specs.Items.{some, isRing, faceIn}
 use Rattle.sound_tables.specs.Sound.{In}
 use Rattle.sound_tables.specs.Labels.{LeastIs, label-found, label-some}
 use Rattle.sound_tables.specs.Good.{Good, own}

@@ -11,10 +11,10 @@ use Rattle.laws.specs.Bools.{split, same?, true-T, eqb-same, eqb-other}
 use Rattle.laws.specs.Search.{least-ext}
 use Rattle.laws.specs.Sums.{sumTo, bit, countTo, sum-ext}
 use Rattle.layout.specs.declared.shape.Shape.{Shape}
-use Rattle.euler.specs.Surgery.{some}
-use Rattle.euler.specs.Queries.{faceIn, facesIn}
+use Rattle.euler.specs.Queries.{facesIn}
 use Rattle.table.specs.Count.{itemUsed}
 use Rattle.layout.specs.Fields.{SolidUsed, Solid, Face, Start, VertexUsed}
+use Rattle.layout.specs.Items.{some, faceIn}
 use Rattle.sound_tables.specs.Sound.{In}
 use Rattle.sound_tables.specs.Good.{Good, own}
 use Rattle.takedown.specs.Inversion.{solidAt, freeFace, freeLoop, freeEdge}

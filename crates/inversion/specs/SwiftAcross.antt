@@ -15,9 +15,10 @@ use Rattle.laws.specs.Permutations.{iter-in}
 use Rattle.layout.specs.declared.shape.Shape.{Shape}
 use Rattle.layout.specs.Mate.{mate}
 use Rattle.layout.specs.MateLaws.{mate-mate, mate-range}
-use Rattle.euler.specs.Queries.{faceIn, facesIn, isRing}
+use Rattle.euler.specs.Queries.{facesIn}
 use Rattle.euler.specs.Exec.{linksAfter}
 use Rattle.layout.specs.Fields.{SolidUsed, Solid, Outer, Face, Start, Loop, Next}
+use Rattle.layout.specs.Items.{faceIn, isRing}
 use Rattle.sound_tables.specs.Mates.{mate-other}
 use Rattle.sound_tables.specs.Sound.{In, HalfUsed, side}
 use Rattle.sound_tables.specs.Walking.{Steps, way-round, on-the-way}

@@ -9,9 +9,10 @@ use lib.Dec.{eqb, eqb→eq}
 use lib.IntN.{ℤ}
 use Rattle.laws.specs.Bools.{split, true-T}
 use Rattle.layout.specs.declared.shape.Shape.{Shape}
-use Rattle.euler.specs.Queries.{faceIn, facesIn, isRing}
+use Rattle.euler.specs.Queries.{facesIn}
 use Rattle.euler.specs.Exec.{linksAfter}
 use Rattle.layout.specs.Fields.{Solid, Outer, Face, Loop, Start}
+use Rattle.layout.specs.Items.{faceIn, isRing}
 use Rattle.sound_tables.specs.Sound.{In, side}
 use Rattle.sound_tables.specs.Good.{Good, own}
 use Rattle.takedown.specs.Inversion.{solidAt, freeEdge, ofSolid, edgesLeft, isRingOf, ringOf, kev, mekr}

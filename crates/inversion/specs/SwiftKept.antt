@@ -12,9 +12,9 @@ use Rattle.laws.specs.Search.{least, leastFrom, Least, none-is, one-is, leastFr
 use Rattle.layout.specs.declared.shape.Shape.{Shape}
 use Rattle.layout.specs.Layout.{solidUsed}
 use Rattle.layout.specs.Mate.{mate}
-use Rattle.euler.specs.Surgery.{some}
-use Rattle.euler.specs.Queries.{faceIn, facesIn}
+use Rattle.euler.specs.Queries.{facesIn}
 use Rattle.layout.specs.Fields.{SolidUsed, Solid, Loop, Next, Prev}
+use Rattle.layout.specs.Items.{some, faceIn}
 use Rattle.sound_tables.specs.Sound.{In, HalfUsed, side}
 use Rattle.sound_tables.specs.Good.{Good, own}
 use Rattle.takedown.specs.Inversion.{solidAt, outside, ofSolid, inRing, isSpur, spurHalf, isRingOf}

@@ -10,7 +10,7 @@ use Rattle.laws.specs.Permutations.{iter}
 use Rattle.layout.specs.declared.shape.Shape.{Shape}
 use Rattle.layout.specs.Layout.{nextOf}
 use Rattle.layout.specs.Mate.{mate}
-use Rattle.euler.specs.Queries.{isRing}
+use Rattle.layout.specs.Items.{isRing}
 use Rattle.sound_tables.specs.Sound.{In}
 use Rattle.sound_tables.specs.Walking.{Steps, steps-on}
 use Rattle.takedown.specs.Inversion.{Work, act, linksIn, isRingOf, makeOuter, moveRings}

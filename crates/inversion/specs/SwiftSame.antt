@@ -13,10 +13,10 @@ use Rattle.laws.specs.Search.{least}
 use Rattle.script.specs.declared.Operator.{Operator}
 use Rattle.layout.specs.declared.shape.Shape.{Shape}
 use Rattle.layout.specs.Layout.{shapeOf, faceOuter, loopOf, side}
-use Rattle.euler.specs.Surgery.{some}
-use Rattle.euler.specs.Queries.{faceIn, facesIn}
+use Rattle.euler.specs.Queries.{facesIn}
 use Rattle.euler.specs.Exec.{linksAfter}
 use Rattle.layout.specs.Fields.{SolidUsed}
+use Rattle.layout.specs.Items.{some, faceIn}
 use Rattle.sound_tables.specs.Sound.{In}
 use Rattle.sound_tables.specs.Good.{Good, own}
 use Rattle.table.specs.Check.{checkOf}

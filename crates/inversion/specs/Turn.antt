@@ -11,7 +11,8 @@ use lib.ListN.{length, length-append}
 use Rattle.laws.specs.Bools.{split, eqb-same, eqb-other}
 use Rattle.script.specs.declared.Operator.{Operator}
 use Rattle.layout.specs.declared.shape.Shape.{Shape}
-use Rattle.euler.specs.Queries.{faceIn, facesIn}
+use Rattle.layout.specs.Items.{faceIn}
+use Rattle.euler.specs.Queries.{facesIn}
 use Rattle.table.specs.Clear.{emptyLinks, emptyPoints}
 use Rattle.sound_tables.specs.Good.{Good}
 use Rattle.takedown.specs.Inversion.{Work, solidAt, freeFace, freeLoop, freeEdge, ringHalf, turned, invertBy}

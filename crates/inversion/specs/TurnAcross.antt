@@ -11,9 +11,10 @@ use lib.ListN.{length-append}
 use Rattle.laws.specs.Bools.{split, eqb-same, eqb-other}
 use Rattle.laws.specs.Search.{least, least-ext, least-unique}
 use Rattle.layout.specs.declared.shape.Shape.{Shape}
-use Rattle.euler.specs.Queries.{faceIn, facesIn}
+use Rattle.euler.specs.Queries.{facesIn}
 use Rattle.euler.specs.Exec.{linksAfter}
 use Rattle.layout.specs.Fields.{change, Solid, Face, Loop}
+use Rattle.layout.specs.Items.{faceIn}
 use Rattle.sound_tables.specs.Sound.{In, side}
 use Rattle.sound_tables.specs.Labels.{label-found}
 use Rattle.sound_tables.specs.Good.{Good, own}

@@ -11,9 +11,10 @@ use Rattle.laws.specs.Bools.{split, true-T, eqb-same}
 use Rattle.layout.specs.declared.shape.Shape.{Shape}
 use Rattle.layout.specs.Mate.{mate}
 use Rattle.layout.specs.MateLaws.{mate-odd}
-use Rattle.euler.specs.Queries.{isRing, faceIn, facesIn}
+use Rattle.euler.specs.Queries.{facesIn}
 use Rattle.euler.specs.Exec.{linksAfter, inverse}
 use Rattle.layout.specs.Fields.{Loop, SolidUsed, Solid, Outer, Face, First, Isolated, Start, Next, VertexUsed}
+use Rattle.layout.specs.Items.{isRing, faceIn}
 use Rattle.sound_tables.specs.Sound.{In, HalfUsed}
 use Rattle.sound_tables.specs.Names.{free-zero}
 use Rattle.sound_tables.specs.Cells.{Shows}

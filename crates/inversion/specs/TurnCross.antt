@@ -9,9 +9,10 @@ use lib.Dec.{eqb, eqb→eq}
 use lib.IntN.{ℤ}
 use Rattle.laws.specs.Bools.{true-T}
 use Rattle.layout.specs.declared.shape.Shape.{Shape}
-use Rattle.euler.specs.Queries.{faceIn, facesIn}
+use Rattle.euler.specs.Queries.{facesIn}
 use Rattle.euler.specs.Exec.{inverse}
 use Rattle.layout.specs.Fields.{Solid, Face, Loop}
+use Rattle.layout.specs.Items.{faceIn}
 use Rattle.sound_tables.specs.Sound.{In, side}
 use Rattle.sound_tables.specs.Labels.{label-only, one-many}
 use Rattle.sound_tables.specs.Good.{Good, own}

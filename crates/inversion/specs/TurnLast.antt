@@ -12,9 +12,10 @@ use Rattle.laws.specs.Search.{least-ext}
 use Rattle.laws.specs.Update.{upd-same, upd-off}
 use Rattle.layout.specs.declared.shape.Shape.{Shape}
 use Rattle.euler.specs.Surgery.{putPoint}
-use Rattle.euler.specs.Queries.{faceIn, facesIn}
+use Rattle.euler.specs.Queries.{facesIn}
 use Rattle.euler.specs.Exec.{inverse}
 use Rattle.layout.specs.Fields.{First, SolidUsed, Solid, Outer, Face, Isolated, Start, VertexUsed}
+use Rattle.layout.specs.Items.{faceIn}
 use Rattle.sound_tables.specs.Sound.{In}
 use Rattle.sound_tables.specs.Labels.{one-many}
 use Rattle.sound_tables.specs.Cells.{Shows}

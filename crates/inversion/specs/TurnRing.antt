@@ -14,9 +14,10 @@ use Rattle.laws.specs.Linked.{link}
 use Rattle.laws.specs.Update.{upd-at, upd-same, upd-off}
 use Rattle.layout.specs.declared.shape.Shape.{Shape}
 use Rattle.layout.specs.Mate.{mate}
-use Rattle.euler.specs.Queries.{isRing, faceIn, facesIn}
+use Rattle.euler.specs.Queries.{facesIn}
 use Rattle.euler.specs.Exec.{refusalOf, linksAfter, pointsAfter, inverse}
 use Rattle.layout.specs.Fields.{SolidUsed, Solid, Outer, Face, Start, Loop, VertexUsed}
+use Rattle.layout.specs.Items.{isRing, faceIn}
 use Rattle.sound_tables.specs.Sound.{In, HalfUsed, side}
 use Rattle.sound_tables.specs.Cells.{Shows}
 use Rattle.sound_tables.specs.Good.{Good, own, good-shows}

@@ -10,8 +10,9 @@ use lib.IntN.{ℤ}
 use Rattle.laws.specs.Bools.{true-T}
 use Rattle.layout.specs.declared.shape.Shape.{Shape}
 use Rattle.layout.specs.Mate.{mate}
-use Rattle.euler.specs.Queries.{faceIn, facesIn}
+use Rattle.euler.specs.Queries.{facesIn}
 use Rattle.layout.specs.Fields.{Next}
+use Rattle.layout.specs.Items.{faceIn}
 use Rattle.sound_tables.specs.Good.{Good, own}
 use Rattle.sound_spurs.specs.KevAccepted.{kevList, kevPoints, kev-links, kev-points}
 use Rattle.takedown.specs.Inversion.{solidAt, edgesLeft, ofSolid, isSpur, ringHalf, spurHalf, kev}

@@ -11,9 +11,10 @@ use Rattle.laws.specs.Bools.{ask, T-true, true-T, eqb-same}
 use Rattle.laws.specs.Search.{least, Least, none-is, one-is, leastFrom-is}
 use Rattle.layout.specs.declared.shape.Shape.{Shape}
 use Rattle.layout.specs.Mate.{mate}
-use Rattle.euler.specs.Queries.{facesIn, isRing}
+use Rattle.euler.specs.Queries.{facesIn}
 use Rattle.euler.specs.Exec.{linksAfter, pointsAfter}
 use Rattle.layout.specs.Fields.{Solid, Outer, Face, Loop, Next}
+use Rattle.layout.specs.Items.{isRing}
 use Rattle.sound_tables.specs.Sound.{In, HalfUsed, side}
 use Rattle.sound_tables.specs.Good.{Good, own}
 use Rattle.sound_operators.specs.Theorems.{all-hold}

@@ -58,12 +58,6 @@ any-of zero p k l u t = absurd (omega arith)
 any-of (suc n) p k l u t = split k (suc n) (λ e. T-or-l (p (suc n)) (anyTo n p) (subst (λ j. T (p j)) e t))
     (λ h. T-or-r (p (suc n)) (anyTo n p) (any-of n p k l (omega arith) t))
 
--- all tests of 1..n agree, and so do the answers
-pub any-ext : (n : ℕ) (p q : ℕ → Bool) → ((k : ℕ) → 1 ≤ k → k ≤ n → p k ≡ q k) → anyTo n p ≡ anyTo n q
-unfolding anyTo
-any-ext zero p q h = refl
-any-ext (suc n) p q h = rw (h (suc n) (omega arith) (omega arith), any-ext n p q (λ k l u. h k l (omega arith)))
-
 -- ---- the least of 1..n, or 0
 
 -- the least of k..k+n-1 that passes, or 0

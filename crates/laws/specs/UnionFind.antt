@@ -6,12 +6,11 @@ use mathlib.Core.List.{List}
 use Prim.Native.Nat.{ℕ, zero, suc, _≤_, _<_}
 use native.Mathlib.Omega.{arith}
 use lib.Dec.{eqb, ltb, ltb→lt, lt→ltb}
-use lib.ListN.{length, getD, set, replicate, length-set, List·getD-eq-default}
+use lib.ListN.{length, getD, set, length-set}
 use lib.Seq.{getD-set-same, getD-set-other, set-out}
 use Rattle.laws.specs.Bools.{pick, true-T, false-T, ask, split, le?, eqb-same, eqb-other}
 use Rattle.laws.specs.Update.{relabel, relabel-at, relabel-off, relabel-same}
 use Rattle.laws.specs.Linked.{Linked, same, link, back, via, linked-same}
-use Rattle.laws.specs.Marks.{zeros-at}
 
 -- parents never rise
 pub record Down (p : List ℕ) : Type 0 where
@@ -52,15 +51,6 @@ down-set p i v d l = record {
       (λ e. ⊎-elim (λ h. rw (set-out p i v h) (d .at j)) (λ h. rw (e, getD-set-same p i v 0 h) l) (le? (length p) i))
       (λ h. rw (getD-set-other p i j v 0 h) (d .at j));
 }
-
--- a list whose words do not rise: past its end it reads 0
-pub down-of : (p : List ℕ) → ((i : ℕ) → i < length p → getD p i 0 ≤ i) → Down p
-down-of p h =
-    record { at = λ i. ⊎-elim (λ l. omega (arith, List·getD-eq-default p 0 l)) (λ l. h i l) (le? (length p) i) }
-
--- a list of zeros
-pub down-zeros : (n : ℕ) → Down (replicate n 0)
-down-zeros n = record { at = λ i. omega (arith, zeros-at n i) }
 
 -- ---- finding the root
 

@@ -24,11 +24,6 @@ upd-off f {k} v {i} h = rw (eqb-other h)
 pub upd-same : (f : ℕ → ℕ) (k v : ℕ) → upd f k v k ≡ v
 upd-same f k v = upd-at f v refl
 
--- changes of functions that agree agree
-pub upd-ext : (f g : ℕ → ℕ) (k v : ℕ) → ((m : ℕ) → f m ≡ g m) → (m : ℕ) → upd f k v m ≡ upd g k v m
-unfolding upd
-upd-ext f g k v h m = rw (h m)
-
 -- every entry v becomes w
 unfoldable pub relabel : (ℕ → ℕ) → ℕ → ℕ → ℕ → ℕ
 relabel f v w i = pick (eqb (f i) v) w (f i)

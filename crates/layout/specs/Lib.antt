@@ -1,5 +1,6 @@
 pub mod Column
 pub mod Fields
+pub mod Items
 pub mod Layout
 pub mod LayoutLaws
 pub mod Mate

@@ -1,31 +1,28 @@
 -- The ways through an operator carried out, a step, a run and an undo, one law each, over plain variables.
 use mathlib.Core.Path.{_≡_, refl, sym, ap, _∙_, subst}
 use mathlib.Core.Logic.{_≢_, ⊎-elim}
-use mathlib.Core.Bool.{Bool, true, false}
 use mathlib.Core.List.{List}
 use Prim.Native.Nat.{ℕ, zero, suc, _+_, _-_, _≤_, _<_}
 use native.Mathlib.Omega.{arith}
-use lib.Dec.{eqb, leb, ltb}
+use lib.Dec.{eqb}
 use lib.IntN.{ℤ}
 use lib.ListN.{length}
-use borrow.Author.Tests.{lt-ltb, le-ltb, le-leb, lt-leb, eq-eqb, ne-eqb}
+use borrow.Author.Tests.{lt-ltb, le-ltb, le-leb, eq-eqb, ne-eqb}
 use Rattle.laws.specs.Bools.{pick, same?, split, eqb-same, eqb-other}
-use Rattle.codec.specs.declared.Limits.{Limits}
 use Rattle.script.specs.declared.Operator.{Operator}
 use Rattle.script.specs.declared.ReadAnswer.{ReadAnswer}
-use Rattle.script.specs.Operator.{readOperator, operatorBytes, putBytes}
 use Rattle.script.specs.RoundTrip.{read-next}
 use Rattle.layout.specs.declared.shape.Shape.{Shape}
 use Rattle.layout.specs.Layout.{shapeOf}
-use Rattle.euler.specs.Exec.{limits, admitOf, linksAfter, pointsAfter, inverse}
+use Rattle.euler.specs.Exec.{limits, admitOf}
 use Rattle.layout.specs.Small.{Small}
 use Rattle.table.specs.declared.check.CheckAnswer.{CheckAnswer}
 use Rattle.table.specs.Check.{checkOf}
 use Rattle.table.specs.CheckLaws.{checked-fits}
 use Rattle.table.specs.SizesLaws.{fits-small}
 use Rattle.runs.specs.Clauses.{run-in, run-out, undo-in, undo-out, entry-beyond, entry-passed}
-use Rattle.runs.specs.Run.{State, state, readAt, admitRead, refusalAt, inverseBytes, stepped}
-use Rattle.runs.specs.Run.{carryRefusal, Carried, carriedIs, carryOf, runRefusal, Stepped, stepIs, stepOf}
+use Rattle.runs.specs.Run.{State, state, readAt, admitRead, stepped}
+use Rattle.runs.specs.Run.{carryRefusal, carriedIs, carryOf, runRefusal, Stepped, stepIs, stepOf}
 use Rattle.runs.specs.Run.{Ran, ran, runFrom, notRun, entry, runOf, Undid, undid, undoFrom, notUndone, undoOf}
 
 -- what was read is refused, or its operator is
@@ -38,24 +35,6 @@ module _ (sh : Shape) (x : List ℕ) (r : ReadAnswer) where
   unfolding admitRead
   read-admitted z a e = rw (eq-eqb (r .refusal) 0 z) e
 
--- an operator carried out: a refusal 6 to 8, no room, done
-module _ (sh : Shape) (x : List ℕ) (p : List ℤ) (log : List ℕ) (start : ℕ) (op : Operator) (a : ℕ)
-    (ea : a ≡ admitOf sh x op) where
-  pub carry-refused : a ≢ 0 → carriedIs a (state x p log start) ≡ carryOf sh (state x p log start) op
-  unfolding carryOf carryRefusal
-  carry-refused z = rw (← ea, ne-eqb a 0 z, ne-eqb a 0 z)
-
-  module _ (z : a ≡ 0) (o : Operator) (eo : o ≡ inverse sh x p op) (n : ℕ) (en : n ≡ length (operatorBytes o)) where
-    pub carry-full : start < n → carriedIs 9 (state x p log start) ≡ carryOf sh (state x p log start) op
-    unfolding carryOf carryRefusal inverseBytes
-    carry-full h = rw (← ea, eq-eqb a 0 z, ← eo, ← en, lt-leb n start h)
-
-    pub carry-done : n ≤ start → (y : List ℕ) → y ≡ linksAfter sh x op → (q : List ℤ) → q ≡ pointsAfter sh x p op
-        → (m : List ℕ) → m ≡ putBytes log (start - n) (operatorBytes o)
-        → carriedIs 0 (state y q m (start - n)) ≡ carryOf sh (state x p log start) op
-    unfolding carryOf carryRefusal stepped inverseBytes
-    carry-done h y ey q eq m em = rw (← ea, eq-eqb a 0 z, ← eo, ← en, le-leb n start h, ey, eq, em)
-
 -- what was not refused is carried out, and what was leaves the state as it is
 module _ (sh : Shape) (t : State) (o : Operator) where
   pub carry-taken : carryRefusal sh t o ≡ 0 → carryOf sh t o ≡ carriedIs 0 (stepped sh t o)
@@ -65,21 +44,6 @@ module _ (sh : Shape) (t : State) (o : Operator) where
   pub carry-kept : carryRefusal sh t o ≢ 0 → carryOf sh t o ≡ carriedIs (carryRefusal sh t o) t
   unfolding carryOf
   carry-kept z = rw (eqb-other z)
-
--- one step: what stands there is refused, or its operator is carried out
-module _ (sh : Shape) (t : State) (s : List ℕ) (at : ℕ) (lim : Limits) (el : lim ≡ limits sh) (rd : ReadAnswer)
-    (er : rd ≡ readOperator lim s at) where
-  read-is : rd ≡ readAt sh s at
-  read-is = er ∙ ap (λ l. readOperator l s at) el
-
-  pub step-unread : rd .refusal ≢ 0 → stepIs (rd .refusal) (rd .next) t ≡ stepOf sh t s at
-  unfolding stepOf
-  step-unread z = rw (← read-is, ne-eqb (rd .refusal) 0 z)
-
-  pub step-carried : rd .refusal ≡ 0 → (c : Carried) → c ≡ carryOf sh t (rd .op)
-      → stepIs (c .refusal) (rd .next) (c .state) ≡ stepOf sh t s at
-  unfolding stepOf
-  step-carried z c e = rw (← read-is, eq-eqb (rd .refusal) 0 z, e)
 
 -- a step carried out, and one refused
 module _ (sh : Shape) (t : State) (s : List ℕ) (at : ℕ) where
@@ -163,24 +127,6 @@ module _ (sh : Shape) (log : List ℕ) (n at k : ℕ) (x : List ℕ) (p : List �
   pub undo-past : 0 < n → length log ≤ at → undid 11 k at x p ≡ whole
   unfolding undoFrom
   undo-past m h = let e : n ≡ suc (n - 1) = omega (arith, m) in rw (e, le-ltb at (length log) h) at rest
-
-  module _ (m : 0 < n) (h : at < length log) (lim : Limits) (el : lim ≡ limits sh) (rd : ReadAnswer)
-      (er : rd ≡ readOperator lim log at) (a : ℕ) (ea : a ≡ admitRead sh x rd) where
-    here : rd ≡ readAt sh log at
-    here = er ∙ ap (λ l. readOperator l log at) el
-
-    due : pick (eqb (refusalAt sh x log at) 0) (undoFrom (n - 1) sh log (readAt sh log at .next) (k + 1)
-        (linksAfter sh x (readAt sh log at .op)) (pointsAfter sh x p (readAt sh log at .op))) (undid
-        (refusalAt sh x log at) k at x p) ≡ whole
-    unfolding undoFrom
-    due = let e : n ≡ suc (n - 1) = omega (arith, m) in rw (e, lt-ltb at (length log) h) at rest
-
-    pub undo-stop : a ≢ 0 → undid a k at x p ≡ whole
-    undo-stop z = rw (← here, ← ea, ne-eqb a 0 z) at due
-
-    pub undo-turn : a ≡ 0 → (y : List ℕ) → y ≡ linksAfter sh x (rd .op) → (q : List ℤ) → q ≡ pointsAfter sh x p (rd .op)
-        → (j : ℕ) → j ≡ n - 1 → undoFrom j sh log (rd .next) (k + 1) y q ≡ whole
-    undo-turn z y ey q eq j ej = rw (ej, ey, eq) (rw (← here, ← ea, eq-eqb a 0 z) at due)
 
 -- the way in: the start is beyond the log, or the check answers
 module _ (x : List ℕ) (p : List ℤ) (log : List ℕ) (start : ℕ) where

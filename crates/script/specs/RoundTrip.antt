@@ -1,31 +1,26 @@
 -- Operators and whole scripts: what is written is read back, what is read is what would be written, byte for byte.
 use mathlib.Core.Path.{_≡_, refl, sym, ap, _∙_}
-use mathlib.Core.Logic.{⊎-elim}
-use Prim.Native.Nat.{ℕ, zero, suc, _+_, _-_, _≤_, _<_}
+use Prim.Native.Nat.{ℕ, _+_, _-_, _≤_, _<_}
 use native.Mathlib.Nat.{add-assoc}
 use native.Mathlib.Omega.{arith}
 use mathlib.Core.Bool.{Bool, true, false}
-use mathlib.Core.List.{List, [], _∷_, _++_, append-assoc, append-nil}
-use lib.ListN.{length, getD, take, drop, length-append, length-drop, drop-of-length-le}
-use lib.Seq.{drop-at, drop-drop, drop-append-seam, take-append-seam}
-use lib.Dec.{ltb, eqb}
-use borrow.Author.Tests.{lt-ltb, le-ltb, eq-eqb, ne-eqb, eqb-true, eqb-false, ltb-true, ltb-false}
-use Rattle.laws.specs.Bools.{pick, ask}
-use Rattle.codec.specs.declared.number.Num.the-variants.{Got, Bad}
+use mathlib.Core.List.{List, _++_, append-assoc}
+use lib.ListN.{length, drop, length-append}
+use lib.Seq.{drop-drop, drop-append-seam}
+use lib.Dec.{eqb}
+use borrow.Author.Tests.{eq-eqb, ne-eqb, eqb-true, eqb-false}
+use Rattle.laws.specs.Bools.{pick}
 use Rattle.codec.specs.declared.Limits.{Limits}
 use Rattle.script.specs.declared.Operator.{Operator}
-use Rattle.script.specs.declared.ReadAnswer.{ReadAnswer}
-use Rattle.codec.specs.Number.{readNumber, groups}
-use Rattle.codec.specs.Operands.{pattern, widest, largests, inRanges, wire, unwire, wires, unwires}
-use Rattle.codec.specs.OperandBytes.{Read, readOperands, operandsBytes}
-use Rattle.script.specs.Operator.{readOperator, numbersOf, operatorBytes, operatorRefusal, writeScript, Script}
-use Rattle.script.specs.Operator.{scriptIs, before, readFrom, readScript}
-use Rattle.codec.specs.WriteLaws.{groups-size}
+use Rattle.codec.specs.Number.{groups}
+use Rattle.codec.specs.Operands.{pattern, widest, largests, inRanges, wire, unwire}
+use Rattle.codec.specs.OperandBytes.{operandsBytes}
+use Rattle.script.specs.Operator.{readOperator, numbersOf, operatorBytes, operatorRefusal}
 use Rattle.codec.specs.NumberTrip.{Bytes, number-written, written-number, number-next}
 use Rattle.codec.specs.Ranges.{Within, within-largest, ranges-wider, eight, code-between}
 use Rattle.codec.specs.OperandTrip.{operands-written, written-operands, operands-next, wires-unwires, unwires-wires}
 use Rattle.codec.specs.OperandTrip.{each-length}
-use Rattle.script.specs.Accepted.{Accepted, accepted, read-accepted, operatorIs}
+use Rattle.script.specs.Accepted.{accepted, read-accepted, operatorIs}
 
 -- an operator that can be written: a record of eight operands that writing does not refuse
 pub record Writable (op : Operator) : Type 0 where
@@ -130,15 +125,6 @@ module _ (lim : Limits) (s : List ℕ) (at : ℕ) (z : readOperator lim s at .re
       )
 
   module _ (v : Within lim) where
-    -- within the limits of a table as without one
-    pub read-widest : readOperator lim s at ≡ readOperator widest s at
-    read-widest =
-        let a = accepted lim s at z in
-        let r = ranges-wider (largests lim) (largests widest) (within-largest lim v) (pattern (a .code) .kinds)
-        (a .numbers) (a .ranges) in
-        read-accepted lim s at (a .code) (a .from) (a .numbers) _ (a .code-read) (a .is-code) (a .read) (a .ranges)
-        ∙ sym (read-accepted widest s at (a .code) (a .from) (a .numbers) _ (a .code-read) (a .is-code) (a .read) r)
-
     -- and what is read can be written
     pub read-writable : Bytes s → Writable (readOperator lim s at .op)
     read-writable w =

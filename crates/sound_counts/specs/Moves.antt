@@ -17,8 +17,8 @@ use Rattle.layout.specs.declared.shape.Shape.{Shape}
 use Rattle.layout.specs.Layout.{faceSolid, faceOuter, loopFace, startOf, loopOf, nextOf, prevOf, side}
 use Rattle.layout.specs.Fields.{Outer, Start, VertexUsed}
 use Rattle.layout.specs.Mate.{mate}
+use Rattle.layout.specs.Items.{faceIn}
 use Rattle.euler.specs.Surgery.{itemOf, tie, insertAfter}
-use Rattle.euler.specs.Queries.{faceIn}
 use Rattle.euler.specs.EdgeOperators.{mevLinks, kevLinks, mefLinks, kefLinks, kemrLinks, mekrLinks}
 use Rattle.euler.specs.FaceOperators.{mvsfLinks, kvsfLinks, kfmrhLinks, mfkrhLinks, rmovLinks, ringFace}
 use Rattle.euler.specs.EdgeOperators.{semvLinks, jekvLinks}

@@ -20,10 +20,10 @@ use Rattle.script.specs.Operator.{operandOf}
 use Rattle.layout.specs.declared.shape.Shape.{Shape}
 use Rattle.layout.specs.Points.{coordinate, rangeTest}
 use Rattle.euler.specs.Surgery.{putPoint}
-use Rattle.euler.specs.Queries.{faceIn}
 use Rattle.euler.specs.FaceOperators.{mvsfLinks, kvsfTest, kvsfLinks}
 use Rattle.euler.specs.Exec.{limits, useWord, condition, refusalOf, linksAfter, killedVertex, pointsAfter, inverse}
 use Rattle.layout.specs.Fields.{Field, SolidUsed, Solid, Outer, Face, First, Isolated, Columns, capOf}
+use Rattle.layout.specs.Items.{faceIn}
 use Rattle.sound_tables.specs.Sound.{In, Sound}
 use Rattle.sound_tables.specs.Labels.{label-found, label-some, label-only, many-one, one-many}
 use Rattle.sound_tables.specs.PointLists.{three, all-three}

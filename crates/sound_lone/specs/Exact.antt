@@ -17,7 +17,8 @@ use Rattle.codec.specs.Operands.{pattern, rows}
 use Rattle.euler.specs.Exec.{useWord, condition, refusalOf}
 use Rattle.layout.specs.Fields.{Field, SolidUsed, Solid, Face, VertexUsed, Columns}
 use Rattle.sound_tables.specs.Cells.{Shows, shows-ext}
-use Rattle.sound_tables.specs.WriteLaws.{frame, Stand, write-back}
+use Rattle.sound_tables.specs.WriteLaws.{frame}
+use Rattle.sound_tables.specs.WriteBack.{Stand, write-back}
 use Rattle.sound_tables.specs.PointLists.{three, put-length, put-at, put-back, put-cleared, points-new, points-cleared}
 use Rattle.sound_tables.specs.Good.{own, Good, good-shows, good-after}
 use Rattle.sound_tables.specs.Undone.{Kept, Undone, exact}

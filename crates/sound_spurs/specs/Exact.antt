@@ -28,7 +28,7 @@ use Rattle.sound_tables.specs.Good.{own, Good, good-shows}
 use Rattle.sound_tables.specs.CornerTest.{CornerAt}
 use Rattle.sound_tables.specs.WriteLaws.{Apart, frame}
 use Rattle.sound_tables.specs.Undone.{Kept, Undone}
-use Rattle.sound_spurs.specs.WriteBack.{Restores, restored, other-item}
+use Rattle.sound_tables.specs.WriteBack.{Restores, restored, other-item}
 use Rattle.sound_spurs.specs.Relation.{Spur, spurOf, in-k, in-b, in-N, next-P, prev-b, prev-N, Nb, whole-P}
 use Rattle.sound_spurs.specs.Relation.{spur-loop-b, spur-loop-N, spur-loop-in, spur-loop-used, spur-start-N}
 use Rattle.sound_spurs.specs.Relation.{near-in, far-in, far-used}

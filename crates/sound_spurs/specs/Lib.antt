@@ -1,6 +1,6 @@
 -- The pair mev and kev: an edge to a vertex of its own (a spur) goes in and comes out. Begin with Relation, what a spur
 -- is, and Exact, the two theorems. Accepted says what the operands must be and what the operators store; Sound and
--- Rules, why a table stays sound; WriteBack, why each undoes the other.
+-- Rules, why a table stays sound. That each undoes the other is a law about stores (WriteBack of crate sound_tables).
 pub mod Relation
 pub mod MevAccepted
 pub mod KevAccepted
@@ -8,5 +8,4 @@ pub mod MevRules
 pub mod KevRules
 pub mod MevSound
 pub mod KevSound
-pub mod WriteBack
 pub mod Exact

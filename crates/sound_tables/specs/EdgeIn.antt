@@ -5,10 +5,10 @@ use mathlib.Core.Logic.{_≢_, inl, inr, ⊎-elim}
 use Prim.Native.Nat.{ℕ, _≤_}
 use Rattle.laws.specs.Bools.{eqb-other, split}
 use Rattle.laws.specs.Update.{upd, upd-off, upd-same, relabel}
-use Rattle.laws.specs.Permutations.{iter, inj, redo, undo-in}
-use Rattle.laws.specs.Cycles.{Cycles, agree, forwards}
-use Rattle.laws.specs.Exchange.{Till, stop, go, not-both, till-fx}
-use Rattle.laws.specs.Moves.{Or, ins, xchg, ins-cycles, merge-cycles, halve-cycles}
+use Rattle.laws.specs.Permutations.{inj, redo, undo-in}
+use Rattle.laws.specs.Cycles.{Cycles, agree}
+use Rattle.laws.specs.Exchange.{Till, stop, go}
+use Rattle.laws.specs.Moves.{Or, ins, xchg, ins-cycles, merge-cycles}
 
 -- the four columns of the half-edges
 pub record Halves : Type 0 where
@@ -156,33 +156,6 @@ module _ {n : ℕ} {mate : ℕ → ℕ} {U : ℕ → Type 0} {h : Halves} (r : R
   rest-old u (stop e) = absurd (off fk u e)
   rest-old u (go {z} e1 e2 t) = split z p (λ e. stop e) λ e. go e1 e
       (subst (Till (h .next) q p) (step-o z u e) (rest-old (subst U (sym (step-o z u e)) (r .loops .perm .f-in z u)) t))
-
-  -- mef: those of the loop from which q is met before p is left, and a, get the label d
-  pub halved-loops : h .loop p ≡ h .loop q → (d : ℕ) → ((i : ℕ) → U i → h .loop i ≢ d) → (lab : ℕ → ℕ)
-      → lab k ≡ h .loop p → lab a ≡ d
-      → ((i : ℕ) → U i → Till (h .next) p q i → lab i ≡ d) → ((i : ℕ) → U i → Till (h .next) q p i → lab i ≡ h .loop i)
-      → ((i : ℕ) → U i → h .loop i ≢ h .loop p → lab i ≡ h .loop i)
-      → Cycles n (Or a (Or k U)) (joined h k a p q lab .next) lab
-  halved-loops one d fresh lab lk la run rest far = with4 p q up uq pq λ c1 c2 c3 c4 c5 c6 c7 c8 c9 c10 c11 c12.
-      let L : ℕ → ℕ = upd (upd (h .loop) k (h .loop p)) a (upd (h .loop) k (h .loop p) k) in
-      let Lk : L k ≡ h .loop p = simp (upd-same, upd-off) in
-      let La : L a ≡ h .loop p = simp upd-same in
-      let Lo : (i : ℕ) → U i → L i ≡ h .loop i = λ i u. upd-off _ _ (off fa u) ∙ upd-off _ _ (off fk u) in
-      let fk2 : f2 k ≡ a = upd-same _ k a in
-      let w = forwards (spur .perm) (spur .one a q (inl refl) (inr (inr uq)) (La ∙ one ∙ sym (Lo q uq))) in
-      let run-a : Till f2 k q a = subst (Till f2 k q) fk2
-      (till-fx f2 k q c5 (w .0 .0) (subst (λ z. iter f2 (w .0 .0) z ≡ q) (sym fk2) (w .0 .1))) in
-      agree (halve-cycles spur k q d lab (inr (inl refl)) (inr (inr uq)) c5 (Lk ∙ one ∙ sym (Lo q uq))
-      (λ i. ⊎-elim (λ e z. fresh p up (sym La ∙ ap L (sym e) ∙ z))
-      (⊎-elim (λ e z. fresh p up (sym Lk ∙ ap L (sym e) ∙ z)) (λ u z. fresh i u (sym (Lo i u) ∙ z))))
-      (λ i. ⊎-elim (λ e t. ap lab e ∙ la)
-      (⊎-elim (λ e t. absurd (not-both f2 k q c5 (subst (Till f2 k q) e t) (stop refl)))
-      (λ u t. run i u (run-old u t))))
-      (λ i. ⊎-elim (λ e t. absurd (not-both f2 k q c5 run-a (subst (Till f2 q k) e t)))
-      (⊎-elim (λ e t. ap lab e ∙ lk ∙ sym Lk ∙ ap L (sym e)) (λ u t. rest i u (rest-old u t) ∙ sym (Lo i u))))
-      (λ i. ⊎-elim (λ e z. absurd (z (ap L e ∙ La ∙ sym Lk)))
-      (⊎-elim (λ e z. absurd (z (ap L e))) (λ u z. far i u (λ q. z (Lo i u ∙ q ∙ sym Lk)) ∙ sym (Lo i u)))))
-      (λ i u. u) (λ i u. u) (λ i u. moves i) (λ i u. refl)
 
   -- the mate of p is in use
   mp : U (mate p)

@@ -1,14 +1,14 @@
 -- An edge comes out, k after p and its mate a after q, on the four columns of the half-edges: loops part (kemr) or join
 -- (kef), and the vertices lose two.
-use mathlib.Core.Path.{_≡_, refl, sym, ap, _∙_, subst}
+use mathlib.Core.Path.{_≡_, sym, ap, _∙_, subst}
 use mathlib.Core.Logic.{_≢_}
 use Prim.Native.Nat.{ℕ}
-use Rattle.laws.specs.Update.{Apart, apart, upd, upd-off, upd-same, relabel}
+use Rattle.laws.specs.Update.{Apart, apart, upd, upd-off, upd-same}
 use Rattle.laws.specs.Bools.{split}
 use Rattle.laws.specs.Permutations.{Perm, inj}
 use Rattle.laws.specs.Cycles.{Cycles, agree}
 use Rattle.laws.specs.Exchange.{Till}
-use Rattle.laws.specs.Moves.{But, xchg, out-cycles, halve-cycles, merge-cycles}
+use Rattle.laws.specs.Moves.{But, xchg, out-cycles, halve-cycles}
 use Rattle.sound_tables.specs.EdgeIn.{Halves, Rules}
 
 -- k comes after p and its mate a after q. The new loop column is given: what is asked of it stands below.
@@ -79,16 +79,6 @@ module _ {n : ℕ} {mate : ℕ → ℕ} {U : ℕ → Type 0} {h : Halves} (r : R
   kemr-loops one d fresh lab run rest far =
       taken-out (halve-cycles (r .loops) k q d lab uk uq kq
       (one ∙ ap (h .loop) (sym qa) ∙ r .loops .keeps q uq) fresh run rest far)
-
-  -- kef: the loop of k takes the label of the mate's
-  pub kef-loops : h .loop k ≢ h .loop a → Cycles n (But k (But a U))
-      (parted h k a p q (relabel (h .loop) (h .loop k) (h .loop q)) .next)
-      (parted h k a p q (relabel (h .loop) (h .loop k) (h .loop q)) .loop)
-  kef-loops two = apart A4 λ c1 c2 c3 c4 c5 c6 c7 c8 c9 c10 c11 c12. taken-out
-      (agree (merge-cycles (r .loops) q k uq uk (λ e. two (sym e ∙ sym (r .loops .keeps q uq) ∙ ap (h .loop) qa)))
-      (λ i u. u) (λ i u. u)
-      (λ i u. split i k (λ e. rw e (simp (upd-same, upd-off))) λ f. split i q (λ e. rw e (simp (upd-same, upd-off)))
-      λ g. simp upd-off) (λ i u. refl))
 
   -- and so do their mates
   mates : Apart k a (mate q) (mate p)

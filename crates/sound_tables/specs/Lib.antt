@@ -29,5 +29,6 @@ pub mod Walking
 pub mod Shown
 pub mod EdgeInstances
 pub mod WriteLaws
+pub mod WriteBack
 pub mod FreeRecords
 pub mod Regroup

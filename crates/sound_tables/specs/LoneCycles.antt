@@ -6,16 +6,6 @@ use Rattle.laws.specs.Update.{upd, upd-same, upd-off}
 use Rattle.laws.specs.Cycles.{Cycles, birth, death}
 use Rattle.laws.specs.Moves.{Or, But}
 
--- the same cycles under labels that tell the same apart
-pub same-cycles : {n : ℕ} {U : ℕ → Type 0} {f lab lab′ : ℕ → ℕ} → Cycles n U f lab
-    → ((i j : ℕ) → U i → U j → lab i ≡ lab j → lab′ i ≡ lab′ j)
-    → ((i j : ℕ) → U i → U j → lab′ i ≡ lab′ j → lab i ≡ lab j) → Cycles n U f lab′
-same-cycles {f = f} c to from = record {
-  perm = c .perm;
-  keeps = λ i u. to (f i) i (c .perm .f-in i u) u (c .keeps i u);
-  one = λ i j u w e. c .one i j u w (from i j u w e);
-}
-
 module _ {n : ℕ} {U : ℕ → Type 0} {f lab : ℕ → ℕ} (c : Cycles n U f lab) (x : ℕ) where
   -- x comes, alone with the new label o
   pub birth-cycles : (o : ℕ) → ¬ U x → 1 ≤ x → x ≤ n → ((i : ℕ) → U i → lab i ≢ o) → Cycles n (Or x U) (upd f x x)

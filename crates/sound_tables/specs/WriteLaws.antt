@@ -1,12 +1,12 @@
--- Stores as data (`Writes` of crate layout): lists show columns, what is not written stays, what stood there may be
--- written back, writes to other cells commute. Said once, for all operators and for any fields.
+-- Stores as data (`Writes` of crate layout): lists show columns, what is not written stays,
+-- writes to other cells commute. Said once, for all operators and for any fields.
 use mathlib.Core.Path.{_≡_, refl, sym, ap, _∙_}
 use mathlib.Core.Logic.{_≢_, _⊎_, inl, inr, ⊎-elim}
 use mathlib.Core.Bool.{Bool, true, false, _&&_, false≢true}
 use mathlib.Core.List.{List, [], _∷_}
 use Prim.Native.Nat.{ℕ, _≤_}
-use Rattle.laws.specs.Bools.{pick, split, ask, true-T, T-true, and-T}
-use Rattle.laws.specs.Update.{upd, upd-at, upd-off}
+use Rattle.laws.specs.Bools.{pick, ask, true-T, T-true, and-T}
+use Rattle.laws.specs.Update.{upd, upd-off}
 use Rattle.layout.specs.declared.shape.Shape.{Shape}
 use Rattle.layout.specs.Fields.{Field, Columns, capOf, change, sameField, same-field, among}
 use Rattle.layout.specs.Writes.{Write, writes, changes}
@@ -80,30 +80,6 @@ column-off c G f F e n = rw e
 pub column-other : (Fs : List Field) (G : Field) → among Fs G ≡ true → (c : Columns) (f : ℕ → ℕ) (F : Field)
     → among Fs F ≡ false → (n : ℕ) → withColumn c G f F n ≡ c F n
 column-other Fs G a c f F h n = column-off c G f F (among-off Fs G F a h) n
-
--- ---- there and back
-
--- the words that are written stand in c
-abbrev pub Stand : Columns → List Write → Type 0
-Stand c [] = Unit {0}
-Stand c (w ∷ ws) = (c (w .field) (w .item) ≡ w .value) × Stand c ws
-
--- what stands in c, written into columns that differ from c in those cells at most, gives c
-pub write-back : (ws : List Write) (c d : Columns) → Stand c ws → ((F : Field) (n : ℕ) → Apart ws F n → d F n ≡ c F n)
-    → (F : Field) (n : ℕ) → changes ws d F n ≡ c F n
-write-back [] c d s h = λ F n. h F n tt
-write-back (w ∷ ws) c d s h = write-back ws c (change d (w .field) (w .item) (w .value)) (s .1) one
-  where
-    -- one write on, the cells where they may differ are those of the other writes
-    one : (F : Field) (n : ℕ) → Apart ws F n → change d (w .field) (w .item) (w .value) F n ≡ c F n
-    one F n a =
-        let off : (sameField (w .field) F ≡ false) ⊎ (n ≢ w .item) → change d (w .field) (w .item) (w .value) F n
-        ≡ c F n
-        = λ q. change-off d (w .field) (w .item) (w .value) F n q ∙ h F n (q, a) in
-        ⊎-elim
-        (λ e. split n (w .item)
-        (λ q. rw e (upd-at (d F) (w .value) q ∙ sym (s .0) ∙ ap (λ G. c G (w .item)) (same-field (w .field) F e)
-        ∙ ap (c F) (sym q))) (λ q. off (inr q))) (λ e. off (inl e)) (ask (sameField (w .field) F))
 
 -- ---- order
 

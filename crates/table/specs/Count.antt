@@ -1,23 +1,23 @@
 -- Counting a sound table: solids, faces, loops, edges and vertices in use, rings, holes.
 use Prim.Native.Nat.{ℕ, _+_, _-_, _*_, _/_}
-use mathlib.Core.Bool.{Bool, not, _&&_}
+use mathlib.Core.Bool.{Bool, _&&_}
 use mathlib.Core.List.{List}
 use lib.Dec.{eqb}
 use lib.IntN.{ℤ}
 use Rattle.laws.specs.Bools.{pick}
 use Rattle.laws.specs.Sums.{countTo}
 use Rattle.layout.specs.declared.shape.Shape.{Shape}
-use Rattle.layout.specs.Layout.{shapeOf, solidUsed, faceOuter, loopFace, vertexUsed}
+use Rattle.layout.specs.Layout.{shapeOf, solidUsed, vertexUsed}
+use Rattle.layout.specs.Items.{some, faceUsed, loopUsed, halfUsed, isRing}
 use Rattle.table.specs.declared.tally.Item.{Item}
 use Rattle.table.specs.declared.tally.Item.the-variants.{Solid, Face, Loop, Edge, Vertex, Ring}
 use Rattle.table.specs.declared.check.CheckAnswer.{CheckAnswer}
 use Rattle.table.specs.declared.count.CountAnswer.{CountAnswer}
 use Rattle.table.specs.Check.{checkOf}
-use Rattle.check_items.specs.Rules.{some, faceUsed, loopUsed, halfUsed}
 
--- a ring, a loop that is not its face's outer loop, is in use
+-- a ring is in use
 abbrev pub ringUsed : Shape → List ℕ → ℕ → Bool
-ringUsed sh x l = loopUsed sh x l && not (eqb (faceOuter sh x (loopFace sh x l)) l)
+ringUsed sh x l = loopUsed sh x l && isRing sh x l
 
 -- item n of a kind is in use
 unfoldable pub itemUsed : Item → Shape → List ℕ → ℕ → Bool

@@ -11,8 +11,8 @@ use Rattle.laws.specs.Search.{leastFrom}
 use Rattle.layout.specs.declared.shape.Shape.{Shape}
 use Rattle.layout.specs.Layout.{shapeOf, solidUsed, faceSolid, faceOuter, loopFace, loopOf, nextOf, prevOf, side}
 use Rattle.layout.specs.Mate.{mate}
-use Rattle.euler.specs.Surgery.{some}
-use Rattle.euler.specs.Queries.{faceIn, facesIn, isRing}
+use Rattle.layout.specs.Items.{some, faceIn, isRing}
+use Rattle.euler.specs.Queries.{facesIn}
 use Rattle.runs.specs.Run.{State, entry}
 use Rattle.takedown.specs.declared.ends.Ends.{Ends}
 use Rattle.takedown.specs.Inversion.{Work, act, linksIn, freeFace, freeLoop, freeEdge, outside, ofSolid, inRing}

@@ -6,7 +6,7 @@ use lib.IntN.{ℤ}
 use Rattle.laws.specs.Bools.{pick}
 use Rattle.layout.specs.declared.shape.Shape.{Shape}
 use Rattle.layout.specs.Layout.{loopOf, nextOf, side}
-use Rattle.euler.specs.Queries.{isRing}
+use Rattle.layout.specs.Items.{isRing}
 use Rattle.takedown.specs.declared.ends.Ends.{Ends}
 use Rattle.takedown.specs.Inversion.{Work, outside, makeOuter, moveRings}
 use Rattle.takedown.specs.Swift.{Swift, seek, loopFrom, leastMate}

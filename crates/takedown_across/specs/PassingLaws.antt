@@ -10,7 +10,7 @@ use Rattle.laws.specs.Bools.{pick}
 use Rattle.script.specs.declared.Operator.{Operator}
 use Rattle.layout.specs.declared.shape.Shape.{Shape}
 use Rattle.layout.specs.Layout.{loopOf, nextOf, side}
-use Rattle.euler.specs.Queries.{isRing}
+use Rattle.layout.specs.Items.{isRing}
 use Rattle.takedown.specs.declared.ends.Ends.{Ends}
 use Rattle.takedown.specs.Inversion.{kef, outside, Work, act}
 use Rattle.takedown.specs.Inversion.{makeOuter, moveRings}

@@ -9,7 +9,7 @@ use lib.ListN.{length}
 use Rattle.script.specs.declared.Operator.{Operator}
 use Rattle.script.specs.Operator.{operatorBytes, putBytes}
 use Rattle.layout.specs.declared.shape.Shape.{Shape}
-use Rattle.euler.specs.Queries.{isRing}
+use Rattle.layout.specs.Items.{isRing}
 use Rattle.euler.specs.Exec.{linksAfter, pointsAfter, inverse}
 use Rattle.runs.specs.Run.{state, inverseBytes, stepped}
 use Rattle.takedown.specs.Inversion.{rmov, isRingOf, Work, work, linksIn, act, makeOuter, movedRing, moveRings}

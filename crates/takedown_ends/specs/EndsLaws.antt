@@ -11,7 +11,8 @@ use Rattle.laws.specs.Bools.{pick}
 use Rattle.layout.specs.declared.shape.Shape.{Shape}
 use Rattle.layout.specs.Layout.{nextOf, prevOf}
 use Rattle.layout.specs.Mate.{mate}
-use Rattle.euler.specs.Queries.{faceIn, facesIn}
+use Rattle.layout.specs.Items.{faceIn}
+use Rattle.euler.specs.Queries.{facesIn}
 use Rattle.takedown.specs.declared.ends.Ends.{Ends}
 use Rattle.takedown.specs.Inversion.{isSpur}
 use Rattle.takedown.specs.Swift.{seek, lesser, greater, endsAt, solidFrom, enter, leastMate, leastRun, ringEnds}

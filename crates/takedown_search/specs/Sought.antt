@@ -6,7 +6,7 @@ use mathlib.Core.List.{List}
 use Rattle.laws.specs.Search.{leastFrom}
 use Rattle.layout.specs.declared.shape.Shape.{Shape}
 use Rattle.layout.specs.Layout.{solidUsed}
-use Rattle.euler.specs.Surgery.{some}
+use Rattle.layout.specs.Items.{some}
 use Rattle.takedown.specs.Inversion.{outside, ofSolid, inRing, isSpur, crossed, isCrossed, isRingOf}
 use Rattle.takedown.specs.Swift.{seek, strayRing}
 use Rattle.takedown_search.specs.declared.seek.Sought.{Sought}

@@ -1,8 +1,8 @@
 use mathlib.Core.Path.{_≡_, refl}
 use Prim.Native.Nat.{_-_, _*_, _≤_}
+use Rattle.layout.specs.Items.{halfUsed}
 use native.Mathlib.Omega.{arith}
 use Rattle.laws.specs.Marks.{allMarked}
-use Rattle.check_orbits.specs.Cycles.{halfUsed}
 use Rattle.check_orbits.specs.CyclesLaws.{all-turn, all-fail, all-out}
 use borrow.Author.Needs.{needs}
 use Rattle.check_orbits.proofs.cycles.all_marked.Statement.{statement}

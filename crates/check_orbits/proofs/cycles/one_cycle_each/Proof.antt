@@ -1,8 +1,9 @@
 use mathlib.Core.Path.{ap, _∙_}
 use Prim.Native.Nat.{ℕ, _*_}
+use Rattle.layout.specs.Items.{halfUsed}
 use lib.ListN.{length-replicate}
 use Rattle.laws.specs.Marks.{allMarked}
-use Rattle.check_orbits.specs.Cycles.{halfUsed, oneCycleEach}
+use Rattle.check_orbits.specs.Cycles.{oneCycleEach}
 use borrow.Author.Needs.{needs}
 use Rattle.check_orbits.proofs.cycles.one_cycle_each.Statement.{statement}
 use Rattle.check_orbits.proofs.cycles.one_cycle_each.Tie as tie

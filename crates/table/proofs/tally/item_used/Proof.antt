@@ -1,5 +1,5 @@
 use mathlib.Core.Path.{ap}
-use Rattle.check_items.specs.Rules.{some}
+use Rattle.layout.specs.Items.{some}
 use Rattle.table.specs.Count.{itemUsed}
 use Rattle.table.specs.CountLaws.{by-item}
 use borrow.Author.Needs.{needs}

@@ -1,6 +1,6 @@
 use borrow.Author.Needs.{needs}
 use mathlib.Core.Path.{ap}
-use Rattle.euler.specs.Surgery.{some}
+use Rattle.layout.specs.Items.{some}
 use Rattle.takedown_search.specs.Sought.{passing, by-sought}
 use Rattle.takedown_search.proofs.seek.passes.Statement.{statement}
 use Rattle.takedown_search.proofs.seek.passes.Tie as tie

@@ -9,7 +9,7 @@ use Rattle.laws.specs.Bools.{ask, split}
 use Rattle.laws.specs.Update.{upd-at}
 use Rattle.layout.specs.Fields.{Field, Columns, change, sameField, same-field}
 use Rattle.layout.specs.Writes.{Write, changes}
-use Rattle.sound_tables.specs.WriteLaws.{frame}
+use Rattle.sound_tables.specs.WriteLaws.{Apart, frame}
 
 -- write w is not to field F of item n
 abbrev pub Miss : Write → Field → ℕ → Type 0
@@ -60,3 +60,25 @@ restored (w ∷ ws) c e r F n h =
         → change e (w .field) (w .item) (w .value) F n ≡ c F n
     first m (inl s) = split n (w .item) (λ q. rw s (upd-at (e F) (w .value) q ∙ here m s q)) (λ q. away m (inr q))
     first m (inr s) = away m (inl s)
+
+-- ---- every word as it stood
+
+-- the words that are written stand in c
+abbrev pub Stand : Columns → List Write → Type 0
+Stand c [] = Unit {0}
+Stand c (w ∷ ws) = (c (w .field) (w .item) ≡ w .value) × Stand c ws
+
+-- so each of them is the word of c
+all-restored : (ws : List Write) (c : Columns) → Stand c ws → Restores c ws
+all-restored [] c s = tt
+all-restored (w ∷ ws) c s = (λ m. sym (s .0), all-restored ws c (s .1))
+
+-- none of the writes, one by one
+all-apart : (ws : List Write) (F : Field) (n : ℕ) → Misses ws F n → Apart ws F n
+all-apart [] F n m = tt
+all-apart (w ∷ ws) F n m = (m 0, all-apart ws F n (λ i. m (suc i)))
+
+-- what stands in c, written into columns that differ from c in those cells at most, gives c
+pub write-back : (ws : List Write) (c d : Columns) → Stand c ws
+    → ((F : Field) (n : ℕ) → Apart ws F n → d F n ≡ c F n) → (F : Field) (n : ℕ) → changes ws d F n ≡ c F n
+write-back ws c d s h F n = restored ws c d (all-restored ws c s) F n (λ m. h F n (all-apart ws F n m))
