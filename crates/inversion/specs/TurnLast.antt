@@ -13,7 +13,7 @@ use Rattle.laws.specs.Update.{upd-same, upd-off}
 use Rattle.layout.specs.declared.shape.Shape.{Shape}
 use Rattle.euler.specs.Surgery.{putPoint}
 use Rattle.euler.specs.Queries.{facesIn}
-use Rattle.euler.specs.Exec.{inverse}
+use Rattle.euler.specs.Exec.{linksAfter, inverse}
 use Rattle.layout.specs.Fields.{First, SolidUsed, Solid, Outer, Face, Isolated, Start, VertexUsed}
 use Rattle.layout.specs.Items.{faceIn}
 use Rattle.sound_tables.specs.Sound.{In}
@@ -93,6 +93,10 @@ module _ {sh : Shape} {x : List ℕ} {p : List ℤ} (g : Good sh x p) {s f l v :
           (λ e. fn (o .only-face (own sh x Face n) (L .face-in) e)) in
           rw (face-else n i d, same, root) at t
 
+  pub mark-else : (n : ℕ) → In (sh .solids) n → n ≢ s → own sh (placedLinks sh x s f l v 0 0 0 0 0) SolidUsed n
+      ≡ own sh x SolidUsed n
+  mark-else n i d = shown .at SolidUsed n (i .1) ∙ upd-off _ 0 d
+
   pub last-change : (RingAt sh x → ⊥) → Change sh x (placedLinks sh x s f l v 0 0 0 0 0) 1 0
   last-change never =
       let cs : suc (solids sh (placedLinks sh x s f l v 0 0 0 0 0)) ≡ solids sh x = ap suc (solids-is sh _)
@@ -156,6 +160,12 @@ module _ {sh : Shape} {x : List ℕ} {p : List ℤ} (g : Good sh x p) (ready : R
             (r .range) (r .label) i e;
         only-loop = only-outer g sn none;
       }
+
+  -- another solid is in use as it was
+  pub turn-mark : (n : ℕ) → In (sh .solids) n → n ≢ solidAt sh x
+      → own sh (linksAfter sh x (kvsf (solidAt sh x))) SolidUsed n ≡ own sh x SolidUsed n
+  turn-mark n i d = ap (λ t. own sh t SolidUsed n) (kvsf-links one-loop (g .capacities))
+      ∙ mark-else g one-loop (solid-used g sn) (lone .2) sn n i d
 
   pub turn-last : TurnMade sh x p
   unfolding acted
