@@ -7,7 +7,6 @@ use Rattle.layout.specs.declared.shape.Shape.{Shape}
 use Rattle.layout.specs.Fields.{SolidUsed, Solid, Outer, Face, First, Isolated}
 use Rattle.layout.specs.Fields.{Start, Loop, Next, Prev, VertexUsed, column, put}
 use Rattle.layout.specs.Fields.{solidKind, faceKind, loopKind, halfKind, vertexKind, widthOf, head}
-pub use Rattle.layout.specs.Fields.{kind}
 
 -- ---- where the records begin
 

@@ -1,6 +1,5 @@
-use mathlib.Core.Path.{_≡_}
-use Prim.Native.Nat.{_*_}
 use native.Mathlib.Omega.{arith}
+use Rattle.layout.specs.LayoutLaws.{shape-is}
 use borrow.Author.Needs.{needs}
 use Rattle.layout.proofs.shape.shape_from.Statement.{statement}
 use Rattle.layout.proofs.shape.shape_from.Tie as tie
@@ -50,7 +49,7 @@ add-vertex0 : tie.Need-add-vertex0
 add-vertex0 c = search needs
 
 returns : tie.Need-returns
-returns c = let e : 1 * c .args .s ≡ c .args .s = omega arith in rw e
+returns c = shape-is _ _ _ _ _ _ _ _ _ (omega arith) (omega arith) (omega arith) (omega arith)
 
 pub shape-from-spec : {M : Type 1} → statement M
 shape-from-spec =
