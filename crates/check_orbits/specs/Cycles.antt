@@ -5,6 +5,7 @@ use mathlib.Core.List.{List}
 use lib.ListN.{getD, replicate}
 use Rattle.laws.specs.Bools.{pick}
 use Rattle.laws.specs.Marks.{markTo, allMarked}
+use Rattle.bounds.specs.Bounds.{halfPlaces}
 use Rattle.layout.specs.declared.shape.Shape.{Shape}
 use Rattle.layout.specs.Layout.{nextOf}
 use Rattle.layout.specs.Mate.{mate}
@@ -22,4 +23,4 @@ stepOf sh x around k = pick around (nextOf sh x (mate k)) (nextOf sh x k)
 unfoldable pub oneCycleEach : Shape → List ℕ → Bool → List ℕ → ℕ → Bool
 oneCycleEach sh x around reps m =
     allMarked (2 * sh .edges) (halfUsed sh x) (markTo (stepOf sh x around) (2 * sh .edges) (entryOf reps) m
-    (replicate 8193 0))
+    (replicate halfPlaces 0))

@@ -2,10 +2,11 @@
 use Prim.Native.Nat.{ℕ, zero, suc, _+_}
 use mathlib.Core.List.{List}
 use lib.ListN.{getD, set, replicate}
+use Rattle.bounds.specs.Bounds.{itemPlaces}
 
 -- an entry for 0 and for each label of 1 to 4,096
 abbrev pub blank : List ℕ
-blank = replicate 4097 0
+blank = replicate itemPlaces 0
 
 -- what g makes of a list for n, then for n - 1, and so on down to 1
 unfoldable pub down : (ℕ → List ℕ → List ℕ) → ℕ → List ℕ → List ℕ

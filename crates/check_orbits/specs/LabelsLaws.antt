@@ -12,6 +12,7 @@ use Rattle.laws.specs.Bools.{true-T, false-T, split, le?, eqb-same, eqb-other}
 use Rattle.laws.specs.Search.{least, Least, none-is, one-is, leastFrom-is}
 use Rattle.laws.specs.Sums.{sumTo, bit, countTo}
 use Rattle.laws.specs.Marks.{zeros-at}
+use Rattle.bounds.specs.Bounds.{itemPlaces, mostItems}
 use Rattle.check_orbits.specs.Labels.{blank, down, leastNaming, tally, copied}
 
 -- ---- the turns of a loop that goes down
@@ -39,10 +40,10 @@ pub long-set : (a b : List ℕ) (i v n : ℕ) → length a ≡ n → b ≡ set a
 long-set a b i v n h e = rw (e, length-set a i v) h
 
 -- the blank list has an entry for each label
-blank-length : length blank ≡ 4097
-blank-length = length-replicate {A = ℕ} 4097 0
+blank-length : length blank ≡ itemPlaces
+blank-length = length-replicate {A = ℕ} itemPlaces 0
 
-pub blank-long : (a : List ℕ) → a ≡ blank → length a ≡ 4097
+pub blank-long : (a : List ℕ) → a ≡ blank → length a ≡ itemPlaces
 blank-long a e = ap length e ∙ blank-length
 
 -- ---- counts stay small
@@ -53,7 +54,7 @@ pub record AtMost (b : ℕ) (a : List ℕ) : Type 0 where
 
 -- at first none is above 0
 pub blank-most : (a : List ℕ) → a ≡ blank → AtMost 0 a
-blank-most a e = record { at = λ i. rw e (omega (arith, zeros-at 4097 i)) }
+blank-most a e = record { at = λ i. rw e (omega (arith, zeros-at itemPlaces i)) }
 
 -- one more at i raises the bound by one
 pub most-bump : (b : ℕ) (a c : List ℕ) (i : ℕ) → AtMost b a → c ≡ set a i (getD a i 0 + 1) → AtMost (b + 1) c
@@ -105,8 +106,8 @@ least-naming f n v a long z = go (leastFrom-is n 1 (λ k. eqb (f k) v))
     go (one-is l u t h) = least-found f v n a (least n (λ k. eqb (f k) v)) long l (omega arith) t h
 
 -- from the blank list
-pub least-at : (f : ℕ → ℕ) (n v : ℕ) → v ≤ 4096 → getD (leastNaming f n blank) v 0 ≡ least n (λ k. eqb (f k) v)
-least-at f n v h = least-naming f n v blank (omega (arith, blank-length)) (zeros-at 4097 v)
+pub least-at : (f : ℕ → ℕ) (n v : ℕ) → v ≤ mostItems → getD (leastNaming f n blank) v 0 ≡ least n (λ k. eqb (f k) v)
+least-at f n v h = least-naming f n v blank (omega (arith, blank-length)) (zeros-at itemPlaces v)
 
 -- ---- how many name a label
 
@@ -130,8 +131,8 @@ tally-more f (suc n) v a long =
         (omega (arith, getD-set-other a (f (suc n)) v (getD a (f (suc n)) 0 + 1) 0 (λ e. d (sym e)))))
 
 -- from the blank list
-pub tally-at : (f : ℕ → ℕ) (n v : ℕ) → v ≤ 4096 → getD (tally f n blank) v 0 ≡ countTo n (λ k. eqb (f k) v)
-tally-at f n v h = omega (arith, tally-more f n v blank (omega (arith, blank-length)), zeros-at 4097 v)
+pub tally-at : (f : ℕ → ℕ) (n v : ℕ) → v ≤ mostItems → getD (tally f n blank) v 0 ≡ countTo n (λ k. eqb (f k) v)
+tally-at f n v h = omega (arith, tally-more f n v blank (omega (arith, blank-length)), zeros-at itemPlaces v)
 
 -- ---- the column itself
 
@@ -152,5 +153,5 @@ copied-is f (suc n) i a long l u = split i (suc n)
     (λ d. copied-is f n i (set a (suc n) (f (suc n))) (omega (arith, length-set a (suc n) (f (suc n)))) l (omega arith))
 
 -- from the blank list
-pub copied-at : (f : ℕ → ℕ) (n i : ℕ) → n ≤ 4096 → 1 ≤ i → i ≤ n → getD (copied f n blank) i 0 ≡ f i
+pub copied-at : (f : ℕ → ℕ) (n i : ℕ) → n ≤ mostItems → 1 ≤ i → i ≤ n → getD (copied f n blank) i 0 ≡ f i
 copied-at f n i h l u = copied-is f n i blank (omega (arith, blank-length)) l u

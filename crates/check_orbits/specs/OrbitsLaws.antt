@@ -13,6 +13,7 @@ use Rattle.laws.specs.Bools.{true-T, false-T}
 use Rattle.laws.specs.Search.{least, Least, none-is, one-is, leastFrom-is}
 use Rattle.laws.specs.Walks.{Used, allMet}
 use Rattle.laws.specs.Marks.{markTo, allMarked, Labelled, marked-met, zeros-at}
+use Rattle.bounds.specs.Bounds.{halfPlaces, mostItems}
 use Rattle.layout.specs.declared.shape.Shape.{Shape}
 use Rattle.layout.specs.Layout.{startOf, loopOf, nextOf, prevOf, loopFirst}
 use Rattle.layout.specs.Mate.{mate}
@@ -36,16 +37,16 @@ module _ (sh : Shape) (x : List ℕ) where
   Half = Used (2 * sh .edges) (halfUsed sh x)
 
   -- the linear test with a list of representatives is the readable test with these
-  pub one-cycle : (around : Bool) (reps : List ℕ) (m : ℕ) (rep lab : ℕ → ℕ) → sh .edges ≤ 4096
+  pub one-cycle : (around : Bool) (reps : List ℕ) (m : ℕ) (rep lab : ℕ → ℕ) → sh .edges ≤ mostItems
       → Labelled (2 * sh .edges) m Half (stepOf sh x around) rep lab
       → ((l : ℕ) → 1 ≤ l → l ≤ m → getD reps l 0 ≡ rep l) → oneCycleEach sh x around reps m
       ≡ allMet (2 * sh .edges) (halfUsed sh x) (stepOf sh x around) rep lab
   unfolding oneCycleEach
   one-cycle around reps m rep lab small h e =
       ap (allMarked (2 * sh .edges) (halfUsed sh x))
-      (markTo-ext (stepOf sh x around) (2 * sh .edges) (entryOf reps) rep m (replicate 8193 0) e)
-      ∙ marked-met (2 * sh .edges) m (halfUsed sh x) (stepOf sh x around) rep lab (replicate 8193 0) h (omega
-      (arith, length-replicate {A = ℕ} 8193 0)) (λ k l. zeros-at 8193 k)
+      (markTo-ext (stepOf sh x around) (2 * sh .edges) (entryOf reps) rep m (replicate halfPlaces 0) e)
+      ∙ marked-met (2 * sh .edges) m (halfUsed sh x) (stepOf sh x around) rep lab (replicate halfPlaces 0) h (omega
+      (arith, length-replicate {A = ℕ} halfPlaces 0)) (λ k l. zeros-at halfPlaces k)
 
   -- ---- the facts
 
@@ -92,7 +93,7 @@ module _ (sh : Shape) (x : List ℕ) where
   }
 
   -- with the loops' firsts the linear test says that each half-edge in use is met from its loop's first along next
-  pub loops-one-cycle : LoopFacts → sh .edges ≤ 4096 → sh .loops ≤ 4096
+  pub loops-one-cycle : LoopFacts → sh .edges ≤ mostItems → sh .loops ≤ mostItems
       → oneCycleEach sh x false (copied (loopFirst sh x) (sh .loops) blank) (sh .loops)
       ≡ allMet (2 * sh .edges) (halfUsed sh x) (nextOf sh x) (loopFirst sh x) (loopOf sh x)
   loops-one-cycle h small few = one-cycle false (copied (loopFirst sh x) (sh .loops) blank) (sh .loops) (loopFirst sh x)
@@ -157,7 +158,7 @@ module _ (sh : Shape) (x : List ℕ) where
 
   -- with the vertices' least starters it says that each half-edge in use is met from the least that starts where it
   -- does, going around
-  pub vertices-one-cycle : VertexFacts → sh .edges ≤ 4096 → sh .vertices ≤ 4096
+  pub vertices-one-cycle : VertexFacts → sh .edges ≤ mostItems → sh .vertices ≤ mostItems
       → oneCycleEach sh x true (leastNaming (startOf sh x) (2 * sh .edges) blank) (sh .vertices)
       ≡ allMet (2 * sh .edges) (halfUsed sh x) (λ k. nextOf sh x (mate k)) starter (startOf sh x)
   vertices-one-cycle h small few = one-cycle true (leastNaming (startOf sh x) (2 * sh .edges) blank)

@@ -7,29 +7,32 @@ ghost use Prim.Native.Nat.{_*_, _<_, _≤_};
 ghost use Rattle.layout.specs.Items.{halfUsed};
 ghost use lib.ListN.{length, getD, set};
 ghost use Rattle.laws.specs.Marks.{marked, markFrom, markRep, markTo, allMarked};
+ghost use Rattle.bounds.specs.Bounds.{halfPlaces, mostHalves, mostItems};
 ghost use Rattle.check_orbits.specs.Cycles.{entryOf, stepOf, oneCycleEach};
+use bounds::HALF_PLACES;
+use bounds::ITEM_PLACES;
 use layout::columns::next_of;
 use layout::columns::start_of;
 use layout::mates::mate_of;
 use layout::shape::Shape;
 
 // The mark of half-edge k, and 0 past the end.
-fn mark_at(marks: &[u8; 8193], k: usize) -> u8
-    requires { ⌜ length (now marks) ≡ 8193 ⌝ }
+fn mark_at(marks: &[u8; HALF_PLACES], k: usize) -> u8
+    requires { ⌜ length (now marks) ≡ halfPlaces ⌝ }
     ensures { λ r. ⌜ r ≡ getD (now (marks .entry)) k 0 ⌝ }
 {
-    if k < 8193 {
+    if k < HALF_PLACES {
         return marks[k];
     }
     0
 }
 
 // Half-edge k marked; past the end nothing changes.
-fn put_mark(marks: &mut [u8; 8193], k: usize)
-    requires { ⌜ length (now marks) ≡ 8193 ⌝ }
+fn put_mark(marks: &mut [u8; HALF_PLACES], k: usize)
+    requires { ⌜ length (now marks) ≡ halfPlaces ⌝ }
     ensures { λ _. ⌜ now (marks .exit) ≡ set (now (marks .entry)) k 1 ⌝ }
 {
-    if k < 8193 {
+    if k < HALF_PLACES {
         marks[k] = 1;
     }
 }
@@ -53,9 +56,9 @@ fn mark_from(
     around: bool,
     from: usize,
     fuel: usize,
-    marks: &mut [u8; 8193],
+    marks: &mut [u8; HALF_PLACES],
 )
-    requires { ⌜ (from < 65536) × (length (now marks) ≡ 8193) ⌝ }
+    requires { ⌜ (from < 65536) × (length (now marks) ≡ halfPlaces) ⌝ }
     ensures { λ _. ⌜ now (marks .exit)
         ≡ markFrom (stepOf sh (now (links .entry)) around) fuel from (now (marks .entry)) ⌝ }
 {
@@ -73,8 +76,15 @@ fn mark_from(
 }
 
 // The same from a label's representative; 0 is none.
-fn mark_rep(links: &[u16], sh: Shape, around: bool, r: u16, fuel: usize, marks: &mut [u8; 8193])
-    requires { ⌜ length (now marks) ≡ 8193 ⌝ }
+fn mark_rep(
+    links: &[u16],
+    sh: Shape,
+    around: bool,
+    r: u16,
+    fuel: usize,
+    marks: &mut [u8; HALF_PLACES],
+)
+    requires { ⌜ length (now marks) ≡ halfPlaces ⌝ }
     ensures { λ _. ⌜ now (marks .exit) ≡ markRep (stepOf sh (now (links .entry)) around) fuel r (now (marks .entry)) ⌝ }
 {
     if r == 0 {
@@ -88,11 +98,11 @@ fn mark_all(
     links: &[u16],
     sh: Shape,
     around: bool,
-    reps: &[u16; 4097],
+    reps: &[u16; ITEM_PLACES],
     labels: usize,
-    marks: &mut [u8; 8193],
+    marks: &mut [u8; HALF_PLACES],
 )
-    requires { ⌜ (sh .edges ≤ 4096) × (labels ≤ 4096) × (length (now marks) ≡ 8193) ⌝ }
+    requires { ⌜ (sh .edges ≤ mostItems) × (labels ≤ mostItems) × (length (now marks) ≡ halfPlaces) ⌝ }
     ensures { λ _. ⌜ now (marks .exit)
         ≡ markTo (stepOf sh (now (links .entry)) around) (2 * sh .edges) (entryOf (now (reps .entry))) labels (now
         (marks .entry)) ⌝ }
@@ -107,8 +117,8 @@ fn mark_all(
 }
 
 // Half-edge k is free or marked.
-fn half_marked(links: &[u16], sh: Shape, marks: &[u8; 8193], k: usize) -> bool
-    requires { ⌜ k ≤ 8192 ⌝ }
+fn half_marked(links: &[u16], sh: Shape, marks: &[u8; HALF_PLACES], k: usize) -> bool
+    requires { ⌜ k ≤ mostHalves ⌝ }
     ensures { λ r. ⌜ r ≡ (not (halfUsed sh (now (links .entry)) k) || marked (now (marks .entry)) k) ⌝ }
 {
     let used = start_of(links, sh, k) != 0;
@@ -117,8 +127,8 @@ fn half_marked(links: &[u16], sh: Shape, marks: &[u8; 8193], k: usize) -> bool
 }
 
 // All half-edges in use are marked.
-pub fn all_marked(links: &[u16], sh: Shape, marks: &[u8; 8193]) -> bool
-    requires { ⌜ sh .edges ≤ 4096 ⌝ }
+pub fn all_marked(links: &[u16], sh: Shape, marks: &[u8; HALF_PLACES]) -> bool
+    requires { ⌜ sh .edges ≤ mostItems ⌝ }
     ensures { λ r. ⌜ r ≡ allMarked (2 * sh .edges) (halfUsed sh (now (links .entry))) (now (marks .entry)) ⌝ }
 {
     let mut k = 2 * (sh.edges as usize);
@@ -138,13 +148,13 @@ pub fn one_cycle_each(
     links: &[u16],
     sh: Shape,
     around: bool,
-    reps: &[u16; 4097],
+    reps: &[u16; ITEM_PLACES],
     labels: usize,
 ) -> bool
-    requires { ⌜ (sh .edges ≤ 4096) × (labels ≤ 4096) ⌝ }
+    requires { ⌜ (sh .edges ≤ mostItems) × (labels ≤ mostItems) ⌝ }
     ensures { λ r. ⌜ r ≡ oneCycleEach sh (now (links .entry)) around (now (reps .entry)) labels ⌝ }
 {
-    let mut marks = [0u8; 8193];
+    let mut marks = [0u8; HALF_PLACES];
     mark_all(links, sh, around, reps, labels, &mut marks);
     all_marked(links, sh, &marks)
 }

@@ -9,6 +9,7 @@ use lib.ListN.{length, set, length-set, length-replicate}
 use borrow.Author.Tests.{not-true, not-false}
 use Rattle.laws.specs.Bools.{true-T, T-true, and-T}
 use Rattle.laws.specs.Search.{allTo, all-ext}
+use Rattle.bounds.specs.Bounds.{itemPlaces, mostItems}
 use Rattle.layout.specs.declared.shape.Shape.{Shape}
 use Rattle.layout.specs.declared.column.Column.{Column}
 use Rattle.layout.specs.Fields.{Field, capOf, column}
@@ -63,8 +64,8 @@ unfolding down
 named-long f zero a = refl
 named-long f (suc n) a = named-long f n (set a (f (suc n)) (suc n)) ∙ length-set a (f (suc n)) (suc n)
 
-pub leaders-long : (f : ℕ → ℕ) (n : ℕ) (ls : List ℕ) → ls ≡ leastNaming f n blank → length ls ≡ 4097
-leaders-long f n ls e = ap length e ∙ named-long f n blank ∙ length-replicate {A = ℕ} 4097 0
+pub leaders-long : (f : ℕ → ℕ) (n : ℕ) (ls : List ℕ) → ls ≡ leastNaming f n blank → length ls ≡ itemPlaces
+leaders-long f n ls e = ap length e ∙ named-long f n blank ∙ length-replicate {A = ℕ} itemPlaces 0
 
 -- a pass down the column of a field, as the code hands it on
 pub named-by : (sh : Shape) (x : List ℕ) (F : Field) {c : Column} {ls : List ℕ} → c ≡ columnAt sh F
@@ -80,13 +81,13 @@ module _ (sh : Shape) (x : List ℕ) (p : List ℤ) where
   rule1-is a b c d e ea eb ec ed ee = rw (ea, eb, ec, ed, ee)
 
   -- the leader of a solid is its least face
-  solids-named : (ls : List ℕ) → sh .solids ≤ 4096 → ls ≡ leastNaming (faceSolid sh x) (sh .faces) blank
+  solids-named : (ls : List ℕ) → sh .solids ≤ mostItems → ls ≡ leastNaming (faceSolid sh x) (sh .faces) blank
       → allTo (sh .solids) (labelTest SolidNames sh x ls ls) ≡ allTo (sh .solids) (solidNames sh x)
   unfolding labelTest solidNames
   solids-named ls h e =
       all-ext (sh .solids) _ _ (λ k l u. rw (e, least-at (faceSolid sh x) (sh .faces) k (omega arith)))
 
-  pub rule2-is : (ls : List ℕ) (a b c d : Bool) → sh .solids ≤ 4096
+  pub rule2-is : (ls : List ℕ) (a b c d : Bool) → sh .solids ≤ mostItems
       → ls ≡ leastNaming (faceSolid sh x) (sh .faces) blank
       → a ≡ allTo (sh .faces) (itemTest FaceNames sh x p) → b ≡ allTo (sh .loops) (itemTest LoopNames sh x p)
       → c ≡ allTo (2 * sh .edges) (itemTest HalfNames sh x p) → d ≡ allTo (sh .solids) (labelTest SolidNames sh x ls ls)
@@ -99,7 +100,7 @@ module _ (sh : Shape) (x : List ℕ) (p : List ℤ) where
   rule3-is r h = h
 
   -- the entries of the arrays are the rule's own counts and starters
-  vertices-counted : (counts starters : List ℕ) → sh .vertices ≤ 4096
+  vertices-counted : (counts starters : List ℕ) → sh .vertices ≤ mostItems
       → counts ≡ tally (loopIsolated sh x) (sh .loops) blank
       → starters ≡ leastNaming (startOf sh x) (2 * sh .edges) blank
       → allTo (sh .vertices) (labelTest VertexEither sh x counts starters) ≡ allTo (sh .vertices) (vertexEither sh x)

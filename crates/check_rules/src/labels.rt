@@ -3,8 +3,10 @@
 ghost use mathlib.Core.Path.{_≡_};
 ghost use Prim.Native.Nat.{ℕ, _<_, _≤_};
 ghost use Rattle.laws.specs.Search.{allTo};
+ghost use Rattle.bounds.specs.Bounds.{mostItems};
 ghost use Rattle.check_rules.specs.declared.labels.LabelTest.the-variants.{SolidNames, VertexEither};
 ghost use Rattle.check_rules.specs.Labels.{labelTest};
+use bounds::ITEM_PLACES;
 use layout::columns::solid_used;
 use layout::columns::vertex_used;
 use layout::shape::Shape;
@@ -22,8 +24,8 @@ fn wide(x: u16) -> usize
 }
 
 // Solid n is free or has a least face.
-fn solid_names(links: &[u16], sh: Shape, faces: &[u16; 4097], n: usize) -> bool
-    requires { ⌜ n ≤ 4096 ⌝ }
+fn solid_names(links: &[u16], sh: Shape, faces: &[u16; ITEM_PLACES], n: usize) -> bool
+    requires { ⌜ n ≤ mostItems ⌝ }
     ensures { λ r. ⌜ r ≡ labelTest SolidNames sh (now (links .entry)) (now (faces .entry)) (now (faces .entry)) n ⌝ }
 {
     if solid_used(links, sh, n) == 0 {
@@ -37,11 +39,11 @@ fn solid_names(links: &[u16], sh: Shape, faces: &[u16; 4097], n: usize) -> bool
 fn vertex_either(
     links: &[u16],
     sh: Shape,
-    counts: &[u16; 4097],
-    starters: &[u16; 4097],
+    counts: &[u16; ITEM_PLACES],
+    starters: &[u16; ITEM_PLACES],
     n: usize,
 ) -> bool
-    requires { ⌜ n ≤ 4096 ⌝ }
+    requires { ⌜ n ≤ mostItems ⌝ }
     ensures { λ r.
         ⌜ r ≡ labelTest VertexEither sh (now (links .entry)) (now (counts .entry)) (now (starters .entry)) n ⌝ }
 {
@@ -60,12 +62,12 @@ fn vertex_either(
 fn label_test(
     links: &[u16],
     sh: Shape,
-    a: &[u16; 4097],
-    b: &[u16; 4097],
+    a: &[u16; ITEM_PLACES],
+    b: &[u16; ITEM_PLACES],
     test: LabelTest,
     n: usize,
 ) -> bool
-    requires { ⌜ n ≤ 4096 ⌝ }
+    requires { ⌜ n ≤ mostItems ⌝ }
     ensures { λ r. ⌜ r ≡ labelTest test sh (now (links .entry)) (now (a .entry)) (now (b .entry)) n ⌝ }
 {
     match test {
@@ -78,12 +80,12 @@ fn label_test(
 pub fn all_labels(
     links: &[u16],
     sh: Shape,
-    a: &[u16; 4097],
-    b: &[u16; 4097],
+    a: &[u16; ITEM_PLACES],
+    b: &[u16; ITEM_PLACES],
     test: LabelTest,
     n: usize,
 ) -> bool
-    requires { ⌜ n ≤ 4096 ⌝ }
+    requires { ⌜ n ≤ mostItems ⌝ }
     ensures { λ r. ⌜ r ≡ allTo n (labelTest test sh (now (links .entry)) (now (a .entry)) (now (b .entry))) ⌝ }
 {
     let mut k: usize = 0;

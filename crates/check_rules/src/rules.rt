@@ -7,6 +7,7 @@ ghost use Rattle.check_rules.specs.RuleLaws.{Lower};
 ghost use Rattle.layout.specs.Small.{Small};
 use crate::labels::LabelTest;
 use crate::labels::all_labels;
+use bounds::ITEM_PLACES;
 use check_items::scan::Test;
 use check_items::scan::all_items;
 use check_orbits::cycles::one_cycle_each;
@@ -35,7 +36,7 @@ fn rule_2(links: &[u16], points: &[i32], sh: Shape) -> bool
     requires { ⌜ Small sh ⌝ }
     ensures { λ r. ⌜ r ≡ rule2 sh (now (links .entry)) ⌝ }
 {
-    let mut leaders = [0u16; 4097];
+    let mut leaders = [0u16; ITEM_PLACES];
     least_naming(links, solids_of_faces(sh), &mut leaders);
     all_items(links, points, sh, Test::FaceNames, sh.faces as usize)
         & all_items(links, points, sh, Test::LoopNames, sh.loops as usize)
@@ -69,7 +70,7 @@ fn rule_4(links: &[u16], points: &[i32], sh: Shape) -> bool
     if !(halves & firsts_named) {
         return false;
     }
-    let mut firsts = [0u16; 4097];
+    let mut firsts = [0u16; ITEM_PLACES];
     loop_firsts(links, sh, &mut firsts);
     one_cycle_each(links, sh, false, &firsts, sh.loops as usize)
 }
@@ -80,9 +81,9 @@ fn rule_5(links: &[u16], points: &[i32], sh: Shape) -> bool
     requires { ⌜ rule4 sh (now links) ≡ true ⌝ }
     ensures { λ r. ⌜ r ≡ rule5 sh (now (links .entry)) ⌝ }
 {
-    let mut counts = [0u16; 4097];
+    let mut counts = [0u16; ITEM_PLACES];
     isolated_counts(links, sh, &mut counts);
-    let mut starters = [0u16; 4097];
+    let mut starters = [0u16; ITEM_PLACES];
     least_naming(links, starts_of_halves(sh), &mut starters);
     all_labels(
         links,
@@ -100,7 +101,7 @@ fn rule_6(links: &[u16], points: &[i32], sh: Shape) -> bool
     requires { ⌜ Lower sh (now links) (now points) ⌝ }
     ensures { λ r. ⌜ r ≡ rule6 sh (now (links .entry)) ⌝ }
 {
-    let mut leaders = [0u16; 4097];
+    let mut leaders = [0u16; ITEM_PLACES];
     least_naming(links, solids_of_faces(sh), &mut leaders);
     all_items(links, points, sh, Test::HalfSides, 2 * (sh.edges as usize))
         & shells_whole(links, sh, &leaders)

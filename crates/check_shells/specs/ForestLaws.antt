@@ -10,12 +10,13 @@ use borrow.Author.Tests.{lt-ltb, le-ltb}
 use Rattle.laws.specs.Bools.{split, le?}
 use Rattle.laws.specs.UnionFind.{Down, root, hang, root-end, root-step, SameRoots, halve-path, same-roots-then, United}
 use Rattle.laws.specs.UnionFind.{unite-united, united-between}
+use Rattle.bounds.specs.Bounds.{itemPlaces, mostItems}
 use Rattle.check_shells.specs.Forest.{Forest, Apart, Climb}
 
 -- ---- each its own parent
 
 -- one more
-pub apart-more : {p : List ℕ} {n : ℕ} → Apart p n → n < 4097 → Apart (set p n n) (n + 1)
+pub apart-more : {p : List ℕ} {n : ℕ} → Apart p n → n < itemPlaces → Apart (set p n n) (n + 1)
 apart-more {p} {n} a h = record {
   long = length-set p n n ∙ a .long;
   own = λ i l. split i n
@@ -24,7 +25,7 @@ apart-more {p} {n} a h = record {
 }
 
 -- all are, so parents do not rise
-pub apart-forest : {p : List ℕ} {n : ℕ} → Apart p n → 4097 ≤ n → Forest p
+pub apart-forest : {p : List ℕ} {n : ℕ} → Apart p n → itemPlaces ≤ n → Forest p
 apart-forest {p} a h = record {
   long = a .long;
   down = record {
@@ -77,8 +78,8 @@ climb-end {p = p} {k = k} c e = sym (root-end p k k e) ∙ c .kept .roots k ∙ 
 
 -- ---- uniting
 
-module _ {p q r : List ℕ} (f : Forest p) (s : SameRoots p q) (t : SameRoots q r) (x y a b : ℕ) (hx : x ≤ 4096)
-    (hy : y ≤ 4096) (ea : a ≡ root p x) (eb : b ≡ root q y) where
+module _ {p q r : List ℕ} (f : Forest p) (s : SameRoots p q) (t : SameRoots q r) (x y a b : ℕ) (hx : x ≤ mostItems)
+    (hy : y ≤ mostItems) (ea : a ≡ root p x) (eb : b ≡ root q y) where
   -- both roots are found, and one becomes the other's parent
   hung : United p (hang r a b) x y
   hung = united-between (same-roots-then s t) (rw (ea ∙ sym (s .roots x) ∙ sym (t .roots x), eb ∙ sym (t .roots y)) u)

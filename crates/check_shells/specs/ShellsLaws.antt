@@ -15,6 +15,7 @@ use Rattle.laws.specs.Closure.{linkedb}
 use Rattle.laws.specs.Union.{classes-start, classes-none, classes-skip, classes-edge}
 use Rattle.laws.specs.UnionFind.{root, SameRoots, United}
 use Rattle.laws.specs.Union.{classes-test}
+use Rattle.bounds.specs.Bounds.{itemPlaces, mostItems}
 use Rattle.layout.specs.declared.shape.Shape.{Shape}
 use Rattle.layout.specs.Layout.{faceSolid, loopFace, loopOf, side}
 use Rattle.check_shells.specs.Forest.{Apart}
@@ -59,7 +60,8 @@ module _ (sh : Shape) (x : List ℕ) (s : ℕ → ℕ) where
       (T-within (sh .faces) (sideB s e) (n .2) (n .3))
 
   -- then both can be looked up
-  pub joins-low : (e : ℕ) → joins sh x s e ≡ true → sh .faces ≤ 4096 → (sideA s e ≤ 4096) × (sideB s e ≤ 4096)
+  pub joins-low : (e : ℕ) → joins sh x s e ≡ true → sh .faces ≤ mostItems
+      → (sideA s e ≤ mostItems) × (sideB s e ≤ mostItems)
   joins-low e t h = let a = joins-T e (true-T t) .1 in (omega (arith, a .1), omega (arith, a .3))
 
   -- what joins has ends, as the laws of closure ask
@@ -75,7 +77,7 @@ one-root-short n r f g = rw (r .roots f, r .roots g)
 
 module _ {sh : Shape} {x : List ℕ} {s : ℕ → ℕ} {p : List ℕ} where
   -- before the first
-  pub joined-start : Apart p 4097 → sh .faces ≤ 4096 → Joined sh x s 0 p
+  pub joined-start : Apart p itemPlaces → sh .faces ≤ mostItems → Joined sh x s 0 p
   joined-start a h = record {
     forest = apart-forest a (omega arith);
     classes = classes-none (sh .faces) (joins sh x s) (sideA s) (sideB s)
@@ -139,7 +141,7 @@ module _ (n f g : ℕ) {u w : Bool} (eu : u ≡ within n f) (ew : w ≡ within n
   one-root-found e s a b ea eb = rw (← eu, ← ew, not-false (u && w) e, ea, eb, s .roots g)
 
   -- both can be looked up
-  pub faces-low : not (u && w) ≡ false → n ≤ 4096 → (f ≤ 4096) × (g ≤ 4096)
+  pub faces-low : not (u && w) ≡ false → n ≤ mostItems → (f ≤ mostItems) × (g ≤ mostItems)
   faces-low e h =
       let t = and-T u w (true-T (not-false (u && w) e)) in
       (omega (arith, within-T n f (subst T eu (t .0)) .1), omega (arith, within-T n g (subst T ew (t .1)) .1))

@@ -4,6 +4,7 @@ ghost use Prim.Native.Nat.{ℕ, _+_, _≤_, _<_};
 ghost use lib.ListN.{length, getD};
 ghost use Rattle.layout.specs.Layout.{side};
 ghost use Rattle.laws.specs.UnionFind.{SameRoots};
+ghost use Rattle.bounds.specs.Bounds.{itemPlaces, mostItems};
 ghost use Rattle.check_shells.specs.Forest.{Forest};
 ghost use Rattle.check_shells.specs.Shells.{sideAs, within, joins, facesLinkedAs, faceWhole, shellsWhole};
 ghost use Rattle.check_shells.specs.Shells.{oneRoot, Shells, Joined};
@@ -11,6 +12,7 @@ use crate::forest::find_root;
 use crate::forest::separate;
 use crate::forest::unite;
 use crate::forest::wide;
+use bounds::ITEM_PLACES;
 use layout::columns::face_solid;
 use layout::columns::loop_face;
 use layout::columns::loop_of;
@@ -39,7 +41,7 @@ fn is_within(n: usize, f: usize) -> bool
 
 // Edge e is in use and has a face on each side.
 fn edge_joins(links: &[u16], sh: Shape, l: usize, t: usize, e: usize) -> bool
-    requires { ⌜ (t < 65536) × (1 ≤ e) × (e ≤ 4096) ⌝ }
+    requires { ⌜ (t < 65536) × (1 ≤ e) × (e ≤ mostItems) ⌝ }
     ensures { λ r. ⌜ r ≡ joins sh (now (links .entry)) (sideAs sh (now (links .entry)) l t) e ⌝ }
 {
     let n = sh.faces as usize;
@@ -50,8 +52,15 @@ fn edge_joins(links: &[u16], sh: Shape, l: usize, t: usize, e: usize) -> bool
 }
 
 // The edges 1 to k have been; the faces on the two sides of the next one are united, if it joins faces.
-fn link_edge(links: &[u16], sh: Shape, l: usize, t: usize, k: usize, parent: &mut [u16; 4097])
-    requires { ⌜ (sh .faces ≤ 4096) × (t < 65536) × (k < 4096) ⌝ }
+fn link_edge(
+    links: &[u16],
+    sh: Shape,
+    l: usize,
+    t: usize,
+    k: usize,
+    parent: &mut [u16; ITEM_PLACES],
+)
+    requires { ⌜ (sh .faces ≤ mostItems) × (t < 65536) × (k < mostItems) ⌝ }
     requires { ⌜ Joined sh (now links) (sideAs sh (now links) l t) k (now parent) ⌝ }
     ensures { λ _. ⌜ Joined sh (now (links .entry)) (sideAs sh (now (links .entry)) l t) (k + 1)
         (now (parent .exit)) ⌝ }
@@ -68,9 +77,9 @@ fn link_edge(links: &[u16], sh: Shape, l: usize, t: usize, k: usize, parent: &mu
 
 // Makes of `parent` a forest whose classes are the shells of the table once loop l lies in face t: two faces have one
 // root just if they are linked.
-pub fn link_faces(links: &[u16], sh: Shape, l: usize, t: usize, parent: &mut [u16; 4097])
-    requires { ⌜ (sh .faces ≤ 4096) × (sh .edges ≤ 4096) × (t < 65536) ⌝ }
-    requires { ⌜ length (now parent) ≡ 4097 ⌝ }
+pub fn link_faces(links: &[u16], sh: Shape, l: usize, t: usize, parent: &mut [u16; ITEM_PLACES])
+    requires { ⌜ (sh .faces ≤ mostItems) × (sh .edges ≤ mostItems) × (t < 65536) ⌝ }
+    requires { ⌜ length (now parent) ≡ itemPlaces ⌝ }
     ensures { λ _. ⌜ Shells sh (now (links .entry)) (sideAs sh (now (links .entry)) l t) (now (parent .exit)) ⌝ }
 {
     separate(parent);
@@ -83,8 +92,8 @@ pub fn link_faces(links: &[u16], sh: Shape, l: usize, t: usize, parent: &mut [u1
 }
 
 // f and g are faces that have one root; anything else is no face and has no shell. Paths get shorter, roots stay.
-pub fn same_shell(parent: &mut [u16; 4097], sh: Shape, f: usize, g: usize) -> bool
-    requires { ⌜ sh .faces ≤ 4096 ⌝ }
+pub fn same_shell(parent: &mut [u16; ITEM_PLACES], sh: Shape, f: usize, g: usize) -> bool
+    requires { ⌜ sh .faces ≤ mostItems ⌝ }
     requires { ⌜ Forest (now parent) ⌝ }
     ensures { λ r. ⌜ (r ≡ oneRoot (sh .faces) (now (parent .entry)) f g)
         × SameRoots (now (parent .entry)) (now (parent .exit)) ⌝ }
@@ -102,20 +111,20 @@ pub fn same_shell(parent: &mut [u16; 4097], sh: Shape, f: usize, g: usize) -> bo
 // f and g are faces that a chain of faces links once loop l lies in face t. For more than one question link once, and
 // ask `same_shell`.
 pub fn linked_faces(links: &[u16], sh: Shape, l: usize, t: usize, f: usize, g: usize) -> bool
-    requires { ⌜ (sh .faces ≤ 4096) × (sh .edges ≤ 4096) × (t < 65536) ⌝ }
+    requires { ⌜ (sh .faces ≤ mostItems) × (sh .edges ≤ mostItems) × (t < 65536) ⌝ }
     ensures { λ r. ⌜ r ≡ facesLinkedAs sh (now (links .entry)) l t f g ⌝ }
 {
-    let mut parent = [0u16; 4097];
+    let mut parent = [0u16; ITEM_PLACES];
     link_faces(links, sh, l, t, &mut parent);
     same_shell(&mut parent, sh, f, g)
 }
 
 // The face that leads solid s; 0 past the end.
-fn leader_of(leaders: &[u16; 4097], s: usize) -> usize
-    requires { ⌜ length (now leaders) ≡ 4097 ⌝ }
+fn leader_of(leaders: &[u16; ITEM_PLACES], s: usize) -> usize
+    requires { ⌜ length (now leaders) ≡ itemPlaces ⌝ }
     ensures { λ r. ⌜ r ≡ getD (now (leaders .entry)) s 0 ⌝ }
 {
-    if s < 4097 {
+    if s < ITEM_PLACES {
         return wide(leaders[s]);
     }
     0
@@ -125,11 +134,11 @@ fn leader_of(leaders: &[u16; 4097], s: usize) -> usize
 fn face_whole(
     links: &[u16],
     sh: Shape,
-    leaders: &[u16; 4097],
+    leaders: &[u16; ITEM_PLACES],
     f: usize,
-    parent: &mut [u16; 4097],
+    parent: &mut [u16; ITEM_PLACES],
 ) -> bool
-    requires { ⌜ (sh .faces ≤ 4096) × (f ≤ 4096) × (length (now leaders) ≡ 4097) ⌝ }
+    requires { ⌜ (sh .faces ≤ mostItems) × (f ≤ mostItems) × (length (now leaders) ≡ itemPlaces) ⌝ }
     requires { ⌜ Shells sh (now links) (side sh (now links)) (now parent) ⌝ }
     ensures { λ r. ⌜ (r ≡ faceWhole sh (now (links .entry)) (now (leaders .entry)) f)
         × Shells sh (now (links .entry)) (side sh (now (links .entry))) (now (parent .exit)) ⌝ }
@@ -144,11 +153,11 @@ fn face_whole(
 
 // Each face is free or linked to the face that leads its solid. With the least face of each solid for its leader this
 // says that each solid is one shell.
-pub fn shells_whole(links: &[u16], sh: Shape, leaders: &[u16; 4097]) -> bool
-    requires { ⌜ (sh .faces ≤ 4096) × (sh .edges ≤ 4096) × (length (now leaders) ≡ 4097) ⌝ }
+pub fn shells_whole(links: &[u16], sh: Shape, leaders: &[u16; ITEM_PLACES]) -> bool
+    requires { ⌜ (sh .faces ≤ mostItems) × (sh .edges ≤ mostItems) × (length (now leaders) ≡ itemPlaces) ⌝ }
     ensures { λ r. ⌜ r ≡ shellsWhole sh (now (links .entry)) (now (leaders .entry)) ⌝ }
 {
-    let mut parent = [0u16; 4097];
+    let mut parent = [0u16; ITEM_PLACES];
     link_faces(links, sh, 0, 0, &mut parent);
     let n = sh.faces as usize;
     let mut k: usize = 0;

@@ -4,7 +4,9 @@ ghost use mathlib.Core.Path.{_≡_};
 ghost use Prim.Native.Nat.{ℕ, _≤_};
 ghost use lib.ListN.{length};
 ghost use Rattle.laws.specs.UnionFind.{root, SameRoots, United};
+ghost use Rattle.bounds.specs.Bounds.{itemPlaces, mostItems};
 ghost use Rattle.check_shells.specs.Forest.{Forest, Apart};
+use bounds::ITEM_PLACES;
 
 // A word as an index.
 pub fn wide(x: u16) -> usize
@@ -14,12 +16,12 @@ pub fn wide(x: u16) -> usize
 }
 
 // Each number becomes its own parent.
-pub fn separate(parent: &mut [u16; 4097])
-    requires { ⌜ length (now parent) ≡ 4097 ⌝ }
-    ensures { λ _. ⌜ Apart (now (parent .exit)) 4097 ⌝ }
+pub fn separate(parent: &mut [u16; ITEM_PLACES])
+    requires { ⌜ length (now parent) ≡ itemPlaces ⌝ }
+    ensures { λ _. ⌜ Apart (now (parent .exit)) itemPlaces ⌝ }
 {
     let mut i: usize = 0;
-    while i < 4097 {
+    while i < ITEM_PLACES {
         parent[i] = i as u16;
         i += 1;
     }
@@ -27,9 +29,9 @@ pub fn separate(parent: &mut [u16; 4097])
 
 // The root of x. On the way numbers get their grandparents as parents (path halving): no root changes, and later walks
 // are short.
-pub fn find_root(parent: &mut [u16; 4097], x: usize) -> usize
+pub fn find_root(parent: &mut [u16; ITEM_PLACES], x: usize) -> usize
     requires { ⌜ Forest (now parent) ⌝ }
-    requires { ⌜ x ≤ 4096 ⌝ }
+    requires { ⌜ x ≤ mostItems ⌝ }
     ensures { λ r. ⌜ (r ≡ root (now (parent .entry)) x) × (r ≤ x)
         × SameRoots (now (parent .entry)) (now (parent .exit)) ⌝ }
 {
@@ -45,9 +47,9 @@ pub fn find_root(parent: &mut [u16; 4097], x: usize) -> usize
 }
 
 // The classes of x and y become one: the larger root gets the smaller one as its parent, so parents never rise.
-pub fn unite(parent: &mut [u16; 4097], x: usize, y: usize)
+pub fn unite(parent: &mut [u16; ITEM_PLACES], x: usize, y: usize)
     requires { ⌜ Forest (now parent) ⌝ }
-    requires { ⌜ (x ≤ 4096) × (y ≤ 4096) ⌝ }
+    requires { ⌜ (x ≤ mostItems) × (y ≤ mostItems) ⌝ }
     ensures { λ _. ⌜ United (now (parent .entry)) (now (parent .exit)) x y ⌝ }
 {
     let a = find_root(parent, x);

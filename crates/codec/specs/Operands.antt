@@ -6,6 +6,7 @@ use lib.ListN.{length, getD}
 use lib.IntN.{ℤ, pos, negsuc}
 use lib.Dec.{ltb, leb, eqb}
 use Rattle.laws.specs.Bools.{pick}
+use Rattle.bounds.specs.Bounds.{mostItems}
 use Rattle.codec.specs.declared.Limits.{Limits}
 use Rattle.codec.specs.declared.operands.Pattern.{Pattern}
 
@@ -123,7 +124,7 @@ largests lim =
 
 -- the limits of an operator that is read or written without a table
 abbrev pub widest : Limits
-widest = record { solids = 4096; faces = 4096; loops = 4096; edges = 4096; vertices = 4096 }
+widest = record { solids = mostItems; faces = mostItems; loops = mostItems; edges = mostItems; vertices = mostItems }
 
 -- is the number n, as it travels, in range (5); `most` has the largest of each kind
 -- (of a number that is no kind, as of `unused`, only 0)

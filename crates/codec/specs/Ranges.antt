@@ -9,6 +9,7 @@ use lib.ListN.{length, getD}
 use lib.Dec.{ltb, leb, eqb}
 use borrow.Author.Tests.{ltb-false, leb-true, eqb-true, le-leb, le-ltb}
 use Rattle.laws.specs.Bools.{pick, ask, allb, le?}
+use Rattle.bounds.specs.Bounds.{mostHalves, mostItems}
 use Rattle.codec.specs.declared.Limits.{Limits}
 use Rattle.codec.specs.declared.operands.Pattern.{Pattern}
 use Rattle.codec.specs.Operands.{row, rows, pattern, leasts, largests, widest, inRange, inRanges}
@@ -52,11 +53,11 @@ module _ (most wide : List ℕ) (h : (k : ℕ) → getD most k 0 ≤ getD wide k
 
 -- limits that a table can have
 pub record Within (lim : Limits) : Type 0 where
-  pub solids : lim .solids ≤ 4096
-  pub faces : lim .faces ≤ 4096
-  pub loops : lim .loops ≤ 4096
-  pub edges : lim .edges ≤ 4096
-  pub vertices : lim .vertices ≤ 4096
+  pub solids : lim .solids ≤ mostItems
+  pub faces : lim .faces ≤ mostItems
+  pub loops : lim .loops ≤ mostItems
+  pub edges : lim .edges ≤ mostItems
+  pub vertices : lim .vertices ≤ mostItems
 
 -- each number of a list at most that of another
 abbrev Below : List ℕ → List ℕ → Type 0
@@ -77,7 +78,7 @@ within-largest lim w =
     let l = w .loops in
     let e = w .edges in
     let v = w .vertices in
-    let h : 2 * lim .edges ≤ 2 * 4096 = omega arith in
+    let h : 2 * lim .edges ≤ mostHalves = omega arith in
     let o : 1 ≤ 1 = omega arith in
     below-at (largests lim) (largests widest)
     (omega arith, (s, (s, (s, (f, (f, (l, (l, (e, (h, (h, (v, (o, (omega arith, (omega arith, tt)))))))))))))))

@@ -8,6 +8,7 @@ use lib.Dec.{eqb, leb, ltb}
 use lib.IntN.{ℤ, pos}
 use lib.ListN.{length, getD, set}
 use Rattle.laws.specs.Bools.{pick}
+use Rattle.bounds.specs.Bounds.{mostHalves}
 use Rattle.script.specs.declared.Operator.{Operator}
 use Rattle.script.specs.Operator.{natOf, blankOf, withNumber}
 use Rattle.layout.specs.declared.shape.Shape.{Shape}
@@ -16,7 +17,6 @@ use Rattle.layout.specs.Layout.{setLoop}
 use Rattle.layout.specs.Mate.{mate}
 use Rattle.layout.specs.Fields.{Solid, Outer, Face, First, Isolated, Start, Loop, Next, Prev}
 use Rattle.layout.specs.Writes.{Write, write, writes}
-use Rattle.layout.specs.Small.{mostHalves}
 use Rattle.layout.specs.Points.{coordinate, setCoordinate}
 use Rattle.layout.specs.Items.{some}
 

@@ -13,10 +13,10 @@ use mir.Val.{SFits, toZ, ofZ}
 use mir.Facts.{toZ-ofZ}
 use borrow.Author.Tests.{eq-eqb, ne-eqb, le-leb, lt-leb}
 use Rattle.laws.specs.Bools.{pick, pick-ind}
+use Rattle.bounds.specs.Bounds.{mostHalves}
 use Rattle.layout.specs.declared.shape.Shape.{Shape}
 use Rattle.layout.specs.Layout.{loopOf, nextOf, setLoop, setLoopFirst, setLoopIsolated}
 use Rattle.script.specs.declared.Operator.{Operator}
-use Rattle.layout.specs.Small.{mostHalves}
 use Rattle.layout.specs.Points.{pointWidth, coordinate, setCoordinate}
 use Rattle.layout.specs.PointsLaws.{coordinate-at, setCoordinate-at}
 use Rattle.euler.specs.Surgery.{itemIn, halfBy, relabel, seek, firstFrom, renew, withOperand, withPoint}

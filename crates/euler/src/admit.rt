@@ -3,8 +3,8 @@
 ghost use mathlib.Core.Path.{_≡_};
 ghost use Prim.Native.Nat.{ℕ, _≤_, _<_};
 ghost use lib.ListN.{getD};
+ghost use Rattle.bounds.specs.Bounds.{mostHalves};
 ghost use Rattle.euler.specs.Exec.{useWord, useRefusal, whenFree, whenUsed};
-ghost use Rattle.layout.specs.Small.{mostHalves};
 use layout::columns::face_solid;
 use layout::columns::loop_face;
 use layout::columns::solid_used;

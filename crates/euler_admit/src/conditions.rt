@@ -4,6 +4,7 @@ ghost use Prim.Native.Nat.{ℕ, _≤_};
 ghost use Rattle.euler.specs.Exec.{operatorBy, condition};
 ghost use Rattle.euler_counts.specs.Counts.{Counted};
 ghost use Rattle.layout.specs.Small.{Small};
+use bounds::ITEM_PLACES;
 use euler::records::item_at;
 use euler_bridges::kemr_mekr::kemr_fits;
 use euler_bridges::kemr_mekr::mekr_fits;
@@ -21,7 +22,7 @@ use layout::shape::Shape;
 // The condition that document 01 writes for the operator of this code and these operands holds.
 pub fn condition_holds(
     links: &[u16],
-    counts: &[u16; 4097],
+    counts: &[u16; ITEM_PLACES],
     sh: Shape,
     code: u8,
     args: &[i32; 8],

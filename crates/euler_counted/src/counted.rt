@@ -1,10 +1,12 @@
 // An operator's effect with the numbers of loops kept up: one loop at most changes its face.
 ghost use mathlib.Core.Path.{_≡_};
 ghost use Prim.Native.Nat.{ℕ, _≤_, _<_};
+ghost use Rattle.bounds.specs.Bounds.{mostHalves};
 ghost use Rattle.layout.specs.Small.{Small};
 ghost use Rattle.euler.specs.Exec.{operatorBy, linksAfter, pointsAfter, onlyLoop, onlyVertex, clearPoint};
 ghost use Rattle.euler_counts.specs.Counts.{movedLoop, countsAfter};
 ghost use Rattle.euler_counted.specs.Moved.{solidKilled, solidUncounted};
+use bounds::ITEM_PLACES;
 use euler::records::item_at;
 use euler_counts::counts::lower_count;
 use euler_counts::counts::raise_count;
@@ -49,11 +51,11 @@ pub fn moved_loop(links: &[u16], sh: Shape, code: u8, args: &[i32; 8]) -> usize
 fn kill_counted(
     links: &mut [u16],
     points: &mut [i32],
-    counts: &mut [u16; 4097],
+    counts: &mut [u16; ITEM_PLACES],
     sh: Shape,
     s: usize,
 )
-    requires { ⌜ (Small sh) × (s ≤ 8192) ⌝ }
+    requires { ⌜ (Small sh) × (s ≤ mostHalves) ⌝ }
     ensures { λ _. ⌜
         (now (links .exit) ≡ solidKilled sh (now (links .entry)) s)
         × (now (points .exit) ≡ clearPoint (now (points .entry)) (onlyVertex sh (now (links .entry)) s))
@@ -73,7 +75,7 @@ fn kill_counted(
 fn move_counted(
     links: &mut [u16],
     points: &mut [i32],
-    counts: &mut [u16; 4097],
+    counts: &mut [u16; ITEM_PLACES],
     sh: Shape,
     code: u8,
     args: &[i32; 8],
@@ -97,7 +99,7 @@ fn move_counted(
 pub fn perform_counted(
     links: &mut [u16],
     points: &mut [i32],
-    counts: &mut [u16; 4097],
+    counts: &mut [u16; ITEM_PLACES],
     sh: Shape,
     code: u8,
     args: &[i32; 8],

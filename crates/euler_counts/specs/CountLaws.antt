@@ -12,6 +12,7 @@ use lib.Seq.{set-getD, getD-set-same, getD-set-other}
 use borrow.Author.Tests.{le-leb, lt-leb, lt-ltb, le-ltb, eq-eqb, ne-eqb}
 use Rattle.laws.specs.Bools.{pick-ind, split, eqb-same, eqb-other}
 use Rattle.laws.specs.Sums.{sumTo, countTo, count-le}
+use Rattle.bounds.specs.Bounds.{itemPlaces, mostItems}
 use Rattle.layout.specs.declared.shape.Shape.{Shape}
 use Rattle.layout.specs.Layout.{loopFace}
 use Rattle.euler.specs.Queries.{loopsIn}
@@ -23,61 +24,61 @@ pub low-zero : (c : List ℕ) (f : ℕ) → f ≡ 0 → c ≡ lowered c f
 unfolding lowered
 low-zero c f z = rw z
 
-pub low-past : (c : List ℕ) (f : ℕ) → 4096 < f → c ≡ lowered c f
+pub low-past : (c : List ℕ) (f : ℕ) → mostItems < f → c ≡ lowered c f
 unfolding lowered
-low-past c f h = rw (le-leb 1 f (omega arith), lt-leb f 4096 h)
+low-past c f h = rw (le-leb 1 f (omega arith), lt-leb f mostItems h)
 
 pub raise-zero : (c : List ℕ) (f : ℕ) → f ≡ 0 → c ≡ raised c f
 unfolding raised
 raise-zero c f z = rw z
 
-pub raise-past : (c : List ℕ) (f : ℕ) → 4096 < f → c ≡ raised c f
+pub raise-past : (c : List ℕ) (f : ℕ) → mostItems < f → c ≡ raised c f
 unfolding raised
-raise-past c f h = rw (le-leb 1 f (omega arith), lt-leb f 4096 h)
+raise-past c f h = rw (le-leb 1 f (omega arith), lt-leb f mostItems h)
 
 -- ---- the place of face f, whose number is n
 
-module _ (c : List ℕ) (f n : ℕ) (l : 1 ≤ f) (u : f ≤ 4096) (e : n ≡ getD c f 0) where
+module _ (c : List ℕ) (f n : ℕ) (l : 1 ≤ f) (u : f ≤ mostItems) (e : n ≡ getD c f 0) where
   pub low-none : n ≤ 0 → c ≡ lowered c f
   unfolding lowered
   low-none h =
       let z : n ≡ 0 = omega arith in
-      rw (le-leb 1 f l, le-leb f 4096 u, sym e ∙ z) (sym (ap (set c f) (sym (sym e ∙ z)) ∙ set-getD c f 0))
+      rw (le-leb 1 f l, le-leb f mostItems u, sym e ∙ z) (sym (ap (set c f) (sym (sym e ∙ z)) ∙ set-getD c f 0))
 
   pub low-one : set c f (n - 1) ≡ lowered c f
   unfolding lowered
-  low-one = rw (le-leb 1 f l, le-leb f 4096 u, e)
+  low-one = rw (le-leb 1 f l, le-leb f mostItems u, e)
 
   pub raise-full : 65535 ≤ n → c ≡ raised c f
   unfolding raised
-  raise-full h = rw (le-leb 1 f l, le-leb f 4096 u, ← e, le-ltb n 65535 h)
+  raise-full h = rw (le-leb 1 f l, le-leb f mostItems u, ← e, le-ltb n 65535 h)
 
   pub raise-one : n < 65535 → set c f (n + 1) ≡ raised c f
   unfolding raised
-  raise-one h = rw (le-leb 1 f l, le-leb f 4096 u, ← e, lt-ltb n 65535 h)
+  raise-one h = rw (le-leb 1 f l, le-leb f mostItems u, ← e, lt-ltb n 65535 h)
 
 -- ---- all loops
 
 -- the loops 1 to i are counted
 pub record Filled (sh : Shape) (x : List ℕ) (i : ℕ) (c : List ℕ) : Type 0 where
-  pub size : length c ≡ 4097
-  pub loops : (f : ℕ) → 1 ≤ f → f ≤ 4096 → getD c f 0 ≡ countTo i (λ l. eqb (loopFace sh x l) f)
+  pub size : length c ≡ itemPlaces
+  pub loops : (f : ℕ) → 1 ≤ f → f ≤ mostItems → getD c f 0 ≡ countTo i (λ l. eqb (loopFace sh x l) f)
 
 -- none is counted at the beginning
-pub filled-none : (sh : Shape) (x : List ℕ) → Filled sh x 0 (replicate 4097 0)
+pub filled-none : (sh : Shape) (x : List ℕ) → Filled sh x 0 (replicate itemPlaces 0)
 unfolding sumTo
 filled-none sh x = record {
-  size = length-replicate {A = ℕ} 4097 0;
+  size = length-replicate {A = ℕ} itemPlaces 0;
   loops =
-      λ f l u. getD-replicate {A = ℕ} 4097 f 0 0 (omega arith);
+      λ f l u. getD-replicate {A = ℕ} itemPlaces f 0 0 (omega arith);
 }
 
 -- one more number where it is wanted, and elsewhere as before
-raised-at : (c : List ℕ) (f : ℕ) → length c ≡ 4097 → 1 ≤ f → f ≤ 4096 → getD c f 0 < 65535
+raised-at : (c : List ℕ) (f : ℕ) → length c ≡ itemPlaces → 1 ≤ f → f ≤ mostItems → getD c f 0 < 65535
     → getD (raised c f) f 0 ≡ getD c f 0 + 1
 unfolding raised
 raised-at c f s l u h =
-    rw (le-leb 1 f l, le-leb f 4096 u, lt-ltb (getD c f 0) 65535 h)
+    rw (le-leb 1 f l, le-leb f mostItems u, lt-ltb (getD c f 0) 65535 h)
     (getD-set-same c f (getD c f 0 + 1) 0 (omega (arith, s)))
 
 raised-off : (c : List ℕ) (f g : ℕ) → f ≢ g → getD (raised c f) g 0 ≡ getD c g 0
@@ -117,7 +118,7 @@ pub filled-all : (sh : Shape) (x : List ℕ) (i : ℕ) (c : List ℕ) → Filled
 filled-all sh x i c a h k = let e : sh .loops ≡ i = omega arith in record { loops = λ f l u. rw e (a .loops f l u) }
 
 -- what the number at face f's place says
-pub kept-at : (sh : Shape) (x c : List ℕ) (f n : ℕ) → Counted sh x c → 1 ≤ f → f ≤ 4096 → sh .loops ≤ 4096
+pub kept-at : (sh : Shape) (x c : List ℕ) (f n : ℕ) → Counted sh x c → 1 ≤ f → f ≤ mostItems → sh .loops ≤ mostItems
     → n ≡ getD c f 0
     → (n ≡ loopsIn sh x f) × (n < 65536)
 kept-at sh x c f n a l u m e =

@@ -7,6 +7,7 @@ use mathlib.Core.List.{List, [], _∷_}
 use lib.Dec.{eqb, leb, ltb}
 use lib.ListN.{getD, set}
 use Rattle.laws.specs.Bools.{pick}
+use Rattle.bounds.specs.Bounds.{mostItems}
 use Rattle.script.specs.declared.Operator.{Operator}
 use Rattle.layout.specs.declared.shape.Shape.{Shape}
 use Rattle.layout.specs.Layout.{loopFace, loopOf, faceOuter}
@@ -16,7 +17,7 @@ use Rattle.euler.specs.Exec.{onlyLoop, linksAfter}
 
 -- the list c holds the number of loops of each face; place 0 says nothing
 pub record Counted (sh : Shape) (x c : List ℕ) : Type 0 where
-  pub loops : (f : ℕ) → 1 ≤ f → f ≤ 4096 → getD c f 0 ≡ loopsIn sh x f
+  pub loops : (f : ℕ) → 1 ≤ f → f ≤ mostItems → getD c f 0 ≡ loopsIn sh x f
 
 -- the loop whose face the operator changes, the codes in order from 0; 0 for none
 abbrev pub movedLoops : Shape → List ℕ → (ℕ → ℕ) → List ℕ
@@ -29,7 +30,7 @@ movedLoop sh x o = getD (movedLoops sh x (itemOf o)) (o .code) 0
 
 -- f names a face that a table can have
 abbrev pub isPlace : ℕ → Bool
-isPlace f = leb 1 f && leb f 4096
+isPlace f = leb 1 f && leb f mostItems
 
 -- face f has one loop less, and one more; a number that fills its word stays
 unfoldable pub lowered : List ℕ → ℕ → List ℕ

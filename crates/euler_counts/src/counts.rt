@@ -2,9 +2,12 @@
 ghost use mathlib.Core.Path.{_≡_};
 ghost use Prim.Native.Nat.{ℕ, _<_, _≤_};
 ghost use lib.ListN.{length};
+ghost use Rattle.bounds.specs.Bounds.{itemPlaces};
 ghost use Rattle.layout.specs.Small.{Small};
 ghost use Rattle.euler.specs.Queries.{loopsIn};
 ghost use Rattle.euler_counts.specs.Counts.{Counted, lowered, raised};
+use bounds::ITEM_PLACES;
+use bounds::MOST_ITEMS;
 use euler::faces::loops_in;
 use layout::columns::loop_face;
 use layout::shape::Shape;
@@ -16,7 +19,7 @@ fn wide(x: u16) -> usize
 }
 
 // How many loops face f has, by its number in the array; what no table has for a face is counted.
-pub fn loops_kept(links: &[u16], counts: &[u16; 4097], sh: Shape, f: usize) -> usize
+pub fn loops_kept(links: &[u16], counts: &[u16; ITEM_PLACES], sh: Shape, f: usize) -> usize
     requires { ⌜ Small sh ⌝ }
     requires { ⌜ Counted sh (now links) (now counts) ⌝ }
     ensures { λ r. ⌜ (r ≡ loopsIn sh (now (links .entry)) f) × (r < 65536) ⌝ }
@@ -24,20 +27,20 @@ pub fn loops_kept(links: &[u16], counts: &[u16; 4097], sh: Shape, f: usize) -> u
     if f == 0 {
         return loops_in(links, sh, f);
     }
-    if f > 4096 {
+    if f > MOST_ITEMS {
         return loops_in(links, sh, f);
     }
     wide(counts[f])
 }
 
 // Face f has one loop less.
-pub fn lower_count(counts: &mut [u16; 4097], f: usize)
+pub fn lower_count(counts: &mut [u16; ITEM_PLACES], f: usize)
     ensures { λ _. ⌜ now (counts .exit) ≡ lowered (now (counts .entry)) f ⌝ }
 {
     if f == 0 {
         return;
     }
-    if f > 4096 {
+    if f > MOST_ITEMS {
         return;
     }
     let n = counts[f];
@@ -47,13 +50,13 @@ pub fn lower_count(counts: &mut [u16; 4097], f: usize)
 }
 
 // Face f has one loop more.
-pub fn raise_count(counts: &mut [u16; 4097], f: usize)
+pub fn raise_count(counts: &mut [u16; ITEM_PLACES], f: usize)
     ensures { λ _. ⌜ now (counts .exit) ≡ raised (now (counts .entry)) f ⌝ }
 {
     if f == 0 {
         return;
     }
-    if f > 4096 {
+    if f > MOST_ITEMS {
         return;
     }
     let n = counts[f];
@@ -63,12 +66,12 @@ pub fn raise_count(counts: &mut [u16; 4097], f: usize)
 }
 
 // All loops counted.
-pub fn fill_counts(links: &[u16], sh: Shape, counts: &mut [u16; 4097])
+pub fn fill_counts(links: &[u16], sh: Shape, counts: &mut [u16; ITEM_PLACES])
     requires { ⌜ Small sh ⌝ }
     ensures { λ _. ⌜
-        (Counted sh (now (links .entry)) (now (counts .exit))) × (length (now (counts .exit)) ≡ 4097) ⌝ }
+        (Counted sh (now (links .entry)) (now (counts .exit))) × (length (now (counts .exit)) ≡ itemPlaces) ⌝ }
 {
-    *counts = [0u16; 4097];
+    *counts = [0u16; ITEM_PLACES];
     let n = sh.loops as usize;
     let mut l: usize = 0;
     while l < n {

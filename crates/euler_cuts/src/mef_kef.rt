@@ -5,6 +5,7 @@ ghost use Rattle.layout.specs.Small.{Small};
 ghost use Rattle.euler_counts.specs.Counts.{Counted};
 ghost use Rattle.euler.specs.EdgeOperators.{mefTest, mefLinks, mefInverse, kefTest, kefLinks, kefInverse};
 ghost use Rattle.euler_cuts.specs.Parts.{mefIn, restOf, kefOut};
+use bounds::ITEM_PLACES;
 use euler::records::Half;
 use euler::records::choose;
 use euler::records::corner_vertex;
@@ -118,7 +119,7 @@ pub fn mef_inverse(b: usize) -> Operator
 }
 
 // k's loop is the only one of its face, and the mate's face is another.
-pub fn kef_fits(links: &[u16], counts: &[u16; 4097], sh: Shape, k: usize) -> bool
+pub fn kef_fits(links: &[u16], counts: &[u16; ITEM_PLACES], sh: Shape, k: usize) -> bool
     requires { ⌜ k < 65536 ⌝ }
     requires { ⌜ Small sh ⌝ }
     requires { ⌜ Counted sh (now links) (now counts) ⌝ }

@@ -2,6 +2,7 @@
 // lent; an arm reads just those that it needs.
 ghost use mathlib.Core.Path.{_≡_};
 ghost use Prim.Native.Nat.{ℕ, _≤_, _<_};
+ghost use Rattle.bounds.specs.Bounds.{mostHalves};
 ghost use Rattle.layout.specs.Layout.{nextOf};
 ghost use Rattle.euler.specs.EdgeOperators.{jekvLinks};
 ghost use Rattle.euler.specs.FaceOperators.{kvsfLinks};
@@ -34,7 +35,7 @@ use layout::shape::Shape;
 
 // kvsf: the solid's only face, that face's loop and the loop's vertex are found first.
 fn kill_solid(links: &mut [u16], sh: Shape, s: usize)
-    requires { ⌜ (Small sh) × (s ≤ 8192) ⌝ }
+    requires { ⌜ (Small sh) × (s ≤ mostHalves) ⌝ }
     ensures { λ _. ⌜ now (links .exit)
         ≡ kvsfLinks sh (now (links .entry)) s (faceIn sh (now (links .entry)) s) (onlyLoop sh (now (links .entry)) s)
         (onlyVertex sh (now (links .entry)) s) ⌝ }
@@ -47,7 +48,7 @@ fn kill_solid(links: &mut [u16], sh: Shape, s: usize)
 
 // jekv: the half-edge after k is found first.
 fn join_edges(links: &mut [u16], sh: Shape, k: usize)
-    requires { ⌜ k ≤ 8192 ⌝ }
+    requires { ⌜ k ≤ mostHalves ⌝ }
     ensures { λ _. ⌜ now (links .exit)
         ≡ jekvLinks sh (now (links .entry)) k (nextOf sh (now (links .entry)) k) ⌝ }
 {

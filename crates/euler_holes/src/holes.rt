@@ -2,6 +2,7 @@
 // solid this makes or kills a hole through it; between two it joins or divides solids.
 ghost use mathlib.Core.Path.{_≡_};
 ghost use Prim.Native.Nat.{ℕ, _<_, _≤_};
+ghost use Rattle.bounds.specs.Bounds.{mostItems};
 ghost use Rattle.layout.specs.Small.{Small};
 ghost use Rattle.euler.specs.FaceOperators.{kfmrhTest, kfmrhLinks, kfmrhInverse, ringFace, mfkrhTest, mfkrhLinks};
 ghost use Rattle.euler.specs.FaceOperators.{mfkrhInverse};
@@ -9,6 +10,7 @@ ghost use Rattle.euler_counts.specs.Counts.{Counted};
 ghost use Rattle.euler_holes.specs.Moves.{giveLoop};
 use crate::moves::join_solids;
 use crate::moves::move_shell;
+use bounds::ITEM_PLACES;
 use check_shells::faces::link_faces;
 use check_shells::faces::linked_faces;
 use euler::faces::is_ring;
@@ -25,7 +27,13 @@ use script::Operator;
 use script::blank;
 use script::with_number;
 
-pub fn kfmrh_fits(links: &[u16], counts: &[u16; 4097], sh: Shape, f1: usize, f2: usize) -> bool
+pub fn kfmrh_fits(
+    links: &[u16],
+    counts: &[u16; ITEM_PLACES],
+    sh: Shape,
+    f1: usize,
+    f2: usize,
+) -> bool
     requires { ⌜ Small sh ⌝ }
     requires { ⌜ Counted sh (now links) (now counts) ⌝ }
     ensures { λ r. ⌜ r ≡ kfmrhTest sh (now (links .entry)) f1 f2 ⌝ }
@@ -50,7 +58,7 @@ fn give_loop(links: &mut [u16], sh: Shape, l: usize, f: usize, g: usize)
 }
 
 pub fn kfmrh_links(links: &mut [u16], sh: Shape, f1: usize, f2: usize)
-    requires { ⌜ (sh .faces ≤ 4096) × (f1 < 65536) × (f2 < 65536) ⌝ }
+    requires { ⌜ (sh .faces ≤ mostItems) × (f1 < 65536) × (f2 < 65536) ⌝ }
     ensures { λ _. ⌜ now (links .exit) ≡ kfmrhLinks sh (now (links .entry)) f1 f2 ⌝ }
 {
     let l = face_outer(links, sh, f2);
@@ -75,7 +83,7 @@ pub fn kfmrh_inverse(links: &[u16], sh: Shape, f1: usize, f2: usize) -> Operator
 
 // Whether a new solid is due is asked of the table as it will be, before anything is stored.
 pub fn mfkrh_fits(links: &[u16], sh: Shape, l: usize, f: usize, s: usize) -> bool
-    requires { ⌜ (sh .faces ≤ 4096) × (sh .edges ≤ 4096) × (l < 65536) × (f < 65536) ⌝ }
+    requires { ⌜ (sh .faces ≤ mostItems) × (sh .edges ≤ mostItems) × (l < 65536) × (f < 65536) ⌝ }
     ensures { λ r. ⌜ r ≡ mfkrhTest sh (now (links .entry)) l f s ⌝ }
 {
     let ring = is_ring(links, sh, l);
@@ -108,14 +116,14 @@ fn ring_face(links: &mut [u16], sh: Shape, l: usize, f: usize)
 }
 
 pub fn mfkrh_links(links: &mut [u16], sh: Shape, l: usize, f: usize, s: usize)
-    requires { ⌜ (sh .faces ≤ 4096) × (sh .edges ≤ 4096) × (l < 65536) × (f < 65536) × (s < 65536) ⌝ }
+    requires { ⌜ (sh .faces ≤ mostItems) × (sh .edges ≤ mostItems) × (l < 65536) × (f < 65536) × (s < 65536) ⌝ }
     ensures { λ _. ⌜ now (links .exit) ≡ mfkrhLinks sh (now (links .entry)) l f s ⌝ }
 {
     if s == 0 {
         ring_face(links, sh, l, f);
         return;
     }
-    let mut parent = [0u16; 4097];
+    let mut parent = [0u16; ITEM_PLACES];
     link_faces(links, sh, l, f, &mut parent);
     ring_face(links, sh, l, f);
     set_solid_used(links, sh, s, 1);

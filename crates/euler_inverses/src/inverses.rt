@@ -2,6 +2,7 @@
 // anything is stored.
 ghost use mathlib.Core.Path.{_≡_};
 ghost use Prim.Native.Nat.{ℕ, _≤_, _<_};
+ghost use Rattle.bounds.specs.Bounds.{mostHalves};
 ghost use Rattle.layout.specs.Layout.{nextOf};
 ghost use Rattle.euler.specs.EdgeOperators.{jekvInverse, mefInverse};
 ghost use Rattle.euler.specs.FaceOperators.{kvsfInverse};
@@ -36,7 +37,7 @@ use script::blank;
 
 // mvsf of the solid that kvsf kills.
 fn solid_again(links: &[u16], points: &[i32], sh: Shape, s: usize) -> Operator
-    requires { ⌜ (Small sh) × (s ≤ 8192) ⌝ }
+    requires { ⌜ (Small sh) × (s ≤ mostHalves) ⌝ }
     ensures { λ r.
         ⌜ r ≡ kvsfInverse (now (points .entry)) s (faceIn sh (now (links .entry)) s) (onlyLoop sh
         (now (links .entry)) s) (onlyVertex sh (now (links .entry)) s) ⌝ }
@@ -49,7 +50,7 @@ fn solid_again(links: &[u16], points: &[i32], sh: Shape, s: usize) -> Operator
 
 // semv of the vertex that jekv kills.
 fn vertex_again(links: &[u16], points: &[i32], sh: Shape, k: usize) -> Operator
-    requires { ⌜ k ≤ 8192 ⌝ }
+    requires { ⌜ k ≤ mostHalves ⌝ }
     ensures { λ r.
         ⌜ r ≡ jekvInverse sh (now (links .entry)) (now (points .entry)) k (nextOf sh (now (links .entry)) k) ⌝ }
 {
@@ -59,7 +60,7 @@ fn vertex_again(links: &[u16], points: &[i32], sh: Shape, k: usize) -> Operator
 
 // kef of the mate of mef's half-edge.
 fn edge_again(e: usize, w: usize) -> Operator
-    requires { ⌜ e ≤ 8192 ⌝ }
+    requires { ⌜ e ≤ mostHalves ⌝ }
     ensures { λ r. ⌜ r ≡ mefInverse (mate (halfBy e w)) ⌝ }
 {
     let a = half_by(e, w);

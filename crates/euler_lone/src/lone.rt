@@ -7,6 +7,7 @@ ghost use Rattle.euler.specs.Queries.{facesIn};
 ghost use Rattle.euler.specs.FaceOperators.{mvsfLinks, mvsfInverse, kvsfTest, kvsfLinks, kvsfInverse};
 ghost use Rattle.euler_counts.specs.Counts.{Counted};
 ghost use Rattle.euler_lone.specs.LoneLaws.{faceAfter};
+use bounds::ITEM_PLACES;
 use euler::points::with_point;
 use euler::records::put_face;
 use euler::records::put_loop;
@@ -75,7 +76,7 @@ fn face_after(links: &[u16], sh: Shape, s: usize, f: usize) -> usize
 }
 
 // The faces are gone through once: up to the least of s, then on to another one.
-pub fn kvsf_fits(links: &[u16], counts: &[u16; 4097], sh: Shape, s: usize) -> bool
+pub fn kvsf_fits(links: &[u16], counts: &[u16; ITEM_PLACES], sh: Shape, s: usize) -> bool
     requires { ⌜ Small sh ⌝ }
     requires { ⌜ Counted sh (now links) (now counts) ⌝ }
     ensures { λ r. ⌜ r ≡ kvsfTest sh (now (links .entry)) s ⌝ }

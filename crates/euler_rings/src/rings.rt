@@ -2,6 +2,7 @@
 ghost use mathlib.Core.Path.{_≡_};
 ghost use Prim.Native.Nat.{ℕ, _*_, _<_, _≤_};
 ghost use Rattle.laws.specs.Search.{least};
+ghost use Rattle.bounds.specs.Bounds.{mostItems};
 ghost use Rattle.euler.specs.FaceOperators.{sharesOutside, rmovTest, rmovLinks, rmovInverse};
 use euler::faces::is_ring;
 use euler::records::choose;
@@ -45,7 +46,7 @@ fn shares_outside(links: &[u16], sh: Shape, l: usize, f: usize, k: usize) -> boo
 
 // The least half-edge that does so; 0 where none does.
 fn sharing_half(links: &[u16], sh: Shape, l: usize, f: usize) -> usize
-    requires { ⌜ (sh .edges ≤ 4096) × (l < 65536) ⌝ }
+    requires { ⌜ (sh .edges ≤ mostItems) × (l < 65536) ⌝ }
     ensures { λ r. ⌜ r ≡ least (2 * sh .edges) (sharesOutside sh (now (links .entry)) l f) ⌝ }
 {
     let n = 2 * sh.edges as usize;
@@ -62,7 +63,7 @@ fn sharing_half(links: &[u16], sh: Shape, l: usize, f: usize) -> usize
 
 // The half-edges are gone through only for a ring that leaves its face.
 pub fn rmov_fits(links: &[u16], sh: Shape, l: usize, f: usize) -> bool
-    requires { ⌜ (sh .edges ≤ 4096) × (l < 65536) ⌝ }
+    requires { ⌜ (sh .edges ≤ mostItems) × (l < 65536) ⌝ }
     ensures { λ r. ⌜ r ≡ rmovTest sh (now (links .entry)) l f ⌝ }
 {
     let ring = is_ring(links, sh, l);

@@ -10,6 +10,7 @@ use lib.IntN.{ℤ, pos, negsuc}
 use lib.ListN.{length, getD}
 use borrow.Author.Tests.{le-leb}
 use Rattle.laws.specs.Bools.{true-T}
+use Rattle.bounds.specs.Bounds.{mostHalves}
 use Rattle.codec.specs.declared.Limits.{Limits}
 use Rattle.script.specs.declared.Operator.{Operator}
 use Rattle.codec.specs.Operands.{coordinate, pattern, leasts, largests, widest, inRange, wire}
@@ -45,7 +46,7 @@ pub record OperandInRange (sh : Shape) (o : Operator) (i : ℕ) : Type 0 where
   pub point : eqb (kindAt o i) coordinate ≡ true → T (rangeTest (argumentAt o i))
 
 -- but for coordinates no range goes beyond 8,192
-largest-small : (k : ℕ) → eqb k coordinate ≡ false → getD (largests widest) k 0 ≤ 8192
+largest-small : (k : ℕ) → eqb k coordinate ≡ false → getD (largests widest) k 0 ≤ mostHalves
 largest-small zero e = lit≤ tt
 largest-small (suc zero) e = lit≤ tt
 largest-small (suc (suc zero)) e = lit≤ tt
@@ -65,7 +66,7 @@ largest-small (suc (suc (suc (suc (suc (suc (suc (suc (suc (suc (suc (suc (suc (
 largest-small (suc (suc (suc (suc (suc (suc (suc (suc (suc (suc (suc (suc (suc (suc (suc k))))))))))))))) e = lit≤ tt
 
 -- a number in range, as it stands in the record
-plain-range : (lim : Limits) (kind : ℕ) (a : ℤ) → eqb kind coordinate ≡ false → limitOf lim kind ≤ 8192
+plain-range : (lim : Limits) (kind : ℕ) (a : ℤ) → eqb kind coordinate ≡ false → limitOf lim kind ≤ mostHalves
     → inRange (largests lim) kind (wire kind a) ≡ true
     → (a ≡ pos (natOf a)) × (getD leasts kind 0 ≤ natOf a) × (natOf a ≤ limitOf lim kind)
 unfolding wire
@@ -88,7 +89,7 @@ operands-in-range {sh} {x} g o len h i l =
             low = n .1;
             high = n .2;
             item =
-                rw (le-leb (operandOf o i) 8192 (omega (arith, s, w, n .2)));
+                rw (le-leb (operandOf o i) mostHalves (omega (arith, s, w, n .2)));
           };
       point = λ c.
           let e = eqb→eq (kindAt o i) coordinate (true-T c) in

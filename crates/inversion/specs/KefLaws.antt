@@ -13,6 +13,7 @@ use Rattle.laws.specs.Bools.{T-true, true-T, eqb-same}
 use Rattle.laws.specs.Every.{T-every}
 use Rattle.laws.specs.Sums.{countTo}
 use Rattle.laws.specs.Update.{upd-same, upd-off}
+use Rattle.bounds.specs.Bounds.{mostHalves}
 use Rattle.codec.specs.Operands.{pattern, rows}
 use Rattle.layout.specs.declared.shape.Shape.{Shape}
 use Rattle.layout.specs.Mate.{mate}
@@ -80,7 +81,7 @@ module _ {sh : Shape} {x : List ℕ} {p : List ℤ} (g : Good sh x p) {k : ℕ} 
   unfolding pattern rows useWord condition
   kef-accepted = one-accepted sh x 6 9 refl refl refl refl (omega (arith, g .capacities .edges)) refl k
       (w .used .0, w .used .1) (w .used .2)
-      (rw (le-leb k 8192 (omega (arith, w .used .1, g .capacities .edges))) test)
+      (rw (le-leb k mostHalves (omega (arith, w .used .1, g .capacities .edges))) test)
 
   -- the columns afterwards
   pub kef-shown : Shows sh (linksAfter sh x (kef k)) (mendColumns sh (own sh x) (spotAt (own sh x) k))

@@ -8,6 +8,7 @@ use lib.IntN.{ℤ}
 use borrow.Author.Tests.{le-leb}
 use Rattle.laws.specs.Bools.{split, eqb-same}
 use Rattle.laws.specs.Update.{upd-same, upd-off}
+use Rattle.bounds.specs.Bounds.{mostHalves}
 use Rattle.codec.specs.Operands.{pattern, rows}
 use Rattle.layout.specs.declared.shape.Shape.{Shape}
 use Rattle.layout.specs.Mate.{mate}
@@ -54,7 +55,7 @@ module _ {sh : Shape} {x : List ℕ} {p : List ℤ} (g : Good sh x p) {k : ℕ} 
   unfolding pattern rows useWord condition kevTest
   kev-accepted = one-accepted sh x 4 9 refl refl refl refl (omega (arith, g .capacities .edges)) refl k (uk .0, uk .1)
       (uk .2)
-      (rw (le-leb k 8192 (omega (arith, uk .1, g .capacities .edges))) (eqb-same nk))
+      (rw (le-leb k mostHalves (omega (arith, uk .1, g .capacities .edges))) (eqb-same nk))
 
   module _ {I : ℕ} (left : Left (own sh x) k I) where
     v : Shows sh (kevList sh x k) (kevColumns sh (own sh x) k I)

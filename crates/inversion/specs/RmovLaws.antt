@@ -11,6 +11,7 @@ use lib.IntN.{ℤ}
 use borrow.Author.Tests.{le-leb}
 use Rattle.laws.specs.Search.{least}
 use Rattle.laws.specs.Bools.{eqb-same, eqb-other}
+use Rattle.bounds.specs.Bounds.{mostHalves}
 use Rattle.codec.specs.Operands.{pattern, rows}
 use Rattle.layout.specs.declared.shape.Shape.{Shape}
 use Rattle.layout.specs.Mate.{mate}
@@ -44,8 +45,8 @@ module _ {sh : Shape} {x : List ℕ} {p : List ℤ} (g : Good sh x p) {l f : ℕ
       (omega (arith, g .capacities .faces)) refl l f il jf ul
       (old-use sh x 4 f (λ z. omega (arith, jf .0, z)) refl uf)
       (rw (
-        le-leb l 8192 (omega (arith, il .1, g .capacities .loops)),
-        le-leb f 8192 (omega (arith, jf .1, g .capacities .faces)),
+        le-leb l mostHalves (omega (arith, il .1, g .capacities .loops)),
+        le-leb f mostHalves (omega (arith, jf .1, g .capacities .faces)),
       ) t)
 
   -- in its own face
@@ -57,8 +58,8 @@ module _ {sh : Shape} {x : List ℕ} {p : List ℤ} (g : Good sh x p) {l f : ℕ
   unfolding linksAfter rmovLinks
   swap-shows e =
       rw (
-        le-leb l 8192 (omega (arith, il .1, g .capacities .loops)),
-        le-leb f 8192 (omega (arith, jf .1, g .capacities .faces)),
+        le-leb l mostHalves (omega (arith, il .1, g .capacities .loops)),
+        le-leb f mostHalves (omega (arith, jf .1, g .capacities .faces)),
         eqb-same e,
       )
       (shows-put (good-shows g) Outer f l (jf .0) (jf .1))
@@ -82,8 +83,8 @@ module _ {sh : Shape} {x : List ℕ} {p : List ℤ} (g : Good sh x p) {l f : ℕ
   unfolding linksAfter rmovLinks
   move-shows d =
       rw (
-        le-leb l 8192 (omega (arith, il .1, g .capacities .loops)),
-        le-leb f 8192 (omega (arith, jf .1, g .capacities .faces)),
+        le-leb l mostHalves (omega (arith, il .1, g .capacities .loops)),
+        le-leb f mostHalves (omega (arith, jf .1, g .capacities .faces)),
         eqb-other d,
       )
       (shows-put (good-shows g) Face l f (il .0) (il .1))

@@ -12,6 +12,7 @@ use Rattle.laws.specs.Bools.{pick, split, true-T, eqb-same}
 use Rattle.laws.specs.Sums.{bit}
 use Rattle.laws.specs.Linked.{link}
 use Rattle.laws.specs.Update.{upd-at, upd-same, upd-off}
+use Rattle.bounds.specs.Bounds.{mostHalves}
 use Rattle.layout.specs.declared.shape.Shape.{Shape}
 use Rattle.layout.specs.Mate.{mate}
 use Rattle.euler.specs.Queries.{facesIn}
@@ -121,8 +122,8 @@ module _ {sh : Shape} {x : List ℕ} {p : List ℤ} (g : Good sh x p) {k l f f�
   ring-joins q =
       rw (
         ring-inverse q,
-        le-leb f₀ 8192 small,
-        le-leb f 8192 (omega (arith, r .face-in .1, g .capacities .faces)),
+        le-leb f₀ mostHalves small,
+        le-leb f mostHalves (omega (arith, r .face-in .1, g .capacities .faces)),
         solid₁-new,
         solid₁ f₀ in₀ f₀f,
         r .face-solid,
@@ -133,7 +134,7 @@ module _ {sh : Shape} {x : List ℕ} {p : List ℤ} (g : Good sh x p) {k l f f�
       in₀ = let i = g .sound .solids .side-in (mate k) (g .sound .rules .mate-in k u) in
           subst (In (sh .faces)) mf (i .0, i .1)
 
-      small : f₀ ≤ 8192
+      small : f₀ ≤ mostHalves
       small = omega (arith, in₀ .1, g .capacities .faces)
 
       f₀f : f₀ ≢ f

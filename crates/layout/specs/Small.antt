@@ -1,14 +1,7 @@
--- The limits of a table, and what scans ask of its shape.
-use Prim.Native.Nat.{ℕ, _*_, _≤_}
+-- What scans ask of a table's shape.
+use Prim.Native.Nat.{_≤_}
+use Rattle.bounds.specs.Bounds.{mostItems}
 use Rattle.layout.specs.declared.shape.Shape.{Shape}
-
--- the most items of a kind that a table has
-abbrev pub mostItems : ℕ
-mostItems = 4096
-
--- the most half-edges: two of each edge
-abbrev pub mostHalves : ℕ
-mostHalves = 2 * mostItems
 
 -- the capacities of a shape are small, so that no number of a scan wraps
 pub record Small (sh : Shape) : Type 0 where

@@ -36,8 +36,3 @@ pub const HALF_PREV: u32 = 3;
 pub const VERTEX_WIDTH: u32 = 1;
 
 pub const VERTEX_USED: u32 = 0;
-
-// The most items of a kind that a table has; of half-edges it has twice as many.
-pub const MOST_ITEMS: usize = 4096;
-
-pub const MOST_HALVES: usize = 8192;

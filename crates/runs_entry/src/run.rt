@@ -7,6 +7,7 @@ ghost use Rattle.codec.specs.Operands.{largests};
 ghost use Rattle.euler.specs.Exec.{limits};
 ghost use Rattle.runs.specs.Run.{state, leaves, runFrom, runOf};
 ghost use Rattle.runs_steps.specs.Standing.{Standing};
+use bounds::ITEM_PLACES;
 use euler_counts::counts::fill_counts;
 use layout::shape::Shape;
 use layout::shape::shape_of;
@@ -20,7 +21,7 @@ fn run_all(
     links: &mut [u16],
     points: &mut [i32],
     log: &mut [u8],
-    counts: &mut [u16; 4097],
+    counts: &mut [u16; ITEM_PLACES],
     sh: Shape,
     start: usize,
     script: &[u8],
@@ -97,7 +98,7 @@ pub fn run(
     }
     let sh = shape_of(links);
     let most = ranges_of(sh);
-    let mut counts = [0u16; 4097];
+    let mut counts = [0u16; ITEM_PLACES];
     fill_counts(links, sh, &mut counts);
     run_all(links, points, log, &mut counts, sh, start, script, &most)
 }

@@ -5,6 +5,7 @@ ghost use Rattle.codec.specs.Operands.{largests};
 ghost use Rattle.euler.specs.Exec.{limits};
 ghost use Rattle.runs.specs.Run.{state, restores, undoFrom, undoOf};
 ghost use Rattle.runs_steps.specs.Standing.{Standing};
+use bounds::ITEM_PLACES;
 use euler_counts::counts::fill_counts;
 use layout::shape::Shape;
 use layout::shape::shape_of;
@@ -17,7 +18,7 @@ use runs_steps::back::undo_step;
 fn undo_all(
     links: &mut [u16],
     points: &mut [i32],
-    counts: &mut [u16; 4097],
+    counts: &mut [u16; ITEM_PLACES],
     sh: Shape,
     log: &[u8],
     start: usize,
@@ -79,7 +80,7 @@ pub fn undo(links: &mut [u16], points: &mut [i32], log: &[u8], start: usize, n: 
     }
     let sh = shape_of(links);
     let most = ranges_of(sh);
-    let mut counts = [0u16; 4097];
+    let mut counts = [0u16; ITEM_PLACES];
     fill_counts(links, sh, &mut counts);
     undo_all(links, points, &mut counts, sh, log, start, n, &most)
 }

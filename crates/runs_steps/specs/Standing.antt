@@ -8,6 +8,7 @@ use lib.Dec.{eqb}
 use lib.IntN.{ℤ}
 use lib.ListN.{length}
 use Rattle.laws.specs.Bools.{pick, eqb-same, eqb-other}
+use Rattle.bounds.specs.Bounds.{itemPlaces}
 use Rattle.script.specs.declared.Operator.{Operator}
 use Rattle.layout.specs.declared.shape.Shape.{Shape}
 use Rattle.layout.specs.Small.{Small}
@@ -22,7 +23,7 @@ use Rattle.promises.specs.Reading.{taken}
 -- a good table with the right numbers, one for each face that a table can have
 pub record Standing (sh : Shape) (x : List ℕ) (p : List ℤ) (c : List ℕ) : Type 0 where
   pub good : Good sh x p
-  pub size : length c ≡ 4097
+  pub size : length c ≡ itemPlaces
   pub counted : Counted sh x c
 
 -- its capacities are small

@@ -4,6 +4,7 @@ ghost use Rattle.codec.specs.Operands.{largests};
 ghost use Rattle.euler.specs.Exec.{limits};
 ghost use Rattle.runs.specs.Run.{readAt, refusalAt};
 ghost use Rattle.runs_steps.specs.Standing.{Standing, backOf};
+use bounds::ITEM_PLACES;
 use euler_counted::counted::perform_counted;
 use layout::shape::Shape;
 use runs_take::take::take;
@@ -19,7 +20,7 @@ pub struct Back {
 pub fn undo_step(
     links: &mut [u16],
     points: &mut [i32],
-    counts: &mut [u16; 4097],
+    counts: &mut [u16; ITEM_PLACES],
     sh: Shape,
     log: &[u8],
     at: usize,

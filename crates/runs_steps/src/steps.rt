@@ -9,6 +9,7 @@ ghost use Rattle.script.specs.Operator.{operatorBytes};
 ghost use Rattle.euler.specs.Exec.{limits};
 ghost use Rattle.runs.specs.Run.{state, stepIs, stepOf};
 ghost use Rattle.runs_steps.specs.Standing.{Standing};
+use bounds::ITEM_PLACES;
 use euler_counted::counted::perform_counted;
 use euler_inverses::inverses::inverse_of;
 use layout::shape::Shape;
@@ -42,7 +43,7 @@ pub fn run_step(
     links: &mut [u16],
     points: &mut [i32],
     log: &mut [u8],
-    counts: &mut [u16; 4097],
+    counts: &mut [u16; ITEM_PLACES],
     sh: Shape,
     start: usize,
     script: &[u8],

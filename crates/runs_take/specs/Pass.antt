@@ -12,6 +12,7 @@ use lib.ListN.{length, getD, take, set, replicate, length-append, List·getD-eq-
 use lib.Seq.{getD-take, set-at}
 use borrow.Author.Tests.{le-leb}
 use Rattle.laws.specs.Bools.{pick, pick-ind, split, le?, eqb-same, eqb-other}
+use Rattle.bounds.specs.Bounds.{mostHalves}
 use Rattle.script.specs.declared.Operator.{Operator}
 use Rattle.codec.specs.declared.number.Num.{Num}
 use Rattle.codec.specs.declared.number.Num.the-variants.{Got, Bad}
@@ -70,16 +71,17 @@ use-late sh x k n =
     (each-at Late o whenUsed (o, (o, (b, (b, (o, (b, (o, (b, (b, (o, (o, (b, tt)))))))))))) k))
 
 -- the number of an item that is in range
-pub item-small : (sh : Shape) → Small sh → (k n : ℕ) → k < 12 → inRange (largests (limits sh)) k n ≡ true → n ≤ 8192
+pub item-small : (sh : Shape) → Small sh → (k n : ℕ) → k < 12 → inRange (largests (limits sh)) k n ≡ true
+    → n ≤ mostHalves
 item-small sh z k n h e =
-    let s : sh .solids ≤ 8192 = omega (arith, z .solids) in
-    let f : sh .faces ≤ 8192 = omega (arith, z .faces) in
-    let l : sh .loops ≤ 8192 = omega (arith, z .loops) in
-    let d : sh .edges ≤ 8192 = omega (arith, z .edges) in
-    let d′ : 2 * sh .edges ≤ 8192 = omega (arith, z .edges) in
-    let v : sh .vertices ≤ 8192 = omega (arith, z .vertices) in
-    let m : getD (take 12 (largests (limits sh))) k 0 ≤ 8192 =
-    each-at (λ w. w ≤ 8192) (omega arith) (take 12 (largests (limits sh)))
+    let s : sh .solids ≤ mostHalves = omega (arith, z .solids) in
+    let f : sh .faces ≤ mostHalves = omega (arith, z .faces) in
+    let l : sh .loops ≤ mostHalves = omega (arith, z .loops) in
+    let d : sh .edges ≤ mostHalves = omega (arith, z .edges) in
+    let d′ : 2 * sh .edges ≤ mostHalves = omega (arith, z .edges) in
+    let v : sh .vertices ≤ mostHalves = omega (arith, z .vertices) in
+    let m : getD (take 12 (largests (limits sh))) k 0 ≤ mostHalves =
+    each-at (λ w. w ≤ mostHalves) (omega arith) (take 12 (largests (limits sh)))
     (omega arith, (s, (s, (s, (f, (f, (l, (l, (d, (d′, (d′, (v, tt)))))))))))) k in
     let g = getD-take 12 (largests (limits sh)) k 0 h in
     let b = range-between (largests (limits sh)) k n e .1 in
@@ -120,7 +122,7 @@ module _ (sh : Shape) (z : Small sh) (x : List ℕ) (o : Operator) where
       ⊎-elim (λ h. sym (use-high sh x k (itemOf o i) h) ∙ use-high sh x k n h)
       (λ h.
       let g : getD (o .args) i (pos 0) ≡ pos n = f ∙ sym (unwire-plain k n (λ c. omega arith)) in
-      rw (g, le-leb n 8192 (item-small sh z k n h e)))
+      rw (g, le-leb n mostHalves (item-small sh z k n h e)))
       (le? 12 k)
 
   pub uses-same : (ks ns : List ℕ) (i : ℕ) → inRanges (largests (limits sh)) ks ns ≡ true

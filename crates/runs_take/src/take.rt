@@ -8,6 +8,7 @@ ghost use Rattle.euler.specs.Exec.{operatorBy, limits};
 ghost use Rattle.euler_counts.specs.Counts.{Counted};
 ghost use Rattle.runs.specs.Run.{readAt, refusalAt};
 ghost use Rattle.runs_take.specs.Take.{scanIs, joinedBy, scan, taken, settled, Answers, readFrom};
+use bounds::ITEM_PLACES;
 use codec::number::Num;
 use codec::number::read_number;
 use codec::operands::from_wire;
@@ -107,7 +108,7 @@ fn scan_operands(
 // The condition of an operator that is read and whose items fit; the place to go on from.
 fn settle(
     links: &[u16],
-    counts: &[u16; 4097],
+    counts: &[u16; ITEM_PLACES],
     sh: Shape,
     at: usize,
     code: u8,
@@ -136,7 +137,7 @@ fn settle(
 // The operator whose code was read at `at`, its operands behind it.
 fn take_behind(
     links: &[u16],
-    counts: &[u16; 4097],
+    counts: &[u16; ITEM_PLACES],
     sh: Shape,
     script: &[u8],
     at: usize,
@@ -165,7 +166,7 @@ fn take_behind(
 // The operator that stands at `at`: its refusal, 3 to 8, its code and operands, and the place behind it.
 pub fn take(
     links: &[u16],
-    counts: &[u16; 4097],
+    counts: &[u16; ITEM_PLACES],
     sh: Shape,
     script: &[u8],
     at: usize,

@@ -6,6 +6,7 @@ ghost use Rattle.codec.specs.Operands.{widest};
 ghost use Rattle.script.specs.Operator.{blankOf, operandOf, withNumber, refused, readBehind, readOperator};
 ghost use Rattle.script.specs.Operator.{numbersOf, operatorBytes, operatorRefusal, putBytes, written};
 ghost use Rattle.script.specs.Operator.{writeOperator};
+use bounds::MOST_ITEMS;
 use codec::Limits;
 use codec::bytes;
 use codec::number;
@@ -70,16 +71,19 @@ pub fn with_number(op: Operator, i: usize, v: usize) -> Operator
     next
 }
 
+// A capacity is a word of a table.
+const MOST: u16 = MOST_ITEMS as u16;
+
 // The limits of an operator that is read or written without a table.
 fn widest() -> Limits
     ensures { λ r. ⌜ r ≡ widest ⌝ }
 {
     Limits {
-        solids: 4096,
-        faces: 4096,
-        loops: 4096,
-        edges: 4096,
-        vertices: 4096,
+        solids: MOST,
+        faces: MOST,
+        loops: MOST,
+        edges: MOST,
+        vertices: MOST,
     }
 }
 

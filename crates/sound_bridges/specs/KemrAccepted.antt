@@ -10,6 +10,7 @@ use lib.IntN.{ℤ, pos}
 use lib.ListN.{length}
 use borrow.Author.Tests.{le-leb}
 use Rattle.laws.specs.Bools.{true-T, eqb-same}
+use Rattle.bounds.specs.Bounds.{mostHalves}
 use Rattle.script.specs.declared.Operator.{Operator}
 use Rattle.codec.specs.Operands.{pattern, rows}
 use Rattle.layout.specs.declared.shape.Shape.{Shape}
@@ -62,12 +63,12 @@ kemr-facts sh x o caps len e h =
 
 module _ (sh : Shape) (x : List ℕ) {k l2 : ℕ} (caps : Capacities sh) (o : Span sh (own sh x) k l2) where
   -- both numbers are read as they stand
-  kn : leb k 8192 ≡ true
-  kn = le-leb k 8192 (omega (arith, o .half .1, caps .edges))
+  kn : leb k mostHalves ≡ true
+  kn = le-leb k mostHalves (omega (arith, o .half .1, caps .edges))
 
   -- the ring too
-  ln : leb l2 8192 ≡ true
-  ln = le-leb l2 8192 (omega (arith, o .ring-in .1, caps .loops))
+  ln : leb l2 mostHalves ≡ true
+  ln = le-leb l2 mostHalves (omega (arith, o .ring-in .1, caps .loops))
 
   -- it is accepted
   pub kemr-accepted : refusalOf sh x (kemrOf k l2) ≡ 0

@@ -12,6 +12,7 @@ use lib.ListN.{length, getD, replicate}
 use borrow.Author.Tests.{le-leb}
 use Rattle.laws.specs.Bools.{pick, T-true, true-T, eqb-same}
 use Rattle.laws.specs.Every.{every-T, T-every}
+use Rattle.bounds.specs.Bounds.{mostHalves}
 use Rattle.script.specs.declared.Operator.{Operator}
 use Rattle.codec.specs.Operands.{pattern, rows}
 use Rattle.script.specs.Operator.{operandOf}
@@ -65,8 +66,8 @@ abbrev pub mekrBridge : Columns → (k l h1 l2 h2 : ℕ) → Bridge
 mekrBridge c k l h1 l2 h2 = bridgeOf k (cornerOf c l h1 k (mate k)) (cornerOf c l2 h2 (mate k) k)
 
 -- a small number is read as it stands
-pub read : {m : ℕ} → m ≤ 8192 → leb m 8192 ≡ true
-read {m} = le-leb m 8192
+pub read : {m : ℕ} → m ≤ mostHalves → leb m mostHalves ≡ true
+read {m} = le-leb m mostHalves
 
 -- what is asked of an accepted mekr
 pub record MekrFacts (sh : Shape) (c : Columns) (l h1 l2 h2 e w : ℕ) : Type 0 where
@@ -156,8 +157,8 @@ mekr-said sh x o caps len e h =
     number (limits sh) 8 _ refl refl (omega (arith, caps .edges)) (r 4 (lit≤ tt)) in
     let n5 : (getD (o .args) 5 (pos 0) ≡ pos (v 5)) × (operandOf o 5 ≤ 1) =
     number-or-none (limits sh) 12 _ refl (lit≤ tt) (r 5 (lit≤ tt)) in
-    let s1 : v 1 ≤ 8192 = omega (arith, n1 .1, caps .edges) in
-    let s3 : v 3 ≤ 8192 = omega (arith, n3 .1, caps .edges) in
+    let s1 : v 1 ≤ mostHalves = omega (arith, n1 .1, caps .edges) in
+    let s3 : v 3 ≤ mostHalves = omega (arith, n3 .1, caps .edges) in
     let is : o ≡ mekrOf (v 0) (v 1) (v 2) (v 3) (v 4) (v 5) = λ t. record {
       code = e t;
       count = a .count t;
@@ -195,7 +196,8 @@ mekr-said sh x o caps len e h =
 module _ (sh : Shape) (x : List ℕ) {l h1 l2 h2 e w : ℕ} (caps : Capacities sh)
     (r : MekrFacts sh (own sh x) l h1 l2 h2 e w) where
   -- all numbers are small enough to be read as they stand
-  pub small : (l ≤ 8192) × (h1 ≤ 8192) × (l2 ≤ 8192) × (h2 ≤ 8192) × (e ≤ 8192) × (w ≤ 8192)
+  pub small : (l ≤ mostHalves) × (h1 ≤ mostHalves) × (l2 ≤ mostHalves) × (h2 ≤ mostHalves) × (e ≤ mostHalves)
+      × (w ≤ mostHalves)
   small =
       let m1 : h1 ≤ 2 * sh .edges = corner-most sh (own sh x) l h1 (r .at-1) in
       let m2 : h2 ≤ 2 * sh .edges = corner-most sh (own sh x) l2 h2 (r .at-2) in (

@@ -10,6 +10,7 @@ use lib.IntN.{ℤ, pos}
 use lib.ListN.{length, getD}
 use Rattle.laws.specs.Bools.{split, pick-ind}
 use Rattle.laws.specs.Search.{least, Least, none-is, one-is, leastFrom-is}
+use Rattle.bounds.specs.Bounds.{mostHalves}
 use Rattle.script.specs.declared.Operator.{Operator}
 use Rattle.codec.specs.Operands.{coordinate, pattern}
 use Rattle.script.specs.Operator.{operandOf}
@@ -71,8 +72,8 @@ module _ {sh : Shape} {x : List ℕ} {p : List ℤ} (g : Good sh x p) where
 pub operand-cap : (sh : Shape) (x : List ℕ) (o : Operator) → length (o .args) ≡ 8 → refusalOf sh x o ≡ 0
     → (code i cap : ℕ) → o .code ≡ code → length (pattern code .kinds) ≡ 8 → i < 8
     → eqb (getD (pattern code .kinds) i 0) coordinate ≡ false
-    → limitOf (limits sh) (getD (pattern code .kinds) i 0) ≡ cap → cap ≤ 8192 → itemOf o i ≤ cap
+    → limitOf (limits sh) (getD (pattern code .kinds) i 0) ≡ cap → cap ≤ mostHalves → itemOf o i ≤ cap
 operand-cap sh x o len h code i cap e eight u c q m =
     let r = by-place sh x o code len eight e h .range i u in
     let n = number-or-none (limits sh) _ (getD (o .args) i (pos 0)) c (omega (arith, q)) r .1 in
-    pick-ind (λ k. k ≤ cap) (leb (operandOf o i) 8192) (operandOf o i) 0 (omega (arith, q)) (omega arith)
+    pick-ind (λ k. k ≤ cap) (leb (operandOf o i) mostHalves) (operandOf o i) 0 (omega (arith, q)) (omega arith)

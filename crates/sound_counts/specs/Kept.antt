@@ -11,6 +11,7 @@ use lib.ListN.{length, getD, set, length-set}
 use lib.Seq.{getD-set-same, getD-set-other}
 use Rattle.laws.specs.Bools.{pick-ind, split, T-true, T-and, eqb-same, eqb-other}
 use Rattle.laws.specs.Sums.{sumTo, bit, countTo, sum-ext, count-le}
+use Rattle.bounds.specs.Bounds.{itemPlaces, mostItems}
 use Rattle.script.specs.declared.Operator.{Operator}
 use Rattle.layout.specs.declared.shape.Shape.{Shape}
 use Rattle.layout.specs.Layout.{loopFace}
@@ -47,8 +48,8 @@ count-has (suc n) q c i = split c (suc n)
 -- ---- one number less, one more
 
 -- a face that a table can have has a place
-place-yes : (f : ℕ) → 1 ≤ f → f ≤ 4096 → isPlace f ≡ true
-place-yes f a b = T-true (T-and (leb 1 f) (leb f 4096) (le→leb 1 f a) (le→leb f 4096 b))
+place-yes : (f : ℕ) → 1 ≤ f → f ≤ mostItems → isPlace f ≡ true
+place-yes f a b = T-true (T-and (leb 1 f) (leb f mostItems) (le→leb 1 f a) (le→leb f mostItems b))
 
 -- one less: the list is as long
 lowered-length : (c : List ℕ) (f : ℕ) → length (lowered c f) ≡ length c
@@ -65,7 +66,7 @@ raised-length c f =
     (length-set c f (getD c f 0 + 1)) refl
 
 -- face a has one loop less, the others have as many
-lowered-at : (c : List ℕ) (a f : ℕ) → length c ≡ 4097 → 1 ≤ f → f ≤ 4096
+lowered-at : (c : List ℕ) (a f : ℕ) → length c ≡ itemPlaces → 1 ≤ f → f ≤ mostItems
     → getD (lowered c a) f 0 ≡ getD c f 0 - bit (eqb a f)
 unfolding lowered
 lowered-at c a f len l u = split a f
@@ -74,7 +75,7 @@ lowered-at c a f len l u = split a f
     (getD-set-other c a f _ 0 (λ q. d (sym q)) ∙ omega arith) (omega arith)))
 
 -- face b has one loop more, the others have as many; the number does not fill its word
-raised-at : (c : List ℕ) (b f : ℕ) → length c ≡ 4097 → 1 ≤ f → f ≤ 4096 → getD c f 0 < 65535
+raised-at : (c : List ℕ) (b f : ℕ) → length c ≡ itemPlaces → 1 ≤ f → f ≤ mostItems → getD c f 0 < 65535
     → getD (raised c b) f 0 ≡ getD c f 0 + bit (eqb b f)
 unfolding raised
 raised-at c b f len l u s = split b f
@@ -109,7 +110,7 @@ moved-count sh x y m f u (inr i) s = (
 
 -- the numbers are right after an accepted operator where they were before it
 pub counted-after : (sh : Shape) (x : List ℕ) (p : List ℤ) (c : List ℕ) (o : Operator) → Good sh x p
-    → length (o .args) ≡ 8 → refusalOf sh x o ≡ 0 → length c ≡ 4097 → Counted sh x c
+    → length (o .args) ≡ 8 → refusalOf sh x o ≡ 0 → length c ≡ itemPlaces → Counted sh x c
     → Counted sh (linksAfter sh x o) (countsAfter sh x c o)
 unfolding countsAfter
 counted-after sh x p c o g len h k r = record {

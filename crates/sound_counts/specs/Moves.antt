@@ -10,6 +10,7 @@ use lib.Dec.{eqb, lit≤}
 use lib.IntN.{ℤ}
 use lib.ListN.{length, getD}
 use Rattle.laws.specs.Bools.{pick-ind, split}
+use Rattle.bounds.specs.Bounds.{mostHalves}
 use Rattle.script.specs.declared.Operator.{Operator}
 use Rattle.codec.specs.Operands.{coordinate, pattern, rows}
 use Rattle.codec.specs.OperandLaws.{NoneOf, pattern-none}
@@ -187,23 +188,23 @@ module _ (sh : Shape) (x : List ℕ) (p : List ℤ) (o : Operator) (g : Good sh 
   -- operand i of code n is at most cap
   operand : (n i cap : ℕ) → o .code ≡ n → length (pattern n .kinds) ≡ 8 → i < 8
       → eqb (getD (pattern n .kinds) i 0) coordinate ≡ false → limitOf (limits sh) (getD (pattern n .kinds) i 0) ≡ cap
-      → cap ≤ 8192 → itemOf o i ≤ cap
+      → cap ≤ mostHalves → itemOf o i ≤ cap
   operand = operand-cap sh x o len h
 
   -- the capacities are numbers that an operand can name
-  solids-small : sh .solids ≤ 8192
+  solids-small : sh .solids ≤ mostHalves
   solids-small = omega (arith, g .capacities .solids)
 
   -- of faces
-  faces-small : sh .faces ≤ 8192
+  faces-small : sh .faces ≤ mostHalves
   faces-small = omega (arith, g .capacities .faces)
 
   -- of loops
-  loops-small : sh .loops ≤ 8192
+  loops-small : sh .loops ≤ mostHalves
   loops-small = omega (arith, g .capacities .loops)
 
   -- of half-edges
-  halves-small : 2 * sh .edges ≤ 8192
+  halves-small : 2 * sh .edges ≤ mostHalves
   halves-small = omega (arith, g .capacities .edges)
 
   -- 1: face and solid are operands

@@ -11,6 +11,7 @@ use borrow.Author.Tests.{le-leb}
 use Rattle.laws.specs.Bools.{T-true, true-T, split, eqb-same}
 use Rattle.laws.specs.Every.{T-every}
 use Rattle.laws.specs.Sums.{countTo}
+use Rattle.bounds.specs.Bounds.{mostHalves}
 use Rattle.codec.specs.Operands.{pattern, rows}
 use Rattle.layout.specs.declared.shape.Shape.{Shape}
 use Rattle.euler.specs.Surgery.{edgeOut}
@@ -31,8 +32,8 @@ use Rattle.sound_cuts.specs.MefAccepted.{mefAt}
 module _ {sh : Shape} {p : List ℤ} {c d : Columns} {q : Spot} (k : Cut sh c d q) (s : Sound sh p c) (t : Sound sh p d)
     {y : List ℕ} (v : Shows sh y d) (caps : Capacities sh) where
   -- k is read as it stands
-  bn : leb (q .b) 8192 ≡ true
-  bn = le-leb (q .b) 8192 (omega (arith, k .site .b-in .1, caps .edges))
+  bn : leb (q .b) mostHalves ≡ true
+  bn = le-leb (q .b) mostHalves (omega (arith, k .site .b-in .1, caps .edges))
 
   -- what kef reads
   next-a : own sh y Next (q .a) ≡ q .N

@@ -7,6 +7,7 @@ use Prim.Native.Nat.{ℕ, _*_, _≤_}
 use native.Mathlib.Omega.{arith}
 use lib.IntN.{ℤ, pos}
 use borrow.Author.Tests.{le-leb}
+use Rattle.bounds.specs.Bounds.{mostHalves}
 use Rattle.script.specs.declared.Operator.{Operator}
 use Rattle.codec.specs.Operands.{pattern, rows}
 use Rattle.layout.specs.declared.shape.Shape.{Shape}
@@ -40,15 +41,15 @@ module _ {sh : Shape} {p : List ℤ} {c d : Columns} {q : Spot} (k : Cut sh c d 
     op = mefOf (q .l) h1 h2 (edgeOf (q .b)) (q .f) (q .m) w
 
     -- the numbers are read as they stand
-    ln : q .l ≤ 8192
+    ln : q .l ≤ mostHalves
     ln = omega (arith, k .site .l-in .1, caps .loops)
 
     -- the new loop
-    mn : q .m ≤ 8192
+    mn : q .m ≤ mostHalves
     mn = omega (arith, k .site .m-in .1, caps .loops)
 
     -- the new face
-    fn : q .f ≤ 8192
+    fn : q .f ≤ mostHalves
     fn = omega (arith, k .site .f-in .1, caps .faces)
 
     -- the edge is in range
@@ -56,19 +57,19 @@ module _ {sh : Shape} {p : List ℤ} {c d : Columns} {q : Spot} (k : Cut sh c d 
     e-in = edge-in (q .b) (sh .edges) (k .site .b-in)
 
     -- the edge
-    en : edgeOf (q .b) ≤ 8192
+    en : edgeOf (q .b) ≤ mostHalves
     en = omega (arith, e-in .1, caps .edges)
 
     -- the first corner
-    h1n : h1 ≤ 8192
+    h1n : h1 ≤ mostHalves
     h1n = let m : h1 ≤ 2 * sh .edges = corner-most sh (own sh x) (q .l) h1 (o .corner1) in omega (arith, m, caps .edges)
 
     -- the second
-    h2n : h2 ≤ 8192
+    h2n : h2 ≤ mostHalves
     h2n = let m : h2 ≤ 2 * sh .edges = corner-most sh (own sh x) (q .l) h2 (o .corner2) in omega (arith, m, caps .edges)
 
     -- the way
-    wn : w ≤ 8192
+    wn : w ≤ mostHalves
     wn = omega (arith, o .w-in)
 
     -- the stores are those of `cutList`
@@ -81,21 +82,21 @@ module _ {sh : Shape} {p : List ℤ} {c d : Columns} {q : Spot} (k : Cut sh c d 
     unfolding linksAfter
     links-by =
         rw (
-          le-leb (q .l) 8192 ln,
-          le-leb h1 8192 h1n,
-          le-leb h2 8192 h2n,
-          le-leb (edgeOf (q .b)) 8192 en,
+          le-leb (q .l) mostHalves ln,
+          le-leb h1 mostHalves h1n,
+          le-leb h2 mostHalves h2n,
+          le-leb (edgeOf (q .b)) mostHalves en,
           le-leb
-              (q .f) 8192 fn,
-          le-leb (q .m) 8192 mn,
-          le-leb w 8192 wn,
+              (q .f) mostHalves fn,
+          le-leb (q .m) mostHalves mn,
+          le-leb w mostHalves wn,
           o .half,
         ) links-is
 
     -- kef undoes it
     inverse-by : (v : List ℤ) → inverse sh x v op ≡ kefOf (q .b)
     unfolding inverse
-    inverse-by v = rw (le-leb (edgeOf (q .b)) 8192 en, le-leb w 8192 wn, o .half, k .site .ab)
+    inverse-by v = rw (le-leb (edgeOf (q .b)) mostHalves en, le-leb w mostHalves wn, o .half, k .site .ab)
 
     -- the edge is free
     edge-free : own sh x Start (2 * edgeOf (q .b)) ≡ 0
@@ -142,7 +143,9 @@ module _ {sh : Shape} {p : List ℤ} {c d : Columns} {q : Spot} (k : Cut sh c d 
           (item-cons sh x op 7 _ 5 mn (new-use sh x 7 (q .m) (λ z. omega (arith, k .site .m-in .0, z)) refl
           (s .at Face (q .m) (k .site .m-in .1) ∙ k .site .m-free))
           (uses-cons sh x op 13 _ 6 (use-none sh x 13 _ refl refl) (unused-use sh x op 1 7)))))));
-      holds = rw (le-leb (q .l) 8192 ln, le-leb h1 8192 h1n, le-leb h2 8192 h2n, le-leb w 8192 wn) test-by;
+      holds = rw
+          (le-leb (q .l) mostHalves ln, le-leb h1 mostHalves h1n, le-leb h2 mostHalves h2n, le-leb w mostHalves wn)
+          test-by;
     })
 
   -- ---- for those read off the corners

@@ -12,6 +12,7 @@ use lib.ListN.{length, getD}
 use borrow.Author.Tests.{le-leb}
 use Rattle.laws.specs.Bools.{true-T, and-T, imp-T, eqb-same}
 use Rattle.laws.specs.Every.{every-T}
+use Rattle.bounds.specs.Bounds.{mostHalves}
 use Rattle.script.specs.declared.Operator.{Operator}
 use Rattle.codec.specs.Operands.{pattern, rows}
 use Rattle.script.specs.Operator.{operandOf}
@@ -85,9 +86,9 @@ mef-facts sh x o caps len e h =
     number (limits sh) 7 _ refl refl (omega (arith, caps .loops)) (r 5 (lit≤ tt)) in
     let n6 : (getD (o .args) 6 (pos 0) ≡ pos (operandOf o 6)) × (operandOf o 6 ≤ 3) =
     number-or-none (limits sh) 13 _ refl (lit≤ tt) (r 6 (lit≤ tt)) in
-    let s1 : operandOf o 1 ≤ 8192 = omega (arith, n1 .1, caps .edges) in
-    let s2 : operandOf o 2 ≤ 8192 = omega (arith, n2 .1, caps .edges) in
-    let s6 : operandOf o 6 ≤ 8192 = omega (arith, n6 .1) in
+    let s1 : operandOf o 1 ≤ mostHalves = omega (arith, n1 .1, caps .edges) in
+    let s2 : operandOf o 2 ≤ mostHalves = omega (arith, n2 .1, caps .edges) in
+    let s6 : operandOf o 6 ≤ mostHalves = omega (arith, n6 .1) in
     let is : o ≡ mefOf (operandOf o 0) (operandOf o 1) (operandOf o 2) (operandOf o 3) (operandOf o 4) (operandOf o 5)
     (operandOf o 6) = λ t. record {
       code = e t;
@@ -97,11 +98,11 @@ mef-facts sh x o caps len e h =
     } in
     let t = test-says sh x (operandOf o 0) (operandOf o 1) (operandOf o 2) (operandOf o 6)
     (rw (
-      le-leb (operandOf o 0) 8192 (n0 .small),
-      le-leb (operandOf o 1) 8192 s1,
+      le-leb (operandOf o 0) mostHalves (n0 .small),
+      le-leb (operandOf o 1) mostHalves s1,
       le-leb
-          (operandOf o 2) 8192 s2,
-      le-leb (operandOf o 6) 8192 s6,
+          (operandOf o 2) mostHalves s2,
+      le-leb (operandOf o 6) mostHalves s6,
     ) at (subst (λ q. condition sh x q ≡ true) is (a .holds))) in
     record {
       l = operandOf o 0;

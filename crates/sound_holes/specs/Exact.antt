@@ -10,6 +10,7 @@ use lib.ListN.{length}
 use Rattle.laws.specs.Bools.{split, ask, eqb-same, eqb-other}
 use Rattle.laws.specs.Update.{upd-at, upd-off, upd-same}
 use Rattle.laws.specs.Linked.{link, map-linked, linked-same}
+use Rattle.bounds.specs.Bounds.{mostHalves}
 use Rattle.script.specs.declared.Operator.{Operator}
 use Rattle.codec.specs.Operands.{pattern, rows}
 use Rattle.layout.specs.declared.shape.Shape.{Shape}
@@ -194,7 +195,7 @@ pub kfmrh-holds : (sh : Shape) (x : List ℕ) (p : List ℤ) (o : Operator) → 
     → o .code ≡ 9 → refusalOf sh x o ≡ 0 → Kept sh x p o × Undone sh x p o
 unfolding pattern rows
 kfmrh-holds sh x p o g len e h =
-    let most : sh .faces ≤ 8192 = omega (arith, g .capacities .faces) in
+    let most : sh .faces ≤ mostHalves = omega (arith, g .capacities .faces) in
     let k = two-operands sh x 9 4 4 refl refl refl refl most refl refl most refl o len e h in
     subst (λ q. Kept sh x p q × Undone sh x p q) (sym (k .is)) (kfmrh-exact g (kfmrh-two x (g .sound) k))
 

@@ -12,6 +12,7 @@ use borrow.Author.Tests.{le-leb}
 use Rattle.laws.specs.Bools.{pick, true-T, T-true, eqb-same}
 use Rattle.laws.specs.Every.{every-T, T-every}
 use Rattle.laws.specs.Sums.{countTo}
+use Rattle.bounds.specs.Bounds.{mostHalves}
 use Rattle.script.specs.declared.Operator.{Operator}
 use Rattle.codec.specs.Operands.{pattern, rows}
 use Rattle.layout.specs.declared.shape.Shape.{Shape}
@@ -67,11 +68,11 @@ kfmrh-two {sh} x a k =
 module _ {sh : Shape} {x : List ℕ} {p : List ℤ} (a : Sound sh p (own sh x)) (caps : Capacities sh) {f1 f2 l s1 s2 : ℕ}
     (r : TwoFaces sh (own sh x) f1 f2 l s1 s2) where
   -- f1 is read as it stands
-  n1 : f1 ≤ 8192
+  n1 : f1 ≤ mostHalves
   n1 = omega (arith, r .first-in .1, caps .faces)
 
   -- f2 too
-  n2 : f2 ≤ 8192
+  n2 : f2 ≤ mostHalves
   n2 = omega (arith, r .second-in .1, caps .faces)
 
   -- its test passes
@@ -89,17 +90,17 @@ module _ {sh : Shape} {x : List ℕ} {p : List ℤ} (a : Sound sh p (own sh x)) 
       (omega (arith, caps .faces)) refl f1 f2 (r .first-in) (r .second-in)
       (λ z. r .first-used (sym (r .first-solid) ∙ z))
       (old-use sh x 4 f2 (omega (arith, r .second-in .0)) refl (λ z. r .second-used (sym (r .second-solid) ∙ z)))
-      (rw (le-leb f1 8192 n1, le-leb f2 8192 n2) two-tested)
+      (rw (le-leb f1 mostHalves n1, le-leb f2 mostHalves n2) two-tested)
 
   -- what it does
   pub kfmrh-links : linksAfter sh x (kfmrhOf f1 f2) ≡ joinedLinks sh x f1 f2 l s1 s2
   unfolding linksAfter kfmrhLinks
-  kfmrh-links = rw (le-leb f1 8192 n1, le-leb f2 8192 n2, r .outer, r .first-solid, r .second-solid)
+  kfmrh-links = rw (le-leb f1 mostHalves n1, le-leb f2 mostHalves n2, r .outer, r .first-solid, r .second-solid)
 
   -- it is undone by mfkrh
   pub kfmrh-inverse : (q : List ℤ) → inverse sh x q (kfmrhOf f1 f2) ≡ mfkrhOf l f2 (solidOperand s1 s2)
   unfolding inverse
-  kfmrh-inverse q = rw (le-leb f1 8192 n1, le-leb f2 8192 n2, r .outer, r .first-solid, r .second-solid)
+  kfmrh-inverse q = rw (le-leb f1 mostHalves n1, le-leb f2 mostHalves n2, r .outer, r .first-solid, r .second-solid)
 
 -- points stay
 pub kfmrh-points : (sh : Shape) (x : List ℕ) (f1 f2 : ℕ) (p : List ℤ) → pointsAfter sh x p (kfmrhOf f1 f2) ≡ p

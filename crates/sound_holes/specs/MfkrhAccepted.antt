@@ -10,6 +10,7 @@ use lib.IntN.{ℤ, pos}
 use lib.ListN.{length, getD, replicate}
 use borrow.Author.Tests.{le-leb}
 use Rattle.laws.specs.Bools.{pick, true-T, T-true, T-false, and-T, or-T, eqb-same, eqb-other}
+use Rattle.bounds.specs.Bounds.{mostHalves}
 use Rattle.script.specs.declared.Operator.{Operator}
 use Rattle.codec.specs.Operands.{pattern, rows}
 use Rattle.script.specs.Operator.{operandOf}
@@ -83,7 +84,7 @@ mfkrh-facts sh x p o snd caps len e h =
     (omega (arith, caps .faces)) (r 1 (lit≤ tt)) in
     let n2 : (getD (o .args) 2 (pos 0) ≡ pos (operandOf o 2)) × (operandOf o 2 ≤ sh .solids) =
     number-or-none (limits sh) 3 _ refl (omega (arith, caps .solids)) (r 2 (lit≤ tt)) in
-    let small : operandOf o 2 ≤ 8192 = omega (arith, n2 .1, caps .solids) in
+    let small : operandOf o 2 ≤ mostHalves = omega (arith, n2 .1, caps .solids) in
     let is : o ≡ mfkrhOf (operandOf o 0) (operandOf o 1) (operandOf o 2) = λ t. record {
       code = e t;
       count = a .count t;
@@ -93,9 +94,9 @@ mfkrh-facts sh x p o snd caps len e h =
     } in
     let test : mfkrhTest sh x (operandOf o 0) (operandOf o 1) (operandOf o 2) ≡ true =
     rw (
-      le-leb (operandOf o 0) 8192 (n0 .small),
-      le-leb (operandOf o 1) 8192 (n1 .small),
-      le-leb (operandOf o 2) 8192 small,
+      le-leb (operandOf o 0) mostHalves (n0 .small),
+      le-leb (operandOf o 1) mostHalves (n1 .small),
+      le-leb (operandOf o 2) mostHalves small,
     ) at (subst (λ q. condition sh x q ≡ true) is (a .holds)) in
     let t = tested sh x (operandOf o 0) (operandOf o 1) (operandOf o 2) test in
     let ring : RingFace sh c (operandOf o 0) (operandOf o 1) (c Face (operandOf o 0))
@@ -151,11 +152,11 @@ outcome-moved {sh} {x} {p} {l} {f} {f₀} {s₀} {s} a r (inr q) =
 module _ {sh : Shape} {x : List ℕ} {p : List ℤ} (a : Sound sh p (own sh x)) (caps : Capacities sh) {l f f₀ s₀ s : ℕ}
     (r : RingFace sh (own sh x) l f f₀ s₀) (u : Outcome sh x l f f₀ s₀ s) where
   -- l is read as it stands
-  ln : l ≤ 8192
+  ln : l ≤ mostHalves
   ln = omega (arith, r .loop-in .1, caps .loops)
 
   -- f too
-  fn : f ≤ 8192
+  fn : f ≤ mostHalves
   fn = omega (arith, r .face-in .1, caps .faces)
 
   -- the third operand is 0, or a free solid
@@ -166,7 +167,7 @@ module _ {sh : Shape} {x : List ℕ} {p : List ℤ} (a : Sound sh p (own sh x)) 
       (λ q. rw (eqb-other (q .0)) (q .1 .1, new-use sh x 3 s (λ z. omega (arith, q .1 .0, z)) refl (q .2))) u
 
   -- so it is read as it stands
-  sn : solidOperand s₀ s ≤ 8192
+  sn : solidOperand s₀ s ≤ mostHalves
   sn = omega (arith, third .0, caps .solids)
 
   -- its test passes
@@ -195,27 +196,36 @@ module _ {sh : Shape} {x : List ℕ} {p : List ℤ} (a : Sound sh p (own sh x)) 
         used = item-cons sh x o 6 _ 0 ln (old-use sh x 6 l (λ z. omega (arith, r .loop-in .0, z)) refl (r .loop-used))
             (item-cons sh x o 5 _ 1 fn (new-use sh x 5 f (λ z. omega (arith, r .face-in .0, z)) refl (r .face-free))
             (item-cons sh x o 3 _ 2 sn (t .1) (unused-use sh x o 5 3)));
-        holds = rw (le-leb l 8192 ln, le-leb f 8192 fn, le-leb (solidOperand s₀ s) 8192 sn) ring-tested;
+        holds = rw (le-leb l mostHalves ln, le-leb f mostHalves fn, le-leb (solidOperand s₀ s) mostHalves sn)
+            ring-tested;
       })
 
   -- it is undone by kfmrh
   pub mfkrh-inverse : (q : List ℤ) → inverse sh x q (mfkrhOf l f (solidOperand s₀ s)) ≡ kfmrhOf f₀ f
   unfolding inverse
-  mfkrh-inverse q = rw (le-leb l 8192 ln, le-leb f 8192 fn, r .loop-face)
+  mfkrh-inverse q = rw (le-leb l mostHalves ln, le-leb f mostHalves fn, r .loop-face)
 
   -- what it does where nothing moves
   face-links : s₀ ≡ s → linksAfter sh x (mfkrhOf l f (solidOperand s₀ s)) ≡ faceLinks sh x l f s₀
   unfolding linksAfter mfkrhLinks
-  face-links e = rw (le-leb l 8192 ln, le-leb f 8192 fn, eqb-same e, r .loop-face, r .face-solid)
+  face-links e = rw (le-leb l mostHalves ln, le-leb f mostHalves fn, eqb-same e, r .loop-face, r .face-solid)
 
   -- and where faces move
   moved-links : s₀ ≢ s → In (sh .solids) s → linksAfter sh x (mfkrhOf l f (solidOperand s₀ s))
       ≡ movedLinks sh x l f s₀ s (linkedAfter sh x l f f)
   unfolding linksAfter mfkrhLinks
   moved-links n i =
-      let h : s ≤ 8192 = omega (arith, i .1, caps .solids) in
+      let h : s ≤ mostHalves = omega (arith, i .1, caps .solids) in
       let d : s ≢ 0 = λ z. omega (arith, i .0, z) in
-      rw (le-leb l 8192 ln, le-leb f 8192 fn, eqb-other n, le-leb s 8192 h, eqb-other d, r .loop-face, r .face-solid)
+      rw (
+        le-leb l mostHalves ln,
+        le-leb f mostHalves fn,
+        eqb-other n,
+        le-leb s mostHalves h,
+        eqb-other d,
+        r .loop-face,
+        r .face-solid,
+      )
 
   -- the columns that it shows, where c is what the table shows
   pub mfkrh-shows : {c : Columns} → Shows sh x c → c SolidUsed s₀ ≡ 1

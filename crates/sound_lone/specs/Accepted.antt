@@ -14,6 +14,7 @@ use Rattle.laws.specs.Bools.{true-T, T-true, split, eqb-same}
 use Rattle.laws.specs.Every.{every-T, T-every}
 use Rattle.laws.specs.Sums.{countTo}
 use Rattle.laws.specs.Update.{upd-same, upd-off}
+use Rattle.bounds.specs.Bounds.{mostHalves}
 use Rattle.script.specs.declared.Operator.{Operator}
 use Rattle.codec.specs.Operands.{pattern, rows}
 use Rattle.script.specs.Operator.{operandOf}
@@ -161,8 +162,8 @@ tested-one {sh} x a s i h t =
 
 module _ {sh : Shape} {x : List ℕ} {s f l v : ℕ} (o : OneLoop sh (own sh x) s f l v) (caps : Capacities sh) where
   -- s is read as it stands
-  s-small : leb s 8192 ≡ true
-  s-small = le-leb s 8192 (omega (arith, o .solid-in .1, caps .solids))
+  s-small : leb s mostHalves ≡ true
+  s-small = le-leb s mostHalves (omega (arith, o .solid-in .1, caps .solids))
 
   -- its face is the least of its solid
   one-face : faceIn sh x s ≡ f
@@ -227,35 +228,35 @@ module _ {sh : Shape} {x : List ℕ} {s f l v : ℕ} (o : OneLoop sh (own sh x) 
 module _ (sh : Shape) (x : List ℕ) (s f l v : ℕ) (a b c : ℤ) (caps : Capacities sh)
     (r : Free sh (own sh x) s f l v) where
   -- s is read as it stands
-  sn : s ≤ 8192
+  sn : s ≤ mostHalves
   sn = omega (arith, r .solid-in .1, caps .solids)
 
   -- f too
-  fn : f ≤ 8192
+  fn : f ≤ mostHalves
   fn = omega (arith, r .face-in .1, caps .faces)
 
   -- l too
-  ln : l ≤ 8192
+  ln : l ≤ mostHalves
   ln = omega (arith, r .loop-in .1, caps .loops)
 
   -- v too
-  vn : v ≤ 8192
+  vn : v ≤ mostHalves
   vn = omega (arith, r .vertex-in .1, caps .vertices)
 
   -- what it does
   pub mvsf-links : linksAfter sh x (mvsfOf s f l v a b c) ≡ placedLinks sh x s f l v 1 s l f v
   unfolding linksAfter mvsfLinks
-  mvsf-links = rw (le-leb s 8192 sn, le-leb f 8192 fn, le-leb l 8192 ln, le-leb v 8192 vn)
+  mvsf-links = rw (le-leb s mostHalves sn, le-leb f mostHalves fn, le-leb l mostHalves ln, le-leb v mostHalves vn)
 
   -- the vertex gets its point
   pub mvsf-points : (p : List ℤ) → pointsAfter sh x p (mvsfOf s f l v a b c) ≡ putPoint p v a b c
   unfolding pointsAfter
-  mvsf-points p = rw (le-leb v 8192 vn)
+  mvsf-points p = rw (le-leb v mostHalves vn)
 
   -- it is undone by kvsf
   pub mvsf-inverse : (p : List ℤ) → inverse sh x p (mvsfOf s f l v a b c) ≡ kvsfOf s
   unfolding inverse
-  mvsf-inverse p = rw (le-leb s 8192 sn)
+  mvsf-inverse p = rw (le-leb s mostHalves sn)
 
   -- and accepted
   pub mvsf-accepted : T (rangeTest a) → T (rangeTest b) → T (rangeTest c) → refusalOf sh x (mvsfOf s f l v a b c) ≡ 0

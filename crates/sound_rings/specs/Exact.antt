@@ -13,6 +13,7 @@ use Rattle.laws.specs.Bools.{true-T, T-true, and-T, or-T, split, eqb-same, eqb-
 use Rattle.laws.specs.Every.{every-T, T-every}
 use Rattle.laws.specs.Search.{least}
 use Rattle.laws.specs.Update.{upd-same, upd-off}
+use Rattle.bounds.specs.Bounds.{mostHalves}
 use Rattle.script.specs.declared.Operator.{Operator}
 use Rattle.codec.specs.Operands.{pattern, rows}
 use Rattle.layout.specs.declared.shape.Shape.{Shape}
@@ -99,11 +100,11 @@ module _ (sh : Shape) (x : List ℕ) (l f : ℕ) where
       )) r)
 
   -- l is read as it stands
-  ln : Capacities sh → Ring sh c l f → l ≤ 8192
+  ln : Capacities sh → Ring sh c l f → l ≤ mostHalves
   ln caps r = omega (arith, r .loop-in .1, caps .loops)
 
   -- and f
-  fn : Capacities sh → Ring sh c l f → f ≤ 8192
+  fn : Capacities sh → Ring sh c l f → f ≤ mostHalves
   fn caps r = omega (arith, r .face-in .1, caps .faces)
 
   -- it is accepted
@@ -112,17 +113,17 @@ module _ (sh : Shape) (x : List ℕ) (l f : ℕ) where
   rmov-accepted caps r q = two-accepted sh x 13 6 4 refl refl refl refl (omega (arith, caps .loops)) refl refl
       (omega (arith, caps .faces)) refl l f (r .loop-in) (r .face-in) (r .loop-used)
       (old-use sh x 4 f (omega (arith, r .face-in .0)) refl (r .face-used))
-      (rw (le-leb l 8192 (ln caps r), le-leb f 8192 (fn caps r)) (of-reached (r .ring) q))
+      (rw (le-leb l mostHalves (ln caps r), le-leb f mostHalves (fn caps r)) (of-reached (r .ring) q))
 
   -- what it does where the face is l's own
   swap-links : Capacities sh → Ring sh c l f → f ≡ c Face l → linksAfter sh x (rmovOf l f) ≡ setFaceOuter sh x f l
   unfolding linksAfter rmovLinks
-  swap-links caps r e = rw (le-leb l 8192 (ln caps r), le-leb f 8192 (fn caps r), eqb-same e)
+  swap-links caps r e = rw (le-leb l mostHalves (ln caps r), le-leb f mostHalves (fn caps r), eqb-same e)
 
   -- and where it is another
   move-links : Capacities sh → Ring sh c l f → f ≢ c Face l → linksAfter sh x (rmovOf l f) ≡ setLoopFace sh x l f
   unfolding linksAfter rmovLinks
-  move-links caps r n = rw (le-leb l 8192 (ln caps r), le-leb f 8192 (fn caps r), eqb-other n)
+  move-links caps r n = rw (le-leb l mostHalves (ln caps r), le-leb f mostHalves (fn caps r), eqb-other n)
 
   -- points stay
   rmov-points : (p : List ℤ) → pointsAfter sh x p (rmovOf l f) ≡ p
@@ -133,13 +134,13 @@ module _ (sh : Shape) (x : List ℕ) (l f : ℕ) where
   swap-inverse : Capacities sh → Ring sh c l f → (p : List ℤ) → f ≡ c Face l → inverse sh x p (rmovOf l f)
       ≡ rmovOf (c Outer f) f
   unfolding inverse
-  swap-inverse caps r p e = rw (le-leb l 8192 (ln caps r), le-leb f 8192 (fn caps r), eqb-same e)
+  swap-inverse caps r p e = rw (le-leb l mostHalves (ln caps r), le-leb f mostHalves (fn caps r), eqb-same e)
 
   -- and where it is another
   move-inverse : Capacities sh → Ring sh c l f → (p : List ℤ) → f ≢ c Face l → inverse sh x p (rmovOf l f) ≡ rmovOf l
       (c Face l)
   unfolding inverse
-  move-inverse caps r p n = rw (le-leb l 8192 (ln caps r), le-leb f 8192 (fn caps r), eqb-other n)
+  move-inverse caps r p n = rw (le-leb l mostHalves (ln caps r), le-leb f mostHalves (fn caps r), eqb-other n)
 
 -- ---- the ring becomes the outer loop
 

@@ -11,6 +11,7 @@ use lib.IntN.{ℤ, pos}
 use lib.ListN.{length, getD}
 use borrow.Author.Tests.{le-leb}
 use Rattle.laws.specs.Bools.{true-T, T-true, and-T, T-and, eqb-same}
+use Rattle.bounds.specs.Bounds.{mostHalves}
 use Rattle.script.specs.declared.Operator.{Operator}
 use Rattle.codec.specs.Operands.{pattern, rows}
 use Rattle.script.specs.Operator.{operandOf}
@@ -126,38 +127,38 @@ semv-facts sh x o caps len e h =
 
 module _ (sh : Shape) (x : List ℕ) (caps : Capacities sh) {m : Semv} (r : SemvFits sh (own sh x) m) where
   -- its numbers are read as they stand: the half-edge's
-  kn : m .half ≤ 8192
+  kn : m .half ≤ mostHalves
   kn = omega (arith, r .half .1, caps .edges)
 
   -- the edge's
-  en : m .edge ≤ 8192
+  en : m .edge ≤ mostHalves
   en = omega (arith, r .edge-in .1, caps .edges)
 
   -- the vertex's
-  vn : m .vertex ≤ 8192
+  vn : m .vertex ≤ mostHalves
   vn = omega (arith, r .vertex-in .1, caps .vertices)
 
   -- and the way
-  wn : m .way ≤ 8192
+  wn : m .way ≤ mostHalves
   wn = omega (arith, r .way)
 
   -- the links afterwards
   pub semv-links : linksAfter sh x (semvOf m) ≡ semvLinks sh x (m .half) (newHalf m) (m .vertex)
   unfolding linksAfter
   semv-links =
-      let k = le-leb (m .half) 8192 kn in
-      let v = le-leb (m .vertex) 8192 vn in
-      rw (k, le-leb (m .edge) 8192 en, v, le-leb (m .way) 8192 wn)
+      let k = le-leb (m .half) mostHalves kn in
+      let v = le-leb (m .vertex) mostHalves vn in
+      rw (k, le-leb (m .edge) mostHalves en, v, le-leb (m .way) mostHalves wn)
 
   -- the vertex gets its point
   pub semv-points : (p : List ℤ) → pointsAfter sh x p (semvOf m) ≡ putPoint p (m .vertex) (m .x) (m .y) (m .z)
   unfolding pointsAfter
-  semv-points p = rw (le-leb (m .vertex) 8192 vn)
+  semv-points p = rw (le-leb (m .vertex) mostHalves vn)
 
   -- it is undone by jekv
   pub semv-inverse : (p : List ℤ) → inverse sh x p (semvOf m) ≡ jekvOf (m .half)
   unfolding inverse
-  semv-inverse p = rw (le-leb (m .half) 8192 kn)
+  semv-inverse p = rw (le-leb (m .half) mostHalves kn)
 
   -- it is accepted
   pub semv-accepted : refusalOf sh x (semvOf m) ≡ 0
@@ -233,8 +234,8 @@ jekvBack sh x p k n = record {
 
 module _ (sh : Shape) (x : List ℕ) (k n : ℕ) (caps : Capacities sh) (o : Joint sh (own sh x) k n) (n1 : 1 ≤ n) where
   -- k is read as it stands
-  k-small : leb k 8192 ≡ true
-  k-small = le-leb k 8192 (omega (arith, o .k-used .1, caps .edges))
+  k-small : leb k mostHalves ≡ true
+  k-small = le-leb k mostHalves (omega (arith, o .k-used .1, caps .edges))
 
   -- the test passes
   joint-tested : jekvTest sh x k ≡ true

@@ -12,6 +12,7 @@ use lib.ListN.{length}
 use borrow.Author.Tests.{le-leb}
 use Rattle.laws.specs.Bools.{true-T, split, eqb-same, eqb-other}
 use Rattle.laws.specs.Update.{upd-off}
+use Rattle.bounds.specs.Bounds.{mostHalves}
 use Rattle.script.specs.declared.Operator.{Operator}
 use Rattle.codec.specs.Operands.{pattern, rows}
 use Rattle.layout.specs.declared.shape.Shape.{Shape}
@@ -109,8 +110,8 @@ module _ {sh : Shape} {x : List ℕ} {p : List ℤ} (g : Good sh x p) {k : ℕ} 
   v = own sh x Start (mate k)
 
   -- k is read as it stands
-  kn : leb k 8192 ≡ true
-  kn = le-leb k 8192 (omega (arith, uk .1, g .capacities .edges))
+  kn : leb k mostHalves ≡ true
+  kn = le-leb k mostHalves (omega (arith, uk .1, g .capacities .edges))
 
   -- what kev does to the links
   pub kev-links : linksAfter sh x (kevOf k) ≡ kevList sh x k

@@ -12,6 +12,7 @@ use lib.ListN.{length, getD}
 use borrow.Author.Tests.{le-leb}
 use Rattle.laws.specs.Bools.{pick, true-T, eqb-same, eqb-other}
 use Rattle.laws.specs.Update.{upd-same, upd-off}
+use Rattle.bounds.specs.Bounds.{mostHalves}
 use Rattle.script.specs.declared.Operator.{Operator}
 use Rattle.codec.specs.Operands.{pattern, rows}
 use Rattle.script.specs.Operator.{operandOf}
@@ -117,7 +118,7 @@ mev-facts sh x o caps len e h =
     number (limits sh) 11 _ refl refl (omega (arith, caps .vertices)) (r 3 (lit≤ tt)) in
     let n4 : (arg 4 ≡ pos (operandOf o 4)) × (operandOf o 4 ≤ 1) =
     number-or-none (limits sh) 12 _ refl (lit≤ tt) (r 4 (lit≤ tt)) in
-    let s1 : operandOf o 1 ≤ 8192 = omega (arith, n1 .1, caps .edges) in
+    let s1 : operandOf o 1 ≤ mostHalves = omega (arith, n1 .1, caps .edges) in
     let is : o ≡ mevOf (operandsOf o) = λ t. record {
       code = e t;
       count = a .count t;
@@ -135,7 +136,7 @@ mev-facts sh x o caps len e h =
         vertex-in = n3 .range;
         vertex-free = use-new sh x 11 (operandOf o 3) (omega (arith, n3 .range)) refl (u 3 (lit≤ tt) (n3 .small));
         corner = test-corner sh x (operandOf o 0) (operandOf o 1) (n1 .1) (u 1 (lit≤ tt) s1)
-            (true-T (rw (le-leb (operandOf o 0) 8192 (n0 .small), le-leb (operandOf o 1) 8192 s1)
+            (true-T (rw (le-leb (operandOf o 0) mostHalves (n0 .small), le-leb (operandOf o 1) mostHalves s1)
             at (subst (λ q. condition sh x q ≡ true) is (a .holds))));
         way = n4 .1;
         range = all-three (λ q. T (rangeTest q)) _ _ _ (coordinate-range (limits sh) (arg 5) (r 5 (lit≤ tt)))
@@ -172,44 +173,44 @@ mevPoints p m = putPoint p (m .vertex) (m .x) (m .y) (m .z)
 
 module _ (sh : Shape) (x : List ℕ) (caps : Capacities sh) {m : Mev} (r : MevFits sh (own sh x) m) where
   -- its numbers are read as they stand: the loop's
-  ln : m .loop ≤ 8192
+  ln : m .loop ≤ mostHalves
   ln = omega (arith, r .loop-in .1, caps .loops)
 
   -- the half-edge's
-  hn : m .half ≤ 8192
+  hn : m .half ≤ mostHalves
   hn = let h : m .half ≤ 2 * sh .edges = corner-most sh (own sh x) (m .loop) (m .half) (r .corner) in
       omega (arith, h, caps .edges)
 
   -- the edge's
-  en : m .edge ≤ 8192
+  en : m .edge ≤ mostHalves
   en = omega (arith, r .edge-in .1, caps .edges)
 
   -- the vertex's
-  vn : m .vertex ≤ 8192
+  vn : m .vertex ≤ mostHalves
   vn = omega (arith, r .vertex-in .1, caps .vertices)
 
   -- and the way
-  wn : m .way ≤ 8192
+  wn : m .way ≤ mostHalves
   wn = omega (arith, r .way)
 
   -- the links afterwards
   pub mev-links : linksAfter sh x (mevOf m) ≡ mevList sh x (newEdge (own sh x) m)
   unfolding linksAfter mevLinks
   mev-links =
-      let l = le-leb (m .loop) 8192 ln in
-      let h = le-leb (m .half) 8192 hn in
-      let v = le-leb (m .vertex) 8192 vn in
-      rw (l, h, le-leb (m .edge) 8192 en, v, le-leb (m .way) 8192 wn)
+      let l = le-leb (m .loop) mostHalves ln in
+      let h = le-leb (m .half) mostHalves hn in
+      let v = le-leb (m .vertex) mostHalves vn in
+      rw (l, h, le-leb (m .edge) mostHalves en, v, le-leb (m .way) mostHalves wn)
 
   -- the new vertex gets its point
   pub mev-points : (p : List ℤ) → pointsAfter sh x p (mevOf m) ≡ mevPoints p m
   unfolding pointsAfter
-  mev-points p = rw (le-leb (m .vertex) 8192 vn)
+  mev-points p = rw (le-leb (m .vertex) mostHalves vn)
 
   -- it is undone by kev of the new half-edge
   pub mev-inverse : (p : List ℤ) → inverse sh x p (mevOf m) ≡ oneOf 4 (newHalf m)
   unfolding inverse
-  mev-inverse p = rw (le-leb (m .edge) 8192 en, le-leb (m .way) 8192 wn)
+  mev-inverse p = rw (le-leb (m .edge) mostHalves en, le-leb (m .way) mostHalves wn)
 
   -- it is accepted
   pub mev-accepted : refusalOf sh x (mevOf m) ≡ 0
@@ -238,7 +239,8 @@ module _ (sh : Shape) (x : List ℕ) (caps : Capacities sh) {m : Mev} (r : MevFi
         (item-cons sh x o 11 _ 3 vn (new-use sh x 11 (m .vertex) (omega (arith, r .vertex-in .0)) refl (r .vertex-free))
         (uses-cons sh x o 12 _ 4 (use-none sh x 12 _ refl refl)
         (three-use sh x o _ 5 (unused-use sh x o 0 8))))));
-    holds = rw (le-leb (m .loop) 8192 ln, le-leb (m .half) 8192 hn) (corner-test sh x (m .loop) (m .half) (r .corner));
+    holds = rw (le-leb (m .loop) mostHalves ln, le-leb (m .half) mostHalves hn)
+        (corner-test sh x (m .loop) (m .half) (r .corner));
   })
 
 -- ---- a good table stays good

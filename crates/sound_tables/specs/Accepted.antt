@@ -13,6 +13,7 @@ use lib.ListN.{length, getD, replicate}
 use lib.Seq.{ext-getD}
 use borrow.Author.Tests.{le-leb}
 use Rattle.laws.specs.Bools.{pick, split, true-T, eqb-same, eqb-other}
+use Rattle.bounds.specs.Bounds.{mostHalves}
 use Rattle.codec.specs.declared.Limits.{Limits}
 use Rattle.script.specs.declared.Operator.{Operator}
 use Rattle.codec.specs.Operands.{unused, coordinate, pattern, leasts, largests, inRange, inRanges, zig, wire, wires}
@@ -69,8 +70,8 @@ accepted-back sh x o a = rw (a .code, a .count, a .range, a .used, a .holds)
 -- ---- operands by place
 
 -- a number that a table can have is read as it stands
-item-is : (o : Operator) (i : ℕ) → operandOf o i ≤ 8192 → itemOf o i ≡ operandOf o i
-item-is o i h = rw (le-leb (operandOf o i) 8192 h)
+item-is : (o : Operator) (i : ℕ) → operandOf o i ≤ mostHalves → itemOf o i ≡ operandOf o i
+item-is o i h = rw (le-leb (operandOf o i) mostHalves h)
 
 -- of two tests, one behind the other, both pass
 both : (b c : Bool) → pick b c false ≡ true → (b ≡ true) × (c ≡ true)
@@ -129,8 +130,8 @@ no-operand lim (negsuc n) h = let r = range-between (largests lim) unused 209715
 pub record ByPlace (sh : Shape) (x : List ℕ) (o : Operator) (code : ℕ) : Type 0 where
   pub range : (i : ℕ) → i < 8 → inRange (largests (limits sh)) (getD (pattern code .kinds) i 0)
       (wire (getD (pattern code .kinds) i 0) (getD (o .args) i (pos 0))) ≡ true
-  pub used : (i : ℕ) → i < 8 → operandOf o i ≤ 8192 → useRefusal sh x (getD (pattern code .kinds) i 0) (operandOf o i)
-      ≡ 0
+  pub used : (i : ℕ) → i < 8 → operandOf o i ≤ mostHalves
+      → useRefusal sh x (getD (pattern code .kinds) i 0) (operandOf o i) ≡ 0
   pub rest : (i : ℕ) → i < 8 → getD (pattern code .kinds) i 0 ≡ unused → getD (o .args) i (pos 0) ≡ pos 0
   pub count : o .count ≡ pattern code .count
   pub holds : condition sh x o ≡ true
@@ -171,7 +172,7 @@ unfolding useRefusals
 uses-cons sh x o k ks j h t = rw h t
 
 -- of an operand that is the number of an item
-pub item-cons : (sh : Shape) (x : List ℕ) (o : Operator) (k : ℕ) (ks : List ℕ) (j : ℕ) → operandOf o j ≤ 8192
+pub item-cons : (sh : Shape) (x : List ℕ) (o : Operator) (k : ℕ) (ks : List ℕ) (j : ℕ) → operandOf o j ≤ mostHalves
     → useRefusal sh x k (operandOf o j) ≡ 0 → useRefusals sh x o ks (j + 1) ≡ 0
     → useRefusals sh x o (k ∷ ks) j ≡ 0
 item-cons sh x o k ks j b h t = uses-cons sh x o k ks j (subst (λ n. useRefusal sh x k n ≡ 0) (sym (item-is o j b)) h) t
@@ -237,18 +238,18 @@ in-range-or-none lim kind n c z h = rw c (between-range (largests lim) kind n (o
 pub record Number (cap : ℕ) (a : ℤ) : Type 0 where
   pub is : a ≡ pos (natOf a)
   pub range : In cap (natOf a)
-  pub small : natOf a ≤ 8192
+  pub small : natOf a ≤ mostHalves
 
 -- an operand in the range of its kind is one
 pub number : (lim : Limits) (kind : ℕ) (a : ℤ) → eqb kind coordinate ≡ false → getD leasts kind 0 ≡ 1
-    → limitOf lim kind ≤ 8192 → inRange (largests lim) kind (wire kind a) ≡ true → Number (limitOf lim kind) a
+    → limitOf lim kind ≤ mostHalves → inRange (largests lim) kind (wire kind a) ≡ true → Number (limitOf lim kind) a
 unfolding wire
 number lim kind (pos n) c z s h = let r = range-in lim kind n z (rw c at h) in
     record { is = refl; range = r; small = omega (arith, s, r .1) }
 number lim kind (negsuc n) c z s h = let r = range-in lim kind 2097152 z (rw c at h) in absurd (omega (arith, s, r .1))
 
 -- the same where 0 is allowed
-pub number-or-none : (lim : Limits) (kind : ℕ) (a : ℤ) → eqb kind coordinate ≡ false → limitOf lim kind ≤ 8192
+pub number-or-none : (lim : Limits) (kind : ℕ) (a : ℤ) → eqb kind coordinate ≡ false → limitOf lim kind ≤ mostHalves
     → inRange (largests lim) kind (wire kind a) ≡ true → (a ≡ pos (natOf a)) × (natOf a ≤ limitOf lim kind)
 unfolding wire
 number-or-none lim kind (pos n) c s h = (refl, range-between (largests lim) kind n (rw c at h) .1)

@@ -6,6 +6,7 @@ use lib.IntN.{ℤ}
 use lib.Dec.{lit≤}
 use lib.ListN.{length}
 use Rattle.laws.specs.Columns.{Chained}
+use Rattle.bounds.specs.Bounds.{mostItems}
 use Rattle.layout.specs.declared.shape.Shape.{Shape}
 use Rattle.layout.specs.Layout.{shapeOf}
 use Rattle.layout.specs.Points.{pointsLength}
@@ -19,11 +20,11 @@ own sh x F = column sh F x
 
 -- capacities are 1 to 4,096
 pub record Capacities (sh : Shape) : Type 0 where
-  pub solids : (1 ≤ sh .solids) × (sh .solids ≤ 4096)
-  pub faces : (1 ≤ sh .faces) × (sh .faces ≤ 4096)
-  pub loops : (1 ≤ sh .loops) × (sh .loops ≤ 4096)
-  pub edges : (1 ≤ sh .edges) × (sh .edges ≤ 4096)
-  pub vertices : (1 ≤ sh .vertices) × (sh .vertices ≤ 4096)
+  pub solids : (1 ≤ sh .solids) × (sh .solids ≤ mostItems)
+  pub faces : (1 ≤ sh .faces) × (sh .faces ≤ mostItems)
+  pub loops : (1 ≤ sh .loops) × (sh .loops ≤ mostItems)
+  pub edges : (1 ≤ sh .edges) × (sh .edges ≤ mostItems)
+  pub vertices : (1 ≤ sh .vertices) × (sh .vertices ≤ mostItems)
 
 -- a good table
 pub record Good (sh : Shape) (x : List ℕ) (p : List ℤ) : Type 0 where

@@ -9,6 +9,7 @@ use lib.Dec.{eqb, leb, lit≤}
 use lib.IntN.{pos}
 use lib.ListN.{length, getD, replicate}
 use borrow.Author.Tests.{le-leb}
+use Rattle.bounds.specs.Bounds.{mostHalves}
 use Rattle.script.specs.declared.Operator.{Operator}
 use Rattle.codec.specs.Operands.{unused, coordinate, pattern, leasts, largests, inRange, inRanges, wire, wires}
 use Rattle.script.specs.Operator.{operandOf}
@@ -29,13 +30,13 @@ pub record OneOperand (sh : Shape) (x : List ℕ) (o : Operator) (code kind : �
   pub is : o ≡ oneOf code n
   pub range : In (limitOf (limits sh) kind) n
   pub used : useWord sh x kind n ≢ 0
-  pub small : leb n 8192 ≡ true
+  pub small : leb n mostHalves ≡ true
   pub holds : condition sh x (oneOf code n) ≡ true
 
 module _ (sh : Shape) (x : List ℕ) (code kind : ℕ) (count : pattern code .count ≡ 1)
     (kinds : pattern code .kinds ≡ kind ∷ replicate 7 unused)
     (plain : eqb kind coordinate ≡ false) (least : getD leasts kind 0 ≡ 1)
-    (most : limitOf (limits sh) kind ≤ 8192) where
+    (most : limitOf (limits sh) kind ≤ mostHalves) where
   -- all from the refusal 0
   pub one-operand : getD whenFree kind 0 ≡ 6 → (o : Operator) → length (o .args) ≡ 8 → o .code ≡ code
       → refusalOf sh x o ≡ 0 → OneOperand sh x o code kind
@@ -59,7 +60,7 @@ module _ (sh : Shape) (x : List ℕ) (code kind : ℕ) (count : pattern code .co
         range = n0 .range;
         used = use-old sh x kind (operandOf o 0) (omega (arith, n0 .range)) free
             (subst (λ j. useRefusal sh x j (operandOf o 0) ≡ 0) (k 0) (a .used 0 (lit≤ tt) (n0 .small)));
-        small = le-leb (operandOf o 0) 8192 (n0 .small);
+        small = le-leb (operandOf o 0) mostHalves (n0 .small);
         holds = subst (λ q. condition sh x q ≡ true) is (a .holds);
       }
 

@@ -10,6 +10,7 @@ use lib.Dec.{eqb, leb, lit≤}
 use lib.IntN.{pos}
 use lib.ListN.{length, getD, replicate}
 use borrow.Author.Tests.{le-leb}
+use Rattle.bounds.specs.Bounds.{mostHalves}
 use Rattle.script.specs.declared.Operator.{Operator}
 use Rattle.codec.specs.Operands.{unused, coordinate, pattern, leasts, largests, inRange, inRanges, wire, wires}
 use Rattle.script.specs.Operator.{operandOf}
@@ -33,14 +34,15 @@ pub record TwoOperands (sh : Shape) (x : List ℕ) (o : Operator) (code j k : �
   pub n-in : In (limitOf (limits sh) k) n
   pub m-used : useWord sh x j m ≢ 0
   pub n-use : useRefusal sh x k n ≡ 0
-  pub m-small : leb m 8192 ≡ true
-  pub n-small : leb n 8192 ≡ true
+  pub m-small : leb m mostHalves ≡ true
+  pub n-small : leb n mostHalves ≡ true
   pub holds : condition sh x (twoOf code m n) ≡ true
 
 module _ (sh : Shape) (x : List ℕ) (code j k : ℕ) (count : pattern code .count ≡ 2)
     (kinds : pattern code .kinds ≡ j ∷ k ∷ replicate 6 unused)
-    (j-plain : eqb j coordinate ≡ false) (j-least : getD leasts j 0 ≡ 1) (j-most : limitOf (limits sh) j ≤ 8192)
-    (k-plain : eqb k coordinate ≡ false) (k-least : getD leasts k 0 ≡ 1) (k-most : limitOf (limits sh) k ≤ 8192) where
+    (j-plain : eqb j coordinate ≡ false) (j-least : getD leasts j 0 ≡ 1) (j-most : limitOf (limits sh) j ≤ mostHalves)
+    (k-plain : eqb k coordinate ≡ false) (k-least : getD leasts k 0 ≡ 1)
+    (k-most : limitOf (limits sh) k ≤ mostHalves) where
   -- all from the refusal 0
   pub two-operands : getD whenFree j 0 ≡ 6 → (o : Operator) → length (o .args) ≡ 8 → o .code ≡ code
       → refusalOf sh x o ≡ 0 → TwoOperands sh x o code j k
@@ -72,8 +74,8 @@ module _ (sh : Shape) (x : List ℕ) (code j k : ℕ) (count : pattern code .cou
         m-used = use-old sh x j (operandOf o 0) (omega (arith, n0 .range)) free
             (subst (λ t. useRefusal sh x t (operandOf o 0) ≡ 0) (q 0) (a .used 0 (lit≤ tt) (n0 .small)));
         n-use = subst (λ t. useRefusal sh x t (operandOf o 1) ≡ 0) (q 1) (a .used 1 (lit≤ tt) (n1 .small));
-        m-small = le-leb (operandOf o 0) 8192 (n0 .small);
-        n-small = le-leb (operandOf o 1) 8192 (n1 .small);
+        m-small = le-leb (operandOf o 0) mostHalves (n0 .small);
+        n-small = le-leb (operandOf o 1) mostHalves (n1 .small);
         holds = subst (λ u. condition sh x u ≡ true) is (a .holds);
       }
 

@@ -8,6 +8,7 @@ use lib.IntN.{ℤ}
 use lib.ListN.{length}
 use Rattle.laws.specs.Bools.{true-T, T-true, T-and, eqb-same}
 use Rattle.laws.specs.Every.{T-every}
+use Rattle.bounds.specs.Bounds.{mostItems}
 use Rattle.layout.specs.Layout.{linksLength, shapeFrom, shapeOf}
 use Rattle.table.specs.Sizes.{capacity, sizeTests, sizesFit}
 use Rattle.table.specs.SizesLaws.{Sizes, sizes-are}
@@ -65,8 +66,8 @@ valid-good x p v =
     }
 
 -- a capacity in range passes its test
-capacity-fits : (n : ℕ) → (1 ≤ n) × (n ≤ 4096) → T (capacity n)
-capacity-fits n i = T-and (leb 1 n) (leb n 4096) (le→leb 1 n (i .0)) (le→leb n 4096 (i .1))
+capacity-fits : (n : ℕ) → (1 ≤ n) × (n ≤ mostItems) → T (capacity n)
+capacity-fits n i = T-and (leb 1 n) (leb n mostItems) (le→leb 1 n (i .0)) (le→leb n mostItems (i .1))
 
 -- and what is good passes
 pub good-valid : (x : List ℕ) (p : List ℤ) → Good (shapeOf x) x p → Valid x p

@@ -11,9 +11,9 @@ use lib.ListN.{length, getD}
 use borrow.Author.Tests.{le-leb}
 use Rattle.laws.specs.Bools.{T-false, eqb-same}
 use Rattle.laws.specs.Every.{every, every-T}
+use Rattle.bounds.specs.Bounds.{mostItems}
 use Rattle.layout.specs.Points.{pointsLength}
 use Rattle.layout.specs.Layout.{linksLength}
-use Rattle.layout.specs.Small.{mostItems}
 use Rattle.table.specs.Sizes.{capacity, sizeTests, sizesFit, tableFits}
 
 -- 0 is no capacity

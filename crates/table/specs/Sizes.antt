@@ -6,9 +6,9 @@ use lib.Dec.{eqb, leb}
 use lib.IntN.{ℤ}
 use lib.ListN.{length, getD}
 use Rattle.laws.specs.Every.{every}
+use Rattle.bounds.specs.Bounds.{mostItems}
 use Rattle.layout.specs.Points.{pointsLength}
 use Rattle.layout.specs.Layout.{linksLength}
-use Rattle.layout.specs.Small.{mostItems}
 
 -- a capacity is 1 to 4,096
 abbrev pub capacity : ℕ → Bool

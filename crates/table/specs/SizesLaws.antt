@@ -7,9 +7,10 @@ use lib.Dec.{T, leb, leb→le, eqb→eq}
 use lib.IntN.{ℤ}
 use Rattle.laws.specs.Bools.{true-T, and-T}
 use Rattle.laws.specs.Every.{every-T}
+use Rattle.bounds.specs.Bounds.{mostItems}
 use Rattle.layout.specs.Layout.{linksLength, shapeOf}
 use Rattle.layout.specs.Points.{pointsLength}
-use Rattle.layout.specs.Small.{mostItems, Small}
+use Rattle.layout.specs.Small.{Small}
 use Rattle.table.specs.Sizes.{capacity, sizeTests, sizesFit, tableFits}
 
 pub record Capacity (n : ℕ) : Type 0 where

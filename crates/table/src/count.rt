@@ -1,8 +1,9 @@
 // Counting a sound table: solids, faces, loops, edges, vertices, rings and holes.
 ghost use mathlib.Core.Path.{_≡_};
 ghost use Prim.Native.Nat.{ℕ, _≤_};
+ghost use Rattle.bounds.specs.Bounds.{mostItems};
 ghost use Rattle.table.specs.Count.{holesOf, tallyOf, countOf};
-ghost use Rattle.layout.specs.Small.{mostItems, Small};
+ghost use Rattle.layout.specs.Small.{Small};
 use crate::check::check;
 use crate::tally::Item;
 use crate::tally::used_to;

@@ -2,8 +2,8 @@
 ghost use mathlib.Core.Path.{_≡_};
 ghost use Prim.Native.Nat.{ℕ, _<_};
 ghost use Rattle.table.specs.Sizes.{capacity, sizesFit, tableFits};
+use bounds::MOST_ITEMS;
 use layout::cells::word;
-use layout::fields::MOST_ITEMS;
 use layout::points::POINT_WIDTH;
 use layout::shape::links_length;
 use layout::shape::shape_from;

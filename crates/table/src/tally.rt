@@ -2,7 +2,7 @@
 ghost use mathlib.Core.Path.{_≡_};
 ghost use Prim.Native.Nat.{ℕ, _≤_, _<_};
 ghost use Rattle.laws.specs.Sums.{bit, countTo};
-ghost use Rattle.layout.specs.Small.{mostItems};
+ghost use Rattle.bounds.specs.Bounds.{mostItems};
 ghost use Rattle.table.specs.Count.{ringUsed, itemUsed, usedTo};
 use layout::columns::face_outer;
 use layout::columns::face_solid;

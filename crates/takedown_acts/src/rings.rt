@@ -1,6 +1,7 @@
 // A: a loop is made outer, and rings move to the root.
 ghost use mathlib.Core.Path.{_≡_};
 ghost use Prim.Native.Nat.{ℕ, _+_, _-_, _<_, _≤_};
+ghost use Rattle.bounds.specs.Bounds.{itemPlaces};
 ghost use Rattle.layout.specs.Small.{Small};
 ghost use Rattle.takedown.specs.Inversion.{makeOuter, moveRings, movedRing};
 ghost use Rattle.takedown_acts.specs.Held.{held};
@@ -73,7 +74,7 @@ pub fn move_rings(
     ensures { λ p. ⌜
         (held p (now (links .exit)) (now (points .exit)) (now (log .exit))
         ≡ moveRings sh (sh .loops + 1 - low) low g r
-        (held at (now (links .entry)) (now (points .entry)) (now (log .entry)))) × (p .done ≤ at .done + 4097) ⌝ }
+        (held at (now (links .entry)) (now (points .entry)) (now (log .entry)))) × (p .done ≤ at .done + itemPlaces) ⌝ }
 {
     let n = sh.loops as usize;
     let mut i = low;

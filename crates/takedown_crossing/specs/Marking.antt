@@ -12,12 +12,17 @@ use lib.Seq.{getD-set-same, getD-set-other}
 use borrow.Author.Tests.{eq-eqb, ne-eqb, le-ltb, ltb-false, not-false}
 use Rattle.laws.specs.Bools.{pick, split, eqb-same, eqb-other, T-true, true-T, false-T, or-T, T-or-l, T-or-r, same-T}
 use Rattle.laws.specs.Marks.{marked, zeros-at}
+use Rattle.bounds.specs.Bounds.{halfPlaces, mostItems}
 use Rattle.layout.specs.declared.shape.Shape.{Shape}
 use Rattle.layout.specs.Layout.{nextOf}
 use Rattle.layout.specs.Mate.{mate}
 use Rattle.layout.specs.MateLaws.{mate-odd, mate-even}
 use Rattle.takedown.specs.Inversion.{onRun, between, crossed}
 use Rattle.takedown.specs.Crossed.{Crossing, crossed-at, at-crossed}
+
+-- how long the marks are: a place for each half-edge's number, for 0, and for the mate of the number behind the last
+abbrev pub markPlaces : ℕ
+markPlaces = suc halfPlaces
 
 -- the half-edges from k up to before stop are marked, at most n steps
 unfoldable pub markRun : Shape → ℕ → List ℕ → ℕ → ℕ → List ℕ → List ℕ
@@ -70,7 +75,7 @@ module _ (sh : Shape) (left : ℕ) (x : List ℕ) (k stop : ℕ) (marks whole : 
   mark-out h = let n : left ≡ 0 = omega arith in rw n at rest
 
 -- one mark more keeps the length
-pub long-mark : (marks y : List ℕ) (k : ℕ) → length marks ≡ 8194 → y ≡ set marks k 1 → length y ≡ 8194
+pub long-mark : (marks y : List ℕ) (k : ℕ) → length marks ≡ markPlaces → y ≡ set marks k 1 → length y ≡ markPlaces
 long-mark marks y k h e = ap length e ∙ length-set marks k 1 ∙ h
 
 -- ---- what is marked
@@ -170,14 +175,14 @@ says-unpaired n marks j lo hi m =
     true-T e
 
 -- from no marks on, what is marked lies between k and its mate
-module _ (sh : Shape) (x : List ℕ) (k : ℕ) (small : sh .edges ≤ 4096) (marks : List ℕ)
-    (e : marks ≡ markRun sh (2 * sh .edges) x (nextOf sh x k) (mate k) (replicate 8194 0)) where
-  marked-between : (j : ℕ) → j ≤ 8193 → marked marks j ≡ between sh x k j
+module _ (sh : Shape) (x : List ℕ) (k : ℕ) (small : sh .edges ≤ mostItems) (marks : List ℕ)
+    (e : marks ≡ markRun sh (2 * sh .edges) x (nextOf sh x k) (mate k) (replicate markPlaces 0)) where
+  marked-between : (j : ℕ) → j ≤ halfPlaces → marked marks j ≡ between sh x k j
   marked-between j h =
       ap (λ m. marked m j) e
-      ∙ marked-run sh (2 * sh .edges) x (nextOf sh x k) (mate k) (replicate 8194 0) j (omega
-      (arith, h, length-replicate {A = ℕ} 8194 0))
-      ∙ ap (λ b. b || between sh x k j) (ap (λ n. not (eqb n 0)) (zeros-at 8194 j))
+      ∙ marked-run sh (2 * sh .edges) x (nextOf sh x k) (mate k) (replicate markPlaces 0) j (omega
+      (arith, h, length-replicate {A = ℕ} markPlaces 0))
+      ∙ ap (λ b. b || between sh x k j) (ap (λ n. not (eqb n 0)) (zeros-at markPlaces j))
 
   -- so what is found by the second walk crosses k
   unpaired-crosses : (j : ℕ) → T (between sh x k j) → T (unpaired (2 * sh .edges) marks j) → T (crossed sh x k)
@@ -210,9 +215,9 @@ module _ (sh : Shape) (x : List ℕ) (k : ℕ) (small : sh .edges ≤ 4096) (mar
       (crosses-unpaired c))
 
 -- the walk begins behind k and stops at its mate
-pub crossed-steps : (sh : Shape) (x : List ℕ) (k : ℕ) → sh .edges ≤ 4096 → (from stop n : ℕ) → from ≡ nextOf sh x k
+pub crossed-steps : (sh : Shape) (x : List ℕ) (k : ℕ) → sh .edges ≤ mostItems → (from stop n : ℕ) → from ≡ nextOf sh x k
     → stop ≡ mate k → n ≡ 2 * sh .edges
-    → (marks : List ℕ) → marks ≡ markRun sh n x from stop (replicate 8194 0)
+    → (marks : List ℕ) → marks ≡ markRun sh n x from stop (replicate markPlaces 0)
     → (r : Bool) → r ≡ anyUnpaired sh n n x from stop marks → r ≡ crossed sh x k
 crossed-steps sh x k small from stop n ef es en marks em r q =
     crossed-is sh x k small marks (rw (ef, es, en) at em) r (rw (ef, es, en) at q)

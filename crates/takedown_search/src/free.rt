@@ -1,6 +1,7 @@
 // The least free number of each kind, 0 where none is free. Nothing has to be known of the table.
 ghost use mathlib.Core.Path.{_≡_};
 ghost use Prim.Native.Nat.{ℕ, _<_, _≤_};
+ghost use Rattle.bounds.specs.Bounds.{mostItems};
 ghost use Rattle.layout.specs.Small.{Small};
 ghost use Rattle.takedown.specs.Inversion.{freeFace, freeLoop, freeEdge, noneFree};
 use euler::scans::least_naming_one;
@@ -28,7 +29,7 @@ pub fn free_loop(links: &[u16], sh: Shape) -> usize
 // The least free edge.
 pub fn free_edge(links: &[u16], sh: Shape) -> usize
     requires { ⌜ Small sh ⌝ }
-    ensures { λ r. ⌜ (r ≡ freeEdge sh (now (links .entry))) × (r ≤ 4096) ⌝ }
+    ensures { λ r. ⌜ (r ≡ freeEdge sh (now (links .entry))) × (r ≤ mostItems) ⌝ }
 {
     let n = sh.edges as usize;
     let mut e: usize = 1;

@@ -1,6 +1,7 @@
 // One scan for all searches: the least item from a lower end on that passes, 0 where none does.
 ghost use mathlib.Core.Path.{_≡_};
 ghost use Prim.Native.Nat.{ℕ, _<_, _≤_};
+ghost use Rattle.bounds.specs.Bounds.{mostHalves};
 ghost use Rattle.layout.specs.Small.{Small};
 ghost use Rattle.takedown.specs.Swift as swift;
 ghost use Rattle.takedown_search.specs.Sought.{passing, lastOf};
@@ -48,7 +49,7 @@ fn passes(links: &[u16], sh: Shape, what: Sought, s: usize, root: usize, k: usiz
 // The last number of the kind that is looked for.
 fn last_of(sh: Shape, what: Sought) -> usize
     requires { ⌜ Small sh ⌝ }
-    ensures { λ r. ⌜ (r ≡ lastOf what sh) × (r ≤ 8192) ⌝ }
+    ensures { λ r. ⌜ (r ≡ lastOf what sh) × (r ≤ mostHalves) ⌝ }
 {
     match what {
         Sought::Solid => sh.solids as usize,
@@ -66,7 +67,7 @@ fn last_of(sh: Shape, what: Sought) -> usize
 pub fn seek(links: &[u16], sh: Shape, what: Sought, s: usize, root: usize, low: usize) -> usize
     requires { ⌜ Small sh ⌝ }
     ensures { λ r. ⌜
-        (r ≡ swift.seek (lastOf what sh) low (passing what sh (now (links .entry)) s root)) × (r ≤ 8192) ⌝ }
+        (r ≡ swift.seek (lastOf what sh) low (passing what sh (now (links .entry)) s root)) × (r ≤ mostHalves) ⌝ }
 {
     let n = last_of(sh, what);
     let mut k = low;

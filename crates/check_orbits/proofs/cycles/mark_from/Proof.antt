@@ -3,6 +3,7 @@ use Prim.Native.Nat.{_-_, _<_}
 use native.Mathlib.Omega.{arith}
 use lib.ListN.{length}
 use Rattle.laws.specs.Marks.{markFrom}
+use Rattle.bounds.specs.Bounds.{halfPlaces}
 use Rattle.check_orbits.specs.Cycles.{stepOf}
 use Rattle.check_orbits.specs.CyclesLaws.{walk-stop, walk-out, walk-turn}
 use Rattle.check_orbits.specs.LabelsLaws.{long-set}
@@ -17,7 +18,7 @@ use Rattle.check_orbits.proofs.cycles.step_of.Reads as step-of-reads
 
 abbrev Inv-loop : tie.InvT-loop
 Inv-loop links sh around from fuel marks₀ k₀ left₀ marks k left =
-    (k < 65536) × (length marks ≡ 8193)
+    (k < 65536) × (length marks ≡ halfPlaces)
     × (markFrom (stepOf sh links around) left k marks ≡ markFrom (stepOf sh links around) fuel from marks₀)
 
 abbrev μ-loop : tie.MeasureT-loop

@@ -3,6 +3,7 @@ use Prim.Native.Nat.{ℕ, _*_}
 use Rattle.layout.specs.Items.{halfUsed}
 use lib.ListN.{length-replicate}
 use Rattle.laws.specs.Marks.{allMarked}
+use Rattle.bounds.specs.Bounds.{halfPlaces}
 use Rattle.check_orbits.specs.Cycles.{oneCycleEach}
 use borrow.Author.Needs.{needs}
 use Rattle.check_orbits.proofs.cycles.one_cycle_each.Statement.{statement}
@@ -13,7 +14,7 @@ use Rattle.check_orbits.proofs.cycles.all_marked.Reads as all-marked-re
 use Rattle.check_orbits.proofs.cycles.mark_all.Reads as mark-all-reads
 
 mark-all-requires : tie.Need-mark-all-requires
-mark-all-requires c κs = (c .before .before .pre .0, c .before .before .pre .1, length-replicate {A = ℕ} 8193 0)
+mark-all-requires c κs = (c .before .before .pre .0, c .before .before .pre .1, length-replicate {A = ℕ} halfPlaces 0)
 
 all-marked-requires : tie.Need-all-marked-requires
 all-marked-requires c κs = search needs

@@ -2,6 +2,7 @@ use mathlib.Core.Path.{_≡_, ap}
 use Prim.Native.Nat.{ℕ, _+_, _-_, _≤_}
 use native.Mathlib.Omega.{arith}
 use lib.ListN.{length}
+use Rattle.bounds.specs.Bounds.{itemPlaces}
 use Rattle.layout.specs.Layout.{loopIsolated}
 use Rattle.check_orbits.specs.Labels.{blank, tally}
 use Rattle.check_orbits.specs.LabelsLaws.{down-turn, down-out, long-set, blank-long, AtMost, blank-most}
@@ -16,7 +17,7 @@ use Rattle.check_orbits.proofs.labels.bump.Reads as bump-reads
 
 abbrev Inv-loop : tie.InvT-loop
 Inv-loop links sh counts₀ l₀ counts l =
-    (l ≤ sh .loops) × (length counts ≡ 4097)
+    (l ≤ sh .loops) × (length counts ≡ itemPlaces)
     × (tally (loopIsolated sh links) l counts ≡ tally (loopIsolated sh links) (sh .loops) blank)
     × ((done : ℕ) × (done + l ≤ sh .loops) × AtMost done counts)
 

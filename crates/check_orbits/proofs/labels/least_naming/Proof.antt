@@ -2,6 +2,7 @@ use mathlib.Core.Path.{_≡_, ap}
 use Prim.Native.Nat.{_-_, _≤_}
 use native.Mathlib.Omega.{arith}
 use lib.ListN.{length}
+use Rattle.bounds.specs.Bounds.{itemPlaces}
 use Rattle.layout.specs.Column.{entryOf}
 use Rattle.check_orbits.specs.Labels.{blank, leastNaming}
 use Rattle.check_orbits.specs.LabelsLaws.{least-turn, down-out, long-set, blank-long}
@@ -15,7 +16,7 @@ use Rattle.check_orbits.proofs.labels.put_entry.Reads as put-entry-read
 
 abbrev Inv-loop : tie.InvT-loop
 Inv-loop links column least₀ k₀ least k =
-    (k ≤ column .count) × (length least ≡ 4097)
+    (k ≤ column .count) × (length least ≡ itemPlaces)
     × (leastNaming (entryOf column links) k least ≡ leastNaming (entryOf column links) (column .count) blank)
 
 abbrev μ-loop : tie.MeasureT-loop

@@ -2,6 +2,7 @@ use mathlib.Core.Path.{_≡_, ap}
 use Prim.Native.Nat.{_-_, _≤_}
 use native.Mathlib.Omega.{arith}
 use lib.ListN.{length}
+use Rattle.bounds.specs.Bounds.{itemPlaces}
 use Rattle.layout.specs.Layout.{loopFirst}
 use Rattle.check_orbits.specs.Labels.{blank, copied}
 use Rattle.check_orbits.specs.LabelsLaws.{down-turn, down-out, long-set, blank-long}
@@ -15,7 +16,7 @@ use Rattle.check_orbits.proofs.labels.put_entry.Reads as put-entry-read
 
 abbrev Inv-loop : tie.InvT-loop
 Inv-loop links sh firsts₀ l₀ firsts l =
-    (l ≤ sh .loops) × (length firsts ≡ 4097)
+    (l ≤ sh .loops) × (length firsts ≡ itemPlaces)
     × (copied (loopFirst sh links) l firsts ≡ copied (loopFirst sh links) (sh .loops) blank)
 
 abbrev μ-loop : tie.MeasureT-loop

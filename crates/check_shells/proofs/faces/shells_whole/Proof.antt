@@ -9,6 +9,7 @@ use Rattle.laws.specs.Search.{allTo}
 use Rattle.check_shells.specs.Shells.{faceWhole, Shells}
 use Rattle.check_shells.specs.ShellsLaws.{shells-here}
 use Rattle.laws.specs.ScanLaws.{all-start, all-turn, all-fail, all-end}
+use Rattle.bounds.specs.Bounds.{itemPlaces}
 use Rattle.check_shells.proofs.faces.shells_whole.Statement.{statement}
 use Rattle.check_shells.proofs.faces.shells_whole.Tie as tie
 use Rattle.check_shells.proofs.faces.shells_whole.Reads as reads
@@ -25,7 +26,7 @@ abbrev μ-loop : tie.MeasureT-loop
 
 link-faces-requires : tie.Need-link-faces-requires Inv-loop μ-loop
 link-faces-requires c κs =
-    ((c .before .before .pre .0, c .before .before .pre .1, omega arith), length-replicate {A = ℕ} 4097 0)
+    ((c .before .before .pre .0, c .before .before .pre .1, omega arith), length-replicate {A = ℕ} itemPlaces 0)
 
 cast-n : tie.Need-cast-n Inv-loop μ-loop
 cast-n c = search needs

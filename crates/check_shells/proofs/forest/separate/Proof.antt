@@ -2,6 +2,7 @@ use mathlib.Core.Path.{_≡_}
 use Prim.Native.Nat.{_-_, _≤_}
 use native.Mathlib.Omega.{arith}
 use borrow.Author.Needs.{needs}
+use Rattle.bounds.specs.Bounds.{itemPlaces}
 use Rattle.check_shells.specs.Forest.{Apart}
 use Rattle.check_shells.specs.ForestLaws.{apart-more}
 use Rattle.check_shells.proofs.forest.separate.Statement.{statement}
@@ -10,10 +11,10 @@ use Rattle.check_shells.proofs.forest.separate.Reads as reads
 use Rattle.check_shells.proofs.forest.separate.Lts as lts
 
 abbrev Inv-loop : tie.InvT-loop
-Inv-loop parent₀ i₀ parent i = (i ≤ 4097) × Apart parent i
+Inv-loop parent₀ i₀ parent i = (i ≤ itemPlaces) × Apart parent i
 
 abbrev μ-loop : tie.MeasureT-loop
-μ-loop parent₀ i₀ parent i = 4097 - i
+μ-loop parent₀ i₀ parent i = itemPlaces - i
 
 loop-holds : tie.Need-loop-holds Inv-loop μ-loop
 loop-holds c = (omega arith, record { long = c .pre; own = λ i l. absurd (omega arith) })
@@ -37,7 +38,7 @@ loop-again : tie.Need-loop-again Inv-loop μ-loop
 loop-again c = (omega arith, apart-more (c .before .loop .inv .1) (omega arith))
 
 returns : tie.Need-returns Inv-loop μ-loop
-returns c = let e : c .before .loop .i ≡ 4097 = omega arith in rw e at (c .before .loop .inv .1)
+returns c = let e : c .before .loop .i ≡ itemPlaces = omega arith in rw e at (c .before .loop .inv .1)
 
 pub separate-spec : {M : Type 1} → statement M
 separate-spec =

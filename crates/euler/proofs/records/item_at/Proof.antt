@@ -2,6 +2,7 @@ use Prim.Native.Nat.{_≤_, _<_}
 use native.Mathlib.Omega.{arith}
 use lib.ListN.{getD}
 use lib.IntN.{pos}
+use Rattle.bounds.specs.Bounds.{mostHalves}
 use Rattle.codec.specs.SignedLaws.{negative, positive}
 use Rattle.euler.specs.SurgeryLaws.{item-negative, item-is, item-past}
 use borrow.Author.Needs.{needs}
@@ -33,7 +34,7 @@ returns-2 c =
     let d = c .before .before in
     let a = d .before .args in
     let z = positive (getD (a .args .now) (a .i) (pos 0)) (record { sfits = d .a .given }) (c .before .if1 .left) in
-    let h : z .size ≤ 8192 = rw (z .held) at (c .if2 .taken) in
+    let h : z .size ≤ mostHalves = rw (z .held) at (c .if2 .taken) in
     rw (z .held) (item-is (a .args .now) (a .i) _ (z .is) h, h)
 
 returns-3 : tie.Need-returns-3
@@ -41,7 +42,7 @@ returns-3 c =
     let d = c .before .before in
     let a = d .before .args in
     let z = positive (getD (a .args .now) (a .i) (pos 0)) (record { sfits = d .a .given }) (c .before .if1 .left) in
-    let h : 8192 < z .size = rw (z .held) at (c .if2 .left) in
+    let h : mostHalves < z .size = rw (z .held) at (c .if2 .left) in
     (item-past (a .args .now) (a .i) _ (z .is) h, omega arith)
 
 pub item-at-spec : {M : Type 1} → statement M

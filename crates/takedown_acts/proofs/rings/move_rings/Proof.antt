@@ -3,6 +3,7 @@ use native.Mathlib.Omega.{arith}
 use lib.ListN.{length}
 use mathlib.Core.Path.{_≡_, refl}
 use Prim.Native.Nat.{_+_, _-_, _≤_}
+use Rattle.bounds.specs.Bounds.{mostItems}
 use Rattle.runs.specs.Run.{state}
 use Rattle.takedown.specs.Inversion.{work, moveRings}
 use Rattle.takedown_acts.specs.ActLaws.{rings-turn, rings-out}
@@ -14,7 +15,7 @@ use Rattle.takedown_acts.proofs.rings.move_ring.Reads as move-ring-read
 
 abbrev Inv-loop : tie.InvT-loop
 Inv-loop links₀ points₀ log₀ sh low g r n i₀ done₀ start₀ links points log i done start =
-    (length links ≡ length links₀) × (length points ≡ length points₀) × (length log ≡ length log₀) × (n ≤ 4096)
+    (length links ≡ length links₀) × (length points ≡ length points₀) × (length log ≡ length log₀) × (n ≤ mostItems)
     × (done + (n + 1 - i) ≤ done₀ + (n + 1 - low))
     × (moveRings sh (n + 1 - i) i g r (work done (state links points log start))
     ≡ moveRings sh (sh .loops + 1 - low) low g r (work done₀ (state links₀ points₀ log₀ start₀)))

@@ -3,7 +3,7 @@ use mathlib.Core.Path.{_≡_, refl}
 use Prim.Native.Nat.{_<_}
 use native.Mathlib.Omega.{arith}
 use lib.ListN.{length}
-use Rattle.takedown_crossing.specs.Marking.{markRun, mark-stop, mark-turn, mark-out, long-mark}
+use Rattle.takedown_crossing.specs.Marking.{markPlaces, markRun, mark-stop, mark-turn, mark-out, long-mark}
 use Rattle.takedown_crossing.proofs.marks.mark_run.Statement.{statement}
 use Rattle.takedown_crossing.proofs.marks.mark_run.Tie as tie
 use Rattle.takedown_crossing.proofs.marks.mark_run.Reads as reads
@@ -12,7 +12,7 @@ use Rattle.layout.proofs.columns.next_of.Reads as next-of-reads
 use Rattle.takedown_crossing.proofs.marks.put_mark.Reads as put-mark-reads
 
 abbrev Inv-loop : tie.InvT-loop
-Inv-loop links sh fuel from stop marks₀ k₀ left₀ marks k left = (k < 65536) × (length marks ≡ 8194)
+Inv-loop links sh fuel from stop marks₀ k₀ left₀ marks k left = (k < 65536) × (length marks ≡ markPlaces)
     × (markRun sh left links k stop marks ≡ markRun sh fuel links from stop marks₀)
 
 abbrev μ-loop : tie.MeasureT-loop

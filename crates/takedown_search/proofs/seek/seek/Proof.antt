@@ -3,6 +3,7 @@ use native.Mathlib.Omega.{arith}
 use mathlib.Core.Path.{_≡_, refl, sym, ap, _∙_}
 use Prim.Native.Nat.{_+_, _-_, _≤_}
 use Rattle.laws.specs.Search.{leastFrom}
+use Rattle.bounds.specs.Bounds.{mostHalves}
 use Rattle.euler.specs.Scans.{found-here, found-on, found-none}
 use Rattle.takedown.specs.Swift as swift
 use Rattle.takedown_search.specs.Sought.{passing, lastOf, seek-begins}
@@ -14,7 +15,7 @@ use Rattle.takedown_search.proofs.seek.last_of.Reads as last-of-reads
 use Rattle.takedown_search.proofs.seek.passes.Reads as passes-reads
 
 abbrev Inv-loop : tie.InvT-loop
-Inv-loop links sh what s root low n k₀ k = (n ≤ 8192)
+Inv-loop links sh what s root low n k₀ k = (n ≤ mostHalves)
     × (leastFrom (n + 1 - k) k (passing what sh links s root)
     ≡ swift.seek (lastOf what sh) low (passing what sh links s root))
 
