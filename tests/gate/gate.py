@@ -3,6 +3,7 @@
 A step fails as a whole where it exits with another status than 0, prints no such line as its last one, or counts no test:
 a run that was cut short, or that tested nothing, must not pass for a good one.
 """
+import os
 import re
 import subprocess
 import sys
@@ -45,11 +46,17 @@ def judge(status, output):
     return passed, failed
 
 
+def environment():
+    """`rt` starts checks by batches and waits for the last of each: with two for each processor none of them idles long."""
+    return {"RT_JOBS": str(2 * (os.cpu_count() or 1)), **os.environ}
+
+
 def run_step(root, name, command):
     """Runs one step, shows what it prints, and judges it."""
     print(f"== {name}", flush=True)
     began = time.time()
-    done = subprocess.run(command, cwd=root, stdout=subprocess.PIPE, stderr=subprocess.STDOUT, text=True, errors="replace")
+    done = subprocess.run(command, cwd=root, env=environment(), stdout=subprocess.PIPE, stderr=subprocess.STDOUT,
+                          text=True, errors="replace")
     print(done.stdout, end="" if done.stdout.endswith("\n") else "\n")
     passed, failed = judge(done.returncode, done.stdout)
     print(f"== {name}: {passed} passed, {failed} failed, {time.time() - began:.0f} s", flush=True)

@@ -13,7 +13,7 @@ use lib.Dec.{eqb}
 use borrow.Author.Tests.{eq-eqb}
 use Rattle.laws.specs.Bools.{ask, allb}
 use Rattle.codec.specs.declared.operands.Pattern.{Pattern}
-use Rattle.codec.specs.Number.{groups}
+use Rattle.numbers.specs.Number.{groups}
 use Rattle.codec.specs.Operands.{unused, rows, pattern, filled, wire, wires}
 use Rattle.codec.specs.OperandBytes.{operandBytes, operandsBytes}
 use Rattle.codec.specs.WriteLaws.{groups-size, bytes-number, bytes-next}

@@ -1,12 +1,9 @@
-pub mod Number
-pub mod NumberLaws
 pub mod Operands
 pub mod OperandBytes
 pub mod SignedLaws
 pub mod OperandLaws
 pub mod ReadLaws
 pub mod WriteLaws
-pub mod NumberTrip
 pub mod Ranges
 pub mod BeforeLaws
 pub mod OperandTrip

@@ -4,10 +4,10 @@ use mathlib.Core.List.{List, [], _∷_, _++_}
 use lib.ListN.{replicate}
 use lib.Dec.{eqb}
 use Rattle.laws.specs.Bools.{pick}
-use Rattle.codec.specs.declared.number.Num.{Num}
-use Rattle.codec.specs.declared.number.Num.the-variants.{Got}
+use Rattle.numbers.specs.declared.Num.{Num}
+use Rattle.numbers.specs.declared.Num.the-variants.{Got}
 use Rattle.codec.specs.declared.bytes.NumbersAnswer.{NumbersAnswer}
-use Rattle.codec.specs.Number.{readNumber, groups, onNum}
+use Rattle.numbers.specs.Number.{readNumber, groups, onNum}
 use Rattle.codec.specs.Operands.{unused}
 
 -- READING

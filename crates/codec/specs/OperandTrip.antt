@@ -12,9 +12,9 @@ use lib.IntN.{ℤ, pos, negsuc}
 use lib.Dec.{eqb}
 use borrow.Author.Tests.{eqb-true, eqb-false, eq-eqb, ne-eqb}
 use Rattle.laws.specs.Bools.{pick, ask, same?}
-use Rattle.codec.specs.declared.number.Num.{Num}
-use Rattle.codec.specs.declared.number.Num.the-variants.{Got, Bad}
-use Rattle.codec.specs.Number.{readNumber, groups, onNum}
+use Rattle.numbers.specs.declared.Num.{Num}
+use Rattle.numbers.specs.declared.Num.the-variants.{Got, Bad}
+use Rattle.numbers.specs.Number.{readNumber, groups, onNum}
 use Rattle.codec.specs.Operands.{unused, coordinate, leasts, largests, widest, inRange, inRanges, zig, zag, none}
 use Rattle.codec.specs.Operands.{plain, wire, unwire, each, wires, unwires}
 use Rattle.codec.specs.OperandBytes.{Numbers, Read, Cut, onNumbers, readOperand, readOperands, operandBytes}
@@ -22,7 +22,7 @@ use Rattle.codec.specs.OperandBytes.{operandsBytes}
 use Rattle.codec.specs.SignedLaws.{zig-zag, zag-zig}
 use Rattle.codec.specs.ReadLaws.{operand-unused, operand-number}
 use Rattle.codec.specs.WriteLaws.{bytes-unused, bytes-number}
-use Rattle.codec.specs.NumberTrip.{Bytes, number-written, written-number, number-next}
+use Rattle.numbers.specs.NumberTrip.{Bytes, number-written, written-number, number-next}
 use Rattle.codec.specs.Ranges.{range-between, range-small, ranges-cons, not-true}
 
 -- ONE OPERAND

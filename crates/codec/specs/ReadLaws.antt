@@ -10,10 +10,10 @@ use lib.Dec.{ltb, eqb}
 use mathlib.Core.Bool.{Bool, true, false}
 use borrow.Author.Tests.{ltb-true, eq-eqb, ne-eqb}
 use Rattle.laws.specs.Bools.{pick}
-use Rattle.codec.specs.declared.number.Num.{Num}
-use Rattle.codec.specs.declared.number.Num.the-variants.{Got, Bad}
+use Rattle.numbers.specs.declared.Num.{Num}
+use Rattle.numbers.specs.declared.Num.the-variants.{Got, Bad}
 use Rattle.codec.specs.declared.bytes.NumbersAnswer.{NumbersAnswer}
-use Rattle.codec.specs.Number.{first, second, third, readNumber, onNum}
+use Rattle.numbers.specs.Number.{first, second, third, readNumber, onNum}
 use Rattle.codec.specs.Operands.{unused, Small}
 use Rattle.codec.specs.OperandBytes.{Numbers, Read, Cut, onNumbers, numbersAnswer, readOperand, readOperands}
 use Rattle.codec.specs.OperandLaws.{behind}

@@ -10,8 +10,8 @@ use lib.ListN.{length, getD, drop, set, length-append}
 use lib.Seq.{sets}
 use borrow.Author.Tests.{eq-eqb, ne-eqb}
 use Rattle.laws.specs.Bools.{le?}
-use Rattle.codec.specs.Number.{groups}
-use Rattle.codec.specs.NumberLaws.{size-1, size-2, size-3}
+use Rattle.numbers.specs.Number.{groups}
+use Rattle.numbers.specs.NumberLaws.{size-1, size-2, size-3}
 use Rattle.codec.specs.Operands.{unused}
 use Rattle.codec.specs.OperandBytes.{operandBytes, operandsBytes}
 use Rattle.codec.specs.OperandLaws.{ahead, behind}

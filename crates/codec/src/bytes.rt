@@ -6,10 +6,13 @@ ghost use lib.ListN.{length};
 ghost use lib.Seq.{sets};
 ghost use Rattle.codec.specs.Operands.{filled, wires};
 ghost use Rattle.codec.specs.OperandBytes.{readOperand, readOperands, numbersAnswer, operandBytes, operandsBytes};
-use crate::number;
-use crate::number::Num;
 use crate::operands;
 use crate::operands::NONE;
+use numbers::Num;
+use numbers::number_size;
+use numbers::read_number;
+use numbers::write_before;
+use numbers::write_number;
 
 // What reading eight operands answers. On a refusal `next` is the place handed in and the numbers are 0.
 pub struct NumbersAnswer {
@@ -25,7 +28,7 @@ fn read_operand(kind: u8, s: &[u8], at: usize) -> Num
     if kind == NONE {
         return Num::Got(0, at);
     }
-    number::read_number(s, at)
+    read_number(s, at)
 }
 
 // The operands from `at` on.
@@ -66,7 +69,7 @@ fn operand_size(kind: u8, n: u32) -> usize
     if kind == NONE {
         return 0;
     }
-    number::number_size(n)
+    number_size(n)
 }
 
 // How many bytes the operands take.
@@ -91,7 +94,7 @@ fn write_operand(out: &mut [u8], at: usize, kind: u8, n: u32) -> usize
     if kind == NONE {
         return at;
     }
-    number::write_number(out, at, n)
+    write_number(out, at, n)
 }
 
 // The operands' bytes from `at` on.
@@ -124,7 +127,7 @@ pub fn put_operands_before(
     let mut p = end;
     while i > 0 {
         i -= 1;
-        p = number::write_before(out, p, operands::to_wire(kinds[i], args[i]));
+        p = write_before(out, p, operands::to_wire(kinds[i], args[i]));
     }
     p
 }

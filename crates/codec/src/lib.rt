@@ -1,6 +1,5 @@
 // Numbers and operands as bytes: groups of seven bits, and for each code its operands' kinds, ranges and travelling
 // numbers.
-pub mod number; // numbers
 pub mod operands; // what each operand is
 pub mod bytes; // operands as bytes
 

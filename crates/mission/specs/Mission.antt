@@ -17,7 +17,7 @@ use lib.ListN.{length, getD, take}
 use Rattle.script.specs.declared.Operator.{Operator}
 use Rattle.codec.specs.Operands.{widest}
 use Rattle.script.specs.Operator.{readOperator, notWritten, writeOperator, readScript}
-use Rattle.codec.specs.NumberTrip.{Bytes}
+use Rattle.numbers.specs.NumberTrip.{Bytes}
 use Rattle.script.specs.EntryTrips.{Copied, writtenAll}
 use Rattle.layout.specs.declared.shape.Shape.{Shape}
 use Rattle.layout.specs.Layout.{shapeOf}

@@ -10,12 +10,12 @@ use lib.Dec.{T, eqb, leb, ltb, eqb→eq}
 use lib.IntN.{ℤ}
 use lib.ListN.{length, getD}
 use Rattle.laws.specs.Bools.{pick, pick-ind, split, eqb-same, eqb-other, le?, or-T, and-T, allb}
-use Rattle.codec.specs.declared.number.Num.{Num}
-use Rattle.codec.specs.declared.number.Num.the-variants.{Got, Bad}
+use Rattle.numbers.specs.declared.Num.{Num}
+use Rattle.numbers.specs.declared.Num.the-variants.{Got, Bad}
 use Rattle.codec.specs.declared.Limits.{Limits}
 use Rattle.script.specs.declared.Operator.{Operator}
 use Rattle.script.specs.declared.ReadAnswer.{ReadAnswer}
-use Rattle.codec.specs.Number.{readNumber, onNum}
+use Rattle.numbers.specs.Number.{readNumber, onNum}
 use Rattle.codec.specs.Operands.{pattern, largests, widest, inRanges}
 use Rattle.script.specs.Accepted.{operatorIs}
 use Rattle.codec.specs.OperandBytes.{Numbers, Read, Cut, onNumbers, readOperands}

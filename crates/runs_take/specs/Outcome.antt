@@ -12,9 +12,9 @@ use lib.ListN.{length, getD, take, drop, replicate, take-append-drop}
 use borrow.Author.Tests.{eq-eqb, ne-eqb, leb-true}
 use Rattle.laws.specs.Bools.{pick, allb, ask, split, le?, eqb-same, and-T, true-T, T-true}
 use Rattle.script.specs.declared.ReadAnswer.{ReadAnswer}
-use Rattle.codec.specs.declared.number.Num.the-variants.{Got, Bad}
+use Rattle.numbers.specs.declared.Num.the-variants.{Got, Bad}
 use Rattle.codec.specs.declared.operands.Pattern.{Pattern}
-use Rattle.codec.specs.Number.{readNumber}
+use Rattle.numbers.specs.Number.{readNumber}
 use Rattle.codec.specs.Operands.{unused, rows, pattern, largests, inRanges, unwires}
 use Rattle.codec.specs.OperandBytes.{Numbers, Read, Cut, onNumbers, readOperands}
 use Rattle.script.specs.Operator.{refused, readBehind}

@@ -14,9 +14,9 @@ use borrow.Author.Tests.{le-leb}
 use Rattle.laws.specs.Bools.{pick, pick-ind, split, le?, eqb-same, eqb-other}
 use Rattle.bounds.specs.Bounds.{mostHalves}
 use Rattle.script.specs.declared.Operator.{Operator}
-use Rattle.codec.specs.declared.number.Num.{Num}
-use Rattle.codec.specs.declared.number.Num.the-variants.{Got, Bad}
-use Rattle.codec.specs.Number.{readNumber, onNum}
+use Rattle.numbers.specs.declared.Num.{Num}
+use Rattle.numbers.specs.declared.Num.the-variants.{Got, Bad}
+use Rattle.numbers.specs.Number.{readNumber, onNum}
 use Rattle.codec.specs.Operands.{unused, largests, inRange, inRanges, unwire, unwires}
 use Rattle.codec.specs.OperandBytes.{Numbers, Read, Cut, onNumbers, readOperand, readOperands}
 use Rattle.codec.specs.OperandLaws.{unwire-plain}

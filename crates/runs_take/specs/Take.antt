@@ -8,7 +8,7 @@ use lib.IntN.{ℤ}
 use lib.ListN.{set}
 use Rattle.laws.specs.Bools.{pick}
 use Rattle.script.specs.declared.ReadAnswer.{ReadAnswer}
-use Rattle.codec.specs.Number.{readNumber, onNum}
+use Rattle.numbers.specs.Number.{readNumber, onNum}
 use Rattle.codec.specs.Operands.{largests, inRange, unwire}
 use Rattle.script.specs.Operator.{readBehind}
 use Rattle.layout.specs.declared.shape.Shape.{Shape}

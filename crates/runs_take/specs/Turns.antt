@@ -7,8 +7,8 @@ use lib.IntN.{ℤ}
 use lib.ListN.{length, getD, take, drop, set, drop-of-length-le}
 use lib.Seq.{getD-take, length-take-le}
 use borrow.Author.Tests.{eq-eqb, ne-eqb, le-leb, lt-leb}
-use Rattle.codec.specs.declared.number.Num.the-variants.{Got, Bad}
-use Rattle.codec.specs.Number.{readNumber, onNum}
+use Rattle.numbers.specs.declared.Num.the-variants.{Got, Bad}
+use Rattle.numbers.specs.Number.{readNumber, onNum}
 use Rattle.codec.specs.Operands.{inRange, unwire}
 use Rattle.codec.specs.OperandBytes.{readOperand, readOperands}
 use Rattle.codec.specs.OperandLaws.{ahead}

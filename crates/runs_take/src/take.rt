@@ -9,14 +9,14 @@ ghost use Rattle.euler_counts.specs.Counts.{Counted};
 ghost use Rattle.runs.specs.Run.{readAt, refusalAt};
 ghost use Rattle.runs_take.specs.Take.{scanIs, joinedBy, scan, taken, settled, Answers, readFrom};
 use bounds::ITEM_PLACES;
-use codec::number::Num;
-use codec::number::read_number;
 use codec::operands::from_wire;
 use codec::operands::in_range;
 use codec::operands::pattern_of;
 use euler::admit::use_refusal;
 use euler_admit::conditions::condition_holds;
 use layout::shape::Shape;
+use numbers::Num;
+use numbers::read_number;
 
 // What taking an operator answers. On 3, 4 and 5 `next` is the place handed in.
 pub struct Taken {

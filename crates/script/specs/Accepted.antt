@@ -10,18 +10,18 @@ use lib.ListN.{length, getD, drop}
 use lib.Dec.{ltb, leb, eqb}
 use borrow.Author.Tests.{ltb-false, leb-true, le-leb, lt-leb, le-ltb, eqb-true, eqb-false, eq-eqb, ne-eqb}
 use Rattle.laws.specs.Bools.{pick, ask, le?, allb}
-use Rattle.codec.specs.declared.number.Num.{Num}
-use Rattle.codec.specs.declared.number.Num.the-variants.{Got, Bad}
+use Rattle.numbers.specs.declared.Num.{Num}
+use Rattle.numbers.specs.declared.Num.the-variants.{Got, Bad}
 use Rattle.codec.specs.declared.Limits.{Limits}
 use Rattle.script.specs.declared.Operator.{Operator}
 use Rattle.codec.specs.declared.operands.Pattern.{Pattern}
 use Rattle.script.specs.declared.ReadAnswer.{ReadAnswer}
-use Rattle.codec.specs.Number.{readNumber, groups, onNum}
+use Rattle.numbers.specs.Number.{readNumber, groups, onNum}
 use Rattle.codec.specs.Operands.{unused, row, rows, pattern, leasts, largests, widest, inRange, inRanges, unwires}
 use Rattle.codec.specs.OperandBytes.{Numbers, Read, Cut, onNumbers, readOperand, readOperands}
 use Rattle.script.specs.Operator.{refused, readBehind, readOperator}
 use Rattle.codec.specs.OperandLaws.{no-code}
-use Rattle.codec.specs.NumberTrip.{number-next}
+use Rattle.numbers.specs.NumberTrip.{number-next}
 
 -- the operator that these numbers are
 abbrev pub operatorIs : ℕ → List ℕ → Operator

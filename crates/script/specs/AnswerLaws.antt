@@ -8,9 +8,9 @@ use borrow.Author.Tests.{eq-eqb, ne-eqb}
 use Rattle.codec.specs.declared.Limits.{Limits}
 use Rattle.codec.specs.declared.operands.Pattern.{Pattern}
 use Rattle.script.specs.declared.ReadAnswer.{ReadAnswer}
-use Rattle.codec.specs.declared.number.Num.the-variants.{Got, Bad}
+use Rattle.numbers.specs.declared.Num.the-variants.{Got, Bad}
 use Rattle.codec.specs.declared.bytes.NumbersAnswer.{NumbersAnswer}
-use Rattle.codec.specs.Number.{readNumber}
+use Rattle.numbers.specs.Number.{readNumber}
 use Rattle.codec.specs.Operands.{row, pattern, largests, inRanges, unwires}
 use Rattle.codec.specs.OperandBytes.{numbersAnswer, readOperands}
 use Rattle.script.specs.Operator.{refused, readBehind, readOperator}

@@ -16,7 +16,7 @@ use Rattle.script.specs.declared.ReadAnswer.{ReadAnswer}
 use Rattle.codec.specs.Operands.{widest}
 use Rattle.script.specs.Operator.{readOperator, operatorBytes, operatorRefusal, Written, written, notWritten}
 use Rattle.script.specs.Operator.{writeOperator, writeScript, Script, scriptIs, before, readFrom, readScript}
-use Rattle.codec.specs.NumberTrip.{Bytes}
+use Rattle.numbers.specs.NumberTrip.{Bytes}
 use Rattle.codec.specs.Ranges.{Within}
 use Rattle.script.specs.RoundTrip.{Writable, operator-written, read-next, written-read, read-writable}
 use Rattle.script.specs.Scripts.{AllWritable, operator-size, written-script}

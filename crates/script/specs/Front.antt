@@ -10,14 +10,14 @@ use lib.Dec.{ltb, eqb}
 use lib.ListN.{length, take, drop}
 use lib.Seq.{length-take-le, take-add, drop-at}
 use Rattle.laws.specs.Bools.{pick, pick-ind, same?}
-use Rattle.codec.specs.declared.number.Num.{Num}
-use Rattle.codec.specs.declared.number.Num.the-variants.{Got, Bad}
+use Rattle.numbers.specs.declared.Num.{Num}
+use Rattle.numbers.specs.declared.Num.the-variants.{Got, Bad}
 use Rattle.codec.specs.declared.Limits.{Limits}
-use Rattle.codec.specs.Number.{first, second, third, readNumber}
+use Rattle.numbers.specs.Number.{first, second, third, readNumber}
 use Rattle.codec.specs.Operands.{unused, pattern}
 use Rattle.codec.specs.OperandBytes.{Read, readOperand, readOperands}
 use Rattle.script.specs.Operator.{readOperator}
-use Rattle.codec.specs.NumberTrip.{number-next}
+use Rattle.numbers.specs.NumberTrip.{number-next}
 use Rattle.codec.specs.ReadLaws.{operand-unused, operand-number}
 use Rattle.codec.specs.OperandTrip.{step, operand-next, operands-next}
 use Rattle.script.specs.Accepted.{accepted, read-accepted}

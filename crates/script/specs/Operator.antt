@@ -11,7 +11,7 @@ use Rattle.codec.specs.declared.Limits.{Limits}
 use Rattle.script.specs.declared.Operator.{Operator}
 use Rattle.script.specs.declared.ReadAnswer.{ReadAnswer}
 use Rattle.script.specs.declared.WriteAnswer.{WriteAnswer}
-use Rattle.codec.specs.Number.{readNumber, groups, onNum}
+use Rattle.numbers.specs.Number.{readNumber, groups, onNum}
 use Rattle.codec.specs.Operands.{pattern, widest, largests, inRanges, wires, unwires}
 use Rattle.codec.specs.OperandBytes.{onNumbers, readOperands, operandsBytes}
 

@@ -10,7 +10,7 @@ use lib.Seq.{sets}
 use borrow.Author.Tests.{le-leb, lt-leb, eq-eqb, ne-eqb}
 use Rattle.script.specs.declared.Operator.{Operator}
 use Rattle.codec.specs.declared.operands.Pattern.{Pattern}
-use Rattle.codec.specs.Number.{groups}
+use Rattle.numbers.specs.Number.{groups}
 use Rattle.codec.specs.Operands.{pattern, widest, largests, inRanges, filled, wires}
 use Rattle.codec.specs.OperandBytes.{operandsBytes}
 use Rattle.script.specs.Operator.{natOf, numbersOf, operatorBytes, operatorRefusal}

@@ -12,11 +12,11 @@ use borrow.Author.Tests.{eq-eqb, ne-eqb, eqb-true, eqb-false}
 use Rattle.laws.specs.Bools.{pick}
 use Rattle.codec.specs.declared.Limits.{Limits}
 use Rattle.script.specs.declared.Operator.{Operator}
-use Rattle.codec.specs.Number.{groups}
+use Rattle.numbers.specs.Number.{groups}
 use Rattle.codec.specs.Operands.{pattern, widest, largests, inRanges, wire, unwire}
 use Rattle.codec.specs.OperandBytes.{operandsBytes}
 use Rattle.script.specs.Operator.{readOperator, numbersOf, operatorBytes, operatorRefusal}
-use Rattle.codec.specs.NumberTrip.{Bytes, number-written, written-number, number-next}
+use Rattle.numbers.specs.NumberTrip.{Bytes, number-written, written-number, number-next}
 use Rattle.codec.specs.Ranges.{Within, within-largest, ranges-wider, eight, code-between}
 use Rattle.codec.specs.OperandTrip.{operands-written, written-operands, operands-next, wires-unwires, unwires-wires}
 use Rattle.codec.specs.OperandTrip.{each-length}

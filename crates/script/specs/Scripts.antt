@@ -12,14 +12,14 @@ use borrow.Author.Tests.{lt-ltb, le-ltb, eq-eqb, eqb-true, leb-true, ltb-true, l
 use Rattle.laws.specs.Bools.{pick, ask, allb, le?}
 use Rattle.script.specs.declared.Operator.{Operator}
 use Rattle.codec.specs.declared.operands.Pattern.{Pattern}
-use Rattle.codec.specs.Number.{groups}
-use Rattle.codec.specs.NumberLaws.{size-1, size-2, size-3}
+use Rattle.numbers.specs.Number.{groups}
+use Rattle.numbers.specs.NumberLaws.{size-1, size-2, size-3}
 use Rattle.codec.specs.Operands.{unused, row, rows, pattern, widest, largests, inRanges, wire}
 use Rattle.codec.specs.OperandBytes.{operandBytes, operandsBytes}
 use Rattle.script.specs.Operator.{readOperator, numbersOf, operatorBytes, operatorRefusal, writeScript, Script}
 use Rattle.script.specs.Operator.{scriptIs, before, readFrom, readScript}
 use Rattle.codec.specs.WriteLaws.{groups-size, size-unused, size-number}
-use Rattle.codec.specs.NumberTrip.{Bytes}
+use Rattle.numbers.specs.NumberTrip.{Bytes}
 use Rattle.codec.specs.Ranges.{not-true, range-between, ranges-cons, each-row, eight, code-between}
 use Rattle.codec.specs.OperandTrip.{each-length}
 use Rattle.script.specs.RoundTrip.{Writable, Parts, parts, operator-written, read-next, written-read}

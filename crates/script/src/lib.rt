@@ -9,9 +9,12 @@ ghost use Rattle.script.specs.Operator.{writeOperator};
 use bounds::MOST_ITEMS;
 use codec::Limits;
 use codec::bytes;
-use codec::number;
-use codec::number::Num;
 use codec::operands;
+use numbers::Num;
+use numbers::number_size;
+use numbers::read_number;
+use numbers::write_before;
+use numbers::write_number;
 
 // An operator: its code, how many operands it has, and the operands, zeros behind them.
 #[repr(C)]
@@ -131,7 +134,7 @@ fn read_behind(script: &[u8], at: usize, code: u8, behind: usize, limits: Limits
 pub fn read_within(script: &[u8], at: usize, limits: Limits) -> ReadAnswer
     ensures { λ r. ⌜ r ≡ readOperator limits (now (script .entry)) at ⌝ }
 {
-    let x = number::read_number(script, at);
+    let x = read_number(script, at);
     match x {
         Num::Got(n, behind) => {
             if n > 13 {
@@ -179,7 +182,7 @@ pub fn operator_size(op: Operator) -> usize
     let kinds = pattern.kinds;
     let args = op.args;
     let numbers = operands::to_wires(kinds, args);
-    number::number_size(op.code as u32) + bytes::operands_size(kinds, numbers)
+    number_size(op.code as u32) + bytes::operands_size(kinds, numbers)
 }
 
 // The operator's bytes at `at`, where they fit; else nothing changes.
@@ -198,7 +201,7 @@ pub fn put_operator(op: Operator, out: &mut [u8], at: usize)
     let kinds = pattern.kinds;
     let args = op.args;
     let numbers = operands::to_wires(kinds, args);
-    let behind = number::write_number(out, at, op.code as u32);
+    let behind = write_number(out, at, op.code as u32);
     bytes::write_operands(out, behind, kinds, numbers);
 }
 
@@ -214,7 +217,7 @@ pub fn put_before(op: Operator, out: &mut [u8], end: usize) -> usize
     let kinds = pattern.kinds;
     let args = op.args;
     let behind = bytes::put_operands_before(out, end, count, kinds, args);
-    number::write_before(out, behind, op.code as u32)
+    write_before(out, behind, op.code as u32)
 }
 
 // The operator at the front of `out`: refusal 4 or 5, then 9 where it does not fit, with `out` left as it is.

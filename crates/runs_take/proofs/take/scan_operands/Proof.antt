@@ -12,7 +12,7 @@ use Rattle.runs_take.proofs.take.scan_operands.Tie as tie
 use Rattle.runs_take.proofs.take.scan_operands.Reads as reads
 use Rattle.runs_take.proofs.take.scan_operands.Lts as lts
 use Rattle.runs_take.proofs.take.join_refusal.Reads as join-refusal-reads
-use Rattle.codec.proofs.number.read_number.Reads as read-number-reads
+use Rattle.numbers.proofs.read_number.Reads as read-number-reads
 use Rattle.codec.proofs.operands.from_wire.Reads as from-wire-reads
 
 abbrev Inv-loop : tie.InvT-loop

@@ -6,7 +6,7 @@ use Rattle.runs_take.proofs.take.take.Reads as reads
 use Rattle.runs_take.proofs.take.take.Lts as lts
 use Rattle.runs_take.proofs.take.take_behind.Reads as take-behind-reads
 use Rattle.runs_take.proofs.take.told.Reads as told-reads
-use Rattle.codec.proofs.number.read_number.Reads as read-number-reads
+use Rattle.numbers.proofs.read_number.Reads as read-number-reads
 
 read-number-requires : tie.Need-read-number-requires
 read-number-requires c κs = search needs

@@ -1,7 +1,7 @@
 use mathlib.Core.Path.{sym}
-use Rattle.codec.specs.NumberLaws.{size-1, size-2, size-3}
-use Rattle.codec.proofs.number.number_size.Statement.{statement}
-use Rattle.codec.proofs.number.number_size.Tie as tie
+use Rattle.numbers.specs.NumberLaws.{size-1, size-2, size-3}
+use Rattle.numbers.proofs.number_size.Statement.{statement}
+use Rattle.numbers.proofs.number_size.Tie as tie
 
 returns : tie.Need-returns
 returns c = sym (size-1 _ (c .if1 .taken))

@@ -5,8 +5,8 @@ use mathlib.Core.List.{List, [], _∷_}
 use lib.ListN.{drop}
 use lib.Dec.{ltb, eqb}
 use Rattle.laws.specs.Bools.{pick}
-use Rattle.codec.specs.declared.number.Num.{Num}
-use Rattle.codec.specs.declared.number.Num.the-variants.{Got, Bad}
+use Rattle.numbers.specs.declared.Num.{Num}
+use Rattle.numbers.specs.declared.Num.the-variants.{Got, Bad}
 
 -- the third group, `low` the value of the two before it; a zero here would not be the fewest groups
 unfoldable pub third : ℕ → ℕ → List ℕ → Num

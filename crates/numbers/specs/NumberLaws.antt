@@ -8,10 +8,10 @@ use lib.Dec.{ltb, eqb}
 use native.Mathlib.Numerals.{add-one, add-two}
 use native.Mathlib.Omega.{arith}
 use borrow.Author.Tests.{lt-ltb, le-ltb, eq-eqb, ne-eqb}
-use Rattle.codec.specs.declared.number.Num.{Num}
-use Rattle.codec.specs.declared.number.Num.the-variants.{Got, Bad}
+use Rattle.numbers.specs.declared.Num.{Num}
+use Rattle.numbers.specs.declared.Num.the-variants.{Got, Bad}
 use Rattle.laws.specs.Bools.{pick}
-use Rattle.codec.specs.Number.{groups, first, second, third, readNumber}
+use Rattle.numbers.specs.Number.{groups, first, second, third, readNumber}
 
 module _ (s : List ℕ) (at : ℕ) where
   pub first-end : length s ≤ at → readNumber s at ≡ Bad

@@ -10,10 +10,10 @@ use lib.Seq.{getD-drop, drop-drop}
 use lib.Dec.{ltb, eqb}
 use borrow.Author.Tests.{lt-ltb, le-ltb, eq-eqb, ne-eqb}
 use Rattle.laws.specs.Bools.{pick, pick-ind}
-use Rattle.codec.specs.declared.number.Num.{Num}
-use Rattle.codec.specs.declared.number.Num.the-variants.{Got, Bad}
-use Rattle.codec.specs.Number.{first, second, third, readNumber, groups}
-use Rattle.codec.specs.NumberLaws.{groups-1, groups-2, groups-3}
+use Rattle.numbers.specs.declared.Num.{Num}
+use Rattle.numbers.specs.declared.Num.the-variants.{Got, Bad}
+use Rattle.numbers.specs.Number.{first, second, third, readNumber, groups}
+use Rattle.numbers.specs.NumberLaws.{groups-1, groups-2, groups-3}
 
 -- one order or the other
 split {ℓ} : {X : Type ℓ} (a b : ℕ) → (a < b → X) → (b ≤ a → X) → X

@@ -3,7 +3,7 @@ ghost use mathlib.Core.Path.{_≡_};
 ghost use Prim.Native.Nat.{ℕ, _+_, _-_, _*_, _%_, _≤_, _<_};
 ghost use lib.ListN.{length};
 ghost use lib.Seq.{sets};
-ghost use Rattle.codec.specs.Number.{readNumber, groups};
+ghost use Rattle.numbers.specs.Number.{readNumber, groups};
 
 // What reading a number finds: the number and the place behind it, or none.
 pub enum Num {
@@ -22,7 +22,7 @@ fn join(low: u32, high: u32) -> u32
     requires { ⌜ high < 16384 ⌝ }
     ensures { λ r. ⌜ r ≡ low % 128 + high * 128 ⌝ }
 {
-    high * 128 + low % 128
+    (low & 0x7f) | (high << 7)
 }
 
 // The number that stands at `at`.
@@ -64,14 +64,14 @@ pub fn read_number(s: &[u8], at: usize) -> Num
 fn low_group(n: u32) -> u8
     ensures { λ r. ⌜ r ≡ n % 128 ⌝ }
 {
-    (n % 128) as u8
+    (n & 0x7f) as u8
 }
 
 // The lowest seven bits, with the mark that another group follows.
 fn more_group(n: u32) -> u8
     ensures { λ r. ⌜ r ≡ n % 128 + 128 ⌝ }
 {
-    (n % 128 + 128) as u8
+    ((n & 0x7f) | 0x80) as u8
 }
 
 // How many bytes a number takes.

@@ -1,7 +1,7 @@
 use mathlib.Core.Path.{refl}
 use borrow.Author.Needs.{needs}
-use Rattle.codec.proofs.number.write_before.Statement.{statement}
-use Rattle.codec.proofs.number.write_before.Tie as tie
+use Rattle.numbers.proofs.write_before.Statement.{statement}
+use Rattle.numbers.proofs.write_before.Tie as tie
 
 number-size-requires : tie.Need-number-size-requires
 number-size-requires c κs = search needs

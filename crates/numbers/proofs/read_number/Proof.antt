@@ -1,9 +1,9 @@
 use borrow.Author.Needs.{needs}
-use Rattle.codec.specs.NumberLaws.{bad-0, got-1, bad-1, bad-1-zero, got-2, bad-2, bad-2-zero, got-3, bad-3}
-use Rattle.codec.specs.NumberLaws.{joined}
+use Rattle.numbers.specs.NumberLaws.{bad-0, got-1, bad-1, bad-1-zero, got-2, bad-2, bad-2-zero, got-3, bad-3}
+use Rattle.numbers.specs.NumberLaws.{joined}
 use native.Mathlib.Omega.{arith}
-use Rattle.codec.proofs.number.read_number.Statement.{statement}
-use Rattle.codec.proofs.number.read_number.Tie as tie
+use Rattle.numbers.proofs.read_number.Statement.{statement}
+use Rattle.numbers.proofs.read_number.Tie as tie
 
 returns : tie.Need-returns
 returns c = bad-0 _ _ (omega arith)

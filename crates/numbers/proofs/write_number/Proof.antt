@@ -1,9 +1,9 @@
 use borrow.Author.Needs.{needs}
 use native.Mathlib.Omega.{arith}
 use lib.ListN.{length-set}
-use Rattle.codec.specs.NumberLaws.{size-1, size-2, size-3, wrote-1, wrote-2, wrote-3}
-use Rattle.codec.proofs.number.write_number.Statement.{statement}
-use Rattle.codec.proofs.number.write_number.Tie as tie
+use Rattle.numbers.specs.NumberLaws.{size-1, size-2, size-3, wrote-1, wrote-2, wrote-3}
+use Rattle.numbers.proofs.write_number.Statement.{statement}
+use Rattle.numbers.proofs.write_number.Tie as tie
 
 low-group-requires : tie.Need-low-group-requires
 low-group-requires c κs = search needs
