@@ -6,5 +6,5 @@ pub mod FaceOperators
 pub mod Exec
 pub mod ByCode
 pub mod AdmitLaws
-pub mod SurgeryLaws
+pub mod RecordLaws
 pub mod Scans

@@ -8,12 +8,12 @@ ghost use Rattle.euler.specs.FaceOperators.{mvsfLinks, mvsfInverse, kvsfTest, k
 ghost use Rattle.euler_counts.specs.Counts.{Counted};
 ghost use Rattle.euler_lone.specs.LoneLaws.{faceAfter};
 use bounds::ITEM_PLACES;
-use euler::points::with_point;
-use euler::records::put_face;
-use euler::records::put_loop;
 use euler::scans::count_naming;
 use euler::scans::least_naming_one;
 use euler_counts::counts::loops_kept;
+use euler_surgery::points::with_point;
+use euler_surgery::records::put_face;
+use euler_surgery::records::put_loop;
 use layout::column::solids_of_faces;
 use layout::columns::face_outer;
 use layout::columns::face_solid;

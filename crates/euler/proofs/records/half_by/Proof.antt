@@ -1,5 +1,5 @@
 use native.Mathlib.Omega.{arith}
-use Rattle.euler.specs.SurgeryLaws.{half-none, half-even, half-odd}
+use Rattle.euler.specs.RecordLaws.{half-none, half-even, half-odd}
 use borrow.Author.Needs.{needs}
 use Rattle.euler.proofs.records.half_by.Statement.{statement}
 use Rattle.euler.proofs.records.half_by.Tie as tie

@@ -4,7 +4,7 @@ use lib.ListN.{getD}
 use lib.IntN.{pos}
 use Rattle.bounds.specs.Bounds.{mostHalves}
 use Rattle.codec.specs.SignedLaws.{negative, positive}
-use Rattle.euler.specs.SurgeryLaws.{item-negative, item-is, item-past}
+use Rattle.euler.specs.RecordLaws.{item-negative, item-is, item-past}
 use borrow.Author.Needs.{needs}
 use Rattle.euler.proofs.records.item_at.Statement.{statement}
 use Rattle.euler.proofs.records.item_at.Tie as tie

@@ -5,12 +5,12 @@ use Rattle.euler_bridges.proofs.kemr_mekr.kemr_links.Statement.{stateme
 use Rattle.euler_bridges.proofs.kemr_mekr.kemr_links.Tie as tie
 use Rattle.euler_bridges.proofs.kemr_mekr.kemr_links.Reads as reads
 use Rattle.euler_bridges.proofs.kemr_mekr.kemr_links.Lts as lts
-use Rattle.euler_edges.proofs.parts.half_at.Reads as half-at-reads
 use Rattle.euler.proofs.records.choose.Reads as choose-reads
-use Rattle.euler.proofs.records.put_loop.Reads as put-loop-reads
-use Rattle.euler.proofs.surgery.edge_out.Reads as edge-out-reads
-use Rattle.euler.proofs.walks.relabel_run.Reads as relabel-run-reads
-use Rattle.euler.proofs.walks.renew_loop.Reads as renew-loop-reads
+use Rattle.euler_edges.proofs.parts.half_at.Reads as half-at-reads
+use Rattle.euler_surgery.proofs.records.put_loop.Reads as put-loop-reads
+use Rattle.euler_surgery.proofs.surgery.edge_out.Reads as edge-out-reads
+use Rattle.euler_walks.proofs.walks.relabel_run.Reads as relabel-run-reads
+use Rattle.euler_walks.proofs.walks.renew_loop.Reads as renew-loop-reads
 use Rattle.layout.proofs.columns.loop_face.Reads as loop-face-reads
 use Rattle.layout.proofs.columns.loop_first.Reads as loop-first-reads
 use Rattle.layout.proofs.mates.mate_of.Reads as mate-of-reads

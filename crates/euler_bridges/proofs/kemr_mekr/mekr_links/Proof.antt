@@ -7,10 +7,10 @@ use Rattle.euler_bridges.proofs.kemr_mekr.mekr_links.Reads as reads
 use Rattle.euler_bridges.proofs.kemr_mekr.mekr_links.Lts as lts
 use Rattle.euler_bridges.proofs.kemr_mekr.mekr_edge.Reads as mekr-edge-reads
 use Rattle.euler.proofs.records.choose.Reads as choose-reads
-use Rattle.euler.proofs.records.put_loop.Reads as put-loop-reads
-use Rattle.euler.proofs.walks.lower.Reads as lower-reads
-use Rattle.euler.proofs.walks.relabel_run.Reads as relabel-run-reads
-use Rattle.euler.proofs.walks.renew_loop.Reads as renew-loop-reads
+use Rattle.euler_surgery.proofs.records.put_loop.Reads as put-loop-reads
+use Rattle.euler_walks.proofs.walks.lower.Reads as lower-reads
+use Rattle.euler_walks.proofs.walks.relabel_run.Reads as relabel-run-reads
+use Rattle.euler_walks.proofs.walks.renew_loop.Reads as renew-loop-reads
 use Rattle.layout.proofs.columns.loop_first.Reads as loop-first-reads
 use Rattle.layout.proofs.mates.mate_of.Reads as mate-of-reads
 

@@ -5,7 +5,7 @@ use Rattle.euler_cuts.proofs.mef_kef.kef_edge.Tie as tie
 use Rattle.euler_cuts.proofs.mef_kef.kef_edge.Reads as reads
 use Rattle.euler_cuts.proofs.mef_kef.kef_edge.Lts as lts
 use Rattle.euler.proofs.records.choose.Reads as choose-reads
-use Rattle.euler.proofs.surgery.edge_out.Reads as edge-out-reads
+use Rattle.euler_surgery.proofs.surgery.edge_out.Reads as edge-out-reads
 use Rattle.layout.proofs.mates.mate_of.Reads as mate-of-reads
 
 mate-of-requires : tie.Need-mate-of-requires

@@ -8,11 +8,11 @@ use Rattle.euler_cuts.proofs.mef_kef.kef_links.Lts as lts
 use Rattle.euler_edges.proofs.parts.half_at.Reads as half-at-reads
 use Rattle.euler_cuts.proofs.mef_kef.kef_edge.Reads as kef-edge-reads
 use Rattle.euler_cuts.proofs.mef_kef.rest_of.Reads as rest-of-reads
-use Rattle.euler.proofs.records.put_face.Reads as put-face-reads
-use Rattle.euler.proofs.records.put_loop.Reads as put-loop-reads
-use Rattle.euler.proofs.walks.lower.Reads as lower-reads
-use Rattle.euler.proofs.walks.relabel_run.Reads as relabel-run-reads
-use Rattle.euler.proofs.walks.renew_loop.Reads as renew-loop-reads
+use Rattle.euler_surgery.proofs.records.put_face.Reads as put-face-reads
+use Rattle.euler_surgery.proofs.records.put_loop.Reads as put-loop-reads
+use Rattle.euler_walks.proofs.walks.lower.Reads as lower-reads
+use Rattle.euler_walks.proofs.walks.relabel_run.Reads as relabel-run-reads
+use Rattle.euler_walks.proofs.walks.renew_loop.Reads as renew-loop-reads
 use Rattle.layout.proofs.columns.loop_face.Reads as loop-face-reads
 use Rattle.layout.proofs.columns.loop_first.Reads as loop-first-reads
 use Rattle.layout.proofs.mates.mate_of.Reads as mate-of-reads

@@ -6,7 +6,7 @@ use Rattle.euler_cuts.proofs.mef_kef.mef_edge.Reads as reads
 use Rattle.euler_cuts.proofs.mef_kef.mef_edge.Lts as lts
 use Rattle.euler.proofs.records.choose.Reads as choose-reads
 use Rattle.euler.proofs.records.corner_vertex.Reads as corner-vertex-reads
-use Rattle.euler.proofs.surgery.edge_in.Reads as edge-in-reads
+use Rattle.euler_surgery.proofs.surgery.edge_in.Reads as edge-in-reads
 use Rattle.layout.proofs.columns.prev_of.Reads as prev-of-reads
 use Rattle.layout.proofs.mates.mate_of.Reads as mate-of-reads
 

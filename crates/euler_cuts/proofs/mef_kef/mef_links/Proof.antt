@@ -8,10 +8,10 @@ use Rattle.euler_cuts.proofs.mef_kef.mef_links.Lts as lts
 use Rattle.euler_edges.proofs.parts.renew_sides.Reads as renew-sides-reads
 use Rattle.euler_cuts.proofs.mef_kef.mef_edge.Reads as mef-edge-reads
 use Rattle.euler.proofs.records.choose.Reads as choose-reads
-use Rattle.euler.proofs.records.put_face.Reads as put-face-reads
-use Rattle.euler.proofs.records.put_loop.Reads as put-loop-reads
-use Rattle.euler.proofs.walks.lower.Reads as lower-reads
-use Rattle.euler.proofs.walks.relabel_run.Reads as relabel-run-reads
+use Rattle.euler_surgery.proofs.records.put_face.Reads as put-face-reads
+use Rattle.euler_surgery.proofs.records.put_loop.Reads as put-loop-reads
+use Rattle.euler_walks.proofs.walks.lower.Reads as lower-reads
+use Rattle.euler_walks.proofs.walks.relabel_run.Reads as relabel-run-reads
 use Rattle.layout.proofs.columns.face_solid.Reads as face-solid-reads
 use Rattle.layout.proofs.columns.loop_face.Reads as loop-face-reads
 use Rattle.layout.proofs.columns.loop_first.Reads as loop-first-reads

@@ -4,7 +4,7 @@ use Rattle.euler_edges.proofs.parts.clear_edge.Statement.{statement}
 use Rattle.euler_edges.proofs.parts.clear_edge.Tie as tie
 use Rattle.euler_edges.proofs.parts.clear_edge.Reads as reads
 use Rattle.euler_edges.proofs.parts.clear_edge.Lts as lts
-use Rattle.euler.proofs.records.clear_half.Reads as clear-half-reads
+use Rattle.euler_surgery.proofs.records.clear_half.Reads as clear-half-reads
 use Rattle.layout.proofs.mates.mate_of.Reads as mate-of-reads
 
 mate-of-requires : tie.Need-mate-of-requires

@@ -4,7 +4,7 @@ use Rattle.euler_edges.proofs.parts.renew_sides.Statement.{statement}
 use Rattle.euler_edges.proofs.parts.renew_sides.Tie as tie
 use Rattle.euler_edges.proofs.parts.renew_sides.Reads as reads
 use Rattle.euler_edges.proofs.parts.renew_sides.Lts as lts
-use Rattle.euler.proofs.walks.renew_loop.Reads as renew-loop-reads
+use Rattle.euler_walks.proofs.walks.renew_loop.Reads as renew-loop-reads
 use Rattle.layout.proofs.mates.mate_of.Reads as mate-of-reads
 
 mate-of-requires : tie.Need-mate-of-requires

@@ -3,7 +3,7 @@ use Rattle.euler_holes.proofs.holes.give_loop.Statement.{statement}
 use Rattle.euler_holes.proofs.holes.give_loop.Tie as tie
 use Rattle.euler_holes.proofs.holes.give_loop.Reads as reads
 use Rattle.euler_holes.proofs.holes.give_loop.Lts as lts
-use Rattle.euler.proofs.records.put_face.Reads as put-face-reads
+use Rattle.euler_surgery.proofs.records.put_face.Reads as put-face-reads
 use Rattle.layout.proofs.columns.set_loop_face.Reads as set-loop-face-reads
 
 set-loop-face-requires : tie.Need-set-loop-face-requires

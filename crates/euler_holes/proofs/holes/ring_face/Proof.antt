@@ -3,7 +3,7 @@ use Rattle.euler_holes.proofs.holes.ring_face.Statement.{statement}
 use Rattle.euler_holes.proofs.holes.ring_face.Tie as tie
 use Rattle.euler_holes.proofs.holes.ring_face.Reads as reads
 use Rattle.euler_holes.proofs.holes.ring_face.Lts as lts
-use Rattle.euler.proofs.records.put_face.Reads as put-face-reads
+use Rattle.euler_surgery.proofs.records.put_face.Reads as put-face-reads
 use Rattle.layout.proofs.columns.face_solid.Reads as face-solid-reads
 use Rattle.layout.proofs.columns.loop_face.Reads as loop-face-reads
 use Rattle.layout.proofs.columns.set_loop_face.Reads as set-loop-face-reads

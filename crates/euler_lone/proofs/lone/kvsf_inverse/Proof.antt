@@ -3,7 +3,7 @@ use Rattle.euler_lone.proofs.lone.kvsf_inverse.Statement.{statement}
 use Rattle.euler_lone.proofs.lone.kvsf_inverse.Tie as tie
 use Rattle.euler_lone.proofs.lone.kvsf_inverse.Reads as reads
 use Rattle.euler_lone.proofs.lone.kvsf_inverse.Lts as lts
-use Rattle.euler.proofs.points.with_point.Reads as with-point-reads
+use Rattle.euler_surgery.proofs.points.with_point.Reads as with-point-reads
 use Rattle.script.proofs.blank.Reads as blank-reads
 use Rattle.script.proofs.with_number.Reads as with-number-reads
 

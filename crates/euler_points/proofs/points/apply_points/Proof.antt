@@ -6,8 +6,8 @@ use Rattle.euler_points.proofs.points.apply_points.Statement.{statement
 use Rattle.euler_points.proofs.points.apply_points.Tie as tie
 use Rattle.euler_points.proofs.points.apply_points.Reads as reads
 use Rattle.euler_points.proofs.points.apply_points.Lts as lts
-use Rattle.euler.proofs.points.put_point.Reads as put-point-reads
 use Rattle.euler.proofs.records.item_at.Reads as item-at-reads
+use Rattle.euler_surgery.proofs.points.put_point.Reads as put-point-reads
 use Rattle.euler_points.proofs.points.clear_point.Reads as clear-point-reads
 
 item-at-requires : tie.Need-item-at-requires

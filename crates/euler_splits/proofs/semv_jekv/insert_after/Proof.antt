@@ -3,8 +3,8 @@ use Rattle.euler_splits.proofs.semv_jekv.insert_after.Statement.{statem
 use Rattle.euler_splits.proofs.semv_jekv.insert_after.Tie as tie
 use Rattle.euler_splits.proofs.semv_jekv.insert_after.Reads as reads
 use Rattle.euler_splits.proofs.semv_jekv.insert_after.Lts as lts
-use Rattle.euler.proofs.records.put_half.Reads as put-half-reads
-use Rattle.euler.proofs.surgery.set_between.Reads as set-between-reads
+use Rattle.euler_surgery.proofs.records.put_half.Reads as put-half-reads
+use Rattle.euler_surgery.proofs.surgery.set_between.Reads as set-between-reads
 use Rattle.layout.proofs.columns.next_of.Reads as next-of-reads
 
 next-of-requires : tie.Need-next-of-requires

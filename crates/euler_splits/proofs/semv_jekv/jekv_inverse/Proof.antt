@@ -4,9 +4,9 @@ use Rattle.euler_splits.proofs.semv_jekv.jekv_inverse.Statement.{statem
 use Rattle.euler_splits.proofs.semv_jekv.jekv_inverse.Tie as tie
 use Rattle.euler_splits.proofs.semv_jekv.jekv_inverse.Reads as reads
 use Rattle.euler_splits.proofs.semv_jekv.jekv_inverse.Lts as lts
-use Rattle.euler_edges.proofs.parts.with_three.Reads as with-three-reads
-use Rattle.euler.proofs.points.with_point.Reads as with-point-reads
 use Rattle.euler.proofs.records.way_of.Reads as way-of-reads
+use Rattle.euler_edges.proofs.parts.with_three.Reads as with-three-reads
+use Rattle.euler_surgery.proofs.points.with_point.Reads as with-point-reads
 use Rattle.layout.proofs.columns.start_of.Reads as start-of-reads
 use Rattle.layout.proofs.mates.edge_of.Reads as edge-of-reads
 use Rattle.script.proofs.blank.Reads as blank-reads

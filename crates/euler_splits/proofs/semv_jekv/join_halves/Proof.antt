@@ -4,7 +4,7 @@ use Rattle.euler_splits.proofs.semv_jekv.join_halves.Statement.{stateme
 use Rattle.euler_splits.proofs.semv_jekv.join_halves.Tie as tie
 use Rattle.euler_splits.proofs.semv_jekv.join_halves.Reads as reads
 use Rattle.euler_splits.proofs.semv_jekv.join_halves.Lts as lts
-use Rattle.euler.proofs.surgery.tie_halves.Reads as tie-halves-reads
+use Rattle.euler_surgery.proofs.surgery.tie_halves.Reads as tie-halves-reads
 use Rattle.layout.proofs.columns.next_of.Reads as next-of-reads
 use Rattle.layout.proofs.columns.prev_of.Reads as prev-of-reads
 use Rattle.layout.proofs.columns.set_start.Reads as set-start-reads

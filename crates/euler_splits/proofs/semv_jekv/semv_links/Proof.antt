@@ -7,7 +7,7 @@ use Rattle.euler_splits.proofs.semv_jekv.semv_links.Reads as reads
 use Rattle.euler_splits.proofs.semv_jekv.semv_links.Lts as lts
 use Rattle.euler_edges.proofs.parts.renew_sides.Reads as renew-sides-reads
 use Rattle.euler_splits.proofs.semv_jekv.insert_after.Reads as insert-after-reads
-use Rattle.euler.proofs.walks.lower.Reads as lower-reads
+use Rattle.euler_walks.proofs.walks.lower.Reads as lower-reads
 use Rattle.layout.proofs.columns.loop_first.Reads as loop-first-reads
 use Rattle.layout.proofs.columns.loop_of.Reads as loop-of-reads
 use Rattle.layout.proofs.columns.prev_of.Reads as prev-of-reads

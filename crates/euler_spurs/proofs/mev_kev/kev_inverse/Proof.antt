@@ -4,11 +4,11 @@ use Rattle.euler_spurs.proofs.mev_kev.kev_inverse.Statement.{statement}
 use Rattle.euler_spurs.proofs.mev_kev.kev_inverse.Tie as tie
 use Rattle.euler_spurs.proofs.mev_kev.kev_inverse.Reads as reads
 use Rattle.euler_spurs.proofs.mev_kev.kev_inverse.Lts as lts
-use Rattle.euler_edges.proofs.parts.half_at.Reads as half-at-reads
-use Rattle.euler_edges.proofs.parts.with_three.Reads as with-three-reads
-use Rattle.euler.proofs.points.with_point.Reads as with-point-reads
 use Rattle.euler.proofs.records.choose.Reads as choose-reads
 use Rattle.euler.proofs.records.way_of.Reads as way-of-reads
+use Rattle.euler_edges.proofs.parts.half_at.Reads as half-at-reads
+use Rattle.euler_edges.proofs.parts.with_three.Reads as with-three-reads
+use Rattle.euler_surgery.proofs.points.with_point.Reads as with-point-reads
 use Rattle.layout.proofs.mates.edge_of.Reads as edge-of-reads
 use Rattle.layout.proofs.mates.mate_of.Reads as mate-of-reads
 use Rattle.script.proofs.blank.Reads as blank-reads

@@ -4,10 +4,10 @@ use Rattle.euler_spurs.proofs.mev_kev.kev_links.Statement.{statement}
 use Rattle.euler_spurs.proofs.mev_kev.kev_links.Tie as tie
 use Rattle.euler_spurs.proofs.mev_kev.kev_links.Reads as reads
 use Rattle.euler_spurs.proofs.mev_kev.kev_links.Lts as lts
-use Rattle.euler_edges.proofs.parts.half_at.Reads as half-at-reads
 use Rattle.euler.proofs.records.choose.Reads as choose-reads
-use Rattle.euler.proofs.surgery.edge_out.Reads as edge-out-reads
-use Rattle.euler.proofs.walks.renew_loop.Reads as renew-loop-reads
+use Rattle.euler_edges.proofs.parts.half_at.Reads as half-at-reads
+use Rattle.euler_surgery.proofs.surgery.edge_out.Reads as edge-out-reads
+use Rattle.euler_walks.proofs.walks.renew_loop.Reads as renew-loop-reads
 use Rattle.layout.proofs.columns.loop_first.Reads as loop-first-reads
 use Rattle.layout.proofs.columns.set_vertex_used.Reads as set-vertex-used-reads
 use Rattle.layout.proofs.mates.mate_of.Reads as mate-of-reads

@@ -6,9 +6,9 @@ use Rattle.euler_spurs.proofs.mev_kev.mev_links.Reads as reads
 use Rattle.euler_spurs.proofs.mev_kev.mev_links.Lts as lts
 use Rattle.euler.proofs.records.choose.Reads as choose-reads
 use Rattle.euler.proofs.records.corner_vertex.Reads as corner-vertex-reads
-use Rattle.euler.proofs.surgery.edge_in.Reads as edge-in-reads
-use Rattle.euler.proofs.walks.lower.Reads as lower-reads
-use Rattle.euler.proofs.walks.renew_loop.Reads as renew-loop-reads
+use Rattle.euler_surgery.proofs.surgery.edge_in.Reads as edge-in-reads
+use Rattle.euler_walks.proofs.walks.lower.Reads as lower-reads
+use Rattle.euler_walks.proofs.walks.renew_loop.Reads as renew-loop-reads
 use Rattle.layout.proofs.columns.loop_first.Reads as loop-first-reads
 use Rattle.layout.proofs.columns.prev_of.Reads as prev-of-reads
 use Rattle.layout.proofs.columns.set_vertex_used.Reads as set-vertex-used-reads

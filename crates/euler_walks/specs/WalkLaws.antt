@@ -1,0 +1,60 @@
+-- The ways out of the loops that walk along next, one law each: what is left of the walk is the whole of it.
+use mathlib.Core.Path.{_≡_}
+use Prim.Native.Nat.{ℕ, suc, _+_, _-_, _<_, _≤_}
+use native.Mathlib.Omega.{arith}
+use mathlib.Core.List.{List}
+use lib.Dec.{eqb, ltb}
+use borrow.Author.Tests.{eq-eqb, ne-eqb}
+use Rattle.laws.specs.Bools.{pick}
+use Rattle.layout.specs.declared.shape.Shape.{Shape}
+use Rattle.layout.specs.Layout.{loopOf, nextOf, setLoop, setLoopFirst, setLoopIsolated}
+use Rattle.euler.specs.Surgery.{relabel, seek, firstFrom, renew}
+
+module _ (sh : Shape) (left : ℕ) (x : List ℕ) (k stop l : ℕ) (whole : List ℕ) (rest : relabel sh left x k stop l
+    ≡ whole) where
+  pub relabel-stop : 0 < left → k ≡ stop → x ≡ whole
+  unfolding relabel
+  relabel-stop h e = let n : left ≡ suc (left - 1) = omega arith in rw (n, eq-eqb k stop e) at rest
+
+  pub relabel-turn : 0 < left → (k ≡ stop → ⊥) → (y : List ℕ) (m : ℕ) → y ≡ setLoop sh x k l → m ≡ nextOf sh y k
+      → relabel sh (left - 1) y m stop l ≡ whole
+  unfolding relabel
+  relabel-turn h e y m p q = let n : left ≡ suc (left - 1) = omega arith in rw (q, p) (rw (n, ne-eqb k stop e) at rest)
+
+  pub relabel-out : left ≤ 0 → x ≡ whole
+  unfolding relabel
+  relabel-out h = let n : left ≡ 0 = omega arith in rw n at rest
+
+-- the search for a loop's first begins at `low`, and with what follows k
+pub seek-from : (sh : Shape) (x : List ℕ) (l low k at : ℕ) → at ≡ nextOf sh x k
+    → seek sh (k - low) x l low at k k ≡ firstFrom sh x l low k
+seek-from sh x l low k at e = rw e
+
+module _ (sh : Shape) (x : List ℕ) (l top j k stop best whole : ℕ) (rest : seek sh (top - j) x l j k stop best
+    ≡ whole) where
+  pub seek-here : j < top → (owner : ℕ) → owner ≡ loopOf sh x j → owner ≡ l → j ≡ whole
+  unfolding seek
+  seek-here h owner e q = let n : top - j ≡ suc (top - j - 1) = omega arith in rw (n, ← e, eq-eqb owner l q) at rest
+
+  pub seek-stop : j < top → (owner : ℕ) → owner ≡ loopOf sh x j → (owner ≡ l → ⊥) → k ≡ stop → best ≡ whole
+  unfolding seek
+  seek-stop h owner e q f = let n : top - j ≡ suc (top - j - 1) = omega arith in
+      rw (n, ← e, ne-eqb owner l q, eq-eqb k stop f) at rest
+
+  pub seek-turn : j < top → (owner : ℕ) → owner ≡ loopOf sh x j → (owner ≡ l → ⊥) → (k ≡ stop → ⊥) → (b m : ℕ)
+      → b ≡ pick (ltb k best) k best → m ≡ nextOf sh x k
+      → seek sh (top - (j + 1)) x l (j + 1) m stop b ≡ whole
+  unfolding seek
+  seek-turn h owner e q f b m p r =
+      let n : top - j ≡ suc (top - (j + 1)) = omega arith in
+      rw (r, p) (rw (n, ← e, ne-eqb owner l q, ne-eqb k stop f) at rest)
+
+  pub seek-out : top ≤ j → best ≡ whole
+  unfolding seek
+  seek-out h = let n : top - j ≡ 0 = omega arith in rw n at rest
+
+-- a loop's first anew: the least goes in, then the isolated vertex
+pub renew-is : (sh : Shape) (x y z : List ℕ) (l low k u f v : ℕ) → f ≡ firstFrom sh x l low k → v ≡ pick (eqb k 0) u 0
+    → y ≡ setLoopFirst sh x l f → z ≡ setLoopIsolated sh y l v → z ≡ renew sh x l low k u
+unfolding renew
+renew-is sh x y z l low k u f v a b p q = rw (q, p, b, a)

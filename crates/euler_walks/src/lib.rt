@@ -1,0 +1,2 @@
+// What the operators share in code that walks along a loop.
+pub mod walks;
