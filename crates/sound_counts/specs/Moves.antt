@@ -32,7 +32,7 @@ use Rattle.euler_counts.specs.Counts.{movedLoops, movedLoop}
 use Rattle.sound_counts.specs.Stays.{InOrder, in-order, Stays, store-stays, free-stays, solid-stays}
 use Rattle.sound_counts.specs.Stays.{other-stays, put-half-stays, put-face-stays, put-loop-stays, tie-stays}
 use Rattle.sound_counts.specs.Stays.{between-stays, edge-in-stays, edge-out-stays, relabel-stays, renew-stays}
-use Rattle.sound_counts.specs.Stays.{sweep-stays}
+use Rattle.sound_counts.specs.Stays.{sweep-stays, clear-half-stays}
 use Rattle.sound_counts.specs.Caps.{least-cap, loop-cap, face-cap, solid-cap, outer-cap, operand-cap}
 
 -- from x to y no loop but m changes its face, and m is at most the number of loops
@@ -148,8 +148,8 @@ module _ {sh : Shape} (b : InOrder sh) {l : ℕ} (i : In (sh .loops) l) (x : Lis
       free-stays b i VertexUsed (startOf sh x n) 0 refl
       (renew-stays b i _ _ (mate k) 0
       (renew-stays b i _ _ k 0
-      (put-half-stays b i (mate n) 0 0 0 0
-      (put-half-stays b i n 0 0 0 0
+      (clear-half-stays b i (mate n)
+      (clear-half-stays b i n
       (free-stays b i Start (mate k) (startOf sh x (mate n)) refl
       (tie-stays b i (prevOf sh y (mate n)) (mate k) (tie-stays b i k (nextOf sh x n) start)))))))
 
