@@ -14,7 +14,7 @@ use Rattle.laws.specs.Update.{upd-same}
 use Rattle.script.specs.declared.Operator.{Operator}
 use Rattle.layout.specs.declared.shape.Shape.{Shape}
 use Rattle.layout.specs.Mate.{mate, edgeOf}
-use Rattle.layout.specs.Points.{coordinate, rangeTest}
+use Rattle.layout.specs.Points.{pointsLength, coordinate, rangeTest}
 use Rattle.layout.specs.Fields.{Field, Face, First, Isolated, Start, Loop, Next, Prev, VertexUsed, Columns, halfKind}
 use Rattle.layout.specs.Fields.{capOf}
 use Rattle.layout.specs.Writes.{write, cleared, changes}
@@ -181,7 +181,7 @@ module _ {sh : Shape} {x : List ℕ} {p : List ℤ} (g : Good sh x p) {m : Mev} 
       let el = mev-links sh x (g .capacities) r in
       let ep = mev-points sh x (g .capacities) r p in
       let ei = mev-inverse sh x (g .capacities) r p in
-      let lo : 3 * m .vertex ≤ length p = omega (arith, g .points, r .vertex-in .1) in
+      let lo : pointsLength (m .vertex) ≤ length p = omega (arith, g .points, r .vertex-in .1) in
       let at = put-at p (m .vertex) (m .x) (m .y) (m .z) (r .vertex-in .0) lo in
       record {
         accepted = rw (el, ei) (kev-accepted gy uk nk);
