@@ -14,7 +14,7 @@ use Rattle.laws.specs.Closure.{Edge, linkedb}
 use Rattle.laws.specs.Union.{Classes}
 use Rattle.laws.specs.UnionFind.{root}
 use Rattle.layout.specs.declared.shape.Shape.{Shape}
-use Rattle.layout.specs.Layout.{faceSolid, loopFace, startOf, loopOf, side}
+use Rattle.layout.specs.Layout.{faceSolid, startOf, loopOf, side}
 use Rattle.check_shells.specs.Forest.{Forest}
 
 -- and once loop l lies in face t. Loop 0 is none and lies in face 0, so with l = t = 0 it is the table as it is

@@ -1,21 +1,20 @@
 -- Operands: what is written is read back, and what is read is what would be written.
 use mathlib.Core.Path.{_≡_, refl, sym, ap, _∙_}
 use mathlib.Core.Logic.{⊎-elim}
-use Prim.Native.Nat.{ℕ, zero, suc, _+_, _≤_, _<_}
+use Prim.Native.Nat.{ℕ, suc, _+_, _≤_}
 use native.Mathlib.Nat.{add-zero, add-assoc}
 use native.Mathlib.Omega.{arith}
-use mathlib.Core.Bool.{Bool, true, false}
+use mathlib.Core.Bool.{true}
 use mathlib.Core.List.{List, [], _∷_, _++_, append-assoc}
 use lib.ListN.{length, getD, drop, length-append}
 use lib.Seq.{drop-drop, drop-append-seam}
 use lib.IntN.{ℤ, pos, negsuc}
 use lib.Dec.{eqb}
-use borrow.Author.Tests.{eqb-true, eqb-false, eq-eqb, ne-eqb}
-use Rattle.laws.specs.Bools.{pick, ask, same?}
+use Rattle.laws.specs.Bools.{ask, same?}
 use Rattle.numbers.specs.declared.Num.{Num}
 use Rattle.numbers.specs.declared.Num.the-variants.{Got, Bad}
-use Rattle.numbers.specs.Number.{readNumber, groups, onNum}
-use Rattle.codec.specs.Operands.{unused, coordinate, leasts, largests, widest, inRange, inRanges, zig, zag, none}
+use Rattle.numbers.specs.Number.{onNum}
+use Rattle.codec.specs.Operands.{unused, coordinate, largests, widest, inRange, inRanges}
 use Rattle.codec.specs.Operands.{plain, wire, unwire, each, wires, unwires}
 use Rattle.codec.specs.OperandBytes.{Numbers, Read, Cut, onNumbers, readOperand, readOperands, operandBytes}
 use Rattle.codec.specs.OperandBytes.{operandsBytes}
@@ -23,7 +22,7 @@ use Rattle.codec.specs.SignedLaws.{zig-zag, zag-zig}
 use Rattle.codec.specs.ReadLaws.{operand-unused, operand-number}
 use Rattle.codec.specs.WriteLaws.{bytes-unused, bytes-number}
 use Rattle.numbers.specs.NumberTrip.{Bytes, number-written, written-number, number-next}
-use Rattle.codec.specs.Ranges.{range-between, range-small, ranges-cons, not-true}
+use Rattle.codec.specs.Ranges.{range-between, range-small, ranges-cons}
 
 -- ONE OPERAND
 -- write, then read

@@ -1,14 +1,14 @@
 -- Numbers in range: below the largest, and in every wider range.
-use mathlib.Core.Path.{_≡_, refl, sym, ap, _∙_}
+use mathlib.Core.Path.{_≡_, refl, sym, ap}
 use mathlib.Core.Logic.{⊎-elim}
-use Prim.Native.Nat.{ℕ, zero, suc, _+_, _*_, _≤_, _<_}
+use Prim.Native.Nat.{ℕ, zero, suc, _*_, _≤_}
 use native.Mathlib.Omega.{arith}
-use mathlib.Core.Bool.{Bool, true, false, _&&_}
+use mathlib.Core.Bool.{Bool, true, false}
 use mathlib.Core.List.{List, [], _∷_, map}
 use lib.ListN.{length, getD}
 use lib.Dec.{ltb, leb, eqb}
 use borrow.Author.Tests.{ltb-false, leb-true, eqb-true, le-leb, le-ltb}
-use Rattle.laws.specs.Bools.{pick, ask, allb, le?}
+use Rattle.laws.specs.Bools.{ask, allb, le?}
 use Rattle.bounds.specs.Bounds.{mostHalves, mostItems}
 use Rattle.codec.specs.declared.Limits.{Limits}
 use Rattle.codec.specs.declared.operands.Pattern.{Pattern}

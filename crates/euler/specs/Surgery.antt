@@ -15,8 +15,8 @@ use Rattle.layout.specs.declared.shape.Shape.{Shape}
 use Rattle.layout.specs.Layout.{loopIsolated, startOf, loopOf, nextOf, setLoopFirst, setLoopIsolated}
 use Rattle.layout.specs.Layout.{setLoop}
 use Rattle.layout.specs.Mate.{mate}
-use Rattle.layout.specs.Fields.{Solid, Outer, Face, First, Isolated, Start, Loop, Next, Prev}
-use Rattle.layout.specs.Writes.{Write, write, writes}
+use Rattle.layout.specs.Fields.{Solid, Outer, Face, First, Isolated, Start, Loop, Next, Prev, halfKind}
+use Rattle.layout.specs.Writes.{Write, write, writes, cleared}
 use Rattle.layout.specs.Points.{coordinate, setCoordinate}
 use Rattle.layout.specs.Items.{some}
 
@@ -129,7 +129,7 @@ edgeWrites k u l n p u′ l′ n′ p′ =
 -- the edge of k is killed: p is followed by n, and p′ by n′. (Where these are k or its mate, what is stored is cleared
 -- with them.)
 abbrev pub noEdgeWrites : ℕ → ℕ → ℕ → ℕ → ℕ → List Write
-noEdgeWrites k p n p′ n′ = tied p n ++ (tied p′ n′ ++ (halfRecord k 0 0 0 0 ++ halfRecord (mate k) 0 0 0 0))
+noEdgeWrites k p n p′ n′ = tied p n ++ (tied p′ n′ ++ (cleared halfKind k ++ cleared halfKind (mate k)))
 
 abbrev pub tie : Shape → List ℕ → ℕ → ℕ → List ℕ
 tie sh x a b = writes sh (tied a b) x

@@ -5,10 +5,12 @@ use mathlib.Core.List.{List}
 use Rattle.layout.specs.declared.shape.Shape.{Shape}
 use Rattle.layout.specs.Layout.{startOf, loopOf, nextOf, prevOf}
 use Rattle.layout.specs.Mate.{mate}
+use Rattle.layout.specs.Fields.{halfKind}
+use Rattle.layout.specs.Writes.{cleared, writes}
 use Rattle.script.specs.declared.Operator.{Operator}
 use Rattle.script.specs.Operator.{withNumber}
 use Rattle.euler.specs.declared.records.Half.{Half}
-use Rattle.euler.specs.Surgery.{putHalf, renew}
+use Rattle.euler.specs.Surgery.{renew}
 
 -- h has the four words of half-edge k
 pub record IsHalf (sh : Shape) (x : List ℕ) (k : ℕ) (h : Half) : Type 0 where
@@ -31,4 +33,4 @@ renewSides sh x l low l′ low′ k = renew sh (renew sh x l low k 0) l′ low�
 
 -- both halves of n's edge cleared
 unfoldable pub clearEdge : Shape → List ℕ → ℕ → List ℕ
-clearEdge sh x n = putHalf sh (putHalf sh x n 0 0 0 0) (mate n) 0 0 0 0
+clearEdge sh x n = writes sh (cleared halfKind (mate n)) (writes sh (cleared halfKind n) x)

@@ -7,7 +7,6 @@ use Prim.Native.Nat.{ℕ, zero, suc, _+_, _*_, _≤_}
 use native.Mathlib.Numerals.{add-one}
 use native.Mathlib.Omega.{arith}
 use lib.Dec.{eqb}
-use lib.ListN.{length}
 use lib.Seq.{set-getD}
 use Rattle.laws.specs.Bools.{pick, split, eqb-same, eqb-other}
 use Rattle.laws.specs.Columns.{Kind, sweep}

@@ -3,10 +3,10 @@ use Prim.Native.Nat.{ℕ}
 use mathlib.Core.List.{List}
 use Rattle.laws.specs.Bools.{pick}
 use Rattle.layout.specs.declared.shape.Shape.{Shape}
-use Rattle.layout.specs.Fields.{Solid, sweepField}
+use Rattle.layout.specs.Fields.{Solid, faceKind, sweepField}
 use Rattle.layout.specs.Layout.{setSolidUsed, setLoopFace}
+use Rattle.layout.specs.Writes.{cleared, writes}
 use Rattle.check_shells.specs.Shells.{oneRoot}
-use Rattle.euler.specs.Surgery.{putFace}
 use Rattle.euler.specs.FaceOperators.{moveFaces}
 
 -- the solids of the faces 1 to n become g of the face and its old solid
@@ -27,4 +27,4 @@ joinSolids sh x s t = setSolidUsed sh (setSolidUsed sh (moveFaces sh x s t) s 0)
 
 -- loop l of face g passes to face f, and g is killed
 abbrev pub giveLoop : Shape → List ℕ → ℕ → ℕ → ℕ → List ℕ
-giveLoop sh x l f g = putFace sh (setLoopFace sh x l f) g 0 0
+giveLoop sh x l f g = writes sh (cleared faceKind g) (setLoopFace sh x l f)

@@ -9,7 +9,7 @@ use Rattle.laws.specs.Bools.{eqb-same, eqb-other}
 use Rattle.laws.specs.Columns.{col-store-other}
 use Rattle.laws.specs.Permutations.{iter}
 use Rattle.layout.specs.declared.shape.Shape.{Shape}
-use Rattle.layout.specs.Fields.{halfKind, wordOf, groupAt, bare, Loop, Next}
+use Rattle.layout.specs.Fields.{halfKind, wordOf, groupAt, Loop, Next}
 use Rattle.layout.specs.Layout.{nextOf, setLoop}
 use Rattle.euler.specs.Surgery.{relabel}
 use Rattle.sound_tables.specs.Walking.{Steps, steps-on}
@@ -17,7 +17,7 @@ use Rattle.sound_tables.specs.Walking.{Steps, steps-on}
 -- a half-edge that is given another loop is followed by the same one
 next-kept : (sh : Shape) (x : List ℕ) (k l : ℕ) → nextOf sh (setLoop sh x k l) ≡ nextOf sh x
 next-kept sh x k l = λ t n.
-    col-store-other 0 (bare (groupAt sh halfKind)) (wordOf Next) (wordOf Loop) x (lit≤ tt) (lit≤ tt)
+    col-store-other 0 (groupAt sh halfKind) (wordOf Next) (wordOf Loop) x (lit≤ tt) (lit≤ tt)
     (omega arith) k l n t
 
 -- a run of d half-edges given another loop

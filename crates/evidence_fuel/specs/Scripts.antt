@@ -12,7 +12,7 @@ use Rattle.laws.specs.Bools.{split, le?, eqb-same, eqb-other}
 use Rattle.script.specs.RoundTrip.{read-next}
 use Rattle.layout.specs.declared.shape.Shape.{Shape}
 use Rattle.euler.specs.Exec.{limits}
-use Rattle.runs.specs.Run.{State, readAt, runRefusal, stepped, ran, runFrom}
+use Rattle.runs.specs.Run.{State, readAt, runRefusal, stepped, runFrom}
 use Rattle.runs.specs.RunLaws.{run-read, run-ended}
 
 -- as many steps as bytes are left are as good as more

@@ -1,6 +1,6 @@
 -- A's work on the face of k, which lies across an edge from the root: its rings move to the root, by number.
 use mathlib.Core.Path.{_≡_, refl, sym, ap, _∙_, subst}
-use mathlib.Core.Logic.{_≢_, ⊎-elim}
+use mathlib.Core.Logic.{_≢_, inr, ⊎-elim}
 use mathlib.Core.Bool.{Bool, true, false, not, _&&_, false≢true}
 use mathlib.Core.List.{List, [], _∷_}
 use Prim.Native.Nat.{ℕ, zero, suc, _+_, _*_, _≤_, _<_}
@@ -19,13 +19,15 @@ use Rattle.layout.specs.Items.{some, isRing, faceIn}
 use Rattle.sound_tables.specs.Sound.{In, HalfUsed, side}
 use Rattle.sound_tables.specs.Cells.{Shows}
 use Rattle.sound_tables.specs.Good.{Good, own}
+use Rattle.sound_rings.specs.Sound.{Ring}
+use Rattle.sound_rings.specs.Exact.{rmov-accepted, rmov-points}
 use Rattle.takedown.specs.Inversion.{Work, act, isRingOf, moveRings, rmov}
 use Rattle.inversion.specs.Path.{Path, there, first, acted, joinsIn, acted-table}
 use Rattle.inversion.specs.Counts.{solids, faces, loops, edges, vertices, strays, count-same}
 use Rattle.inversion.specs.Same.{words-same, solids-is, faces-is, loops-is, edges-is, vertices-is, face-in-same}
 use Rattle.inversion.specs.Same.{stray-same, face-or-none, count-fewer-in}
 use Rattle.inversion.specs.OfSolid.{both}
-use Rattle.inversion.specs.RmovLaws.{rmov-joins, rmov-points, move-accepted, move-shows, rmov-good}
+use Rattle.inversion.specs.RmovLaws.{rmov-joins, move-shows, rmov-good}
 
 -- k lies in the outer loop l of face f, its mate in face r, the least of their solid s
 pub record Border (sh : Shape) (x : List ℕ) (p : List ℤ) (k l f r s : ℕ) : Type 0 where
@@ -89,21 +91,38 @@ module _ {sh : Shape} {x : List ℕ} {p : List ℤ} {k l f r s : ℕ} (B : Borde
   f-some : f ≢ 0
   f-some z = omega (arith, f-in .0, z)
 
-  i-used : own sh x Face i ≢ 0
-  i-used z = f-some (sym fi ∙ z)
+  -- i is a ring, and r a face in use
+  at-ring : Ring sh (own sh x) i r
+  at-ring = record {
+    loop-in = ii;
+    loop-used = λ z. f-some (sym fi ∙ z);
+    face-in = B .r-in;
+    face-used = λ z. B .there-is (sym (B .r-solid) ∙ z);
+    ring = λ e. ri (ap (own sh x Outer) (sym fi) ∙ e);
+  }
 
-  r-used : own sh x Solid r ≢ 0
-  r-used z = B .there-is (sym (B .r-solid) ∙ z)
+  -- which is another than that of i
+  r-other : r ≢ own sh x Face i
+  r-other e = B .other (sym fi ∙ sym e)
 
   l-i : l ≢ i
   l-i e = ri (B .outer ∙ e)
 
+  -- k lies in the face of i, outside i, and its mate in r
   pub step-accepted : refusalOf sh x (rmov i r) ≡ 0
-  step-accepted = move-accepted (B .good) ii i-used (B .r-in) r-used (λ e. ri (ap (own sh x Outer) (sym fi) ∙ e)) k
-      (B .used) (ap (own sh x Face) (B .loop) ∙ B .face ∙ sym fi) (λ e. l-i (sym (B .loop) ∙ e)) (B .across)
+  step-accepted = rmov-accepted sh x i r (B .good .capacities) at-ring (inr (
+    r-other,
+    k,
+    record {
+      used = B .used;
+      here = ap (own sh x Face) (B .loop) ∙ B .face ∙ sym fi;
+      outside = λ e. l-i (sym (B .loop) ∙ e);
+      there = B .across;
+    },
+  ))
 
   v : Shows sh (linksAfter sh x (rmov i r)) (change (own sh x) Face i r)
-  v = move-shows (B .good) ii i-used (B .r-in) r-used (λ e. B .other (sym fi ∙ sym e))
+  v = move-shows (B .good) at-ring r-other
 
   solid-same : (n : ℕ) → In (sh .faces) n → own sh (linksAfter sh x (rmov i r)) Solid n ≡ own sh x Solid n
   solid-same n j = v .at Solid n (j .1)
@@ -128,7 +147,7 @@ module _ {sh : Shape} {x : List ℕ} {p : List ℤ} {k l f r s : ℕ} (B : Borde
       let ll : In (sh .loops) l = subst (In (sh .loops)) (B .loop) (hk .loop-in) in
       let lm = v .at Loop (mate k) (um .1) in
       record {
-        good = rmov-good (B .good) ii i-used (B .r-in) r-used step-accepted;
+        good = rmov-good (B .good) i r step-accepted;
         used = (B .used .0, B .used .1, λ z. B .used .2 (sym (v .at Start k (B .used .1)) ∙ z));
         loop = v .at Loop k (B .used .1) ∙ B .loop;
         face = face-else l ll l-i ∙ B .face;
@@ -274,15 +293,15 @@ clear-rings sh (suc n) i {x} {p} {k} {l} {f} {r} {s} B li hi below =
     more t acc c al st = record {
       os = rmov i r ∷ c .os;
       y = c .y;
-      path = first {os = c .os} {p = p} (rmov i r) refl acc (rw (rmov-points sh x p i r) (c .path));
+      path = first {os = c .os} {p = p} (rmov i r) refl acc (rw (rmov-points sh x i r p) (c .path));
       same = λ w a b.
           let one : Path sh (linksAfter sh x (rmov i r)) p (rmov i r ∷ []) (w .state .links) (w .state .points) =
-          rw (a, b) (first {os = []} {p = p} (rmov i r) refl acc (there refl (rmov-points sh x p i r))) in
+          rw (a, b) (first {os = []} {p = p} (rmov i r) refl acc (there refl (rmov-points sh x i r p))) in
           let u = acted-table sh w one in
           moves-one sh n i f r w x a t ∙ c .same (act sh w (rmov i r)) (u .0) (u .1);
       border = c .border;
       alike = alike-then al (c .alike);
       fewer = omega (arith, c .fewer, st);
-      joins = rw (rmov-points sh x p i r) (omega (arith, rmov-joins sh x p i r, c .joins));
+      joins = rw (rmov-points sh x i r p) (omega (arith, rmov-joins sh x p i r, c .joins));
       only = λ m j h e. c .only m j (omega arith) e;
     }

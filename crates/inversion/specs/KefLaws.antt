@@ -2,35 +2,24 @@
 -- fewer, all else counted the same.
 use mathlib.Core.Path.{_≡_, refl, sym, ap, _∙_, subst}
 use mathlib.Core.Logic.{_≢_}
-use mathlib.Core.Bool.{true, not}
 use mathlib.Core.List.{List, [], _∷_}
 use Prim.Native.Nat.{ℕ, suc, _*_}
-use native.Mathlib.Omega.{arith}
-use lib.Dec.{eqb, eqb→eq, not-T}
 use lib.IntN.{ℤ}
-use borrow.Author.Tests.{le-leb}
-use Rattle.laws.specs.Bools.{T-true, true-T, eqb-same}
-use Rattle.laws.specs.Every.{T-every}
-use Rattle.laws.specs.Sums.{countTo}
 use Rattle.laws.specs.Update.{upd-same, upd-off}
-use Rattle.bounds.specs.Bounds.{mostHalves}
-use Rattle.codec.specs.Operands.{pattern, rows}
 use Rattle.layout.specs.declared.shape.Shape.{Shape}
 use Rattle.layout.specs.Mate.{mate}
-use Rattle.euler.specs.EdgeOperators.{kefTest}
-use Rattle.euler.specs.Exec.{useWord, condition, refusalOf, linksAfter, pointsAfter, inverse}
+use Rattle.euler.specs.Exec.{refusalOf, linksAfter, inverse}
 use Rattle.layout.specs.Fields.{SolidUsed, Solid, Face, Start, Loop, VertexUsed}
 use Rattle.sound_tables.specs.Mates.{mate-other}
-use Rattle.sound_tables.specs.Sound.{In, side}
-use Rattle.sound_tables.specs.Labels.{many-one}
-use Rattle.sound_tables.specs.OneOperand.{one-accepted}
+use Rattle.sound_tables.specs.Sound.{In, side, Sound}
 use Rattle.sound_tables.specs.Cells.{Shows}
 use Rattle.sound_tables.specs.Good.{Good, own, good-shows}
+use Rattle.sound_cuts.specs.Relation.{Cut}
 use Rattle.sound_cuts.specs.KefShown.{mend-shows}
 use Rattle.sound_cuts.specs.KefSound.{mend-sound}
 use Rattle.sound_cuts.specs.KefPlace.{spotAt, mendColumns, KefPlace}
 use Rattle.sound_cuts.specs.KefRelation.{kef-cut, kef-only, kef-first}
-use Rattle.sound_cuts.specs.KefAccepted.{kef-links, kef-points}
+use Rattle.sound_cuts.specs.KefAccepted.{kef-links, kef-accepted}
 use Rattle.takedown.specs.Inversion.{kef}
 use Rattle.inversion.specs.Path.{joinsIn}
 use Rattle.inversion.specs.Counts.{solids, faces, loops, edges, vertices}
@@ -56,10 +45,6 @@ pub kef-joins : (sh : Shape) (x : List ℕ) (p : List ℤ) (k : ℕ) → joinsIn
 unfolding inverse
 kef-joins sh x p k = refl
 
--- points stay
-pub kef-points-same : (sh : Shape) (x : List ℕ) (p : List ℤ) (k : ℕ) → pointsAfter sh x p (kef k) ≡ p
-kef-points-same sh x p k = kef-points sh x p k
-
 module _ {sh : Shape} {x : List ℕ} {p : List ℤ} (g : Good sh x p) {k : ℕ} (w : KefPlace sh (own sh x) k) where
   -- the loop and the face that go
   loop-in : In (sh .loops) (own sh x Loop k)
@@ -68,28 +53,22 @@ module _ {sh : Shape} {x : List ℕ} {p : List ℤ} (g : Good sh x p) {k : ℕ} 
   face-in : In (sh .faces) (side (own sh x) k)
   face-in = let i = g .sound .solids .side-in k (w .used) in (i .0, i .1)
 
-  test : kefTest sh x k ≡ true
-  unfolding kefTest
-  test = T-true (T-every (eqb (countTo (sh .loops) (λ n. eqb (own sh x Face n) (side (own sh x) k))) 1
-      ∷ not (eqb (side (own sh x) (mate k)) (side (own sh x) k)) ∷ []) (
-        true-T (eqb-same (many-one (sh .loops) (own sh x Face) (side (own sh x) k) (own sh x Loop k) loop-in refl
-            (w .one))),
-        (not-T (eqb (side (own sh x) (mate k)) (side (own sh x) k)) (λ z. w .other (eqb→eq _ _ z)), tt),
-      ))
+  -- the relation between the tables before and after
+  cut : Cut sh (mendColumns sh (own sh x) (spotAt (own sh x) k)) (own sh x) (spotAt (own sh x) k)
+  cut = kef-cut (g .sound) refl w
 
-  pub kef-accepted : refusalOf sh x (kef k) ≡ 0
-  unfolding pattern rows useWord condition
-  kef-accepted = one-accepted sh x 6 9 refl refl refl refl (omega (arith, g .capacities .edges)) refl k
-      (w .used .0, w .used .1) (w .used .2)
-      (rw (le-leb k mostHalves (omega (arith, w .used .1, g .capacities .edges))) test)
+  mended : Sound sh p (mendColumns sh (own sh x) (spotAt (own sh x) k))
+  mended = mend-sound cut (kef-only (g .sound) refl w) (kef-first (g .sound) refl w) (g .sound)
+
+  -- kef at such a place is accepted
+  pub place-accepted : refusalOf sh x (kef k) ≡ 0
+  place-accepted = kef-accepted cut mended (g .sound) (good-shows g) (g .capacities)
 
   -- the columns afterwards
   pub kef-shown : Shows sh (linksAfter sh x (kef k)) (mendColumns sh (own sh x) (spotAt (own sh x) k))
-  kef-shown =
-      let cut = kef-cut (g .sound) refl w in
-      let s = mend-sound cut (kef-only (g .sound) refl w) (kef-first (g .sound) refl w) (g .sound) in
-      subst (λ l. Shows sh l (mendColumns sh (own sh x) (spotAt (own sh x) k)))
-      (sym (kef-links cut s (g .sound) (good-shows g) (g .capacities))) (mend-shows cut s (g .sound) (good-shows g))
+  kef-shown = subst (λ l. Shows sh l (mendColumns sh (own sh x) (spotAt (own sh x) k)))
+      (sym (kef-links cut mended (g .sound) (good-shows g) (g .capacities)))
+      (mend-shows cut mended (g .sound) (good-shows g))
 
   pub kef-law : KefLaw sh x (linksAfter sh x (kef k)) k
   kef-law =

@@ -17,7 +17,7 @@ use Rattle.sound_tables.specs.Names.{loop-unnamed}
 use Rattle.layout.specs.declared.shape.Shape.{Shape}
 use Rattle.layout.specs.Mate.{mate}
 use Rattle.layout.specs.MateLaws.{mate-mate, mate-range}
-use Rattle.layout.specs.Fields.{Columns, SolidUsed, Solid, Outer, Face, Start, Loop, Next, VertexUsed}
+use Rattle.layout.specs.Fields.{SolidUsed, Solid, Outer, Face, Start, Loop, Next, VertexUsed}
 use Rattle.layout.specs.Items.{faceIn}
 use Rattle.sound_tables.specs.Mates.{mate-other}
 use Rattle.sound_tables.specs.Cells.{Shows}

@@ -1,22 +1,16 @@
--- kev: accepted where k is followed by its mate; one edge and one vertex fewer, all else counted the same.
+-- kev, where k is followed by its mate: one edge and one vertex fewer, all else counted the same.
 use mathlib.Core.Path.{_≡_, refl, sym, ap, _∙_}
 use mathlib.Core.Logic.{_≢_, inl, inr}
 use mathlib.Core.List.{List, [], _∷_}
 use Prim.Native.Nat.{ℕ, suc, _*_}
-use native.Mathlib.Omega.{arith}
 use lib.IntN.{ℤ}
-use borrow.Author.Tests.{le-leb}
-use Rattle.laws.specs.Bools.{split, eqb-same}
+use Rattle.laws.specs.Bools.{split}
 use Rattle.laws.specs.Update.{upd-same, upd-off}
-use Rattle.bounds.specs.Bounds.{mostHalves}
-use Rattle.codec.specs.Operands.{pattern, rows}
 use Rattle.layout.specs.declared.shape.Shape.{Shape}
 use Rattle.layout.specs.Mate.{mate}
-use Rattle.euler.specs.EdgeOperators.{kevTest}
-use Rattle.euler.specs.Exec.{useWord, condition, refusalOf, inverse}
+use Rattle.euler.specs.Exec.{inverse}
 use Rattle.layout.specs.Fields.{SolidUsed, Solid, Face, Start, Next, VertexUsed}
 use Rattle.sound_tables.specs.Sound.{In, HalfUsed}
-use Rattle.sound_tables.specs.OneOperand.{one-accepted}
 use Rattle.sound_tables.specs.Cells.{Shows}
 use Rattle.sound_tables.specs.Good.{Good, own}
 use Rattle.sound_spurs.specs.Relation.{spurOf, in-k, in-b, used-b, far-in, far-used}
@@ -51,12 +45,6 @@ kev-joins sh x p k = refl
 
 module _ {sh : Shape} {x : List ℕ} {p : List ℤ} (g : Good sh x p) {k : ℕ} (uk : HalfUsed sh (own sh x) k)
     (nk : own sh x Next k ≡ mate k) where
-  pub kev-accepted : refusalOf sh x (kev k) ≡ 0
-  unfolding pattern rows useWord condition kevTest
-  kev-accepted = one-accepted sh x 4 9 refl refl refl refl (omega (arith, g .capacities .edges)) refl k (uk .0, uk .1)
-      (uk .2)
-      (rw (le-leb k mostHalves (omega (arith, uk .1, g .capacities .edges))) (eqb-same nk))
-
   module _ {I : ℕ} (left : Left (own sh x) k I) where
     v : Shows sh (kevList sh x k) (kevColumns sh (own sh x) k I)
     v = kev-shows g uk nk left

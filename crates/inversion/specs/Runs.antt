@@ -1,21 +1,17 @@
 -- What a run between two half-edges meets, where it has so many steps.
-use mathlib.Core.Path.{_≡_, refl, sym, ap, _∙_}
+use mathlib.Core.Path.{_≡_, refl}
 use mathlib.Core.Logic.{_⊎_, inl, inr, ⊎-elim}
 use mathlib.Core.Bool.{Bool, true, false, _||_, false≢true}
 use mathlib.Core.List.{List}
-use Prim.Native.Nat.{ℕ, zero, suc, _+_, _-_, _*_, _/_, _%_, _≤_, _<_}
+use Prim.Native.Nat.{ℕ, zero, suc, _-_, _≤_, _<_}
 use native.Mathlib.Omega.{arith}
-use lib.Dec.{T, eqb, eqb→eq}
-use Rattle.laws.specs.Bools.{split, T-true, true-T, eqb-same, eqb-other}
-use Rattle.laws.specs.Search.{anyTo, any-at, any-of}
+use lib.Dec.{eqb, eqb→eq}
+use Rattle.laws.specs.Bools.{true-T, eqb-same, eqb-other}
 use Rattle.laws.specs.Permutations.{iter}
 use Rattle.layout.specs.declared.shape.Shape.{Shape}
 use Rattle.layout.specs.Layout.{nextOf}
-use Rattle.layout.specs.Mate.{mate}
-use Rattle.layout.specs.MateLaws.{mate-odd, mate-even}
-use Rattle.sound_tables.specs.Sound.{In}
 use Rattle.sound_tables.specs.Walking.{Steps, steps-on}
-use Rattle.takedown.specs.Inversion.{onRun, between, either, crossed}
+use Rattle.takedown.specs.Inversion.{onRun}
 
 or-split : (a b : Bool) → (a || b) ≡ true → (a ≡ true) ⊎ (b ≡ true)
 or-split true b h = inl refl

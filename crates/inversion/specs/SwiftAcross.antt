@@ -25,13 +25,14 @@ use Rattle.sound_tables.specs.Walking.{Steps, way-round, on-the-way}
 use Rattle.sound_tables.specs.Good.{Good, own}
 use Rattle.sound_operators.specs.Theorems.{all-hold}
 use Rattle.sound_cuts.specs.KefPlace.{KefPlace}
+use Rattle.sound_cuts.specs.KefAccepted.{kef-points}
 use Rattle.takedown.specs.Inversion.{Work, linksIn, solidAt, outside, borderHalf, isRingOf, makeOuter, moveRings}
 use Rattle.takedown.specs.Inversion.{kef}
 use Rattle.inversion.specs.Path.{Path, acted, acted-table}
 use Rattle.inversion.specs.Same.{solid-at-same, count-fewer-in}
 use Rattle.inversion.specs.OfSolid.{both, joint, least-some, least-no}
 use Rattle.inversion.specs.Root.{root-is}
-use Rattle.inversion.specs.KefLaws.{kef-accepted, kef-law, kef-shown, kef-points-same}
+use Rattle.inversion.specs.KefLaws.{place-accepted, kef-law, kef-shown}
 use Rattle.inversion.specs.Border.{Alike, alike-then, Cleared, clear-rings}
 use Rattle.inversion.specs.TurnAcross.{place}
 use Rattle.inversion.specs.TurnOuter.{found, Opened, opens-not, open-face}
@@ -51,8 +52,8 @@ module _ {sh : Shape} {x : List ℕ} {p : List ℤ} (g : Good sh x p) {k r : ℕ
   y = linksAfter sh x (kef k)
 
   good-y : Good sh (linksAfter sh x (kef k)) p
-  good-y = subst (Good sh (linksAfter sh x (kef k))) (kef-points-same sh x p k)
-      (all-hold sh x p (kef k) g refl (kef-accepted g P) .0)
+  good-y = subst (Good sh (linksAfter sh x (kef k))) (kef-points sh x p k)
+      (all-hold sh x p (kef k) g refl (place-accepted g P) .0)
 
   used : (i : ℕ) → HalfUsed sh (own sh (linksAfter sh x (kef k))) i → HalfUsed sh (own sh x) i × (i ≢ k) × (i ≢ mate k)
   used i w = (

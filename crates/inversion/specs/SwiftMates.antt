@@ -1,11 +1,10 @@
 -- What A's turn leaves where it is: the least mate along a loop, and turns in which no ring was moved.
 use mathlib.Core.Path.{_≡_, refl, sym, ap, _∙_}
-use mathlib.Core.Bool.{Bool, true, false, not}
+use mathlib.Core.Bool.{Bool, true, false}
 use mathlib.Core.List.{List}
 use Prim.Native.Nat.{ℕ, zero, suc, _+_, _-_, _≤_, _<_}
 use native.Mathlib.Omega.{arith}
 use Rattle.laws.specs.Bools.{pick, split, eqb-same, eqb-other}
-use Rattle.laws.specs.Search.{least}
 use Rattle.laws.specs.Permutations.{iter}
 use Rattle.layout.specs.declared.shape.Shape.{Shape}
 use Rattle.layout.specs.Layout.{nextOf}

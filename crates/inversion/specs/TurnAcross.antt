@@ -9,7 +9,7 @@ use lib.Dec.{eqb}
 use lib.IntN.{ℤ}
 use lib.ListN.{length-append}
 use Rattle.laws.specs.Bools.{split, eqb-same, eqb-other}
-use Rattle.laws.specs.Search.{least, least-ext, least-unique}
+use Rattle.laws.specs.Search.{least-ext, least-unique}
 use Rattle.layout.specs.declared.shape.Shape.{Shape}
 use Rattle.euler.specs.Queries.{facesIn}
 use Rattle.euler.specs.Exec.{linksAfter}
@@ -19,6 +19,7 @@ use Rattle.sound_tables.specs.Sound.{In, side}
 use Rattle.sound_tables.specs.Labels.{label-found}
 use Rattle.sound_tables.specs.Good.{Good, own}
 use Rattle.sound_cuts.specs.KefPlace.{KefPlace}
+use Rattle.sound_cuts.specs.KefAccepted.{kef-points}
 use Rattle.takedown.specs.Inversion.{Work, act, solidAt, freeEdge, turned, borderHalf, moveRings}
 use Rattle.takedown.specs.Inversion.{turnA, kef}
 use Rattle.inversion.specs.Path.{Path, there, first, acted, path-append, acted-append, acted-table, joinsIn}
@@ -26,7 +27,7 @@ use Rattle.inversion.specs.Counts.{solids, faces, loops, isStray, strays
 use Rattle.inversion.specs.Same.{count-fewer-in, free-edge-kept}
 use Rattle.inversion.specs.OfSolid.{least-there}
 use Rattle.inversion.specs.Root.{root-is}
-use Rattle.inversion.specs.KefLaws.{KefLaw, kef-accepted, kef-law, kef-joins, kef-points-same}
+use Rattle.inversion.specs.KefLaws.{KefLaw, place-accepted, kef-law, kef-joins}
 use Rattle.inversion.specs.Border.{Border, Alike, alike-then, Cleared, clear-rings}
 use Rattle.inversion.specs.Turn.{Ready, TurnMade, joins-append}
 use Rattle.inversion.specs.TurnShape.{turned-a}
@@ -128,7 +129,7 @@ module _ {sh : Shape} {x : List ℕ} {p : List ℤ} {k l f r s : ℕ} (B : Borde
   }
 
   pub kef-path : Path sh (linksAfter sh x (kef k)) p (kef k ∷ []) x p
-  kef-path = first {os = []} {p = p} (kef k) refl (kef-accepted (B .good) place) (there refl (kef-points-same sh x p k))
+  kef-path = first {os = []} {p = p} (kef k) refl (place-accepted (B .good) place) (there refl (kef-points sh x p k))
 
   pub kef-counts : KefLaw sh x (linksAfter sh x (kef k)) k × (suc (strays sh (linksAfter sh x (kef k))) ≡ strays sh x)
   kef-counts = (law, strays-fewer)

@@ -19,7 +19,7 @@ use Rattle.sound_tables.specs.Sound.{In, HalfUsed}
 use Rattle.sound_tables.specs.Names.{free-zero}
 use Rattle.sound_tables.specs.Cells.{Shows}
 use Rattle.sound_tables.specs.Good.{Good, own}
-use Rattle.sound_spurs.specs.KevAccepted.{kevList, kevPoints, kev-links, kev-points}
+use Rattle.sound_spurs.specs.KevAccepted.{kevList, kevPoints, kev-links, kev-points, kev-accepted}
 use Rattle.sound_bridges.specs.Relation.{Bridge, Ends, Bridged}
 use Rattle.sound_bridges.specs.MekrColumns.{mekrList, mekrColumns, up-bridged}
 use Rattle.sound_bridges.specs.MekrShown.{mekr-shows, mekr-good}
@@ -33,7 +33,7 @@ use Rattle.inversion.specs.EdgeOut.{edge-fewer}
 use Rattle.inversion.specs.OfSolid.{least-some, least-there, both}
 use Rattle.inversion.specs.Root.{root-is, outer-in, outer-face, lone-loop, no-ring}
 use Rattle.inversion.specs.Gone.{kev-goes, kev-loop, kev-outer}
-use Rattle.inversion.specs.KevLaws.{KevLaw, kev-accepted, kev-law}
+use Rattle.inversion.specs.KevLaws.{KevLaw, kev-law}
 use Rattle.inversion.specs.Turn.{RingAt, Ready, Change, TurnMade}
 use Rattle.inversion.specs.TurnShape.{turned-c}
 

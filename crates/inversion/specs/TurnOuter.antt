@@ -1,6 +1,6 @@
 -- A's turn up to kef: the least half-edge across to the root is found, and its loop becomes the outer one of its face.
 use mathlib.Core.Path.{_≡_, refl, sym, ap, _∙_, subst}
-use mathlib.Core.Logic.{_≢_, ⊎-elim}
+use mathlib.Core.Logic.{_≢_, inl, ⊎-elim}
 use mathlib.Core.Bool.{Bool, true, false, not, _&&_, false≢true}
 use mathlib.Core.List.{List, [], _∷_}
 use Prim.Native.Nat.{ℕ, _*_, _≤_}
@@ -23,6 +23,8 @@ use Rattle.layout.specs.Items.{isRing, faceIn}
 use Rattle.sound_tables.specs.Sound.{In, HalfUsed, side}
 use Rattle.sound_tables.specs.Labels.{many-one, LeastIs}
 use Rattle.sound_tables.specs.Good.{Good, own}
+use Rattle.sound_rings.specs.Sound.{Ring}
+use Rattle.sound_rings.specs.Exact.{rmov-accepted, rmov-points}
 use Rattle.takedown.specs.Inversion.{Work, act, solidAt, outside, borderHalf, makeOuter}
 use Rattle.takedown.specs.Inversion.{rmov}
 use Rattle.inversion.specs.Path.{Path, there, first, acted, joinsIn}
@@ -31,7 +33,7 @@ use Rattle.inversion.specs.Same.{words-same, solids-is, faces-is, loops-
 use Rattle.inversion.specs.Same.{strays-same}
 use Rattle.inversion.specs.OfSolid.{least-some, least-no, both, joint}
 use Rattle.inversion.specs.Root.{root-is}
-use Rattle.inversion.specs.RmovLaws.{rmov-joins, rmov-points, swap-accepted, swap-shows, rmov-good}
+use Rattle.inversion.specs.RmovLaws.{rmov-joins, swap-shows, rmov-good}
 use Rattle.inversion.specs.Border.{Border, Alike, alike-same}
 
 -- ---- the edge
@@ -178,12 +180,15 @@ open-face sh {x} {p} {k} {l} {f} {r} {s} g u kl lf mr fr fs root ir rs sn = ⊎-
 
     swap : isRing sh x l ≡ true → Opened sh x p k l f r s
     swap t =
-        let lu : own sh x Face l ≢ 0 = λ z. omega (arith, jf .0, sym lf ∙ z) in
-        let fu : own sh x Solid f ≢ 0 = λ z. sn (sym fs ∙ z) in
-        let acc =
-        swap-accepted g hk lu jf fu (λ e. T-not (eqb (own sh x Outer (own sh x Face l)) l) (true-T t)
-        (true-T (eqb-same e))) (sym lf) in
-        let v = swap-shows g hk lu jf fu (sym lf) in
+        let ring : Ring sh (own sh x) l f = record {
+          loop-in = hk;
+          loop-used = λ z. omega (arith, jf .0, sym lf ∙ z);
+          face-in = jf;
+          face-used = λ z. sn (sym fs ∙ z);
+          ring = λ e. T-not (eqb (own sh x Outer (own sh x Face l)) l) (true-T t) (true-T (eqb-same e));
+        } in
+        let acc = rmov-accepted sh x l f (g .capacities) ring (inl (sym lf)) in
+        let v = swap-shows g ring (sym lf) in
         let um = g .sound .rules .mate-in k u in
         let hm = g .sound .half (mate k) (um .0, um .1) (um .2) in
         let es : (n : ℕ) → In (sh .faces) n → own sh (linksAfter sh x (rmov l f)) Solid n ≡ own sh x Solid n =
@@ -193,10 +198,10 @@ open-face sh {x} {p} {k} {l} {f} {r} {s} g u kl lf mr fr fs root ir rs sn = ⊎-
         record {
           os = rmov l f ∷ [];
           y = linksAfter sh x (rmov l f);
-          path = first {os = []} {p = p} (rmov l f) refl acc (there refl (rmov-points sh x p l f));
+          path = first {os = []} {p = p} (rmov l f) refl acc (there refl (rmov-points sh x l f p));
           same = λ w a b. opens sh l f w x a t;
           border = record {
-            good = rmov-good g hk lu jf fu acc;
+            good = rmov-good g l f acc;
             used = (u .0, u .1, λ z. u .2 (sym (v .at Start k (u .1)) ∙ z));
             loop = v .at Loop k (u .1) ∙ kl;
             face = ef l hk ∙ lf;

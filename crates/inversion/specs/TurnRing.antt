@@ -24,6 +24,7 @@ use Rattle.sound_tables.specs.Cells.{Shows}
 use Rattle.sound_tables.specs.Good.{Good, own, good-shows}
 use Rattle.sound_operators.specs.Theorems.{all-hold}
 use Rattle.sound_cuts.specs.KefPlace.{KefPlace}
+use Rattle.sound_cuts.specs.KefAccepted.{kef-points}
 use Rattle.sound_holes.specs.Chains.{chain-after}
 use Rattle.sound_holes.specs.MfkrhSound.{cut, RingFace, old-solid, face-unnamed}
 use Rattle.sound_holes.specs.KfmrhAccepted.{kfmrhOf, mfkrhOf}
@@ -37,7 +38,7 @@ use Rattle.inversion.specs.Same.{free-face-same, stray-same, free-edge-k
 use Rattle.inversion.specs.OfSolid.{least-some, least-there, both, Of, of-solid, of-mate}
 use Rattle.inversion.specs.Turn.{Ready, Change, TurnMade}
 use Rattle.inversion.specs.TurnShape.{turned-ring}
-use Rattle.inversion.specs.KefLaws.{KefLaw, kef-accepted, kef-law, kef-joins, kef-points-same}
+use Rattle.inversion.specs.KefLaws.{KefLaw, place-accepted, kef-law, kef-joins}
 use Rattle.inversion.specs.TurnCross.{only-root}
 
 -- ---- mfkrh of a ring that shares an edge: k in the ring l of face f₀, its mate in another loop of f₀, face f free
@@ -208,8 +209,8 @@ module _ {sh : Shape} {x : List ℕ} {p : List ℤ} (g : Good sh x p) {k l f f�
       gone n e t = rw e at t
 
   pub ring-path : Path sh (linksAfter sh (linksAfter sh x (mfkrh l f)) (kef k)) p (mfkrh l f ∷ kef k ∷ []) x p
-  ring-path = first (mfkrh l f) refl ring-accepted (first (kef k) refl (kef-accepted good₁ place₁)
-      (there refl (kef-points-same sh (linksAfter sh x (mfkrh l f)) _ k ∙ mfkrh-points sh x l f 0 p)))
+  ring-path = first (mfkrh l f) refl ring-accepted (first (kef k) refl (place-accepted good₁ place₁)
+      (there refl (kef-points sh (linksAfter sh x (mfkrh l f)) _ k ∙ mfkrh-points sh x l f 0 p)))
 
   joins₂ : joinsIn sh x p (mfkrh l f ∷ kef k ∷ []) ≡ 1
   joins₂ = omega (arith, ring-joins p, kef-joins sh (linksAfter sh x (mfkrh l f)) (pointsAfter sh x p (mfkrh l f)) k)

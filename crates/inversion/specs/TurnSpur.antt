@@ -14,14 +14,14 @@ use Rattle.euler.specs.Queries.{facesIn}
 use Rattle.layout.specs.Fields.{Next}
 use Rattle.layout.specs.Items.{faceIn}
 use Rattle.sound_tables.specs.Good.{Good, own}
-use Rattle.sound_spurs.specs.KevAccepted.{kevList, kevPoints, kev-links, kev-points}
+use Rattle.sound_spurs.specs.KevAccepted.{kevList, kevPoints, kev-links, kev-points, kev-accepted}
 use Rattle.takedown.specs.Inversion.{solidAt, edgesLeft, ofSolid, isSpur, ringHalf, spurHalf, kev}
 use Rattle.inversion.specs.Path.{there, first, acted}
 use Rattle.inversion.specs.Same.{free-face-same, free-loop-same, free-edge-kept}
 use Rattle.inversion.specs.OfSolid.{least-some, both, Of, of-solid}
 use Rattle.inversion.specs.Turn.{Ready, TurnMade}
 use Rattle.inversion.specs.TurnShape.{turned-spur}
-use Rattle.inversion.specs.KevLaws.{kev-joins, kev-accepted, kev-law}
+use Rattle.inversion.specs.KevLaws.{kev-joins, kev-law}
 
 module _ {sh : Shape} {x : List ℕ} {p : List ℤ} (g : Good sh x p) (ready : Ready sh x) (sn : solidAt sh x ≢ 0)
     (one : facesIn sh x (solidAt sh x) ≡ 1)

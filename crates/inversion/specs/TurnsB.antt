@@ -18,14 +18,15 @@ use Rattle.layout.specs.Items.{isRing}
 use Rattle.sound_tables.specs.Sound.{In, HalfUsed, side}
 use Rattle.sound_tables.specs.Good.{Good, own}
 use Rattle.sound_operators.specs.Theorems.{all-hold}
-use Rattle.sound_spurs.specs.KevAccepted.{kevList, kev-links}
+use Rattle.sound_spurs.specs.KevAccepted.{kevList, kev-links, kev-accepted}
 use Rattle.sound_bridges.specs.KemrAccepted.{kemr-accepted, kemr-links}
+use Rattle.sound_cuts.specs.KefAccepted.{kef-points}
 use Rattle.takedown.specs.Inversion.{solidAt, freeFace, freeLoop, edgesLeft, ofSolid, inRing, ringHalf, spurHalf}
 use Rattle.takedown.specs.Inversion.{crossed, isCrossed, crossedHalf, kev, kef, kemr, mfkrh}
 use Rattle.inversion.specs.Turn.{Ready}
 use Rattle.inversion.specs.OfSolid.{both, joint, Of, of-solid, solid-of, one-loop}
-use Rattle.inversion.specs.KevLaws.{kev-accepted, kev-law}
-use Rattle.inversion.specs.KefLaws.{kef-accepted, kef-points-same}
+use Rattle.inversion.specs.KevLaws.{kev-law}
+use Rattle.inversion.specs.KefLaws.{place-accepted}
 use Rattle.inversion.specs.TurnSpur.{found as spur-found}
 use Rattle.inversion.specs.TurnCross.{found as cross-found, span}
 use Rattle.inversion.specs.TurnRing.{found as ring-found, ring-face, same-face, good₁, place₁, face₂}
@@ -190,9 +191,9 @@ module _ {sh : Shape} {x : List ℕ} {p : List ℤ} (g : Good sh x p) (ready : R
   ring-good =
       let F = ring-face g ready sn one left some in
       let S = same-face g ready sn one left some in
-      subst (Good sh (ringLeft sh x)) (kef-points-same sh _ p (ringHalf sh x (solidAt sh x)))
+      subst (Good sh (ringLeft sh x)) (kef-points sh _ p (ringHalf sh x (solidAt sh x)))
       (all-hold sh _ p (kef (ringHalf sh x (solidAt sh x))) (good₁ g ring-half refl ring-apart S F) refl
-      (kef-accepted (good₁ g ring-half refl ring-apart S F) (place₁ g ring-half refl ring-apart S F)) .0)
+      (place-accepted (good₁ g ring-half refl ring-apart S F) (place₁ g ring-half refl ring-apart S F)) .0)
 
   pub ring-goes-on : Goes sh x (ringLeft sh x) (ringHalf sh x (solidAt sh x))
   ring-goes-on = ring-goes g ring-half refl ring-apart (same-face g ready sn one left some)

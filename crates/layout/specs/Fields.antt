@@ -105,17 +105,13 @@ groups sh =
 abbrev pub groupAt : Shape → ℕ → Kind
 groupAt sh g = getD (groups sh) g (record { base = 0; width = 0; count = 0 })
 
--- the same with the count left out, as `layout` reads and writes it
-abbrev pub bare : Kind → Kind
-bare κ = kind (κ .base) (κ .width)
-
 -- word w of record n of kind g
 abbrev pub cell : Shape → ℕ → ℕ → List ℕ → ℕ → ℕ
-cell sh g w = col (bare (groupAt sh g)) w
+cell sh g w = col (groupAt sh g) w
 
 -- and v stored there
 abbrev pub putCell : Shape → ℕ → ℕ → List ℕ → ℕ → ℕ → List ℕ
-putCell sh g w = store (bare (groupAt sh g)) w
+putCell sh g w = store (groupAt sh g) w
 
 -- how many records have the field
 abbrev pub capOf : Shape → Field → ℕ
@@ -130,7 +126,7 @@ put sh F = putCell sh (groupOf F) (wordOf F)
 
 -- field F of the records 1 to n becomes g of the record's number and of what it was
 abbrev pub sweepField : Shape → Field → ℕ → (ℕ → ℕ → ℕ) → List ℕ → List ℕ
-sweepField sh F = sweep (bare (groupAt sh (groupOf F))) (wordOf F)
+sweepField sh F = sweep (groupAt sh (groupOf F)) (wordOf F)
 
 -- ---- the columns as functions
 

@@ -1,9 +1,10 @@
 -- Stores as data: a list of cells with their new words. On links it is the stores one after the other, on columns the
 -- changes.
-use mathlib.Core.List.{List, [], _∷_}
+use mathlib.Core.List.{List, [], _∷_, map}
 use Prim.Native.Nat.{ℕ}
+use lib.ListN.{getD}
 use Rattle.layout.specs.declared.shape.Shape.{Shape}
-use Rattle.layout.specs.Fields.{Field, Columns, put, change}
+use Rattle.layout.specs.Fields.{Field, Columns, records, put, change}
 
 -- word `value` for field `field` of item `item`
 pub record Write : Type 0 where
@@ -13,6 +14,10 @@ pub record Write : Type 0 where
 
 abbrev pub write : Field → ℕ → ℕ → Write
 write F n v = record { field = F; item = n; value = v }
+
+-- record n of kind g is cleared: 0 for each of its fields, as `records` has them
+abbrev pub cleared : ℕ → ℕ → List Write
+cleared g n = map (λ F. write F n 0) (getD records g [])
 
 -- on links
 abbrev pub writes : Shape → List Write → List ℕ → List ℕ

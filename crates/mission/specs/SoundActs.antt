@@ -1,7 +1,6 @@
 -- A sound table stays sound under every call: whatever is asked of it, one act after the other.
 use mathlib.Core.Path.{_≡_, ap}
 use mathlib.Core.List.{List, [], _∷_}
-use Prim.Native.Nat.{ℕ}
 use lib.ListN.{length}
 use Rattle.laws.specs.Bools.{split}
 use Rattle.table.specs.declared.check.CheckAnswer.{CheckAnswer}

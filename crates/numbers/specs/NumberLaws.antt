@@ -1,5 +1,5 @@
 -- What `readNumber` is, place by place of the slice, as the code reads it.
-use mathlib.Core.Path.{_≡_, refl, sym, _∙_}
+use mathlib.Core.Path.{_≡_, sym, _∙_}
 use Prim.Native.Nat.{ℕ, suc, _+_, _*_, _/_, _%_, _≤_, _<_}
 use mathlib.Core.List.{List, [], _∷_}
 use lib.ListN.{length, getD, set, drop, drop-of-length-le}
@@ -8,10 +8,9 @@ use lib.Dec.{ltb, eqb}
 use native.Mathlib.Numerals.{add-one, add-two}
 use native.Mathlib.Omega.{arith}
 use borrow.Author.Tests.{lt-ltb, le-ltb, eq-eqb, ne-eqb}
-use Rattle.numbers.specs.declared.Num.{Num}
 use Rattle.numbers.specs.declared.Num.the-variants.{Got, Bad}
 use Rattle.laws.specs.Bools.{pick}
-use Rattle.numbers.specs.Number.{groups, first, second, third, readNumber}
+use Rattle.numbers.specs.Number.{groups, second, third, readNumber}
 
 module _ (s : List ℕ) (at : ℕ) where
   pub first-end : length s ≤ at → readNumber s at ≡ Bad

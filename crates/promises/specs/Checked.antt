@@ -7,17 +7,15 @@ use lib.IntN.{ℤ}
 use lib.ListN.{length}
 use borrow.Author.Tests.{le-leb}
 use Rattle.laws.specs.Bools.{split, eqb-same, eqb-other}
-use Rattle.script.specs.declared.Operator.{Operator}
 use Rattle.codec.specs.Ranges.{Within}
 use Rattle.layout.specs.declared.shape.Shape.{Shape}
 use Rattle.layout.specs.Layout.{shapeOf}
 use Rattle.check_items.specs.Rules.{brokenRule}
-use Rattle.euler.specs.Exec.{limits, refusalOf}
+use Rattle.euler.specs.Exec.{limits}
 use Rattle.table.specs.Check.{answer, checkOf}
 use Rattle.table.specs.CheckLaws.{checked-fits}
 use Rattle.table.specs.Valid.{Valid}
 use Rattle.sound_tables.specs.Good.{Good}
-use Rattle.sound_tables.specs.Undone.{Kept, Undone}
 use Rattle.sound_tables.specs.ValidGood.{valid-good, good-valid}
 use Rattle.runs.specs.Run.{State, entry}
 

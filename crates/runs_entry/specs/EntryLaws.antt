@@ -12,13 +12,12 @@ use Rattle.laws.specs.Bools.{pick, eqb-same, eqb-other}
 use Rattle.layout.specs.declared.shape.Shape.{Shape}
 use Rattle.layout.specs.Layout.{shapeOf}
 use Rattle.euler.specs.Exec.{Table, linksAfter, pointsAfter}
-use Rattle.euler_counts.specs.Counts.{Counted}
 use Rattle.table.specs.declared.check.CheckAnswer.{CheckAnswer}
 use Rattle.sound_tables.specs.Good.{Good}
 use Rattle.runs.specs.Clauses.{entry-passed}
 use Rattle.runs.specs.Run.{state, entry, readAt, refusalAt, Undid, undid, undoFrom}
 use Rattle.promises.specs.Checked.{checked-good}
-use Rattle.runs_steps.specs.Standing.{Standing, backOf}
+use Rattle.runs_steps.specs.Standing.{backOf}
 
 -- ---- undo: a refusal, one undone
 

@@ -5,19 +5,19 @@ use mathlib.Core.Logic.{_≢_}
 use mathlib.Core.Bool.{Bool, true, false}
 use mathlib.Core.List.{List}
 use Prim.Native.Nat.{ℕ, _-_, _≤_}
-use lib.Dec.{eqb, leb}
+use lib.Dec.{leb}
 use lib.IntN.{ℤ}
 use lib.ListN.{length}
 use native.Mathlib.Omega.{arith}
 use borrow.Author.Tests.{le-leb, leb-true}
-use Rattle.laws.specs.Bools.{pick, split, eqb-same, eqb-other}
+use Rattle.laws.specs.Bools.{split, eqb-same, eqb-other}
 use Rattle.script.specs.declared.Operator.{Operator}
 use Rattle.script.specs.Operator.{operatorBytes, putBytes}
 use Rattle.script.specs.OperatorLaws.{operator-bound}
 use Rattle.layout.specs.declared.shape.Shape.{Shape}
 use Rattle.euler.specs.Exec.{operatorBy, admitOf, linksAfter, pointsAfter, inverse}
-use Rattle.runs.specs.Run.{State, state, readAt, admitRead, refusalAt, inverseBytes, stepped}
-use Rattle.runs.specs.Run.{carryRefusal, carriedIs, carryOf, stepIs, stepOf}
+use Rattle.runs.specs.Run.{state, readAt, admitRead, refusalAt, inverseBytes, stepped}
+use Rattle.runs.specs.Run.{carryRefusal, carryOf, stepIs, stepOf}
 use Rattle.promises.specs.Reading.{taken, in-range}
 
 -- how many operands its record says makes no difference to the inverse
@@ -37,10 +37,6 @@ fits-room op end b e t = leb-true (length (operatorBytes op)) end (sym e ∙ t)
 
 module _ (sh : Shape) (x : List ℕ) (p : List ℤ) (log : List ℕ) (start : ℕ) (s : List ℕ) (at : ℕ)
     (r : ℕ) (er : r ≡ refusalAt sh x s at) (n : ℕ) (en : n ≡ readAt sh s at .next) where
-  -- the state as the code holds it
-  abbrev here : State
-  here = state x p log start
-
   -- 3 to 8
   pub step-refused : r ≢ 0 → stepIs r n (state x p log start) ≡ stepOf sh (state x p log start) s at
   unfolding stepOf admitRead carryOf carryRefusal

@@ -1,27 +1,23 @@
 -- What an accepted operator says of the bytes: the code, the numbers behind it, their ranges. From it: reading goes
 -- forward and stays within the script, and an operator read within the limits of a table is the one read without.
-use mathlib.Core.Path.{_≡_, refl, sym, ap, _∙_}
+use mathlib.Core.Path.{_≡_, refl}
 use mathlib.Core.Logic.{⊎-elim}
-use Prim.Native.Nat.{ℕ, zero, suc, _+_, _*_, _≤_, _<_}
+use Prim.Native.Nat.{ℕ, _<_}
 use native.Mathlib.Omega.{arith}
 use mathlib.Core.Bool.{Bool, true, false}
-use mathlib.Core.List.{List, [], _∷_, _++_, map}
-use lib.ListN.{length, getD, drop}
-use lib.Dec.{ltb, leb, eqb}
-use borrow.Author.Tests.{ltb-false, leb-true, le-leb, lt-leb, le-ltb, eqb-true, eqb-false, eq-eqb, ne-eqb}
-use Rattle.laws.specs.Bools.{pick, ask, le?, allb}
+use mathlib.Core.List.{List}
+use lib.Dec.{eqb}
+use borrow.Author.Tests.{eqb-false, ne-eqb}
+use Rattle.laws.specs.Bools.{pick, ask}
 use Rattle.numbers.specs.declared.Num.{Num}
 use Rattle.numbers.specs.declared.Num.the-variants.{Got, Bad}
 use Rattle.codec.specs.declared.Limits.{Limits}
 use Rattle.script.specs.declared.Operator.{Operator}
-use Rattle.codec.specs.declared.operands.Pattern.{Pattern}
 use Rattle.script.specs.declared.ReadAnswer.{ReadAnswer}
-use Rattle.numbers.specs.Number.{readNumber, groups, onNum}
-use Rattle.codec.specs.Operands.{unused, row, rows, pattern, leasts, largests, widest, inRange, inRanges, unwires}
-use Rattle.codec.specs.OperandBytes.{Numbers, Read, Cut, onNumbers, readOperand, readOperands}
+use Rattle.numbers.specs.Number.{readNumber, onNum}
+use Rattle.codec.specs.Operands.{pattern, largests, inRanges, unwires}
+use Rattle.codec.specs.OperandBytes.{Numbers, Read, Cut, onNumbers, readOperands}
 use Rattle.script.specs.Operator.{refused, readBehind, readOperator}
-use Rattle.codec.specs.OperandLaws.{no-code}
-use Rattle.numbers.specs.NumberTrip.{number-next}
 
 -- the operator that these numbers are
 abbrev pub operatorIs : ℕ → List ℕ → Operator

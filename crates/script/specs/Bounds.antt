@@ -1,26 +1,25 @@
 -- What the ranges come to: codes 1 to 13, coordinates -50,000 to 50,000, and each operand of an accepted operator in
 -- its range.
-use mathlib.Core.Path.{_≡_, refl, sym, ap, _∙_}
+use mathlib.Core.Path.{_≡_, refl, sym, _∙_}
 use mathlib.Core.Logic.{⊎-elim}
 use Prim.Native.Nat.{ℕ, zero, suc, _+_, _*_, _≤_, _<_}
 use native.Mathlib.Omega.{arith}
-use mathlib.Core.Bool.{Bool, true, false}
+use mathlib.Core.Bool.{true}
 use mathlib.Core.List.{List, [], _∷_, map}
 use lib.ListN.{length, getD, drop}
 use lib.IntN.{ℤ, pos, negsuc, natAbs}
-use lib.Dec.{ltb, leb, eqb}
+use lib.Dec.{ltb, leb}
 use borrow.Author.Tests.{le-ltb, le-leb, lt-leb, ne-eqb, eq-eqb, ltb-true, leb-true}
-use Rattle.laws.specs.Bools.{pick, ask, allb, le?}
+use Rattle.laws.specs.Bools.{ask, allb, le?}
 use Rattle.codec.specs.declared.Limits.{Limits}
 use Rattle.codec.specs.declared.operands.Pattern.{Pattern}
-use Rattle.codec.specs.Operands.{row, rows, pattern, coordinate, leasts, largests, inRange, inRanges, zig, zag, wire}
+use Rattle.codec.specs.Operands.{row, rows, pattern, coordinate, leasts, largests, inRange, inRanges, zig, zag}
 use Rattle.codec.specs.Operands.{unwire, unwires}
-use Rattle.codec.specs.OperandBytes.{Read, readOperands}
-use Rattle.script.specs.Operator.{readOperator, natOf, operandOf}
+use Rattle.script.specs.Operator.{readOperator, operandOf}
 use Rattle.codec.specs.SignedLaws.{zig-zag}
 use Rattle.codec.specs.Ranges.{not-true, range-between, ranges-cons, eight}
 use Rattle.codec.specs.OperandTrip.{operands-length}
-use Rattle.script.specs.Accepted.{Accepted, accepted}
+use Rattle.script.specs.Accepted.{accepted}
 
 -- each of 1 to 13 is a code
 used-at : (ps : List Pattern) (d : Pattern) → allb (map (λ p. ltb 0 (p .count)) ps) ≡ true → (k : ℕ) → k < length ps

@@ -11,7 +11,7 @@ use Rattle.laws.specs.Bools.{pick, allb}
 use Rattle.script.specs.declared.Operator.{Operator}
 use Rattle.script.specs.declared.ReadAnswer.{ReadAnswer}
 use Rattle.numbers.specs.Number.{readNumber, groups}
-use Rattle.codec.specs.Operands.{zig, zag, rows, pattern, widest, inRange, inRanges, wire, unwire}
+use Rattle.codec.specs.Operands.{zig, zag, pattern, widest, inRange, inRanges, wire, unwire}
 use Rattle.codec.specs.OperandBytes.{readOperand, readOperands, operandBytes, operandsBytes}
 use Rattle.script.specs.Operator.{refused, readBehind, readOperator, operatorBytes, operatorRefusal}
 

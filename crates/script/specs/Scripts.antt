@@ -3,12 +3,12 @@ use mathlib.Core.Path.{_≡_, refl, sym, ap, _∙_}
 use mathlib.Core.Logic.{⊎-elim}
 use Prim.Native.Nat.{ℕ, zero, suc, _+_, _-_, _≤_, _<_}
 use native.Mathlib.Omega.{arith}
-use mathlib.Core.Bool.{Bool, true, false, _&&_}
+use mathlib.Core.Bool.{Bool, true, false}
 use mathlib.Core.List.{List, [], _∷_, _++_, append-assoc, append-nil, map}
 use lib.ListN.{length, getD, drop, length-append, drop-of-length-le}
 use lib.Seq.{drop-append-seam}
 use lib.Dec.{ltb, leb, eqb}
-use borrow.Author.Tests.{lt-ltb, le-ltb, eq-eqb, eqb-true, leb-true, ltb-true, ltb-false, eqb-false}
+use borrow.Author.Tests.{lt-ltb, le-ltb, eqb-true, leb-true, ltb-true, ltb-false, eqb-false}
 use Rattle.laws.specs.Bools.{pick, ask, allb, le?}
 use Rattle.script.specs.declared.Operator.{Operator}
 use Rattle.codec.specs.declared.operands.Pattern.{Pattern}
@@ -16,13 +16,13 @@ use Rattle.numbers.specs.Number.{groups}
 use Rattle.numbers.specs.NumberLaws.{size-1, size-2, size-3}
 use Rattle.codec.specs.Operands.{unused, row, rows, pattern, widest, largests, inRanges, wire}
 use Rattle.codec.specs.OperandBytes.{operandBytes, operandsBytes}
-use Rattle.script.specs.Operator.{readOperator, numbersOf, operatorBytes, operatorRefusal, writeScript, Script}
+use Rattle.script.specs.Operator.{readOperator, numbersOf, operatorBytes, writeScript, Script}
 use Rattle.script.specs.Operator.{scriptIs, before, readFrom, readScript}
-use Rattle.codec.specs.WriteLaws.{groups-size, size-unused, size-number}
+use Rattle.codec.specs.WriteLaws.{groups-size, size-number}
 use Rattle.numbers.specs.NumberTrip.{Bytes}
-use Rattle.codec.specs.Ranges.{not-true, range-between, ranges-cons, each-row, eight, code-between}
+use Rattle.codec.specs.Ranges.{range-between, ranges-cons, each-row, eight, code-between}
 use Rattle.codec.specs.OperandTrip.{each-length}
-use Rattle.script.specs.RoundTrip.{Writable, Parts, parts, operator-written, read-next, written-read}
+use Rattle.script.specs.RoundTrip.{Writable, parts, operator-written, read-next, written-read}
 
 -- SIZES
 -- a larger number takes no fewer bytes

@@ -6,13 +6,12 @@ use mathlib.Core.Bool.{false}
 use mathlib.Core.List.{List, [], _∷_, _++_}
 use Prim.Native.Nat.{ℕ}
 use native.Mathlib.Omega.{arith}
-use Rattle.laws.specs.Bools.{pick}
 use Rattle.laws.specs.Update.{upd, upd-same, upd-at, upd-off, relabel, relabel-at, relabel-off}
 use Rattle.layout.specs.declared.shape.Shape.{Shape}
 use Rattle.layout.specs.Mate.{mate}
-use Rattle.layout.specs.Fields.{Field, Face, First, Isolated, Start, Loop, Columns, sameField, among}
-use Rattle.layout.specs.Writes.{Write, write, changes}
-use Rattle.euler.specs.Surgery.{edgeWrites, loopRecord, edgeIn, putLoop, relabelRun, lower, renew}
+use Rattle.layout.specs.Fields.{Field, Face, First, Isolated, Start, Loop, Columns, loopKind, among}
+use Rattle.layout.specs.Writes.{Write, write, cleared, writes, changes}
+use Rattle.euler.specs.Surgery.{edgeWrites, edgeIn, relabelRun, lower, renew}
 use Rattle.sound_tables.specs.Mates.{mate-other}
 use Rattle.sound_tables.specs.Sound.{HalfUsed, firstOf}
 use Rattle.sound_tables.specs.Shown.{withFirst}
@@ -29,7 +28,7 @@ edgeList sh x B = edgeIn sh x (B .k) (B .u1) (B .l) (B .N2) (B .P1) (B .u2) (B .
 -- the ring names l, the loop l2 is free, and l has its first
 abbrev pub mekrList : Shape → List ℕ → Bridge → List ℕ
 mekrList sh x B =
-    renew sh (putLoop sh (relabelRun sh (edgeList sh x B) (B .N2) (mate (B .k)) (B .l)) (B .l2) 0 0 0)
+    renew sh (writes sh (cleared loopKind (B .l2)) (relabelRun sh (edgeList sh x B) (B .N2) (mate (B .k)) (B .l)))
     (B .l) (lower (own sh x First (B .l)) (lower (own sh x First (B .l2)) (lower (B .k) (mate (B .k))))) (B .k) 0
 
 -- ---- the columns
@@ -44,7 +43,7 @@ joinedLoops c B = upd (upd (relabel (c Loop) (B .l2) (B .l)) (B .k) (B .l)) (mat
 
 -- all but the first of l
 abbrev pub bridgeColumns : Columns → Bridge → Columns
-bridgeColumns c B = changes (loopRecord (B .l2) 0 0 0) (withColumn (changes (bridgeWrites B) c) Loop (joinedLoops c B))
+bridgeColumns c B = changes (cleared loopKind (B .l2)) (withColumn (changes (bridgeWrites B) c) Loop (joinedLoops c B))
 
 -- the columns afterwards
 abbrev pub mekrColumns : Shape → Columns → Bridge → Columns
@@ -116,7 +115,7 @@ module _ {sh : Shape} {c : Columns} {B : Bridge} (o : Ends sh c B) where
   -- the fields that a bridge does not touch
   up-others : (F : Field) → among touched F ≡ false → (i : ℕ) → d F i ≡ c F i
   up-others F e i =
-      let ws = loopRecord l2 0 0 0 ++ (write First l (firstOf sh (bridgeColumns c B) l) ∷ write Isolated l 0 ∷ []) in
+      let ws = cleared loopKind l2 ++ (write First l (firstOf sh (bridgeColumns c B) l) ∷ write Isolated l 0 ∷ []) in
       unwritten touched ws refl (withColumn (changes (bridgeWrites B) c) Loop (joinedLoops c B)) F e i
       ∙ column-off (changes (bridgeWrites B) c) Loop (joinedLoops c B) F (among-off touched Loop F refl e) i
       ∙ unwritten touched (bridgeWrites B) refl c F e i

@@ -3,7 +3,7 @@
 use mathlib.Core.Path.{_≡_, refl, sym, ap, _∙_, subst}
 use mathlib.Core.Logic.{_≢_, ⊎-elim}
 use mathlib.Core.List.{List, [], _∷_}
-use Prim.Native.Nat.{ℕ, zero, suc, _*_, _≤_, _<_}
+use Prim.Native.Nat.{ℕ, zero, suc, _≤_, _<_}
 use native.Mathlib.Omega.{arith}
 use lib.IntN.{ℤ}
 use Rattle.laws.specs.Bools.{split}
@@ -11,10 +11,9 @@ use Rattle.laws.specs.Update.{relabel-off}
 use Rattle.laws.specs.Permutations.{iter, iter-in, inj, Perm}
 use Rattle.laws.specs.Cycles.{Cycles, forwards}
 use Rattle.layout.specs.declared.shape.Shape.{Shape}
-use Rattle.layout.specs.Mate.{mate}
-use Rattle.layout.specs.Fields.{Field, First, Loop, Next, Columns, capOf, by-fields}
-use Rattle.layout.specs.Writes.{changes}
-use Rattle.euler.specs.Surgery.{loopRecord, relabelRun, lower}
+use Rattle.layout.specs.Fields.{Field, First, Loop, Next, Columns, capOf, loopKind, by-fields}
+use Rattle.layout.specs.Writes.{cleared, changes}
+use Rattle.euler.specs.Surgery.{relabelRun, lower}
 use Rattle.sound_tables.specs.Cells.{Shows, shows-agree, upd-near}
 use Rattle.sound_tables.specs.WriteLaws.{shows-writes, among-off, withColumn, column-off}
 use Rattle.sound_tables.specs.Sound.{In, HalfUsed, Sound}
@@ -169,7 +168,7 @@ module _ {sh : Shape} {x : List ℕ} {p : List ℤ} (g : Good sh x p) {B : Bridg
   -- the list shows these columns
   pub mekr-shows : Shows sh (mekrList sh x B) (mekrColumns sh (own sh x) B)
   mekr-shows =
-      shows-first {U = HalfUsed sh d} (shows-writes (loopRecord l2 0 0 0) joined-shows
+      shows-first {U = HalfUsed sh d} (shows-writes (cleared loopKind l2) joined-shows
       (ring-in, (ring-in, (ring-in, tt))))
       l low k 0 loop-in cycles (new-k b) (b .loop-k)
       (λ i j e. (j .0, j .1, λ q. omega (arith, loop-in .0, sym e ∙ mekr-sound .half-free i j q .loop))) from

@@ -18,7 +18,7 @@ use Rattle.layout.specs.declared.shape.Shape.{Shape}
 use Rattle.layout.specs.Layout.{faceSolid, faceOuter, loopFace, loopOf}
 use Rattle.euler.specs.Surgery.{itemOf}
 use Rattle.euler.specs.Exec.{limits, refusalOf}
-use Rattle.layout.specs.Fields.{Solid, Face, Start}
+use Rattle.layout.specs.Fields.{Field, Solid, Outer, Face, Start, Loop}
 use Rattle.sound_tables.specs.Sound.{In}
 use Rattle.sound_tables.specs.Good.{own, Good}
 use Rattle.sound_tables.specs.Accepted.{by-place, limitOf, number-or-none}
@@ -34,37 +34,30 @@ least-cap n p = go (leastFrom-is n 1 p)
 -- ---- what a good table names
 
 module _ {sh : Shape} {x : List ℕ} {p : List ℤ} (g : Good sh x p) where
+  -- a word that is at most m in the records 1 to n: record 0 reads 0
+  by-records : (F : Field) (n m : ℕ) → ((k : ℕ) → In n k → own sh x F k ≤ m) → (k : ℕ) → k ≤ n → own sh x F k ≤ m
+  by-records F n m f zero h = omega arith
+  by-records F n m f (suc k) h = f (suc k) (omega arith, h)
+
   -- the loop of a half-edge
   pub loop-cap : (k : ℕ) → k ≤ 2 * sh .edges → loopOf sh x k ≤ sh .loops
-  loop-cap zero h = omega arith
-  loop-cap (suc k) h =
-      let i : In (2 * sh .edges) (suc k) = (omega arith, h) in
-      split (own sh x Start (suc k)) 0
-      (λ z. omega (arith, g .sound .half-free (suc k) i z .loop))
-      (λ u. g .sound .half (suc k) i u .loop-in .1)
+  loop-cap = by-records Loop (2 * sh .edges) (sh .loops) (λ k i. split (own sh x Start k) 0
+      (λ z. omega (arith, g .sound .half-free k i z .loop)) (λ u. g .sound .half k i u .loop-in .1))
 
   -- the face of a loop
   pub face-cap : (l : ℕ) → l ≤ sh .loops → loopFace sh x l ≤ sh .faces
-  face-cap zero h = omega arith
-  face-cap (suc l) h =
-      let i : In (sh .loops) (suc l) = (omega arith, h) in
-      split (own sh x Face (suc l)) 0 (λ z. omega (arith, z)) (λ u. g .sound .loop (suc l) i u .face-in .1)
+  face-cap = by-records Face (sh .loops) (sh .faces) (λ l i. split (own sh x Face l) 0
+      (λ z. omega (arith, z)) (λ u. g .sound .loop l i u .face-in .1))
 
   -- the solid of a face
   pub solid-cap : (f : ℕ) → f ≤ sh .faces → faceSolid sh x f ≤ sh .solids
-  solid-cap zero h = omega arith
-  solid-cap (suc f) h =
-      let i : In (sh .faces) (suc f) = (omega arith, h) in
-      split (own sh x Solid (suc f)) 0 (λ z. omega (arith, z)) (λ u. g .sound .face (suc f) i u .solid-in .1)
+  solid-cap = by-records Solid (sh .faces) (sh .solids) (λ f i. split (own sh x Solid f) 0
+      (λ z. omega (arith, z)) (λ u. g .sound .face f i u .solid-in .1))
 
   -- the outer loop of a face
   pub outer-cap : (f : ℕ) → f ≤ sh .faces → faceOuter sh x f ≤ sh .loops
-  outer-cap zero h = omega arith
-  outer-cap (suc f) h =
-      let i : In (sh .faces) (suc f) = (omega arith, h) in
-      split (own sh x Solid (suc f)) 0
-      (λ z. omega (arith, g .sound .face-free (suc f) i z))
-      (λ u. g .sound .face (suc f) i u .outer-in .1)
+  outer-cap = by-records Outer (sh .faces) (sh .loops) (λ f i. split (own sh x Solid f) 0
+      (λ z. omega (arith, g .sound .face-free f i z)) (λ u. g .sound .face f i u .outer-in .1))
 
 -- ---- what an accepted operator names
 

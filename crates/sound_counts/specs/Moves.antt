@@ -1,8 +1,8 @@
 -- An accepted operator changes the face of one loop at most, the one that `movedLoop` names: operator by operator, and
 -- then for all.
-use mathlib.Core.Path.{_≡_, refl, sym, ap, _∙_, subst}
+use mathlib.Core.Path.{_≡_, refl, sym, subst}
 use mathlib.Core.Logic.{_≢_, _⊎_, inl, inr}
-use mathlib.Core.Bool.{false, false≢true}
+use mathlib.Core.Bool.{false}
 use mathlib.Core.List.{List}
 use Prim.Native.Nat.{ℕ, _*_, _≤_, _<_}
 use native.Mathlib.Omega.{arith}
@@ -13,7 +13,6 @@ use Rattle.laws.specs.Bools.{pick-ind, split}
 use Rattle.bounds.specs.Bounds.{mostHalves}
 use Rattle.script.specs.declared.Operator.{Operator}
 use Rattle.codec.specs.Operands.{coordinate, pattern, rows}
-use Rattle.codec.specs.OperandLaws.{NoneOf, pattern-none}
 use Rattle.layout.specs.declared.shape.Shape.{Shape}
 use Rattle.layout.specs.Layout.{faceSolid, faceOuter, loopFace, startOf, loopOf, nextOf, prevOf, side}
 use Rattle.layout.specs.Fields.{Outer, Start, VertexUsed}
@@ -26,13 +25,13 @@ use Rattle.euler.specs.EdgeOperators.{semvLinks, jekvLinks}
 use Rattle.euler.specs.Steps.{does, after}
 use Rattle.euler.specs.Exec.{limits, linksBy, linksAfter, refusalOf}
 use Rattle.sound_tables.specs.Sound.{In}
-use Rattle.sound_tables.specs.Accepted.{accepted, limitOf}
+use Rattle.sound_tables.specs.Accepted.{no-other, limitOf}
 use Rattle.sound_tables.specs.Good.{Good}
 use Rattle.euler_counts.specs.Counts.{movedLoops, movedLoop}
 use Rattle.sound_counts.specs.Stays.{InOrder, in-order, Stays, store-stays, free-stays, solid-stays}
 use Rattle.sound_counts.specs.Stays.{other-stays, put-half-stays, put-face-stays, put-loop-stays, tie-stays}
 use Rattle.sound_counts.specs.Stays.{between-stays, edge-in-stays, edge-out-stays, relabel-stays, renew-stays}
-use Rattle.sound_counts.specs.Stays.{sweep-stays}
+use Rattle.sound_counts.specs.Stays.{sweep-stays, clear-half-stays}
 use Rattle.sound_counts.specs.Caps.{least-cap, loop-cap, face-cap, solid-cap, outer-cap, operand-cap}
 
 -- from x to y no loop but m changes its face, and m is at most the number of loops
@@ -148,8 +147,8 @@ module _ {sh : Shape} (b : InOrder sh) {l : ℕ} (i : In (sh .loops) l) (x : Lis
       free-stays b i VertexUsed (startOf sh x n) 0 refl
       (renew-stays b i _ _ (mate k) 0
       (renew-stays b i _ _ k 0
-      (put-half-stays b i (mate n) 0 0 0 0
-      (put-half-stays b i n 0 0 0 0
+      (clear-half-stays b i (mate n)
+      (clear-half-stays b i n
       (free-stays b i Start (mate k) (startOf sh x (mate n)) refl
       (tie-stays b i (prevOf sh y (mate n)) (mate k) (tie-stays b i k (nextOf sh x n) start)))))))
 
@@ -161,11 +160,6 @@ module _ {sh : Shape} (b : InOrder sh) {l : ℕ} (i : In (sh .loops) l) (x : Lis
       (store-stays b i Outer f m (inl hf) (inl refl) start) (other-stays b i m f d start)
 
 -- ---- an accepted operator
-
--- it has one of the thirteen codes
-no-other : (sh : Shape) (x : List ℕ) (o : Operator) → refusalOf sh x o ≡ 0 → NoneOf 13 (o .code) → ⊥
-no-other sh x o h n =
-    false≢true (sym (accepted sh x o h .code) ∙ ap (λ q. eqb (q .count) 0) (sym (pattern-none (o .code) n)))
 
 module _ (sh : Shape) (x : List ℕ) (p : List ℤ) (o : Operator) (g : Good sh x p) (len : length (o .args) ≡ 8)
     (h : refusalOf sh x o ≡ 0) where

@@ -13,9 +13,9 @@ use Rattle.laws.specs.Bools.{pick, pick-ind, true-T, T-true, and-T, le?, eqb-sa
 use Rattle.laws.specs.Columns.{sweep, Chained, in-kind, word-apart}
 use Rattle.layout.specs.declared.shape.Shape.{Shape}
 use Rattle.layout.specs.Fields.{Field, SolidUsed, Solid, Outer, Face, First, Isolated, Loop, loopKind, groupOf, wordOf}
-use Rattle.layout.specs.Fields.{groups, groupAt, capOf, put, sweepField, sameField, field-in}
+use Rattle.layout.specs.Fields.{halfKind, groups, groupAt, capOf, put, sweepField, sameField, field-in}
 use Rattle.layout.specs.Layout.{loopFace, nextOf, setSolidUsed, setLoopFace, setLoop}
-use Rattle.layout.specs.Writes.{Write, writes}
+use Rattle.layout.specs.Writes.{Write, writes, cleared}
 use Rattle.euler.specs.Surgery.{halfRecord, tied, seated, edgeWrites, noEdgeWrites, tie, between, putHalf, putFace}
 use Rattle.euler.specs.Surgery.{putLoop, edgeIn, edgeOut, relabel, renew}
 use Rattle.sound_tables.specs.Cells.{end, chain-apart}
@@ -143,6 +143,10 @@ module _ {sh : Shape} (b : InOrder sh) {l : ℕ} (i : In (sh .loops) l) {x : Lis
   -- of a half-edge
   pub put-half-stays : {y : List ℕ} (k v m n p : ℕ) → Stays sh l x y → Stays sh l x (putHalf sh y k v m n p)
   put-half-stays k v m n p = writes-stay (halfRecord k v m n p) refl
+
+  -- a half-edge is cleared
+  pub clear-half-stays : {y : List ℕ} (k : ℕ) → Stays sh l x y → Stays sh l x (writes sh (cleared halfKind k) y)
+  clear-half-stays k = writes-stay (cleared halfKind k) refl
 
   -- one follows the other
   pub tie-stays : {y : List ℕ} (a c : ℕ) → Stays sh l x y → Stays sh l x (tie sh y a c)

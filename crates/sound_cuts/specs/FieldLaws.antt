@@ -1,6 +1,6 @@
 -- Columns, field by field: some taken from elsewhere, and how to see that a column changed by writes is another one.
 -- All for any field, so that a new word of a record changes nothing here or in what is built on it.
-use mathlib.Core.Path.{_≡_, refl, sym, ap, _∙_, subst}
+use mathlib.Core.Path.{_≡_, refl, sym, _∙_, subst}
 use mathlib.Core.Logic.{_≢_}
 use mathlib.Core.Bool.{Bool, true, false, _&&_}
 use mathlib.Core.List.{List, [], _∷_}

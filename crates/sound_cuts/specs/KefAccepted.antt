@@ -15,7 +15,7 @@ use Rattle.bounds.specs.Bounds.{mostHalves}
 use Rattle.codec.specs.Operands.{pattern, rows}
 use Rattle.layout.specs.declared.shape.Shape.{Shape}
 use Rattle.euler.specs.Surgery.{edgeOut}
-use Rattle.euler.specs.EdgeOperators.{kefTest, kefEdge, kefLinks}
+use Rattle.euler.specs.EdgeOperators.{kefTest, kefLinks}
 use Rattle.euler.specs.Exec.{useWord, condition, refusalOf, linksAfter, killedVertex, pointsAfter, inverse}
 use Rattle.layout.specs.Fields.{Face, Start, Loop, Next, Prev, Solid, Columns}
 use Rattle.sound_tables.specs.Cells.{Shows}

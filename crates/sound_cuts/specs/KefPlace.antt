@@ -13,9 +13,9 @@ use Rattle.laws.specs.Update.{upd, relabel}
 use Rattle.layout.specs.declared.shape.Shape.{Shape}
 use Rattle.layout.specs.Mate.{mate}
 use Rattle.euler.specs.EdgeOperators.{kefTest}
-use Rattle.layout.specs.Fields.{Face, First, Isolated, Start, Loop, Next, Prev, Columns}
-use Rattle.layout.specs.Writes.{Write, write, changes}
-use Rattle.euler.specs.Surgery.{halfRecord, tied}
+use Rattle.layout.specs.Fields.{Face, First, Isolated, Start, Loop, Next, Prev, Columns, halfKind}
+use Rattle.layout.specs.Writes.{Write, write, cleared, changes}
+use Rattle.euler.specs.Surgery.{tied}
 use Rattle.sound_tables.specs.Sound.{In, HalfUsed, Sound}
 use Rattle.sound_tables.specs.Labels.{leastWith, one-many}
 use Rattle.sound_tables.specs.Good.{own}
@@ -47,7 +47,7 @@ mendLoop d q = upd (upd (relabel (d Loop) (q .m) (q .l)) (q .a) 0) (q .b) 0
 abbrev pub mendWrites : Shape → Columns → Spot → List Write
 mendWrites sh d q =
     tied (tieP q) (tieN q) ++ (tied (tieP′ q) (tieN′ q)
-    ++ (halfRecord (q .a) 0 0 0 0 ++ (halfRecord (q .b) 0 0 0 0 ++ (faceOff q
+    ++ (cleared halfKind (q .a) ++ (cleared halfKind (q .b) ++ (faceOff q
     ++ (write First (q .l) (leastWith (2 * sh .edges) (mendLoop d q) (q .l))
     ∷ write Isolated (q .l) (pick (eqb (q .N) (q .a) && eqb (q .M) (q .b)) (q .u) 0) ∷ [])))))
 

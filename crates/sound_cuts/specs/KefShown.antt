@@ -11,9 +11,9 @@ use Rattle.laws.specs.Bools.{pick, pick-ind, split, eqb-same}
 use Rattle.layout.specs.declared.shape.Shape.{Shape}
 use Rattle.layout.specs.Layout.{loopFirst}
 use Rattle.layout.specs.Fields.{Field, Solid, Outer, Face, First, Isolated, Start, Loop, Next, Prev, Columns, capOf}
-use Rattle.layout.specs.Fields.{sameField, by-fields}
-use Rattle.layout.specs.Writes.{Write, write, writes, changes}
-use Rattle.euler.specs.Surgery.{halfRecord, faceRecord, loopRecord, tied, relabelRun, lower, renew}
+use Rattle.layout.specs.Fields.{faceKind, loopKind, halfKind, sameField, by-fields}
+use Rattle.layout.specs.Writes.{Write, write, cleared, writes, changes}
+use Rattle.euler.specs.Surgery.{tied, relabelRun, lower, renew}
 use Rattle.sound_tables.specs.Cells.{Shows, shows-agree}
 use Rattle.sound_tables.specs.WriteLaws.{shows-writes}
 use Rattle.sound_tables.specs.Sound.{In, HalfUsed, firstOf, Sound}
@@ -29,11 +29,11 @@ use Rattle.sound_cuts.specs.Round.{names-new, roundColumns, shows-round,
 -- the edge comes out: the ties, and both halves cleared
 abbrev pub edgeOff : Spot → List Write
 edgeOff q =
-    tied (tieP q) (tieN q) ++ (tied (tieP′ q) (tieN′ q) ++ (halfRecord (q .b) 0 0 0 0 ++ halfRecord (q .a) 0 0 0 0))
+    tied (tieP q) (tieN q) ++ (tied (tieP′ q) (tieN′ q) ++ (cleared halfKind (q .b) ++ cleared halfKind (q .a)))
 
 -- its face and its loop are cleared
 abbrev pub faceOff : Spot → List Write
-faceOff q = faceRecord (q .f) 0 0 ++ loopRecord (q .m) 0 0 0
+faceOff q = cleared faceKind (q .f) ++ cleared loopKind (q .m)
 
 -- ---- who is tied to whom
 

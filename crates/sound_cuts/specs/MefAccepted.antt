@@ -13,7 +13,7 @@ use Rattle.codec.specs.Operands.{pattern, rows}
 use Rattle.layout.specs.declared.shape.Shape.{Shape}
 use Rattle.layout.specs.Mate.{edgeOf}
 use Rattle.euler.specs.Surgery.{edgeIn}
-use Rattle.euler.specs.EdgeOperators.{mefTest, mefEdge, mefLinks}
+use Rattle.euler.specs.EdgeOperators.{mefTest, mefLinks}
 use Rattle.euler.specs.Exec.{limits, useWord, condition, refusalOf, linksAfter, pointsAfter, inverse}
 use Rattle.layout.specs.Fields.{Solid, Face, Start, Columns}
 use Rattle.sound_tables.specs.Cells.{Shows}

@@ -3,7 +3,7 @@ use mathlib.Core.Path.{_≡_, refl, sym, ap, _∙_, subst}
 use mathlib.Core.Logic.{_≢_, _⊎_, inl, inr, ⊎-elim}
 use mathlib.Core.Bool.{false}
 use mathlib.Core.List.{List, [], _∷_}
-use Prim.Native.Nat.{ℕ, _≤_}
+use Prim.Native.Nat.{ℕ}
 use native.Mathlib.Omega.{arith}
 use lib.IntN.{ℤ}
 use Rattle.laws.specs.Bools.{split}
@@ -11,9 +11,8 @@ use Rattle.laws.specs.Update.{upd, upd-at, upd-off, upd-same, relabel, relabel-
 use Rattle.laws.specs.Linked.{link, back, via, map-linked}
 use Rattle.layout.specs.declared.shape.Shape.{Shape}
 use Rattle.layout.specs.Mate.{mate}
-use Rattle.layout.specs.Fields.{Field, SolidUsed, Solid, Outer, Face, Loop, Columns, among}
-use Rattle.layout.specs.Writes.{Write, write, changes}
-use Rattle.euler.specs.Surgery.{faceRecord}
+use Rattle.layout.specs.Fields.{Field, SolidUsed, Solid, Outer, Face, Loop, Columns, faceKind, among}
+use Rattle.layout.specs.Writes.{Write, write, cleared, changes}
 use Rattle.sound_tables.specs.WriteLaws.{unwritten, withColumn, column-other}
 use Rattle.sound_tables.specs.Solids.{Solids}
 use Rattle.sound_tables.specs.Sound.{In, HalfUsed, FaceUsed, side, FaceSound, Sound}
@@ -26,7 +25,7 @@ joinedSolid c f2 s1 s2 = relabel (upd (c Solid) f2 0) s2 s1
 
 -- loop l goes to face f1, and face f2 is free
 abbrev pub ringWrites : ℕ → ℕ → ℕ → List Write
-ringWrites f1 f2 l = write Face l f1 ∷ faceRecord f2 0 0
+ringWrites f1 f2 l = write Face l f1 ∷ cleared faceKind f2
 
 -- the mark of s2 is cleared, then that of s1 set, which may be the same
 abbrev pub markWrites : ℕ → ℕ → List Write

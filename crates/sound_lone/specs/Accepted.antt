@@ -19,7 +19,7 @@ use Rattle.script.specs.declared.Operator.{Operator}
 use Rattle.codec.specs.Operands.{pattern, rows}
 use Rattle.script.specs.Operator.{operandOf}
 use Rattle.layout.specs.declared.shape.Shape.{Shape}
-use Rattle.layout.specs.Points.{coordinate, rangeTest}
+use Rattle.layout.specs.Points.{pointWidth, coordinate, rangeTest}
 use Rattle.euler.specs.Surgery.{putPoint}
 use Rattle.euler.specs.FaceOperators.{mvsfLinks, kvsfTest, kvsfLinks}
 use Rattle.euler.specs.Exec.{limits, useWord, condition, refusalOf, linksAfter, killedVertex, pointsAfter, inverse}
@@ -58,7 +58,7 @@ pub record MvsfFacts (sh : Shape) (c : Columns) (o : Operator) : Type 0 where
   pub z : ℤ
   pub is : o ≡ mvsfOf s f l v x y z
   pub free : Free sh c s f l v
-  pub range : (i : ℕ) → i < 3 → T (rangeTest (three x y z i))
+  pub range : (i : ℕ) → i < pointWidth → T (rangeTest (three x y z i))
 
 -- all from the refusal 0
 pub mvsf-facts : (sh : Shape) (x : List ℕ) (o : Operator) → Capacities sh → length (o .args) ≡ 8 → o .code ≡ 1

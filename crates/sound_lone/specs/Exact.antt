@@ -11,7 +11,7 @@ use lib.ListN.{length}
 use Rattle.laws.specs.Update.{upd-same, upd-off}
 use Rattle.script.specs.declared.Operator.{Operator}
 use Rattle.layout.specs.declared.shape.Shape.{Shape}
-use Rattle.layout.specs.Points.{coordinate, rangeTest}
+use Rattle.layout.specs.Points.{pointWidth, coordinate, rangeTest}
 use Rattle.euler.specs.Surgery.{putPoint}
 use Rattle.codec.specs.Operands.{pattern, rows}
 use Rattle.euler.specs.Exec.{useWord, condition, refusalOf}
@@ -41,7 +41,7 @@ place-back c s f l v m s′ l′ f′ v′ m₀ s₀ l₀ f₀ v₀ e = write-ba
 -- ---- mvsf
 
 module _ {sh : Shape} {x : List ℕ} {p : List ℤ} (g : Good sh x p) {s f l v : ℕ} (r : Free sh (own sh x) s f l v)
-    (a b z : ℤ) (range : (i : ℕ) → i < 3 → T (rangeTest (three a b z i))) where
+    (a b z : ℤ) (range : (i : ℕ) → i < pointWidth → T (rangeTest (three a b z i))) where
   -- the columns afterwards
   abbrev d : Columns
   d = placed (own sh x) s f l v 1 s l f v
@@ -90,7 +90,7 @@ module _ {sh : Shape} {x : List ℕ} {p : List ℤ} (g : Good sh x p) {s f l v :
       (g .sound .point v (r .vertex-in) .zero (r .vertex))
 
   -- the point is read back
-  point-at : (i : ℕ) → i < 3 → coordinate q v i ≡ three a b z i
+  point-at : (i : ℕ) → i < pointWidth → coordinate q v i ≡ three a b z i
   point-at = put-at p v a b z (r .vertex-in .0) (omega (arith, g .points, r .vertex-in .1))
 
   -- a good table stays good, and kvsf gives everything back

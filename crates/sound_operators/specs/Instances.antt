@@ -2,8 +2,7 @@
 -- no assumption of the theorems rules everything out: they speak of each accepted row, which are several for each of
 -- the thirteen operators.
 use mathlib.Core.Path.{_≡_, refl}
-use mathlib.Core.List.{List, [], _∷_, map}
-use Prim.Native.Nat.{ℕ}
+use mathlib.Core.List.{List, [], _∷_}
 use lib.Dec.{eqb}
 use Rattle.laws.specs.Bools.{pick}
 use Rattle.laws.specs.Search.{allTo, leastFrom}

@@ -1,20 +1,17 @@
 -- The two theorems about the operators, for all thirteen: a valid table stays valid, and the inverse of an accepted
 -- operator gives everything back. (An operator has eight operands, as the record of the code has; unused ones are 0.)
-use mathlib.Core.Path.{_≡_, sym, ap, _∙_, subst}
-use mathlib.Core.Bool.{false≢true}
+use mathlib.Core.Path.{_≡_, subst}
 use mathlib.Core.List.{List}
 use Prim.Native.Nat.{ℕ}
-use lib.Dec.{eqb}
 use lib.IntN.{ℤ}
 use lib.ListN.{length}
 use Rattle.laws.specs.Bools.{split}
 use Rattle.script.specs.declared.Operator.{Operator}
-use Rattle.codec.specs.OperandLaws.{NoneOf, pattern-none}
 use Rattle.layout.specs.declared.shape.Shape.{Shape}
 use Rattle.layout.specs.Layout.{shapeOf}
 use Rattle.euler.specs.Exec.{Table, exec, refusalOf, linksAfter, pointsAfter}
 use Rattle.table.specs.Valid.{Valid}
-use Rattle.sound_tables.specs.Accepted.{accepted}
+use Rattle.sound_tables.specs.Accepted.{no-other}
 use Rattle.sound_tables.specs.Good.{Good}
 use Rattle.sound_tables.specs.Undone.{Kept, Undone, undone-exec}
 use Rattle.sound_tables.specs.ValidGood.{valid-good, good-valid}
@@ -26,11 +23,6 @@ use Rattle.sound_cuts.specs.Exact.{kef-holds}
 use Rattle.sound_bridges.specs.Exact.{mekr-holds, kemr-holds}
 use Rattle.sound_holes.specs.Exact.{kfmrh-holds, mfkrh-holds}
 use Rattle.sound_splits.specs.Exact.{semv-holds, jekv-holds}
-
--- an accepted operator has one of the thirteen codes
-no-other : (sh : Shape) (x : List ℕ) (o : Operator) → refusalOf sh x o ≡ 0 → NoneOf 13 (o .code) → ⊥
-no-other sh x o h n =
-    false≢true (sym (accepted sh x o h .code) ∙ ap (λ p. eqb (p .count) 0) (sym (pattern-none (o .code) n)))
 
 -- whichever it is, the table stays good and the inverse undoes it
 pub all-hold : (sh : Shape) (x : List ℕ) (p : List ℤ) (o : Operator) → Good sh x p → length (o .args) ≡ 8

@@ -6,7 +6,7 @@ use mathlib.Core.List.{List, [], _∷_}
 use Prim.Native.Nat.{ℕ, _*_, _≤_}
 use native.Mathlib.Omega.{arith}
 use lib.Dec.{eqb, eqb→eq, T-not, not-T}
-use lib.IntN.{ℤ, pos}
+use lib.IntN.{ℤ}
 use lib.ListN.{length}
 use borrow.Author.Tests.{le-leb}
 use Rattle.laws.specs.Bools.{true-T, T-true, and-T, or-T, split, eqb-same, eqb-other}
@@ -69,7 +69,7 @@ module _ (sh : Shape) (x : List ℕ) (l f : ℕ) where
   ))
 
   -- the face is l's own, or lies across an edge outside l
-  abbrev Reached : Type 0
+  abbrev pub Reached : Type 0
   Reached = (f ≡ c Face l) ⊎ ((f ≢ c Face l) × (k : ℕ) × Shared sh c l f k)
 
   -- the least half-edge that is shared, or 0
@@ -108,7 +108,7 @@ module _ (sh : Shape) (x : List ℕ) (l f : ℕ) where
   fn caps r = omega (arith, r .face-in .1, caps .faces)
 
   -- it is accepted
-  rmov-accepted : Capacities sh → Ring sh c l f → Reached → refusalOf sh x (rmovOf l f) ≡ 0
+  pub rmov-accepted : Capacities sh → Ring sh c l f → Reached → refusalOf sh x (rmovOf l f) ≡ 0
   unfolding pattern rows useWord condition
   rmov-accepted caps r q = two-accepted sh x 13 6 4 refl refl refl refl (omega (arith, caps .loops)) refl refl
       (omega (arith, caps .faces)) refl l f (r .loop-in) (r .face-in) (r .loop-used)
@@ -116,17 +116,17 @@ module _ (sh : Shape) (x : List ℕ) (l f : ℕ) where
       (rw (le-leb l mostHalves (ln caps r), le-leb f mostHalves (fn caps r)) (of-reached (r .ring) q))
 
   -- what it does where the face is l's own
-  swap-links : Capacities sh → Ring sh c l f → f ≡ c Face l → linksAfter sh x (rmovOf l f) ≡ setFaceOuter sh x f l
+  pub swap-links : Capacities sh → Ring sh c l f → f ≡ c Face l → linksAfter sh x (rmovOf l f) ≡ setFaceOuter sh x f l
   unfolding linksAfter rmovLinks
   swap-links caps r e = rw (le-leb l mostHalves (ln caps r), le-leb f mostHalves (fn caps r), eqb-same e)
 
   -- and where it is another
-  move-links : Capacities sh → Ring sh c l f → f ≢ c Face l → linksAfter sh x (rmovOf l f) ≡ setLoopFace sh x l f
+  pub move-links : Capacities sh → Ring sh c l f → f ≢ c Face l → linksAfter sh x (rmovOf l f) ≡ setLoopFace sh x l f
   unfolding linksAfter rmovLinks
   move-links caps r n = rw (le-leb l mostHalves (ln caps r), le-leb f mostHalves (fn caps r), eqb-other n)
 
   -- points stay
-  rmov-points : (p : List ℤ) → pointsAfter sh x p (rmovOf l f) ≡ p
+  pub rmov-points : (p : List ℤ) → pointsAfter sh x p (rmovOf l f) ≡ p
   unfolding pointsAfter
   rmov-points p = refl
 

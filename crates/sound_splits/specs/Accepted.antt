@@ -17,7 +17,7 @@ use Rattle.codec.specs.Operands.{pattern, rows}
 use Rattle.script.specs.Operator.{operandOf}
 use Rattle.layout.specs.declared.shape.Shape.{Shape}
 use Rattle.layout.specs.Mate.{mate, edgeOf}
-use Rattle.layout.specs.Points.{coordinate, rangeTest}
+use Rattle.layout.specs.Points.{pointWidth, coordinate, rangeTest}
 use Rattle.euler.specs.Surgery.{halfBy, wayOf, putPoint}
 use Rattle.euler.specs.EdgeOperators.{semvLinks, jekvTest, jekvLinks}
 use Rattle.euler.specs.Exec.{limits, useWord, condition, refusalOf, linksAfter, killedVertex, pointsAfter, inverse}
@@ -69,7 +69,7 @@ pub record SemvFits (sh : Shape) (c : Columns) (m : Semv) : Type 0 where
   pub vertex-in : In (sh .vertices) (m .vertex)
   pub vertex-free : c VertexUsed (m .vertex) ≡ 0
   pub way : m .way ≤ 1
-  pub range : (i : ℕ) → i < 3 → T (rangeTest (three (m .x) (m .y) (m .z) i))
+  pub range : (i : ℕ) → i < pointWidth → T (rangeTest (three (m .x) (m .y) (m .z) i))
 
 -- what an accepted semv says
 pub record SemvFacts (sh : Shape) (c : Columns) (o : Operator) : Type 0 where

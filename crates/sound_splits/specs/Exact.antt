@@ -12,7 +12,7 @@ use Rattle.script.specs.declared.Operator.{Operator}
 use Rattle.layout.specs.declared.shape.Shape.{Shape}
 use Rattle.layout.specs.Mate.{mate, edgeOf}
 use Rattle.layout.specs.MateLaws.{mate-range}
-use Rattle.layout.specs.Points.{coordinate, rangeTest}
+use Rattle.layout.specs.Points.{pointsLength, coordinate, rangeTest}
 use Rattle.euler.specs.Surgery.{putPoint}
 use Rattle.euler.specs.EdgeOperators.{semvLinks, jekvLinks}
 use Rattle.euler.specs.Exec.{refusalOf}
@@ -134,7 +134,7 @@ module _ {sh : Shape} {x : List ℕ} {p : List ℤ} (g : Good sh x p) {m : Semv}
       let el = semv-links sh x (g .capacities) r in
       let ep = semv-points sh x (g .capacities) r p in
       let ei = semv-inverse sh x (g .capacities) r p in
-      let lo : 3 * v ≤ length p = omega (arith, g .points, r .vertex-in .1) in
+      let lo : pointsLength v ≤ length p = omega (arith, g .points, r .vertex-in .1) in
       let at = put-at p v (m .x) (m .y) (m .z) (r .vertex-in .0) lo in
       let n1 = place .n-in .0 in
       record {

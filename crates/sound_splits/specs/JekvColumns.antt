@@ -11,13 +11,13 @@ use Rattle.laws.specs.Permutations.{inj}
 use Rattle.layout.specs.declared.shape.Shape.{Shape}
 use Rattle.layout.specs.Mate.{mate}
 use Rattle.layout.specs.MateLaws.{mate-mate}
-use Rattle.layout.specs.Fields.{First, Isolated, Start, Loop, Next, Prev, VertexUsed, Columns}
+use Rattle.layout.specs.Fields.{First, Isolated, Start, Loop, Next, Prev, VertexUsed, Columns, halfKind}
 use Rattle.sound_tables.specs.Mates.{mate-other}
 use Rattle.sound_tables.specs.EdgeIn.{prev-in, next-prev}
 use Rattle.sound_tables.specs.Sound.{In, HalfUsed, firstOf, HalfFree, Sound}
 use Rattle.sound_tables.specs.Names.{not-isolated}
-use Rattle.layout.specs.Writes.{Write, write}
-use Rattle.euler.specs.Surgery.{halfRecord, tied}
+use Rattle.layout.specs.Writes.{Write, write, cleared}
+use Rattle.euler.specs.Surgery.{tied}
 use Rattle.sound_splits.specs.CycleMoves.{swapFor, swap-at, swap-off, swap-back}
 use Rattle.sound_splits.specs.Firsts.{closed, closed-others, clear-zero, far-first, first-set}
 use Rattle.sound_splits.specs.Relation.{Tidy, sound-tidy, Place, fore, aft, Split}
@@ -35,7 +35,7 @@ pub record Joint (sh : Shape) (d : Columns) (k n : ℕ) : Type 0 where
 abbrev pub jekvWrites : Columns → ℕ → ℕ → ℕ → List Write
 jekvWrites d k n q =
     tied k (d Next n) ++ (tied q (mate k) ++ (write Start (mate k) (d Start (mate n))
-    ∷ (halfRecord n 0 0 0 0 ++ halfRecord (mate n) 0 0 0 0)))
+    ∷ (cleared halfKind n ++ cleared halfKind (mate n))))
 
 -- with the firsts of the two loops, and n's start free
 abbrev pub jekvColumns : Shape → Columns → ℕ → ℕ → ℕ → Columns

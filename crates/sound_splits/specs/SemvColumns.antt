@@ -14,24 +14,20 @@ use Rattle.layout.specs.Fields.{First, Isolated, Start, Loop, Next, Prev, Verte
 use Rattle.sound_tables.specs.Sound.{In, HalfUsed, firstOf, HalfFree, Sound}
 use Rattle.sound_tables.specs.Names.{not-isolated}
 use Rattle.layout.specs.Writes.{Write, write, changes}
-use Rattle.euler.specs.Surgery.{halfRecord, seated}
+use Rattle.euler.specs.Surgery.{inserted}
 use Rattle.sound_splits.specs.CycleMoves.{swapFor, swap-at, swap-off, swap-back}
 use Rattle.sound_splits.specs.Firsts.{closed, closed-others, clear-zero, far-first, first-set}
 use Rattle.sound_splits.specs.Relation.{Tidy, sound-tidy, Place, fore, aft, Split, off-n, off-b, n≢b, n≢k, four}
 
 -- half-edge n from v in loop l goes in between k and A
-abbrev pub afterWrites : ℕ → ℕ → ℕ → ℕ → ℕ → List Write
-afterWrites k n v l A = halfRecord n v l A k ++ seated k n A
-
--- on columns
 abbrev pub withAfter : Columns → ℕ → ℕ → ℕ → ℕ → ℕ → Columns
-withAfter c k n v l A = changes (afterWrites k n v l A) c
+withAfter c k n v l A = changes (inserted k n v l A) c
 
 -- what semv stores to the half-edges: n after k, then n's mate between q and m, which starts at v
 abbrev pub semvWrites : Columns → ℕ → ℕ → ℕ → ℕ → List Write
 semvWrites c k n v q =
-    afterWrites k n v (c Loop k) (c Next k)
-    ++ (afterWrites q (mate n) (c Start (mate k)) (c Loop (mate k)) (mate k) ++ (write Start (mate k) v ∷ []))
+    inserted k n v (c Loop k) (c Next k)
+    ++ (inserted q (mate n) (c Start (mate k)) (c Loop (mate k)) (mate k) ++ (write Start (mate k) v ∷ []))
 
 -- with the firsts of the two loops, and v in use
 abbrev pub semvColumns : Shape → Columns → ℕ → ℕ → ℕ → ℕ → Columns

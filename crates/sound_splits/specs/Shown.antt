@@ -10,7 +10,7 @@ use Rattle.laws.specs.Cycles.{Cycles}
 use Rattle.layout.specs.declared.shape.Shape.{Shape}
 use Rattle.layout.specs.Layout.{nextOf, setVertexUsed}
 use Rattle.layout.specs.Mate.{mate}
-use Rattle.euler.specs.Surgery.{lower, renew, insertAfter, tied}
+use Rattle.euler.specs.Surgery.{lower, renew, inserted, insertAfter, tied}
 use Rattle.euler.specs.EdgeOperators.{semvLinks, jekvLinks}
 use Rattle.sound_tables.specs.EdgeIn.{next-prev, prev-in}
 use Rattle.layout.specs.Fields.{First, Start, Loop, Next, Prev, VertexUsed, Columns}
@@ -25,7 +25,7 @@ use Rattle.sound_splits.specs.CycleMoves.{swapFor, swap-at, swap-off}
 use Rattle.sound_splits.specs.Firsts.{closing}
 use Rattle.sound_splits.specs.Relation.{Tidy, Place, aft, Split, loop-old, used-old}
 use Rattle.sound_splits.specs.SplitRules.{split-rules, join-rules}
-use Rattle.sound_splits.specs.SemvColumns.{afterWrites, withAfter, semvColumns, first-next, first-prev, next-in}
+use Rattle.sound_splits.specs.SemvColumns.{withAfter, semvColumns, first-next, first-prev, next-in}
 use Rattle.sound_splits.specs.SemvColumns.{semv-split}
 use Rattle.sound_splits.specs.JekvColumns.{Joint, jekvWrites, jekvColumns, n-used, b-used, m-used, q-used}
 use Rattle.sound_splits.specs.JekvColumns.{jekv-split}
@@ -36,7 +36,7 @@ shows-after : {sh : Shape} {x : List ℕ} {c : Columns} → Shows sh x c → (k 
     → Shows sh (insertAfter sh x k n v l) (withAfter c k n v l A)
 shows-after {sh} {x} s k n v l A e ik jn ia =
     let q : nextOf sh x k ≡ A = s .at Next k (ik .1) ∙ e in
-    rw q (shows-writes (afterWrites k n v l A) s (jn, (jn, (jn, (jn, (ik, (ia, tt)))))))
+    rw q (shows-writes (inserted k n v l A) s (jn, (jn, (jn, (jn, (ik, (ia, tt)))))))
 
 -- two loops get their firsts anew, and a vertex its mark
 shows-close : {sh : Shape} {y : List ℕ} {H : Columns} {U : ℕ → Type 0} → Shows sh y H → (k m l1 low1 l2 low2 v t : ℕ)

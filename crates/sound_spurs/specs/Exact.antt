@@ -14,10 +14,11 @@ use Rattle.laws.specs.Update.{upd-same}
 use Rattle.script.specs.declared.Operator.{Operator}
 use Rattle.layout.specs.declared.shape.Shape.{Shape}
 use Rattle.layout.specs.Mate.{mate, edgeOf}
-use Rattle.layout.specs.Points.{coordinate, rangeTest}
-use Rattle.layout.specs.Fields.{Field, Face, First, Isolated, Start, Loop, Next, Prev, VertexUsed, Columns, capOf}
-use Rattle.layout.specs.Writes.{write, changes}
-use Rattle.euler.specs.Surgery.{putPoint, halfRecord, noEdgeWrites}
+use Rattle.layout.specs.Points.{pointsLength, coordinate, rangeTest}
+use Rattle.layout.specs.Fields.{Field, Face, First, Isolated, Start, Loop, Next, Prev, VertexUsed, Columns, halfKind}
+use Rattle.layout.specs.Fields.{capOf}
+use Rattle.layout.specs.Writes.{write, cleared, changes}
+use Rattle.euler.specs.Surgery.{putPoint, noEdgeWrites}
 use Rattle.euler.specs.Exec.{refusalOf}
 use Rattle.sound_tables.specs.Cells.{Shows, shows-ext}
 use Rattle.sound_tables.specs.Sound.{HalfUsed, firstOf, Sound}
@@ -63,9 +64,9 @@ module _ {sh : Shape} {c : Columns} {E : NewEdge} (o : MevPlace sh c E) where
   out-restores a =
       let fk = a .half-free k (o .half-in) (o .half-free) in
       let fb = a .half-free (mate k) (o .mate-in) (o .mate-free) in
-      let of-b : Restores c (halfRecord (mate k) 0 0 0 0) =
+      let of-b : Restores c (cleared halfKind (mate k)) =
       (λ h. sym (o .mate-free), (λ h. sym (fb .loop), (λ h. sym (fb .next), (λ h. sym (fb .prev), tt)))) in
-      let of-k : Restores c (halfRecord k 0 0 0 0 ++ halfRecord (mate k) 0 0 0 0) =
+      let of-k : Restores c (cleared halfKind k ++ cleared halfKind (mate k)) =
       (λ h. sym (o .half-free), (λ h. sym (fk .loop), (λ h. sym (fk .next), (λ h. sym (fk .prev), of-b)))) in
       let covered : Restores c (drop 2 (noEdgeWrites k P N k (mate k))) =
       (λ h. absurd (other-item (h 3) refl), (λ h. absurd (other-item (h 7) refl), of-k)) in
@@ -180,7 +181,7 @@ module _ {sh : Shape} {x : List ℕ} {p : List ℤ} (g : Good sh x p) {m : Mev} 
       let el = mev-links sh x (g .capacities) r in
       let ep = mev-points sh x (g .capacities) r p in
       let ei = mev-inverse sh x (g .capacities) r p in
-      let lo : 3 * m .vertex ≤ length p = omega (arith, g .points, r .vertex-in .1) in
+      let lo : pointsLength (m .vertex) ≤ length p = omega (arith, g .points, r .vertex-in .1) in
       let at = put-at p (m .vertex) (m .x) (m .y) (m .z) (r .vertex-in .0) lo in
       record {
         accepted = rw (el, ei) (kev-accepted gy uk nk);

@@ -20,7 +20,7 @@ use Rattle.layout.specs.declared.shape.Shape.{Shape}
 use Rattle.layout.specs.Layout.{setVertexUsed}
 use Rattle.layout.specs.Mate.{mate}
 use Rattle.layout.specs.MateLaws.{mate-range}
-use Rattle.layout.specs.Points.{rangeTest}
+use Rattle.layout.specs.Points.{pointWidth, rangeTest}
 use Rattle.euler.specs.Surgery.{corner, halfBy, putPoint, edgeIn, lower, renew}
 use Rattle.euler.specs.EdgeOperators.{mevLinks}
 use Rattle.euler.specs.Exec.{limits, useWord, condition, refusalOf, linksAfter, pointsAfter, inverse}
@@ -78,7 +78,7 @@ pub record MevFits (sh : Shape) (c : Columns) (m : Mev) : Type 0 where
   pub vertex-free : c VertexUsed (m .vertex) ≡ 0
   pub corner : CornerAt sh c (m .loop) (m .half)
   pub way : m .way ≤ 1
-  pub range : (i : ℕ) → i < 3 → T (rangeTest (three (m .x) (m .y) (m .z) i))
+  pub range : (i : ℕ) → i < pointWidth → T (rangeTest (three (m .x) (m .y) (m .z) i))
 
 -- what an accepted mev says
 pub record MevFacts (sh : Shape) (c : Columns) (o : Operator) : Type 0 where

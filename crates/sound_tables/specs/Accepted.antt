@@ -17,6 +17,7 @@ use Rattle.bounds.specs.Bounds.{mostHalves}
 use Rattle.codec.specs.declared.Limits.{Limits}
 use Rattle.script.specs.declared.Operator.{Operator}
 use Rattle.codec.specs.Operands.{unused, coordinate, pattern, leasts, largests, inRange, inRanges, zig, wire, wires}
+use Rattle.codec.specs.OperandLaws.{NoneOf, pattern-none}
 use Rattle.codec.specs.Ranges.{range-between, between-range}
 use Rattle.script.specs.Operator.{natOf, operandOf, numbersOf}
 use Rattle.layout.specs.declared.shape.Shape.{Shape}
@@ -61,6 +62,11 @@ accepted sh x o h =
     let m = pick-yes (eqb (o .count) (pattern (o .code) .count)) 4 _ (n .1) in
     let i = pick-yes (inRanges (largests (limits sh)) (pattern (o .code) .kinds) (numbersOf o)) 4 0 (m .1) in
     record { code = n .0; count = m .0; range = i .0; used = u .0; holds = c .0 }
+
+-- an accepted operator has one of the thirteen codes
+pub no-other : (sh : Shape) (x : List ℕ) (o : Operator) → refusalOf sh x o ≡ 0 → NoneOf 13 (o .code) → ⊥
+no-other sh x o h n =
+    false≢true (sym (accepted sh x o h .code) ∙ ap (λ q. eqb (q .count) 0) (sym (pattern-none (o .code) n)))
 
 -- and they are all it takes
 pub accepted-back : (sh : Shape) (x : List ℕ) (o : Operator) → Accepted sh x o → refusalOf sh x o ≡ 0

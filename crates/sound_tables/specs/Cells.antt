@@ -1,6 +1,6 @@
 -- A table of the right length, seen through its columns: a store changes one entry of one column and nothing else, and
 -- a table is settled by its columns. All for the kinds of record as a list, so that no kind is looked at by itself.
-use mathlib.Core.Path.{_≡_, refl, sym, ap, _∙_, subst}
+use mathlib.Core.Path.{_≡_, refl, sym, _∙_, subst}
 use mathlib.Core.Logic.{_≢_, inl, inr, ⊎-elim}
 use mathlib.Core.List.{List, [], _∷_}
 use Prim.Native.Nat.{ℕ, zero, suc, _+_, _*_, _≤_, _<_}

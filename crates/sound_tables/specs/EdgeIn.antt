@@ -7,7 +7,6 @@ use Rattle.laws.specs.Bools.{eqb-other, split}
 use Rattle.laws.specs.Update.{upd, upd-off, upd-same, relabel}
 use Rattle.laws.specs.Permutations.{inj, redo, undo-in}
 use Rattle.laws.specs.Cycles.{Cycles, agree}
-use Rattle.laws.specs.Exchange.{Till, stop, go}
 use Rattle.laws.specs.Moves.{Or, ins, xchg, ins-cycles, merge-cycles}
 
 -- the four columns of the half-edges
@@ -110,10 +109,6 @@ module _ {n : ℕ} {mate : ℕ → ℕ} {U : ℕ → Type 0} {h : Halves} (r : R
   with4 x y ux uy xy c = c ka (λ e. ka (sym e)) (ffo fk ux) (off fk ux) (ffo fk uy) (off fk uy) (ffo fa ux) (off fa ux)
       (ffo fa uy) (off fa uy) xy (λ e. xy (sym e))
 
-  -- next with k and a put in after p
-  abbrev f2 : ℕ → ℕ
-  f2 = ins (ins (h .next) k p) a k
-
   -- k and a go in one after the other after p; then k and q exchange
   spur : Cycles n (Or a (Or k U)) (ins (ins (h .next) k p) a k)
       (upd (upd (h .loop) k (h .loop p)) a (upd (h .loop) k (h .loop p) k))
@@ -131,31 +126,6 @@ module _ {n : ℕ} {mate : ℕ → ℕ} {U : ℕ → Type 0} {h : Halves} (r : R
   merged-loops two = with4 p q up uq pq λ c1 c2 c3 c4 c5 c6 c7 c8 c9 c10 c11 c12. agree
       (merge-cycles spur k q (inr (inl refl)) (inr (inr uq)) (simp (upd-same, upd-off) two)) (λ i u. u) (λ i u. u)
       (λ i u. moves i) (λ i u. join-labels (h .loop) k a p q c1 c2 c3 c4 c5 c6 c7 c8 c9 c10 c11 c12 two i)
-
-  -- it leaves the others but p
-  step-o : (i : ℕ) → U i → i ≢ p → f2 i ≡ h .next i
-  step-o i u e = let x1 = off fk u in let x2 = off fa u in simp upd-off
-
-  -- and goes from p to k
-  step-p : f2 p ≡ k
-  step-p = let x1 = off fk up in let x2 = off fa up in simp (upd-same, upd-off)
-
-  -- a run to q before k is one to q before p
-  run-old : {i : ℕ} → U i → Till f2 k q i → Till (h .next) p q i
-  run-old u (stop e) = stop e
-  run-old u (go {z} e1 e2 t) = split z p (λ e. absurd (not-k (subst (Till f2 k q) (ap f2 e ∙ step-p) t))) λ e. go e e2
-      (subst (Till (h .next) p q) (step-o z u e) (run-old (subst U (sym (step-o z u e)) (r .loops .perm .f-in z u)) t))
-    where
-      -- k is not on it
-      not-k : Till f2 k q k → ⊥
-      not-k (stop e) = off fk uq (sym e)
-      not-k (go g g′ s) = g refl
-
-  -- and one to k before q is one to p before q
-  rest-old : {i : ℕ} → U i → Till f2 q k i → Till (h .next) q p i
-  rest-old u (stop e) = absurd (off fk u e)
-  rest-old u (go {z} e1 e2 t) = split z p (λ e. stop e) λ e. go e1 e
-      (subst (Till (h .next) q p) (step-o z u e) (rest-old (subst U (sym (step-o z u e)) (r .loops .perm .f-in z u)) t))
 
   -- the mate of p is in use
   mp : U (mate p)

@@ -13,7 +13,7 @@ use Rattle.laws.specs.Cycles.{agree}
 use Rattle.layout.specs.declared.shape.Shape.{Shape}
 use Rattle.layout.specs.Mate.{mate}
 use Rattle.layout.specs.MateLaws.{mate-range}
-use Rattle.layout.specs.Points.{coordinate, inRange, rangeTest}
+use Rattle.layout.specs.Points.{pointWidth, coordinate, inRange, rangeTest}
 use Rattle.check_orbits.specs.OrbitsLaws.{Half}
 use Rattle.check_rules.specs.RulesSay.{Together, InRange, IsZero, Rule1, Rule2, Rule3, VertexEither}
 use Rattle.check_rules.specs.CyclesSay.{Rule4, Rule5, Rule6}
@@ -132,15 +132,15 @@ module _ {sh : Shape} {x : List ℕ} {p : List ℤ} (r1 : Rule1 sh x p) (r2 : Ru
   }
     where
       -- each coordinate is in range
-      range : (j : ℕ) → j < 3 → T (inRange p v j)
+      range : (j : ℕ) → j < pointWidth → T (inRange p v j)
       range zero h = in-range (coordinate p v 0) (r1 .vertex v (i .0) (i .1) .x-range)
       range (suc zero) h = in-range (coordinate p v 1) (r1 .vertex v (i .0) (i .1) .y-range)
       range (suc (suc zero)) h = in-range (coordinate p v 2) (r1 .vertex v (i .0) (i .1) .z-range)
       range (suc (suc (suc j))) h = absurd (omega arith)
 
       -- and is 0 where the vertex is free
-      zeros : ((IsZero (coordinate p v 0) × IsZero (coordinate p v 1)) × IsZero (coordinate p v 2)) → (j : ℕ) → j < 3
-          → coordinate p v j ≡ pos 0
+      zeros : ((IsZero (coordinate p v 0) × IsZero (coordinate p v 1)) × IsZero (coordinate p v 2)) → (j : ℕ)
+          → j < pointWidth → coordinate p v j ≡ pos 0
       zeros q zero h = is-zero (coordinate p v 0) (q .0 .0)
       zeros q (suc zero) h = is-zero (coordinate p v 1) (q .0 .1)
       zeros q (suc (suc zero)) h = is-zero (coordinate p v 2) (q .1)

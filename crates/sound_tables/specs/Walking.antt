@@ -1,7 +1,7 @@
 -- The walks of the operators, seen through the columns: a run given another loop, and the least half-edge of a loop. On
 -- a permutation the fuel of 2E steps is enough for a run, and what is found for a loop is the least half-edge that
 -- names it.
-use mathlib.Core.Path.{_≡_, refl, sym, ap, _∙_, subst}
+use mathlib.Core.Path.{_≡_, refl, sym, ap, _∙_}
 use mathlib.Core.Logic.{_≢_, _⊎_, inl, inr, ⊎-elim}
 use mathlib.Core.Bool.{false}
 use mathlib.Core.List.{List}

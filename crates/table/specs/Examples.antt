@@ -10,7 +10,6 @@ use Rattle.laws.specs.Search.{allTo, leastFrom}
 use Rattle.laws.specs.Sums.{sumTo}
 use Rattle.laws.specs.Walks.{meets}
 use Rattle.laws.specs.Closure.{across, pass, rounds, linkedb}
-use Rattle.layout.specs.Layout.{linksLength}
 use Rattle.layout.specs.Mate.{mate}
 use Rattle.check_items.specs.Rules.{solidRange, faceRange, loopRange, halfRange, vertexRange, rule1, solidNames}
 use Rattle.check_items.specs.Rules.{faceNames, loopNames, halfNames, rule2, loopEither, rule3, halfLinks, firstNames}

@@ -1,5 +1,5 @@
 -- The lengths of a table's two slices (document 01, "The table"; refusal 1 where they or a capacity are wrong).
-use Prim.Native.Nat.{ℕ, _*_}
+use Prim.Native.Nat.{ℕ}
 use mathlib.Core.Bool.{Bool, _&&_}
 use mathlib.Core.List.{List, [], _∷_}
 use lib.Dec.{eqb, leb}

@@ -1,5 +1,5 @@
 -- The ways through the walks, the tips and the moves of the lower ends, one law each, over plain variables.
-use mathlib.Core.Path.{_≡_, sym}
+use mathlib.Core.Path.{_≡_}
 use mathlib.Core.Logic.{_≢_}
 use mathlib.Core.Bool.{Bool, true, false, _&&_}
 use mathlib.Core.List.{List}

@@ -1,5 +1,5 @@
 -- Numbers that are asked of the table are words.
-use Prim.Native.Nat.{ℕ, _<_}
+use Prim.Native.Nat.{_<_}
 use Rattle.takedown.specs.declared.ends.Ends.{Ends}
 
 -- the solid, its root, and the half-edges that are asked again
