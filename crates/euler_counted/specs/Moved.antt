@@ -7,7 +7,7 @@ use lib.IntN.{ℤ}
 use lib.ListN.{getD}
 use Rattle.laws.specs.Bools.{split}
 use Rattle.layout.specs.declared.shape.Shape.{Shape}
-use Rattle.layout.specs.Layout.{loopFace, faceOuter}
+use Rattle.layout.specs.Layout.{loopFace, faceOuter, loopIsolated}
 use Rattle.layout.specs.Items.{faceIn}
 use Rattle.euler.specs.ByCode.{by-code, by-none}
 use Rattle.euler.specs.Surgery.{itemIn}
@@ -57,6 +57,15 @@ solidKilled sh x s = kvsfLinks sh x s (faceIn sh x s) (onlyLoop sh x s) (onlyVer
 abbrev pub solidUncounted : Shape → List ℕ → List ℕ → ℕ → List ℕ
 solidUncounted sh x c s =
     raised (lowered c (loopFace sh x (onlyLoop sh x s))) (loopFace sh (solidKilled sh x s) (onlyLoop sh x s))
+
+-- kvsf by the face, loop and vertex found first: links, point and numbers
+module _ (sh : Shape) (x : List ℕ) (s : ℕ) (f l v : ℕ) (ef : f ≡ faceIn sh x s) (el : l ≡ faceOuter sh x f)
+    (ev : v ≡ loopIsolated sh x l) where
+  pub kill-steps : (p : List ℤ) (c : List ℕ) {o g : ℕ} {y d r : List ℕ} {q : List ℤ} → o ≡ loopFace sh x l
+      → y ≡ kvsfLinks sh x s f l v → q ≡ clearPoint p v → d ≡ lowered c o → g ≡ loopFace sh y l → r ≡ raised d g
+      → (y ≡ solidKilled sh x s) × (q ≡ clearPoint p (onlyVertex sh x s)) × (r ≡ solidUncounted sh x c s)
+  kill-steps p c eo ey eq ed eg er =
+      (rw (ey, ev, el, ef), rw (eq, ev, el, ef), rw (er, ed, eg, ey, eo, ev, el, ef))
 
 -- they are those that the definitions say
 module _ (sh : Shape) (x : List ℕ) (code : ℕ) (args : List ℤ) (s : ℕ) (e : code ≡ 2) (a : s ≡ itemIn args 0) where
