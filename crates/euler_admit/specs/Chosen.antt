@@ -18,6 +18,12 @@ module _ (sh : Shape) (x : List ℕ) (o : Operator) where
   unfolding condition
   condition-at k v r e f g = by-code (conditions sh x (itemOf o)) true (o .code) k v r e f g
 
+  -- a condition on up to four numbers read before is that on the operands
+  pub condition-of : (k : ℕ) (g : Shape → List ℕ → ℕ → ℕ → ℕ → ℕ → Bool) {a b d e i j l m : ℕ} {r : Bool} → o .code ≡ k
+      → r ≡ g sh x a b d e → a ≡ i → b ≡ j → d ≡ l → e ≡ m
+      → getD (conditions sh x (itemOf o)) k true ≡ g sh x i j l m → r ≡ condition sh x o
+  condition-of k g ek er ea eb ed ee z = condition-at k _ _ ek z (rw (er, ea, eb, ed, ee))
+
   pub condition-none : NoneOf 13 (o .code) → true ≡ condition sh x o
   unfolding condition
   condition-none n = by-none (conditions sh x (itemOf o)) true (o .code) refl refl n

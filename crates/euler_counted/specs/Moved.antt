@@ -1,5 +1,5 @@
 -- The moved loop by code, at a code that is known and at one that moves none; and kvsf, which has all effects at once.
-use mathlib.Core.Path.{_≡_, refl, subst}
+use mathlib.Core.Path.{_≡_, refl, ap, _∙_}
 use mathlib.Core.Logic.{_⊎_, inl, ⊎-elim}
 use mathlib.Core.List.{List}
 use Prim.Native.Nat.{ℕ}
@@ -7,7 +7,7 @@ use lib.IntN.{ℤ}
 use lib.ListN.{getD}
 use Rattle.laws.specs.Bools.{split}
 use Rattle.layout.specs.declared.shape.Shape.{Shape}
-use Rattle.layout.specs.Layout.{loopFace, faceOuter}
+use Rattle.layout.specs.Layout.{loopFace, faceOuter, loopIsolated}
 use Rattle.layout.specs.Items.{faceIn}
 use Rattle.euler.specs.ByCode.{by-code, by-none}
 use Rattle.euler.specs.Surgery.{itemIn}
@@ -15,6 +15,11 @@ use Rattle.euler.specs.FaceOperators.{kvsfLinks}
 use Rattle.euler.specs.Exec.{operatorBy, onlyLoop, onlyVertex, linksAfter, clearPoint, pointsAfter}
 use Rattle.euler_points.specs.Chosen.{killed-kvsf, points-by, points-cleared}
 use Rattle.euler_counts.specs.Counts.{movedLoops, movedLoop, lowered, raised, countsAfter}
+
+-- the only loop, by the face found first
+pub loop-found : (sh : Shape) (x : List ℕ) (s : ℕ) {f r : ℕ} → f ≡ faceIn sh x s → r ≡ faceOuter sh x f
+    → r ≡ onlyLoop sh x s
+loop-found sh x s ef er = er ∙ ap (faceOuter sh x) ef
 
 -- the loop that code k moves with these operands
 abbrev pub movedAt : ℕ → Shape → List ℕ → List ℤ → ℕ
@@ -30,13 +35,10 @@ module _ (sh : Shape) (x : List ℕ) (code : ℕ) (args : List ℤ) where
       → r ≡ movedLoop sh x (operatorBy code args)
   moved-either j k r d g h = ⊎-elim (λ e. moved-at j r e g) (λ e. moved-at k r e h) d
 
-  pub moved-kvsf : (a r : ℕ) → code ≡ 2 → a ≡ itemIn args 0 → r ≡ onlyLoop sh x a
-      → r ≡ movedLoop sh x (operatorBy code args)
-  moved-kvsf a r e h g = moved-at 2 r e (subst (λ s. r ≡ onlyLoop sh x s) h g)
-
-  pub moved-kfmrh : (a r : ℕ) → code ≡ 9 → a ≡ itemIn args 1 → r ≡ faceOuter sh x a
-      → r ≡ movedLoop sh x (operatorBy code args)
-  moved-kfmrh a r e h g = moved-at 9 r e (subst (λ f. r ≡ faceOuter sh x f) h g)
+  -- a loop that is read from the table by an operand read before
+  pub moved-of : (k i : ℕ) (g : Shape → List ℕ → ℕ → ℕ) {a r : ℕ} → code ≡ k → a ≡ itemIn args i → r ≡ g sh x a
+      → g sh x (itemIn args i) ≡ movedAt k sh x args → r ≡ movedLoop sh x (operatorBy code args)
+  moved-of k i g e h t z = moved-at k _ e (t ∙ ap (g sh x) h ∙ z)
 
   -- mev, kev, semv and jekv move none
   pub moved-none : (code ≡ 1 → ⊥) → (code ≡ 2 → ⊥) → (code ≡ 5 → ⊥) → (code ≡ 6 → ⊥) → (code ≡ 7 → ⊥) → (code ≡ 8 → ⊥)
@@ -57,6 +59,15 @@ solidKilled sh x s = kvsfLinks sh x s (faceIn sh x s) (onlyLoop sh x s) (onlyVer
 abbrev pub solidUncounted : Shape → List ℕ → List ℕ → ℕ → List ℕ
 solidUncounted sh x c s =
     raised (lowered c (loopFace sh x (onlyLoop sh x s))) (loopFace sh (solidKilled sh x s) (onlyLoop sh x s))
+
+-- kvsf by the face, loop and vertex found first: links, point and numbers
+module _ (sh : Shape) (x : List ℕ) (s : ℕ) (f l v : ℕ) (ef : f ≡ faceIn sh x s) (el : l ≡ faceOuter sh x f)
+    (ev : v ≡ loopIsolated sh x l) where
+  pub kill-steps : (p : List ℤ) (c : List ℕ) {o g : ℕ} {y d r : List ℕ} {q : List ℤ} → o ≡ loopFace sh x l
+      → y ≡ kvsfLinks sh x s f l v → q ≡ clearPoint p v → d ≡ lowered c o → g ≡ loopFace sh y l → r ≡ raised d g
+      → (y ≡ solidKilled sh x s) × (q ≡ clearPoint p (onlyVertex sh x s)) × (r ≡ solidUncounted sh x c s)
+  kill-steps p c eo ey eq ed eg er =
+      (rw (ey, ev, el, ef), rw (eq, ev, el, ef), rw (er, ed, eg, ey, eo, ev, el, ef))
 
 -- they are those that the definitions say
 module _ (sh : Shape) (x : List ℕ) (code : ℕ) (args : List ℤ) (s : ℕ) (e : code ≡ 2) (a : s ≡ itemIn args 0) where

@@ -36,6 +36,11 @@ module _ {A : Type 0} (z : A) where
       ext-getD z l (replicate n z) (e ∙ sym (length-replicate n z)) (λ j k. f .at j (omega arith)
       ∙ sym (getD-replicate n j z z (omega arith)))
 
+-- the five capacities stored one after the other
+pub capacities-put : (x : List ℕ) (s f l e v : ℕ) {x1 x2 x3 x4 x5 : List ℕ} → x1 ≡ set x 0 s → x2 ≡ set x1 1 f
+    → x3 ≡ set x2 2 l → x4 ≡ set x3 3 e → x5 ≡ set x4 4 v → x5 ≡ withCapacities x s f l e v
+capacities-put x s f l e v e1 e2 e3 e4 e5 = rw (e5, e4, e3, e2, e1)
+
 -- zeros with the capacities in front are the empty links
 pub capacities-first : (s f l e v : ℕ) → withCapacities (replicate (linksLength s f l e v) 0) s f l e v
     ≡ emptyLinks s f l e v

@@ -1,11 +1,12 @@
 -- A count over 1..n: so many of the first k pass, and the next one is looked at.
 use mathlib.Core.Path.{_≡_, refl, sym, ap, _∙_}
 use mathlib.Core.Logic.{_≢_}
-use mathlib.Core.Bool.{Bool}
+use mathlib.Core.Bool.{Bool, not, _&&_}
 use mathlib.Core.List.{List}
 use Prim.Native.Nat.{ℕ, _+_, _≤_}
 use native.Mathlib.Numerals.{add-one}
 use native.Mathlib.Omega.{arith}
+use lib.Dec.{eqb}
 use lib.IntN.{ℤ}
 use borrow.Author.Tests.{eq-eqb, ne-eqb}
 use Rattle.laws.specs.Sums.{bit, sumTo, countTo}
@@ -14,17 +15,23 @@ use Rattle.table.specs.declared.tally.Item.{Item}
 use Rattle.table.specs.declared.tally.Item.the-variants.{Solid, Face, Loop, Edge, Vertex, Ring}
 use Rattle.table.specs.declared.check.CheckAnswer.{CheckAnswer}
 use Rattle.table.specs.declared.count.CountAnswer.{CountAnswer}
-use Rattle.layout.specs.Layout.{shapeOf}
+use Rattle.layout.specs.Layout.{shapeOf, loopFace, faceOuter}
+use Rattle.layout.specs.Items.{some}
 use Rattle.layout.specs.Small.{Small}
 use Rattle.table.specs.SizesLaws.{fits-small}
 use Rattle.table.specs.Check.{checkOf}
 use Rattle.table.specs.CheckLaws.{checked-fits}
-use Rattle.table.specs.Count.{itemUsed, usedTo, holesOf, counts, noCounts, tallyOf, countOf}
+use Rattle.table.specs.Count.{ringUsed, itemUsed, usedTo, holesOf, counts, noCounts, tallyOf, countOf}
 
 -- the arm that was taken is the kind's own
 pub by-item : (item t : Item) → item ≡ t → (sh : Shape) (x : List ℕ) (n : ℕ) (r : Bool) → r ≡ itemUsed t sh x n
     → r ≡ itemUsed item sh x n
 by-item item t e sh x n r h = rw e h
+
+-- a loop is a ring by its face and that face's outer loop, each read before
+pub ring-read : (sh : Shape) (x : List ℕ) (n : ℕ) {f o : ℕ} → f ≡ loopFace sh x n → o ≡ faceOuter sh x f
+    → (some f && not (eqb o n)) ≡ ringUsed sh x n
+ring-read sh x n ef eo = rw (eo, ef)
 
 module _ (item : Item) (sh : Shape) (x : List ℕ) where
   -- nothing is counted at first

@@ -1,6 +1,8 @@
 use mathlib.Core.Path.{refl}
 use mathlib.Core.Logic.{⊎-elim, inl, inr}
-use Rattle.euler_admit.specs.Chosen.{condition-at, condition-none}
+use Rattle.euler.specs.EdgeOperators.{mevTest, kevTest, mefTest, kefTest, kemrTest, mekrTest, jekvTest}
+use Rattle.euler.specs.FaceOperators.{kvsfTest, kfmrhTest, mfkrhTest, rmovTest}
+use Rattle.euler_admit.specs.Chosen.{condition-at, condition-of, condition-none}
 use borrow.Author.Needs.{needs}
 use Rattle.euler_admit.proofs.conditions.condition_holds.Statement.{statement}
 use Rattle.euler_admit.proofs.conditions.condition_holds.Tie as tie
@@ -78,37 +80,59 @@ returns c = ⊎-elim (λ e. condition-at _ _ _ 1 _ _ e refl refl) (λ e. conditi
     (c .match .keys1)
 
 returns-2 : tie.Need-returns-2
-returns-2 c = condition-at _ _ _ 2 _ _ (c .before .match .keys2) refl cc
+returns-2 c =
+    let z = c .before .before .before .item-at .ensures .0 in
+    condition-of _ _ _ 2 (λ sh x a _ _ _. kvsfTest sh x a) (c .before .match .keys2) (c .kvsf-fits .ensures) z z z z refl
 
 returns-3 : tie.Need-returns-3
-returns-3 c = condition-at _ _ _ 3 _ _ (c .before .match .keys3) refl cc
+returns-3 c =
+    let z = c .before .before .before .item-at .ensures .0 in
+    condition-of _ _ _ 3 (λ sh x a b _ _. mevTest sh x a b) (c .before .match .keys3) (c .mev-fits .ensures) z (c .before .before .item-at2 .ensures .0) z z refl
 
 returns-4 : tie.Need-returns-4
-returns-4 c = condition-at _ _ _ 4 _ _ (c .before .match .keys4) refl cc
+returns-4 c =
+    let z = c .before .before .before .item-at .ensures .0 in
+    condition-of _ _ _ 4 (λ sh x a _ _ _. kevTest sh x a) (c .before .match .keys4) (c .kev-fits .ensures) z z z z refl
 
 returns-5 : tie.Need-returns-5
-returns-5 c = condition-at _ _ _ 5 _ _ (c .before .before .before .match .keys5) refl cc
+returns-5 c =
+    let z = c .before .before .before .before .before .item-at .ensures .0 in
+    condition-of _ _ _ 5 mefTest (c .before .before .before .match .keys5) (c .mef-fits .ensures) z (c .before .before .before .before .item-at2 .ensures .0) (c .before .before .item-at3 .ensures .0) (c .before .item-at4 .ensures .0) refl
 
 returns-6 : tie.Need-returns-6
-returns-6 c = condition-at _ _ _ 6 _ _ (c .before .match .keys6) refl cc
+returns-6 c =
+    let z = c .before .before .before .item-at .ensures .0 in
+    condition-of _ _ _ 6 (λ sh x a _ _ _. kefTest sh x a) (c .before .match .keys6) (c .kef-fits .ensures) z z z z refl
 
 returns-7 : tie.Need-returns-7
-returns-7 c = condition-at _ _ _ 7 _ _ (c .before .match .keys7) refl cc
+returns-7 c =
+    let z = c .before .before .before .item-at .ensures .0 in
+    condition-of _ _ _ 7 (λ sh x a _ _ _. kemrTest sh x a) (c .before .match .keys7) (c .kemr-fits .ensures) z z z z refl
 
 returns-8 : tie.Need-returns-8
-returns-8 c = condition-at _ _ _ 8 _ _ (c .before .before .before .match .keys8) refl cc
+returns-8 c =
+    let z = c .before .before .before .before .before .item-at .ensures .0 in
+    condition-of _ _ _ 8 mekrTest (c .before .before .before .match .keys8) (c .mekr-fits .ensures) z (c .before .before .before .before .item-at2 .ensures .0) (c .before .before .item-at5 .ensures .0) (c .before .item-at6 .ensures .0) refl
 
 returns-9 : tie.Need-returns-9
-returns-9 c = condition-at _ _ _ 9 _ _ (c .before .match .keys9) refl cc
+returns-9 c =
+    let z = c .before .before .before .item-at .ensures .0 in
+    condition-of _ _ _ 9 (λ sh x a b _ _. kfmrhTest sh x a b) (c .before .match .keys9) (c .kfmrh-fits .ensures) z (c .before .before .item-at2 .ensures .0) z z refl
 
 returns-10 : tie.Need-returns-10
-returns-10 c = condition-at _ _ _ 10 _ _ (c .before .before .match .keys10) refl cc
+returns-10 c =
+    let z = c .before .before .before .before .item-at .ensures .0 in
+    condition-of _ _ _ 10 (λ sh x a b d _. mfkrhTest sh x a b d) (c .before .before .match .keys10) (c .mfkrh-fits .ensures) z (c .before .before .before .item-at2 .ensures .0) (c .before .item-at7 .ensures .0) z refl
 
 returns-11 : tie.Need-returns-11
-returns-11 c = condition-at _ _ _ 12 _ _ (c .before .match .keys11) refl cc
+returns-11 c =
+    let z = c .before .before .before .item-at .ensures .0 in
+    condition-of _ _ _ 12 (λ sh x a _ _ _. jekvTest sh x a) (c .before .match .keys11) (c .jekv-fits .ensures) z z z z refl
 
 returns-12 : tie.Need-returns-12
-returns-12 c = condition-at _ _ _ 13 _ _ (c .before .match .keys12) refl cc
+returns-12 c =
+    let z = c .before .before .before .item-at .ensures .0 in
+    condition-of _ _ _ 13 (λ sh x a b _ _. rmovTest sh x a b) (c .before .match .keys12) (c .rmov-fits .ensures) z (c .before .before .item-at2 .ensures .0) z z refl
 
 returns-13 : tie.Need-returns-13
 returns-13 c =

@@ -1,7 +1,9 @@
-use mathlib.Core.Path.{_≡_}
+use mathlib.Core.Path.{_≡_, refl}
 use mathlib.Core.Logic.{inl, inr}
 use native.Mathlib.Omega.{arith}
-use Rattle.euler_counted.specs.Moved.{moved-at, moved-either, moved-kvsf, moved-kfmrh, moved-none}
+use Rattle.euler_counted.specs.Moved.{moved-at, moved-either, moved-of, moved-none}
+use Rattle.layout.specs.Layout.{loopOf, faceOuter}
+use Rattle.euler.specs.Exec.{onlyLoop}
 use borrow.Author.Needs.{needs}
 use Rattle.euler_counted.proofs.counted.moved_loop.Statement.{statement}
 use Rattle.euler_counted.proofs.counted.moved_loop.Tie as tie
@@ -44,18 +46,22 @@ item-at-requires-7 c κs = search needs
 
 returns : tie.Need-returns
 returns c = (
-  moved-kvsf _ _ _ _ _ _ (c .before .before .match .keys1) (c .before .item-at .ensures .0) (c .only-loop .ensures .0),
+  moved-of _ _ _ _ 2 0 onlyLoop (c .before .before .match .keys1) (c .before .item-at .ensures .0) (c .only-loop .ensures .0)
+      refl,
   c .only-loop .ensures .1,
 )
 
 returns-2 : tie.Need-returns-2
-returns-2 c = (moved-at _ _ _ _ 6 _ (c .before .before .match .keys2) cc, c .loop-of .ensures .1)
+returns-2 c = (
+  moved-of _ _ _ _ 6 0 loopOf (c .before .before .match .keys2) (c .before .item-at2 .ensures .0) (c .loop-of .ensures .0) refl,
+  c .loop-of .ensures .1,
+)
 
 returns-3 : tie.Need-returns-3
 returns-3 c =
     let a = c .before in
     let e = c .face-outer .ensures in
-    (moved-kfmrh _ _ _ _ _ _ (a .before .match .keys3) (a .item-at3 .ensures .0) (e .0), e .1)
+    (moved-of _ _ _ _ 9 1 faceOuter (a .before .match .keys3) (a .item-at3 .ensures .0) (e .0) refl, e .1)
 
 returns-4 : tie.Need-returns-4
 returns-4 c =

@@ -1,3 +1,4 @@
+use Rattle.euler_counted.specs.Moved.{loop-found}
 use borrow.Author.Needs.{needs}
 use Rattle.euler_counted.proofs.counted.only_loop.Statement.{statement}
 use Rattle.euler_counted.proofs.counted.only_loop.Tie as tie
@@ -13,7 +14,8 @@ face-outer-requires : tie.Need-face-outer-requires
 face-outer-requires c κs = search needs
 
 returns : tie.Need-returns
-returns c = (cc, c .face-outer .ensures .1)
+returns c =
+    (loop-found (c .before .before .before .args .sh) (c .before .before .before .args .links .now) _ (c .before .face-in .ensures .0) (c .face-outer .ensures .0), c .face-outer .ensures .1)
 
 pub only-loop-spec : {M : Type 1} → statement M
 only-loop-spec = tie.close (tie.spec face-in-requires face-outer-requires returns)

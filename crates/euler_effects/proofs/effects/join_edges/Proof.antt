@@ -1,3 +1,4 @@
+use Rattle.euler_effects.specs.Chosen.{jekv-found}
 use borrow.Author.Needs.{needs}
 use Rattle.euler_effects.proofs.effects.join_edges.Statement.{statement}
 use Rattle.euler_effects.proofs.effects.join_edges.Tie as tie
@@ -16,7 +17,8 @@ same-length : tie.Need-same-length
 same-length c = search needs
 
 returns : tie.Need-returns
-returns c = cc
+returns c =
+    jekv-found _ _ _ (c .before .before .before .before .next-of .ensures .0) (c .before .before .jekv-links .ensures)
 
 pub join-edges-spec : {M : Type 1} → statement M
 join-edges-spec = tie.close (tie.spec next-of-requires jekv-links-requires same-length returns)

@@ -1,3 +1,4 @@
+use Rattle.euler_effects.specs.Chosen.{kvsf-found}
 use borrow.Author.Needs.{needs}
 use Rattle.euler_effects.proofs.effects.kill_solid.Statement.{statement}
 use Rattle.euler_effects.proofs.effects.kill_solid.Tie as tie
@@ -24,7 +25,9 @@ same-length : tie.Need-same-length
 same-length c = search needs
 
 returns : tie.Need-returns
-returns c = cc
+returns c =
+    kvsf-found _ _ _ (c .before .before .before .before .before .before .before .before .face-in .ensures .0) (c .before .before .before .before .before .before .face-outer .ensures .0) (c .before .before .before .before .loop-isolated .ensures .0)
+    (c .before .before .kvsf-links .ensures)
 
 pub kill-solid-spec : {M : Type 1} → statement M
 kill-solid-spec =

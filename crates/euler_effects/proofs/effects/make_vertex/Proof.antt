@@ -1,3 +1,6 @@
+use mathlib.Core.Path.{refl}
+use Rattle.euler.specs.EdgeOperators.{mevLinks}
+use Rattle.euler_effects.specs.Chosen.{half-read, links-of}
 use borrow.Author.Needs.{needs}
 use Rattle.euler_effects.proofs.effects.make_vertex.Statement.{statement}
 use Rattle.euler_effects.proofs.effects.make_vertex.Tie as tie
@@ -32,7 +35,11 @@ same-length : tie.Need-same-length
 same-length c = search needs
 
 returns : tie.Need-returns
-returns c = cc
+returns c =
+    let z = c .before .before .before .before .before .before .before .before .before .item-at .ensures .0 in
+    links-of _ _ (c .before .before .before .before .before .before .before .before .before .before .before .args .args .now) 3 (λ sh x a b k v _ _ _. mevLinks sh x a b k v) (c .before .before .mev-links .ensures) z (c .before .before .before .before .before .before .before .before .item-at2 .ensures .0)
+    (half-read _ _ (c .before .before .before .before .before .before .before .item-at3 .ensures .0) (c .before .before .before .before .before .item-at5 .ensures .0) (c .before .before .before .half-by .ensures .0))
+    (c .before .before .before .before .before .before .item-at4 .ensures .0) z z z refl
 
 pub make-vertex-spec : {M : Type 1} → statement M
 make-vertex-spec =

@@ -1,3 +1,6 @@
+use mathlib.Core.Path.{refl}
+use Rattle.euler.specs.EdgeOperators.{semvLinks}
+use Rattle.euler_effects.specs.Chosen.{half-read, links-of}
 use borrow.Author.Needs.{needs}
 use Rattle.euler_effects.proofs.effects.split_edge.Statement.{statement}
 use Rattle.euler_effects.proofs.effects.split_edge.Tie as tie
@@ -29,7 +32,11 @@ same-length : tie.Need-same-length
 same-length c = search needs
 
 returns : tie.Need-returns
-returns c = cc
+returns c =
+    let z = c .before .before .before .before .before .before .before .before .item-at .ensures .0 in
+    links-of _ _ (c .before .before .before .before .before .before .before .before .before .before .args .args .now) 11 (λ sh x a k v _ _ _ _. semvLinks sh x a k v) (c .before .before .semv-links .ensures) z
+    (half-read _ _ (c .before .before .before .before .before .before .before .item-at2 .ensures .0) (c .before .before .before .before .before .item-at4 .ensures .0) (c .before .before .before .half-by .ensures .0)) (c .before .before .before .before .before .before .item-at3 .ensures .0)
+    z z z z refl
 
 pub split-edge-spec : {M : Type 1} → statement M
 split-edge-spec =

@@ -1,3 +1,4 @@
+use Rattle.euler_inverses.specs.Chosen.{kvsf-undone}
 use borrow.Author.Needs.{needs}
 use Rattle.euler_inverses.proofs.inverses.solid_again.Statement.{statement}
 use Rattle.euler_inverses.proofs.inverses.solid_again.Tie as tie
@@ -21,7 +22,9 @@ kvsf-inverse-requires : tie.Need-kvsf-inverse-requires
 kvsf-inverse-requires c κs = search needs
 
 returns : tie.Need-returns
-returns c = cc
+returns c =
+    kvsf-undone (c .before .before .before .before .before .args .sh) _ _ _ (c .before .before .before .face-in .ensures .0) (c .before .before .face-outer .ensures .0) (c .before .loop-isolated .ensures .0)
+    (c .kvsf-inverse .ensures)
 
 pub solid-again-spec : {M : Type 1} → statement M
 solid-again-spec =

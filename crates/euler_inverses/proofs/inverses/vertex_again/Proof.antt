@@ -1,3 +1,4 @@
+use Rattle.euler_inverses.specs.Chosen.{jekv-undone}
 use borrow.Author.Needs.{needs}
 use Rattle.euler_inverses.proofs.inverses.vertex_again.Statement.{statement}
 use Rattle.euler_inverses.proofs.inverses.vertex_again.Tie as tie
@@ -13,7 +14,8 @@ jekv-inverse-requires : tie.Need-jekv-inverse-requires
 jekv-inverse-requires c κs = search needs
 
 returns : tie.Need-returns
-returns c = cc
+returns c =
+    jekv-undone (c .before .before .before .args .sh) _ _ _ (c .before .next-of .ensures .0) (c .jekv-inverse .ensures)
 
 pub vertex-again-spec : {M : Type 1} → statement M
 vertex-again-spec = tie.close (tie.spec next-of-requires jekv-inverse-requires returns)

@@ -1,3 +1,4 @@
+use Rattle.table.specs.ClearLaws.{capacities-put}
 use borrow.Author.Needs.{needs}
 use Rattle.table.proofs.clear.put_capacities.Statement.{statement}
 use Rattle.table.proofs.clear.put_capacities.Tie as tie
@@ -24,7 +25,9 @@ same-length : tie.Need-same-length
 same-length c = search needs
 
 returns : tie.Need-returns
-returns c = cc
+returns c =
+    let a = c .before .before .before .before .before .before .before .before .before .before .before .before .before .before .before .before .before .before .before .before .before .args in
+    capacities-put (a .links .now) (a .s) _ _ _ _ (c .before .before .before .before .before .before .before .before .before .before .before .before .before .before .before .before .before .before .put .ensures) (c .before .before .before .before .before .before .before .before .before .before .before .before .before .before .put2 .ensures) (c .before .before .before .before .before .before .before .before .before .before .put3 .ensures) (c .before .before .before .before .before .before .put4 .ensures) (c .before .before .put5 .ensures)
 
 pub put-capacities-spec : {M : Type 1} → statement M
 put-capacities-spec =

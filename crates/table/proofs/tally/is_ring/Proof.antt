@@ -1,3 +1,4 @@
+use Rattle.table.specs.CountLaws.{ring-read}
 use borrow.Author.Needs.{needs}
 use Rattle.table.proofs.tally.is_ring.Statement.{statement}
 use Rattle.table.proofs.tally.is_ring.Tie as tie
@@ -13,7 +14,7 @@ face-outer-requires : tie.Need-face-outer-requires
 face-outer-requires c κs = search needs
 
 returns : tie.Need-returns
-returns c = cc
+returns c = ring-read (c .before .before .before .args .sh) _ _ (c .before .loop-face .ensures .0) (c .face-outer .ensures .0)
 
 pub is-ring-spec : {M : Type 1} → statement M
 is-ring-spec = tie.close (tie.spec loop-face-requires face-outer-requires returns)

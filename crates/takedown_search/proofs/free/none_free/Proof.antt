@@ -1,3 +1,4 @@
+use Rattle.takedown_search.specs.Asked.{none-read}
 use borrow.Author.Needs.{needs}
 use Rattle.takedown_search.proofs.free.none_free.Statement.{statement}
 use Rattle.takedown_search.proofs.free.none_free.Tie as tie
@@ -17,7 +18,9 @@ free-edge-requires : tie.Need-free-edge-requires
 free-edge-requires c κs = search needs
 
 returns : tie.Need-returns
-returns c = cc
+returns c =
+    none-read (c .before .before .before .before .args .sh) (c .before .before .before .before .args .links .now)
+    (c .before .before .free-face .ensures .0) (c .before .free-loop .ensures .0) (c .free-edge .ensures .0)
 
 pub none-free-spec : {M : Type 1} → statement M
 none-free-spec =

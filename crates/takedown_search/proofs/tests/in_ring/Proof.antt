@@ -1,3 +1,4 @@
+use Rattle.takedown_search.specs.Asked.{in-ring-read}
 use borrow.Author.Needs.{needs}
 use Rattle.takedown_search.proofs.tests.in_ring.Statement.{statement}
 use Rattle.takedown_search.proofs.tests.in_ring.Tie as tie
@@ -24,7 +25,9 @@ loop-of-requires-2 : tie.Need-loop-of-requires-2
 loop-of-requires-2 c κs = search needs
 
 returns : tie.Need-returns
-returns c = cc
+returns c =
+    in-ring-read (c .before .before .before .before .before .before .args .sh) (c .before .before .before .before .before .before .args .links .now) _ _
+    (c .before .before .before .before .of-solid .ensures) (c .before .before .before .loop-of .ensures .0) (c .before .before .is-ring .ensures) (c .before .mate-of .ensures .0) (c .loop-of2 .ensures .0)
 
 pub in-ring-spec : {M : Type 1} → statement M
 in-ring-spec =

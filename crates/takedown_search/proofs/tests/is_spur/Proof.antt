@@ -1,3 +1,4 @@
+use Rattle.takedown_search.specs.Asked.{spur-read}
 use borrow.Author.Needs.{needs}
 use Rattle.takedown_search.proofs.tests.is_spur.Statement.{statement}
 use Rattle.takedown_search.proofs.tests.is_spur.Tie as tie
@@ -17,7 +18,9 @@ mate-of-requires : tie.Need-mate-of-requires
 mate-of-requires c κs = search needs
 
 returns : tie.Need-returns
-returns c = cc
+returns c =
+    spur-read (c .before .before .before .before .args .sh) (c .before .before .before .before .args .links .now) _ _
+    (c .before .before .of-solid .ensures) (c .before .next-of .ensures .0) (c .mate-of .ensures .0)
 
 pub is-spur-spec : {M : Type 1} → statement M
 is-spur-spec = tie.close (tie.spec of-solid-requires next-of-requires mate-of-requires returns)

@@ -1,3 +1,4 @@
+use Rattle.takedown_search.specs.Asked.{stray-read}
 use borrow.Author.Needs.{needs}
 use Rattle.takedown_search.proofs.tests.is_stray.Statement.{statement}
 use Rattle.takedown_search.proofs.tests.is_stray.Tie as tie
@@ -17,7 +18,9 @@ is-ring-requires : tie.Need-is-ring-requires
 is-ring-requires c κs = search needs
 
 returns : tie.Need-returns
-returns c = cc
+returns c =
+    stray-read (c .before .before .before .before .args .sh) (c .before .before .before .before .args .links .now) _ _ (c .before .before .before .before .args .l)
+    (c .before .before .loop-face .ensures .0) (c .before .face-solid .ensures .0) (c .is-ring .ensures)
 
 pub is-stray-spec : {M : Type 1} → statement M
 is-stray-spec =
