@@ -47,18 +47,35 @@ run-step-requires c κs =
     (l .5, (c .before .before .before .before .before .before .before .before .before .before .pre .1 .0, l .6))
 
 same-length : tie.Need-same-length Inv-loop μ-loop
-same-length c = omega (arith, c .before .before .before .before .before .before .links .given, c .before .before .before .before .before .before .before .before .before .before .before .before .before .before .loop .inv .0)
+same-length c = omega (
+  arith,
+  c .before .before .before .before .before .before .links .given,
+  c .before .before .before
+      .before .before .before .before .before .before .before .before .before .before .before .loop .inv .0,
+)
 
 same-length-2 : tie.Need-same-length-2 Inv-loop μ-loop
-same-length-2 c = omega (arith, c .before .before .before .before .points .given, c .before .before .before .before .before .before .before .before .before .before .before .before .before .before .loop .inv .1)
+same-length-2 c = omega (
+  arith,
+  c .before .before .before .before .points .given,
+  c .before .before .before .before
+      .before .before .before .before .before .before .before .before .before .before .loop .inv .1,
+)
 
 same-length-3 : tie.Need-same-length-3 Inv-loop μ-loop
-same-length-3 c = omega (arith, c .before .before .before .log .given, c .before .before .before .before .before .before .before .before .before .before .before .before .before .before .loop .inv .2)
+same-length-3 c = omega (
+  arith,
+  c .before .before .before .log .given,
+  c .before .before .before .before .before .before
+      .before .before .before .before .before .before .before .before .loop .inv .2,
+)
 
 returns : tie.Need-returns Inv-loop μ-loop
 returns c =
-    let l = c .before .before .before .before .before .before .before .before .before .before .before .before .before .before .loop .inv in
-    let t = c .before .before .before .before .before .before .before .before .before .before .before .before .before .loop-test .taken in
+    let l = c .before .before .before .before .before .before .before .before .before .before .before .before .before
+    .before .loop .inv in
+    let t = c .before .before .before .before .before .before .before .before .before .before .before .before
+    .before .loop-test .taken in
     run-stop _ _ _ _ _ _ _
     (l .7) t (omega (arith, t, l .3)) _
     (c .before .before .before .before .before .before .before .run-step .ensures .0) (c .if1 .taken)
@@ -85,7 +102,8 @@ loop-again c =
     let r = c .before .before .before .before .before .before .before .run-step .ensures in
     let l = c .before .before .before .before .before .before .before .before .before .before .before .before .before
     .before .loop .inv in
-    let t = c .before .before .before .before .before .before .before .before .before .before .before .before .before .loop-test .taken in
+    let t = c .before .before .before .before .before .before .before .before .before .before .before .before
+    .before .loop-test .taken in
     let n = step-next _ _ _ _ _ (r .0) (c .if1 .left) in (
       omega (arith, c .before .before .before .before .before .before .links .given, l .0),
       omega (arith, c .before .before .before .before .points .given, l .1),

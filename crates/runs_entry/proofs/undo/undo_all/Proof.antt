@@ -41,34 +41,63 @@ undo-step-requires c κs = (
 )
 
 same-length-3 : tie.Need-same-length-3 Inv-loop μ-loop
-same-length-3 c = omega (arith, c .before .before .before .before .links .given, c .before .before .before .before .before .before .before .before .before .before .before .before .loop .inv .0)
+same-length-3 c = omega (
+  arith,
+  c .before .before .before .before .links .given,
+  c .before .before .before .before
+      .before .before .before .before .before .before .before .before .loop .inv .0,
+)
 
 same-length-4 : tie.Need-same-length-4 Inv-loop μ-loop
-same-length-4 c = omega (arith, c .before .before .points .given, c .before .before .before .before .before .before .before .before .before .before .before .before .loop .inv .1)
+same-length-4 c = omega (
+  arith,
+  c .before .before .points .given,
+  c .before .before .before .before .before .before
+      .before .before .before .before .before .before .loop .inv .1,
+)
 
 returns-2 : tie.Need-returns-2 Inv-loop μ-loop
 returns-2 c =
     let u = c .before .before .before .before .before .undo-step .ensures in
     undo-stop _ _ _ _ _ _ _ _
-    (c .before .before .before .before .before .before .before .before .before .before .before .before .loop .inv .4) (omega (arith, c .before .before .before .before .before .before .before .before .before .before .before .loop-test .taken)) (omega (arith, c .before .before .before .before .before .before .before .before .before .before .if1 .left)) _ (u .0 .0) _ (u .1 .0) (c .if2 .taken)
+    (c .before .before .before .before .before .before .before .before .before .before .before .before .loop .inv .4)
+    (omega (
+      arith,
+      c .before .before .before .before .before .before .before .before .before .before
+          .before .loop-test .taken,
+    )) (omega (
+      arith,
+      c .before .before .before .before .before .before .before .before .before
+          .before .if1 .left,
+    )) _ (u .0 .0) _ (u .1 .0) (c .if2 .taken)
 
 add-undone : tie.Need-add-undone Inv-loop μ-loop
 add-undone c = search needs
 
 loop-less : tie.Need-loop-less Inv-loop μ-loop
-loop-less c = omega (arith, c .before .before .before .before .before .before .before .before .before .before .before .loop-test .taken)
+loop-less c = omega (
+  arith,
+  c .before .before .before .before .before .before .before .before .before .before
+      .before .loop-test .taken,
+)
 
 loop-again : tie.Need-loop-again Inv-loop μ-loop
 loop-again c =
     let u = c .before .before .before .before .before .undo-step .ensures in
-    let l = c .before .before .before .before .before .before .before .before .before .before .before .before .loop .inv in
-    let t = c .before .before .before .before .before .before .before .before .before .before .before .loop-test .taken in (
+    let l = c .before .before .before .before .before .before .before .before .before .before .before .before .loop .inv
+    in
+    let t = c .before .before .before .before .before .before .before .before .before .before .before .loop-test .taken
+    in (
       omega (arith, c .before .before .before .before .links .given, l .0),
       omega (arith, c .before .before .points .given, l .1),
       omega (arith, t),
       u .1 .1,
       undo-turn _ _ _ _ _ _ _ _
-          (l .4) (omega (arith, t)) (omega (arith, c .before .before .before .before .before .before .before .before .before .before .if1 .left)) _ (u .0 .0) _ (u .1 .0) (c .if2 .left) _ (u .0 .1) _
+          (l .4) (omega (arith, t)) (omega (
+            arith,
+            c .before .before .before .before .before .before .before .before
+                .before .before .if1 .left,
+          )) _ (u .0 .0) _ (u .1 .0) (c .if2 .left) _ (u .0 .1) _
           (omega arith),
     )
 

@@ -58,7 +58,8 @@ enum-told c = search needs
 returns : tie.Need-returns Inv-loop μ-loop
 returns c =
     let l = c .before .before .before in
-    scan-bad _ _ _ _ _ (omega (arith, l .before .loop .inv .1, l .before .before .before .before .pre .1 .1)) _ _ _ _ _ (l .before .loop .inv .2) (l .loop-test .taken)
+    scan-bad _ _ _ _ _ (omega (arith, l .before .loop .inv .1, l .before .before .before .before .pre .1 .1)) _ _ _ _ _
+    (l .before .loop .inv .2) (l .loop-test .taken)
     (sym (c .before .before .read-number .ensures) ∙ c .enum-told .given .1)
 
 add-i : tie.Need-add-i Inv-loop μ-loop
@@ -74,15 +75,18 @@ loop-again c =
     rw (toZ-ofZ {w = w32} {z = c .from-wire .result} (record { sfits = c .from-wire .ok })) (
       omega (arith, l .loop-test .taken),
       v .1,
-      scan-turn _ _ _ _ _ (omega (arith, v .1, l .before .before .before .before .pre .1 .1)) _ _ _ _ _ (v .2) (l .loop-test .taken) _ _
-          (sym (c .before .before .before .before .before .read-number .ensures) ∙ c .before .before .before .x .given .1)
+      scan-turn _ _ _ _ _ (omega (arith, v .1, l .before .before .before .before .pre .1 .1)) _ _ _ _ _ (v .2)
+          (l .loop-test .taken) _ _
+          (sym (c .before .before .before .before .before .read-number .ensures) ∙ c .before .before
+          .before .x .given .1)
           _ (c .before .join-refusal .ensures) _ (c .from-wire .ensures),
     )
 
 returns-2 : tie.Need-returns-2 Inv-loop μ-loop
 returns-2 c =
     let v = c .before .loop .inv in
-    scan-end _ _ _ _ _ (omega (arith, v .1, c .before .before .before .before .pre .1 .1)) _ _ _ _ _ (v .2) (c .loop-test .left)
+    scan-end _ _ _ _ _ (omega (arith, v .1, c .before .before .before .before .pre .1 .1)) _ _ _ _ _ (v .2)
+    (c .loop-test .left)
 
 pub scan-operands-spec : {M : Type 1} → statement M
 scan-operands-spec =
