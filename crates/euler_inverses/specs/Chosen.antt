@@ -51,7 +51,8 @@ module _ (sh : Shape) (x : List ℕ) (o : Operator) where
       → a ≡ itemOf o i → b ≡ itemOf o j → d ≡ itemOf o l → r ≡ g sh x p a b d → r ≡ inverse sh x p o
   inverse-of-three p k i j l g {b = b} {d = d} e f h m n t =
       inverse-at p k _ _ e f
-      (t ∙ ap (λ v. g sh x p v b d) h ∙ ap (λ v. g sh x p (itemOf o i) v d) m ∙ ap (g sh x p (itemOf o i) (itemOf o j)) n)
+      (t ∙ ap (λ v. g sh x p v b d) h ∙ ap (λ v. g sh x p (itemOf o i) v d) m ∙ ap
+      (g sh x p (itemOf o i) (itemOf o j)) n)
 
   pub inverse-of-two : (p : List ℤ) (k i j : ℕ) (g : Shape → List ℕ → List ℤ → ℕ → ℕ → Operator) {a b : ℕ}
       {r : Operator} → o .code ≡ k

@@ -82,12 +82,14 @@ returns c = ⊎-elim (λ e. condition-at _ _ _ 1 _ _ e refl refl) (λ e. conditi
 returns-2 : tie.Need-returns-2
 returns-2 c =
     let z = c .before .before .before .item-at .ensures .0 in
-    condition-of _ _ _ 2 (λ sh x a _ _ _. kvsfTest sh x a) (c .before .match .keys2) (c .kvsf-fits .ensures) z z z z refl
+    condition-of _ _ _ 2 (λ sh x a _ _ _. kvsfTest sh x a) (c .before .match .keys2)
+    (c .kvsf-fits .ensures) z z z z refl
 
 returns-3 : tie.Need-returns-3
 returns-3 c =
     let z = c .before .before .before .item-at .ensures .0 in
-    condition-of _ _ _ 3 (λ sh x a b _ _. mevTest sh x a b) (c .before .match .keys3) (c .mev-fits .ensures) z (c .before .before .item-at2 .ensures .0) z z refl
+    condition-of _ _ _ 3 (λ sh x a b _ _. mevTest sh x a b) (c .before .match .keys3) (c .mev-fits .ensures) z
+    (c .before .before .item-at2 .ensures .0) z z refl
 
 returns-4 : tie.Need-returns-4
 returns-4 c =
@@ -97,7 +99,9 @@ returns-4 c =
 returns-5 : tie.Need-returns-5
 returns-5 c =
     let z = c .before .before .before .before .before .item-at .ensures .0 in
-    condition-of _ _ _ 5 mefTest (c .before .before .before .match .keys5) (c .mef-fits .ensures) z (c .before .before .before .before .item-at2 .ensures .0) (c .before .before .item-at3 .ensures .0) (c .before .item-at4 .ensures .0) refl
+    condition-of _ _ _ 5 mefTest (c .before .before .before .match .keys5) (c .mef-fits .ensures) z
+    (c .before .before .before .before .item-at2 .ensures .0) (c .before .before .item-at3 .ensures .0)
+    (c .before .item-at4 .ensures .0) refl
 
 returns-6 : tie.Need-returns-6
 returns-6 c =
@@ -107,32 +111,40 @@ returns-6 c =
 returns-7 : tie.Need-returns-7
 returns-7 c =
     let z = c .before .before .before .item-at .ensures .0 in
-    condition-of _ _ _ 7 (λ sh x a _ _ _. kemrTest sh x a) (c .before .match .keys7) (c .kemr-fits .ensures) z z z z refl
+    condition-of _ _ _ 7 (λ sh x a _ _ _. kemrTest sh x a) (c .before .match .keys7)
+    (c .kemr-fits .ensures) z z z z refl
 
 returns-8 : tie.Need-returns-8
 returns-8 c =
     let z = c .before .before .before .before .before .item-at .ensures .0 in
-    condition-of _ _ _ 8 mekrTest (c .before .before .before .match .keys8) (c .mekr-fits .ensures) z (c .before .before .before .before .item-at2 .ensures .0) (c .before .before .item-at5 .ensures .0) (c .before .item-at6 .ensures .0) refl
+    condition-of _ _ _ 8 mekrTest (c .before .before .before .match .keys8) (c .mekr-fits .ensures) z
+    (c .before .before .before .before .item-at2 .ensures .0) (c .before .before .item-at5 .ensures .0)
+    (c .before .item-at6 .ensures .0) refl
 
 returns-9 : tie.Need-returns-9
 returns-9 c =
     let z = c .before .before .before .item-at .ensures .0 in
-    condition-of _ _ _ 9 (λ sh x a b _ _. kfmrhTest sh x a b) (c .before .match .keys9) (c .kfmrh-fits .ensures) z (c .before .before .item-at2 .ensures .0) z z refl
+    condition-of _ _ _ 9 (λ sh x a b _ _. kfmrhTest sh x a b) (c .before .match .keys9) (c .kfmrh-fits .ensures) z
+    (c .before .before .item-at2 .ensures .0) z z refl
 
 returns-10 : tie.Need-returns-10
 returns-10 c =
     let z = c .before .before .before .before .item-at .ensures .0 in
-    condition-of _ _ _ 10 (λ sh x a b d _. mfkrhTest sh x a b d) (c .before .before .match .keys10) (c .mfkrh-fits .ensures) z (c .before .before .before .item-at2 .ensures .0) (c .before .item-at7 .ensures .0) z refl
+    condition-of _ _ _ 10 (λ sh x a b d _. mfkrhTest sh x a b d) (c .before .before .match .keys10)
+    (c .mfkrh-fits .ensures) z (c .before .before .before .item-at2 .ensures .0)
+    (c .before .item-at7 .ensures .0) z refl
 
 returns-11 : tie.Need-returns-11
 returns-11 c =
     let z = c .before .before .before .item-at .ensures .0 in
-    condition-of _ _ _ 12 (λ sh x a _ _ _. jekvTest sh x a) (c .before .match .keys11) (c .jekv-fits .ensures) z z z z refl
+    condition-of _ _ _ 12 (λ sh x a _ _ _. jekvTest sh x a) (c .before .match .keys11)
+    (c .jekv-fits .ensures) z z z z refl
 
 returns-12 : tie.Need-returns-12
 returns-12 c =
     let z = c .before .before .before .item-at .ensures .0 in
-    condition-of _ _ _ 13 (λ sh x a b _ _. rmovTest sh x a b) (c .before .match .keys12) (c .rmov-fits .ensures) z (c .before .before .item-at2 .ensures .0) z z refl
+    condition-of _ _ _ 13 (λ sh x a b _ _. rmovTest sh x a b) (c .before .match .keys12) (c .rmov-fits .ensures) z
+    (c .before .before .item-at2 .ensures .0) z z refl
 
 returns-13 : tie.Need-returns-13
 returns-13 c =

@@ -48,9 +48,21 @@ same-length-2 c = search needs
 
 returns : tie.Need-returns
 returns c =
-    kill-steps (c .before .before .before .before .before .before .before .before .before .before .before .before .before .before .before .before .before .before .before .before .before .before .args .sh) (c .before .before .before .before .before .before .before .before .before .before .before .before .before .before .before .before .before .before .before .before .before .before .args .links .now) (c .before .before .before .before .before .before .before .before .before .before .before .before .before .before .before .before .before .before .before .before .before .before .args .s) _ _ _
-    (c .before .before .before .before .before .before .before .before .before .before .before .before .before .before .before .before .before .before .before .face-in .ensures .0) (c .before .before .before .before .before .before .before .before .before .before .before .before .before .before .before .before .before .face-outer .ensures .0) (c .before .before .before .before .before .before .before .before .before .before .before .before .before .before .before .loop-isolated .ensures .0) _ _
-    (c .before .before .before .before .before .before .before .before .before .before .before .before .before .loop-face .ensures .0) (c .before .before .before .before .before .before .before .before .before .before .before .kvsf-links .ensures) (c .before .before .before .before .before .before .before .clear-point .ensures) (c .before .before .before .before .lower-count .ensures)
+    kill-steps (c .before .before .before .before .before .before .before .before .before .before .before .before
+    .before .before .before .before .before .before .before .before .before .before .args .sh)
+    (c .before .before .before .before .before .before .before .before .before .before .before .before .before .before
+    .before .before .before .before .before .before .before .before .args .links .now)
+    (c .before .before .before .before .before .before .before .before .before .before .before .before .before .before
+    .before .before .before .before .before .before .before .before .args .s) _ _ _
+    (c .before .before .before .before .before .before .before .before .before .before .before .before .before .before
+    .before .before .before .before .before .face-in .ensures .0)
+    (c .before .before .before .before .before .before .before .before .before .before .before .before .before .before
+    .before .before .before .face-outer .ensures .0) (c .before .before .before .before .before .before .before .before
+    .before .before .before .before .before .before .before .loop-isolated .ensures .0) _ _
+    (c .before .before .before .before .before .before .before .before .before .before .before .before
+    .before .loop-face .ensures .0) (c .before .before .before .before .before .before .before .before .before .before
+    .before .kvsf-links .ensures) (c .before .before .before .before .before .before .before .clear-point .ensures)
+    (c .before .before .before .before .lower-count .ensures)
     (c .before .loop-face2 .ensures .0) (c .raise-count .ensures)
 
 pub kill-counted-spec : {M : Type 1} → statement M

@@ -46,14 +46,16 @@ item-at-requires-7 c κs = search needs
 
 returns : tie.Need-returns
 returns c = (
-  moved-of _ _ _ _ 2 0 onlyLoop (c .before .before .match .keys1) (c .before .item-at .ensures .0) (c .only-loop .ensures .0)
+  moved-of _ _ _ _ 2 0 onlyLoop (c .before .before .match .keys1) (c .before .item-at .ensures .0)
+      (c .only-loop .ensures .0)
       refl,
   c .only-loop .ensures .1,
 )
 
 returns-2 : tie.Need-returns-2
 returns-2 c = (
-  moved-of _ _ _ _ 6 0 loopOf (c .before .before .match .keys2) (c .before .item-at2 .ensures .0) (c .loop-of .ensures .0) refl,
+  moved-of _ _ _ _ 6 0 loopOf (c .before .before .match .keys2) (c .before .item-at2 .ensures .0)
+      (c .loop-of .ensures .0) refl,
   c .loop-of .ensures .1,
 )
 

@@ -14,8 +14,11 @@ face-outer-requires : tie.Need-face-outer-requires
 face-outer-requires c κs = search needs
 
 returns : tie.Need-returns
-returns c =
-    (loop-found (c .before .before .before .args .sh) (c .before .before .before .args .links .now) _ (c .before .face-in .ensures .0) (c .face-outer .ensures .0), c .face-outer .ensures .1)
+returns c = (
+  loop-found (c .before .before .before .args .sh) (c .before .before .before .args .links .now) _
+      (c .before .face-in .ensures .0) (c .face-outer .ensures .0),
+  c .face-outer .ensures .1,
+)
 
 pub only-loop-spec : {M : Type 1} → statement M
 only-loop-spec = tie.close (tie.spec face-in-requires face-outer-requires returns)

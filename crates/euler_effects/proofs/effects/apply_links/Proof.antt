@@ -134,7 +134,8 @@ returns-4 : tie.Need-returns-4
 returns-4 c =
     let z = c .before .before .before .item-at2 .ensures .0 in
     links-at _ _ _ _ 4 _ (c .before .before .before .before .before .match .keys4)
-    (links-of _ _ (c .before .before .before .before .before .before .before .args .args .now) 4 (λ sh x a _ _ _ _ _ _. kevLinks sh x a) (c .before .before .kev-links .ensures) z z z z z z z refl)
+    (links-of _ _ (c .before .before .before .before .before .before .before .args .args .now) 4
+    (λ sh x a _ _ _ _ _ _. kevLinks sh x a) (c .before .before .kev-links .ensures) z z z z z z z refl)
 
 same-length-5 : tie.Need-same-length-5
 same-length-5 c = search needs
@@ -151,7 +152,8 @@ returns-6 : tie.Need-returns-6
 returns-6 c =
     let z = c .before .before .before .item-at3 .ensures .0 in
     links-at _ _ _ _ 6 _ (c .before .before .before .before .before .match .keys6)
-    (links-of _ _ (c .before .before .before .before .before .before .before .args .args .now) 6 (λ sh x a _ _ _ _ _ _. kefLinks sh x a) (c .before .before .kef-links .ensures) z z z z z z z refl)
+    (links-of _ _ (c .before .before .before .before .before .before .before .args .args .now) 6
+    (λ sh x a _ _ _ _ _ _. kefLinks sh x a) (c .before .before .kef-links .ensures) z z z z z z z refl)
 
 same-length-7 : tie.Need-same-length-7
 same-length-7 c = search needs
@@ -160,7 +162,9 @@ returns-7 : tie.Need-returns-7
 returns-7 c =
     let z = c .before .before .before .before .item-at4 .ensures .0 in
     links-at _ _ _ _ 7 _ (c .before .before .before .before .before .before .match .keys7)
-    (links-of _ _ (c .before .before .before .before .before .before .before .before .args .args .now) 7 (λ sh x a b _ _ _ _ _. kemrLinks sh x a b) (c .before .before .kemr-links .ensures) z (c .before .before .before .item-at5 .ensures .0) z z z z z refl)
+    (links-of _ _ (c .before .before .before .before .before .before .before .before .args .args .now) 7
+    (λ sh x a b _ _ _ _ _. kemrLinks sh x a b) (c .before .before .kemr-links .ensures) z
+    (c .before .before .before .item-at5 .ensures .0) z z z z z refl)
 
 same-length-8 : tie.Need-same-length-8
 same-length-8 c = search needs
@@ -177,7 +181,9 @@ returns-9 : tie.Need-returns-9
 returns-9 c =
     let z = c .before .before .before .before .item-at6 .ensures .0 in
     links-at _ _ _ _ 9 _ (c .before .before .before .before .before .before .match .keys9)
-    (links-of _ _ (c .before .before .before .before .before .before .before .before .args .args .now) 9 (λ sh x a b _ _ _ _ _. kfmrhLinks sh x a b) (c .before .before .kfmrh-links .ensures) z (c .before .before .before .item-at7 .ensures .0) z z z z z refl)
+    (links-of _ _ (c .before .before .before .before .before .before .before .before .args .args .now) 9
+    (λ sh x a b _ _ _ _ _. kfmrhLinks sh x a b) (c .before .before .kfmrh-links .ensures) z
+    (c .before .before .before .item-at7 .ensures .0) z z z z z refl)
 
 same-length-10 : tie.Need-same-length-10
 same-length-10 c = search needs
@@ -186,7 +192,10 @@ returns-10 : tie.Need-returns-10
 returns-10 c =
     let z = c .before .before .before .before .before .item-at8 .ensures .0 in
     links-at _ _ _ _ 10 _ (c .before .before .before .before .before .before .before .match .keys10)
-    (links-of _ _ (c .before .before .before .before .before .before .before .before .before .args .args .now) 10 (λ sh x a b d _ _ _ _. mfkrhLinks sh x a b d) (c .before .before .mfkrh-links .ensures) z (c .before .before .before .before .item-at9 .ensures .0) (c .before .before .before .item-at10 .ensures .0) z z z z refl)
+    (links-of _ _ (c .before .before .before .before .before .before .before .before .before .args .args .now) 10
+    (λ sh x a b d _ _ _ _. mfkrhLinks sh x a b d) (c .before .before .mfkrh-links .ensures) z
+    (c .before .before .before .before .item-at9 .ensures .0)
+    (c .before .before .before .item-at10 .ensures .0) z z z z refl)
 
 same-length-11 : tie.Need-same-length-11
 same-length-11 c = search needs
@@ -203,7 +212,9 @@ returns-12 : tie.Need-returns-12
 returns-12 c =
     let z = c .before .before .before .item-at11 .ensures .0 in
     links-at _ _ _ _ 12 _ (c .before .before .before .before .before .match .keys12)
-    (links-of _ _ (c .before .before .before .before .before .before .before .args .args .now) 12 (λ sh x a _ _ _ _ _ _. jekvLinks sh x a (nextOf sh x a)) (c .before .before .join-edges .ensures) z z z z z z z refl)
+    (links-of _ _ (c .before .before .before .before .before .before .before .args .args .now) 12
+    (λ sh x a _ _ _ _ _ _. jekvLinks sh x a (nextOf sh x a))
+    (c .before .before .join-edges .ensures) z z z z z z z refl)
 
 same-length-13 : tie.Need-same-length-13
 same-length-13 c = search needs
@@ -212,7 +223,9 @@ returns-13 : tie.Need-returns-13
 returns-13 c =
     let z = c .before .before .before .before .item-at12 .ensures .0 in
     links-at _ _ _ _ 13 _ (c .before .before .before .before .before .before .match .keys13)
-    (links-of _ _ (c .before .before .before .before .before .before .before .before .args .args .now) 13 (λ sh x a b _ _ _ _ _. rmovLinks sh x a b) (c .before .before .rmov-links .ensures) z (c .before .before .before .item-at13 .ensures .0) z z z z z refl)
+    (links-of _ _ (c .before .before .before .before .before .before .before .before .args .args .now) 13
+    (λ sh x a b _ _ _ _ _. rmovLinks sh x a b) (c .before .before .rmov-links .ensures) z
+    (c .before .before .before .item-at13 .ensures .0) z z z z z refl)
 
 returns-14 : tie.Need-returns-14
 returns-14 c =

@@ -40,9 +40,15 @@ same-length c = search needs
 returns : tie.Need-returns
 returns c =
     let z = c .before .before .before .before .before .before .before .before .before .before .item-at .ensures .0 in
-    links-of _ _ (c .before .before .before .before .before .before .before .before .before .before .before .before .args .args .now) 8 (λ sh x a b d e k _ _. mekrLinks sh x a b d e k) (c .before .before .mekr-links .ensures) z (c .before .before .before .before .before .before .before .before .before .item-at2 .ensures .0)
-    (c .before .before .before .before .before .before .before .before .item-at3 .ensures .0) (c .before .before .before .before .before .before .before .item-at4 .ensures .0)
-    (half-read _ _ (c .before .before .before .before .before .before .item-at5 .ensures .0) (c .before .before .before .before .before .item-at6 .ensures .0) (c .before .before .before .half-by .ensures .0)) z z refl
+    links-of _ _ (c .before .before .before .before .before .before .before .before .before .before .before
+    .before .args .args .now) 8 (λ sh x a b d e k _ _. mekrLinks sh x a b d e k)
+    (c .before .before .mekr-links .ensures) z (c .before .before .before .before .before .before .before .before
+    .before .item-at2 .ensures .0)
+    (c .before .before .before .before .before .before .before .before .item-at3 .ensures .0)
+    (c .before .before .before .before .before .before .before .item-at4 .ensures .0)
+    (half-read _ _ (c .before .before .before .before .before .before .item-at5 .ensures .0)
+    (c .before .before .before .before .before .item-at6 .ensures .0) (c .before .before .before .half-by .ensures .0))
+    z z refl
 
 pub join-ring-spec : {M : Type 1} → statement M
 join-ring-spec =

@@ -26,7 +26,9 @@ same-length c = search needs
 
 returns : tie.Need-returns
 returns c =
-    kvsf-found _ _ _ (c .before .before .before .before .before .before .before .before .face-in .ensures .0) (c .before .before .before .before .before .before .face-outer .ensures .0) (c .before .before .before .before .loop-isolated .ensures .0)
+    kvsf-found _ _ _ (c .before .before .before .before .before .before .before .before .face-in .ensures .0)
+    (c .before .before .before .before .before .before .face-outer .ensures .0)
+    (c .before .before .before .before .loop-isolated .ensures .0)
     (c .before .before .kvsf-links .ensures)
 
 pub kill-solid-spec : {M : Type 1} → statement M

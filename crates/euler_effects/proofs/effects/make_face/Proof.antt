@@ -42,10 +42,16 @@ same-length c = search needs
 
 returns : tie.Need-returns
 returns c =
-    links-of _ _ (c .before .before .before .before .before .before .before .before .before .before .before .before .before .args .args .now) 5 mefLinks (c .before .before .mef-links .ensures) (c .before .before .before .before .before .before .before .before .before .before .before .item-at .ensures .0)
-    (c .before .before .before .before .before .before .before .before .before .before .item-at2 .ensures .0) (c .before .before .before .before .before .before .before .before .before .item-at3 .ensures .0)
-    (half-read _ _ (c .before .before .before .before .before .before .before .before .item-at4 .ensures .0) (c .before .before .before .before .before .item-at7 .ensures .0) (c .before .before .before .half-by .ensures .0))
-    (c .before .before .before .before .before .before .before .item-at5 .ensures .0) (c .before .before .before .before .before .before .item-at6 .ensures .0) (c .before .before .before .before .before .item-at7 .ensures .0) refl
+    links-of _ _ (c .before .before .before .before .before .before .before .before .before .before .before .before
+    .before .args .args .now) 5 mefLinks (c .before .before .mef-links .ensures)
+    (c .before .before .before .before .before .before .before .before .before .before .before .item-at .ensures .0)
+    (c .before .before .before .before .before .before .before .before .before .before .item-at2 .ensures .0)
+    (c .before .before .before .before .before .before .before .before .before .item-at3 .ensures .0)
+    (half-read _ _ (c .before .before .before .before .before .before .before .before .item-at4 .ensures .0)
+    (c .before .before .before .before .before .item-at7 .ensures .0) (c .before .before .before .half-by .ensures .0))
+    (c .before .before .before .before .before .before .before .item-at5 .ensures .0)
+    (c .before .before .before .before .before .before .item-at6 .ensures .0)
+    (c .before .before .before .before .before .item-at7 .ensures .0) refl
 
 pub make-face-spec : {M : Type 1} → statement M
 make-face-spec =

@@ -30,8 +30,11 @@ same-length c = search needs
 returns : tie.Need-returns
 returns c =
     let z = c .before .before .before .before .before .before .before .item-at .ensures .0 in
-    links-of _ _ (c .before .before .before .before .before .before .before .before .before .args .args .now) 1 (λ sh x a b d e _ _ _. mvsfLinks sh x a b d e) (c .before .before .mvsf-links .ensures) z (c .before .before .before .before .before .before .item-at2 .ensures .0)
-    (c .before .before .before .before .before .item-at3 .ensures .0) (c .before .before .before .before .item-at4 .ensures .0) z z z refl
+    links-of _ _ (c .before .before .before .before .before .before .before .before .before .args .args .now) 1
+    (λ sh x a b d e _ _ _. mvsfLinks sh x a b d e) (c .before .before .mvsf-links .ensures) z
+    (c .before .before .before .before .before .before .item-at2 .ensures .0)
+    (c .before .before .before .before .before .item-at3 .ensures .0)
+    (c .before .before .before .before .item-at4 .ensures .0) z z z refl
 
 pub make-solid-spec : {M : Type 1} → statement M
 make-solid-spec =

@@ -34,8 +34,11 @@ same-length c = search needs
 returns : tie.Need-returns
 returns c =
     let z = c .before .before .before .before .before .before .before .before .item-at .ensures .0 in
-    links-of _ _ (c .before .before .before .before .before .before .before .before .before .before .args .args .now) 11 (λ sh x a k v _ _ _ _. semvLinks sh x a k v) (c .before .before .semv-links .ensures) z
-    (half-read _ _ (c .before .before .before .before .before .before .before .item-at2 .ensures .0) (c .before .before .before .before .before .item-at4 .ensures .0) (c .before .before .before .half-by .ensures .0)) (c .before .before .before .before .before .before .item-at3 .ensures .0)
+    links-of _ _ (c .before .before .before .before .before .before .before .before .before .before .args .args .now) 11
+    (λ sh x a k v _ _ _ _. semvLinks sh x a k v) (c .before .before .semv-links .ensures) z
+    (half-read _ _ (c .before .before .before .before .before .before .before .item-at2 .ensures .0)
+    (c .before .before .before .before .before .item-at4 .ensures .0) (c .before .before .before .half-by .ensures .0))
+    (c .before .before .before .before .before .before .item-at3 .ensures .0)
     z z z z refl
 
 pub split-edge-spec : {M : Type 1} → statement M

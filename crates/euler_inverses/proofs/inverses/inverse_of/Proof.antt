@@ -3,10 +3,12 @@ use Rattle.layout.specs.Mate.{mate}
 use Rattle.layout.specs.Items.{faceIn}
 use Rattle.layout.specs.Layout.{nextOf}
 use Rattle.euler.specs.Surgery.{halfBy}
-use Rattle.euler.specs.EdgeOperators.{mevInverse, kevInverse, mefInverse, kefInverse, kemrInverse, mekrInverse, semvInverse, jekvInverse}
+use Rattle.euler.specs.EdgeOperators.{mevInverse, kevInverse, mefInverse, kefInverse}
+use Rattle.euler.specs.EdgeOperators.{kemrInverse, mekrInverse, semvInverse, jekvInverse}
 use Rattle.euler.specs.FaceOperators.{mvsfInverse, kvsfInverse, kfmrhInverse, mfkrhInverse, rmovInverse}
 use Rattle.euler.specs.Exec.{onlyLoop, onlyVertex}
-use Rattle.euler_inverses.specs.Chosen.{mekr-undone, inverse-of-one, inverse-of-two, inverse-of-three, inverse-none}
+use Rattle.euler_inverses.specs.Chosen.{mekr-undone, inverse-none}
+use Rattle.euler_inverses.specs.Chosen.{inverse-of-one, inverse-of-two, inverse-of-three}
 use borrow.Author.Needs.{needs}
 use Rattle.euler_inverses.proofs.inverses.inverse_of.Statement.{statement}
 use Rattle.euler_inverses.proofs.inverses.inverse_of.Tie as tie
@@ -100,68 +102,88 @@ blank-requires c κs = search needs
 
 returns : tie.Need-returns
 returns c =
-    inverse-of-one _ _ _ _ 1 0 (λ _ _ _. mvsfInverse) (c .before .match .keys1) refl (c .before .before .before .before .before .before .before .before .item-of .ensures .0)
+    inverse-of-one _ _ _ _ 1 0 (λ _ _ _. mvsfInverse) (c .before .match .keys1) refl
+    (c .before .before .before .before .before .before .before .before .item-of .ensures .0)
     (c .mvsf-inverse .ensures)
 
 returns-2 : tie.Need-returns-2
 returns-2 c =
-    inverse-of-one _ _ _ _ 2 0 (λ sh x p s. kvsfInverse p s (faceIn sh x s) (onlyLoop sh x s) (onlyVertex sh x s)) (c .before .match .keys2) refl (c .before .before .before .before .before .before .before .before .item-of .ensures .0)
+    inverse-of-one _ _ _ _ 2 0 (λ sh x p s. kvsfInverse p s (faceIn sh x s) (onlyLoop sh x s) (onlyVertex sh x s))
+    (c .before .match .keys2) refl (c .before .before .before .before .before .before .before
+    .before .item-of .ensures .0)
     (c .solid-again .ensures)
 
 returns-3 : tie.Need-returns-3
 returns-3 c =
-    inverse-of-two _ _ _ _ 3 2 4 (λ _ _ _ e w. mevInverse (halfBy e w)) (c .before .before .match .keys3) refl (c .before .before .before .before .before .before .before .item-of3 .ensures .0) (c .before .before .before .before .before .item-of5 .ensures .0)
+    inverse-of-two _ _ _ _ 3 2 4 (λ _ _ _ e w. mevInverse (halfBy e w)) (c .before .before .match .keys3) refl
+    (c .before .before .before .before .before .before .before .item-of3 .ensures .0)
+    (c .before .before .before .before .before .item-of5 .ensures .0)
     (c .mev-inverse .ensures ∙ ap mevInverse (c .before .half-by .ensures .0))
 
 returns-4 : tie.Need-returns-4
 returns-4 c =
-    inverse-of-one _ _ _ _ 4 0 kevInverse (c .before .match .keys4) refl (c .before .before .before .before .before .before .before .before .item-of .ensures .0)
+    inverse-of-one _ _ _ _ 4 0 kevInverse (c .before .match .keys4) refl
+    (c .before .before .before .before .before .before .before .before .item-of .ensures .0)
     (c .kev-inverse .ensures)
 
 returns-5 : tie.Need-returns-5
 returns-5 c =
-    inverse-of-two _ _ _ _ 5 3 6 (λ _ _ _ e w. mefInverse (mate (halfBy e w))) (c .before .match .keys5) refl (c .before .before .before .before .before .item-of4 .ensures .0) (c .before .before .item-of7 .ensures .0)
+    inverse-of-two _ _ _ _ 5 3 6 (λ _ _ _ e w. mefInverse (mate (halfBy e w))) (c .before .match .keys5) refl
+    (c .before .before .before .before .before .item-of4 .ensures .0) (c .before .before .item-of7 .ensures .0)
     (c .edge-again .ensures)
 
 returns-6 : tie.Need-returns-6
 returns-6 c =
-    inverse-of-one _ _ _ _ 6 0 (λ sh x _. kefInverse sh x) (c .before .match .keys6) refl (c .before .before .before .before .before .before .before .before .item-of .ensures .0)
+    inverse-of-one _ _ _ _ 6 0 (λ sh x _. kefInverse sh x) (c .before .match .keys6) refl
+    (c .before .before .before .before .before .before .before .before .item-of .ensures .0)
     (c .kef-inverse .ensures)
 
 returns-7 : tie.Need-returns-7
 returns-7 c =
-    inverse-of-two _ _ _ _ 7 0 1 (λ sh x _. kemrInverse sh x) (c .before .match .keys7) refl (c .before .before .before .before .before .before .before .before .item-of .ensures .0) (c .before .before .before .before .before .before .before .item-of2 .ensures .0)
+    inverse-of-two _ _ _ _ 7 0 1 (λ sh x _. kemrInverse sh x) (c .before .match .keys7) refl
+    (c .before .before .before .before .before .before .before .before .item-of .ensures .0)
+    (c .before .before .before .before .before .before .before .item-of2 .ensures .0)
     (c .kemr-inverse .ensures)
 
 returns-8 : tie.Need-returns-8
 returns-8 c =
     inverse-of-three _ _ _ _ 8 4 5 2 (λ _ _ _ e w l. mekrInverse (halfBy e w) l) (c .before .before .match .keys8) refl
-    (c .before .before .before .before .before .item-of5 .ensures .0) (c .before .before .before .before .item-of6 .ensures .0) (c .before .before .before .before .before .before .before .item-of3 .ensures .0)
+    (c .before .before .before .before .before .item-of5 .ensures .0)
+    (c .before .before .before .before .item-of6 .ensures .0)
+    (c .before .before .before .before .before .before .before .item-of3 .ensures .0)
     (mekr-undone _ _ _ (c .before .half-by2 .ensures .0) (c .mekr-inverse .ensures))
 
 returns-9 : tie.Need-returns-9
 returns-9 c =
-    inverse-of-two _ _ _ _ 9 0 1 (λ sh x _. kfmrhInverse sh x) (c .before .match .keys9) refl (c .before .before .before .before .before .before .before .before .item-of .ensures .0) (c .before .before .before .before .before .before .before .item-of2 .ensures .0)
+    inverse-of-two _ _ _ _ 9 0 1 (λ sh x _. kfmrhInverse sh x) (c .before .match .keys9) refl
+    (c .before .before .before .before .before .before .before .before .item-of .ensures .0)
+    (c .before .before .before .before .before .before .before .item-of2 .ensures .0)
     (c .kfmrh-inverse .ensures)
 
 returns-10 : tie.Need-returns-10
 returns-10 c =
-    inverse-of-two _ _ _ _ 10 0 1 (λ sh x _. mfkrhInverse sh x) (c .before .match .keys10) refl (c .before .before .before .before .before .before .before .before .item-of .ensures .0) (c .before .before .before .before .before .before .before .item-of2 .ensures .0)
+    inverse-of-two _ _ _ _ 10 0 1 (λ sh x _. mfkrhInverse sh x) (c .before .match .keys10) refl
+    (c .before .before .before .before .before .before .before .before .item-of .ensures .0)
+    (c .before .before .before .before .before .before .before .item-of2 .ensures .0)
     (c .mfkrh-inverse .ensures)
 
 returns-11 : tie.Need-returns-11
 returns-11 c =
-    inverse-of-one _ _ _ _ 11 0 (λ _ _ _. semvInverse) (c .before .match .keys11) refl (c .before .before .before .before .before .before .before .before .item-of .ensures .0)
+    inverse-of-one _ _ _ _ 11 0 (λ _ _ _. semvInverse) (c .before .match .keys11) refl
+    (c .before .before .before .before .before .before .before .before .item-of .ensures .0)
     (c .semv-inverse .ensures)
 
 returns-12 : tie.Need-returns-12
 returns-12 c =
-    inverse-of-one _ _ _ _ 12 0 (λ sh x p k. jekvInverse sh x p k (nextOf sh x k)) (c .before .match .keys12) refl (c .before .before .before .before .before .before .before .before .item-of .ensures .0)
+    inverse-of-one _ _ _ _ 12 0 (λ sh x p k. jekvInverse sh x p k (nextOf sh x k)) (c .before .match .keys12) refl
+    (c .before .before .before .before .before .before .before .before .item-of .ensures .0)
     (c .vertex-again .ensures)
 
 returns-13 : tie.Need-returns-13
 returns-13 c =
-    inverse-of-two _ _ _ _ 13 0 1 (λ sh x _. rmovInverse sh x) (c .before .match .keys13) refl (c .before .before .before .before .before .before .before .before .item-of .ensures .0) (c .before .before .before .before .before .before .before .item-of2 .ensures .0)
+    inverse-of-two _ _ _ _ 13 0 1 (λ sh x _. rmovInverse sh x) (c .before .match .keys13) refl
+    (c .before .before .before .before .before .before .before .before .item-of .ensures .0)
+    (c .before .before .before .before .before .before .before .item-of2 .ensures .0)
     (c .rmov-inverse .ensures)
 
 returns-14 : tie.Need-returns-14

@@ -23,7 +23,9 @@ kvsf-inverse-requires c κs = search needs
 
 returns : tie.Need-returns
 returns c =
-    kvsf-undone (c .before .before .before .before .before .args .sh) _ _ _ (c .before .before .before .face-in .ensures .0) (c .before .before .face-outer .ensures .0) (c .before .loop-isolated .ensures .0)
+    kvsf-undone (c .before .before .before .before .before .args .sh) _ _ _
+    (c .before .before .before .face-in .ensures .0) (c .before .before .face-outer .ensures .0)
+    (c .before .loop-isolated .ensures .0)
     (c .kvsf-inverse .ensures)
 
 pub solid-again-spec : {M : Type 1} → statement M

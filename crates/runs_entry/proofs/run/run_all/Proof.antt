@@ -47,19 +47,37 @@ run-step-requires c κs =
     (l .5, (c .before .before .before .before .before .before .before .before .before .before .pre .1 .0, l .6))
 
 same-length : tie.Need-same-length Inv-loop μ-loop
-same-length c = search needs
+same-length c = omega (
+  arith,
+  c .before .before .before .before .before .before .links .given,
+  c .before .before .before
+      .before .before .before .before .before .before .before .before .before .before .before .loop .inv .0,
+)
 
 same-length-2 : tie.Need-same-length-2 Inv-loop μ-loop
-same-length-2 c = search needs
+same-length-2 c = omega (
+  arith,
+  c .before .before .before .before .points .given,
+  c .before .before .before .before
+      .before .before .before .before .before .before .before .before .before .before .loop .inv .1,
+)
 
 same-length-3 : tie.Need-same-length-3 Inv-loop μ-loop
-same-length-3 c = search needs
+same-length-3 c = omega (
+  arith,
+  c .before .before .before .log .given,
+  c .before .before .before .before .before .before
+      .before .before .before .before .before .before .before .before .loop .inv .2,
+)
 
 returns : tie.Need-returns Inv-loop μ-loop
 returns c =
+    let l = c .before .before .before .before .before .before .before .before .before .before .before .before .before
+    .before .loop .inv in
+    let t = c .before .before .before .before .before .before .before .before .before .before .before .before
+    .before .loop-test .taken in
     run-stop _ _ _ _ _ _ _
-    (c .before .before .before .before .before .before .before .before .before .before .before .before .before
-    .before .loop .inv .7) (omega arith) (omega arith) _
+    (l .7) t (omega (arith, t, l .3)) _
     (c .before .before .before .before .before .before .before .run-step .ensures .0) (c .if1 .taken)
 
 add-done : tie.Need-add-done Inv-loop μ-loop
@@ -84,29 +102,31 @@ loop-again c =
     let r = c .before .before .before .before .before .before .before .run-step .ensures in
     let l = c .before .before .before .before .before .before .before .before .before .before .before .before .before
     .before .loop .inv in
+    let t = c .before .before .before .before .before .before .before .before .before .before .before .before
+    .before .loop-test .taken in
     let n = step-next _ _ _ _ _ (r .0) (c .if1 .left) in (
-      omega arith,
-      omega arith,
-      omega arith,
-      omega (arith, n .0),
+      omega (arith, c .before .before .before .before .before .before .links .given, l .0),
+      omega (arith, c .before .before .before .before .points .given, l .1),
+      omega (arith, c .before .before .before .log .given, l .2),
+      omega (arith, n .0, l .3),
       n .1,
       r .1 .0,
-      omega (arith, r .1 .1, l .6),
-      run-turn _ _ _ _ _ _ _ (l .7) (omega arith) (omega arith) _ (r .0) (c .if1 .left) _ (omega arith),
+      omega (arith, r .1 .1, l .6, c .before .before .before .log .given),
+      run-turn _ _ _ _ _ _ _ (l .7) t (omega (arith, t, l .3)) _ (r .0) (c .if1 .left) _ (omega arith),
       l .8,
     )
 
 same-length-4 : tie.Need-same-length-4 Inv-loop μ-loop
-same-length-4 c = search needs
+same-length-4 c = omega (arith, c .before .loop .inv .0)
 
 same-length-5 : tie.Need-same-length-5 Inv-loop μ-loop
-same-length-5 c = search needs
+same-length-5 c = omega (arith, c .before .loop .inv .1)
 
 same-length-6 : tie.Need-same-length-6 Inv-loop μ-loop
-same-length-6 c = search needs
+same-length-6 c = omega (arith, c .before .loop .inv .2)
 
 returns-2 : tie.Need-returns-2 Inv-loop μ-loop
-returns-2 c = run-end _ _ _ _ _ _ _ (c .before .loop .inv .7) (omega arith)
+returns-2 c = run-end _ _ _ _ _ _ _ (c .before .loop .inv .7) (omega (arith, c .loop-test .left))
 
 pub run-all-spec : {M : Type 1} → statement M
 run-all-spec =

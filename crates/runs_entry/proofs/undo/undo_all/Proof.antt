@@ -25,13 +25,14 @@ loop-holds : tie.Need-loop-holds Inv-loop μ-loop
 loop-holds c = (refl, refl, omega arith, c .before .before .pre .0, undo-begins _ _ _ _ _ _)
 
 same-length : tie.Need-same-length Inv-loop μ-loop
-same-length c = search needs
+same-length c = omega (arith, c .before .before .loop .inv .0)
 
 same-length-2 : tie.Need-same-length-2 Inv-loop μ-loop
-same-length-2 c = search needs
+same-length-2 c = omega (arith, c .before .before .loop .inv .1)
 
 returns : tie.Need-returns Inv-loop μ-loop
-returns c = undo-past _ _ _ _ _ _ _ _ (c .before .before .loop .inv .4) (omega arith) (omega arith)
+returns c = undo-past _ _ _ _ _ _ _ _ (c .before .before .loop .inv .4)
+    (omega (arith, c .before .loop-test .taken)) (omega (arith, c .if1 .taken))
 
 undo-step-requires : tie.Need-undo-step-requires Inv-loop μ-loop
 undo-step-requires c κs = (
@@ -40,45 +41,74 @@ undo-step-requires c κs = (
 )
 
 same-length-3 : tie.Need-same-length-3 Inv-loop μ-loop
-same-length-3 c = search needs
+same-length-3 c = omega (
+  arith,
+  c .before .before .before .before .links .given,
+  c .before .before .before .before
+      .before .before .before .before .before .before .before .before .loop .inv .0,
+)
 
 same-length-4 : tie.Need-same-length-4 Inv-loop μ-loop
-same-length-4 c = search needs
+same-length-4 c = omega (
+  arith,
+  c .before .before .points .given,
+  c .before .before .before .before .before .before
+      .before .before .before .before .before .before .loop .inv .1,
+)
 
 returns-2 : tie.Need-returns-2 Inv-loop μ-loop
 returns-2 c =
     let u = c .before .before .before .before .before .undo-step .ensures in
     undo-stop _ _ _ _ _ _ _ _
-    (c .before .before .before .before .before .before .before .before .before .before .before
-    .before .loop .inv .4) (omega arith) (omega arith) _ (u .0 .0) _ (u .1 .0) (c .if2 .taken)
+    (c .before .before .before .before .before .before .before .before .before .before .before .before .loop .inv .4)
+    (omega (
+      arith,
+      c .before .before .before .before .before .before .before .before .before .before
+          .before .loop-test .taken,
+    )) (omega (
+      arith,
+      c .before .before .before .before .before .before .before .before .before
+          .before .if1 .left,
+    )) _ (u .0 .0) _ (u .1 .0) (c .if2 .taken)
 
 add-undone : tie.Need-add-undone Inv-loop μ-loop
 add-undone c = search needs
 
 loop-less : tie.Need-loop-less Inv-loop μ-loop
-loop-less c = omega arith
+loop-less c = omega (
+  arith,
+  c .before .before .before .before .before .before .before .before .before .before
+      .before .loop-test .taken,
+)
 
 loop-again : tie.Need-loop-again Inv-loop μ-loop
 loop-again c =
-    let u = c .before .before .before .before .before .undo-step .ensures in (
-      omega arith,
-      omega arith,
-      omega arith,
+    let u = c .before .before .before .before .before .undo-step .ensures in
+    let l = c .before .before .before .before .before .before .before .before .before .before .before .before .loop .inv
+    in
+    let t = c .before .before .before .before .before .before .before .before .before .before .before .loop-test .taken
+    in (
+      omega (arith, c .before .before .before .before .links .given, l .0),
+      omega (arith, c .before .before .points .given, l .1),
+      omega (arith, t),
       u .1 .1,
       undo-turn _ _ _ _ _ _ _ _
-          (c .before .before .before .before .before .before .before .before .before .before .before
-          .before .loop .inv .4) (omega arith) (omega arith) _ (u .0 .0) _ (u .1 .0) (c .if2 .left) _ (u .0 .1) _
+          (l .4) (omega (arith, t)) (omega (
+            arith,
+            c .before .before .before .before .before .before .before .before
+                .before .before .if1 .left,
+          )) _ (u .0 .0) _ (u .1 .0) (c .if2 .left) _ (u .0 .1) _
           (omega arith),
     )
 
 same-length-5 : tie.Need-same-length-5 Inv-loop μ-loop
-same-length-5 c = search needs
+same-length-5 c = omega (arith, c .before .loop .inv .0)
 
 same-length-6 : tie.Need-same-length-6 Inv-loop μ-loop
-same-length-6 c = search needs
+same-length-6 c = omega (arith, c .before .loop .inv .1)
 
 returns-3 : tie.Need-returns-3 Inv-loop μ-loop
-returns-3 c = undo-end _ _ _ _ _ _ _ _ (c .before .loop .inv .4) (omega arith)
+returns-3 c = undo-end _ _ _ _ _ _ _ _ (c .before .loop .inv .4) (omega (arith, c .loop-test .left))
 
 pub undo-all-spec : {M : Type 1} → statement M
 undo-all-spec =

@@ -1,4 +1,4 @@
-use mathlib.Core.Path.{_≡_, refl, _∙_}
+use mathlib.Core.Path.{_≡_, refl, sym, _∙_}
 use Prim.Native.Nat.{_-_, _≤_}
 use native.Mathlib.Omega.{arith}
 use lib.ListN.{length, length-set, take, drop}
@@ -43,7 +43,8 @@ from-wire-requires : tie.Need-from-wire-requires Inv-loop μ-loop
 from-wire-requires c κs =
     let b = c .before .before in
     let l = b .before .before .before .before in
-    number-small (l .before .before .before .args .script .now) (l .loop .p) _ (b .x .given .0 .1 .0) (cc)
+    number-small (l .before .before .before .args .script .now) (l .loop .p) _ (b .x .given .0 .1 .0)
+    (sym (c .before .before .before .before .read-number .ensures) ∙ b .x .given .1)
 
 mul-t22 : tie.Need-mul-t22 Inv-loop μ-loop
 mul-t22 c = search needs
@@ -57,7 +58,9 @@ enum-told c = search needs
 returns : tie.Need-returns Inv-loop μ-loop
 returns c =
     let l = c .before .before .before in
-    scan-bad _ _ _ _ _ (omega arith) _ _ _ _ _ (l .before .loop .inv .2) (l .loop-test .taken) (cc)
+    scan-bad _ _ _ _ _ (omega (arith, l .before .loop .inv .1, l .before .before .before .before .pre .1 .1)) _ _ _ _ _
+    (l .before .loop .inv .2) (l .loop-test .taken)
+    (sym (c .before .before .read-number .ensures) ∙ c .enum-told .given .1)
 
 add-i : tie.Need-add-i Inv-loop μ-loop
 add-i c = search needs
@@ -70,14 +73,20 @@ loop-again c =
     let l = c .before .before .before .before .before .before in
     let v = l .before .loop .inv in
     rw (toZ-ofZ {w = w32} {z = c .from-wire .result} (record { sfits = c .from-wire .ok })) (
-      omega arith,
+      omega (arith, l .loop-test .taken),
       v .1,
-      scan-turn _ _ _ _ _ (omega arith) _ _ _ _ _ (v .2) (l .loop-test .taken) _ _ (cc)
+      scan-turn _ _ _ _ _ (omega (arith, v .1, l .before .before .before .before .pre .1 .1)) _ _ _ _ _ (v .2)
+          (l .loop-test .taken) _ _
+          (sym (c .before .before .before .before .before .read-number .ensures) ∙ c .before .before
+          .before .x .given .1)
           _ (c .before .join-refusal .ensures) _ (c .from-wire .ensures),
     )
 
 returns-2 : tie.Need-returns-2 Inv-loop μ-loop
-returns-2 c = let v = c .before .loop .inv in scan-end _ _ _ _ _ (omega arith) _ _ _ _ _ (v .2) (c .loop-test .left)
+returns-2 c =
+    let v = c .before .loop .inv in
+    scan-end _ _ _ _ _ (omega (arith, v .1, c .before .before .before .before .pre .1 .1)) _ _ _ _ _ (v .2)
+    (c .loop-test .left)
 
 pub scan-operands-spec : {M : Type 1} → statement M
 scan-operands-spec =

@@ -1,3 +1,4 @@
+use mathlib.Core.Path.{sym, _∙_}
 use Rattle.runs_take.specs.Outcome.{take-none, take-some, take-bad}
 use borrow.Author.Needs.{needs}
 use Rattle.runs_take.proofs.take.take.Statement.{statement}
@@ -20,7 +21,9 @@ told-requires c κs = search needs
 returns : tie.Need-returns
 returns c =
     let g = c .before .before .before .x .given .0 in
-    take-none _ _ _ _ _ (g .0) (g .1 .0) (cc) (c .before .if1 .taken) (c .told .ensures) _
+    take-none _ _ _ _ _ (g .0) (g .1 .0)
+    (sym (c .before .before .before .before .before .read-number .ensures) ∙ c .before .before .before .x .given .1)
+    (c .before .if1 .taken) (c .told .ensures) _
 
 cast-take-behind : tie.Need-cast-take-behind
 cast-take-behind c = search needs
@@ -37,10 +40,13 @@ told-requires-2 c κs = search needs
 returns-2 : tie.Need-returns-2
 returns-2 c =
     let g = c .before .before .before .before .x .given .0 in
-    take-some _ _ _ _ _ (g .0) (g .1 .0) (cc) _ (c .take-behind .ensures)
+    take-some _ _ _ _ _ (g .0) (g .1 .0)
+    (sym (c .before .before .before .before .before .before .read-number .ensures) ∙ c .before .before .before
+    .before .x .given .1) _ (c .take-behind .ensures)
 
 returns-3 : tie.Need-returns-3
-returns-3 c = take-bad _ _ _ _ _ (cc) (c .told2 .ensures) _
+returns-3 c = take-bad _ _ _ _ _ (sym (c .before .before .before .read-number .ensures) ∙ c
+    .before .enum-told .given .1) (c .told2 .ensures) _
 
 pub take-spec : {M : Type 1} → statement M
 take-spec =

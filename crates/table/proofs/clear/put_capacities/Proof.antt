@@ -26,8 +26,14 @@ same-length c = search needs
 
 returns : tie.Need-returns
 returns c =
-    let a = c .before .before .before .before .before .before .before .before .before .before .before .before .before .before .before .before .before .before .before .before .before .args in
-    capacities-put (a .links .now) (a .s) _ _ _ _ (c .before .before .before .before .before .before .before .before .before .before .before .before .before .before .before .before .before .before .put .ensures) (c .before .before .before .before .before .before .before .before .before .before .before .before .before .before .put2 .ensures) (c .before .before .before .before .before .before .before .before .before .before .put3 .ensures) (c .before .before .before .before .before .before .put4 .ensures) (c .before .before .put5 .ensures)
+    let a = c .before .before .before .before .before .before .before .before .before .before .before .before .before
+    .before .before .before .before .before .before .before .before .args in
+    capacities-put (a .links .now) (a .s) _ _ _ _ (c .before .before .before .before .before .before .before .before
+    .before .before .before .before .before .before .before .before .before .before .put .ensures)
+    (c .before .before .before .before .before .before .before .before .before .before .before .before .before
+    .before .put2 .ensures) (c .before .before .before .before .before .before .before .before .before
+    .before .put3 .ensures) (c .before .before .before .before .before .before .put4 .ensures)
+    (c .before .before .put5 .ensures)
 
 pub put-capacities-spec : {M : Type 1} → statement M
 put-capacities-spec =

@@ -14,7 +14,8 @@ face-outer-requires : tie.Need-face-outer-requires
 face-outer-requires c κs = search needs
 
 returns : tie.Need-returns
-returns c = ring-read (c .before .before .before .args .sh) _ _ (c .before .loop-face .ensures .0) (c .face-outer .ensures .0)
+returns c = ring-read (c .before .before .before .args .sh) _ _ (c .before .loop-face .ensures .0)
+    (c .face-outer .ensures .0)
 
 pub is-ring-spec : {M : Type 1} → statement M
 is-ring-spec = tie.close (tie.spec loop-face-requires face-outer-requires returns)

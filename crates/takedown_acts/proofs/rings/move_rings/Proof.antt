@@ -40,28 +40,32 @@ loop-less c = search needs
 
 loop-again : tie.Need-loop-again Inv-loop μ-loop
 loop-again c =
-    let e = c .before .before .before .before .before .move-ring .ensures in (
-      omega arith,
-      omega arith,
-      omega arith,
-      omega arith,
-      omega (arith, e .1),
-      rings-turn _ _ _ _ _ _ _
-          (c .before .before .before .before .before .before .before .before .before .before .loop .inv .5) (omega
-          arith) _ (e .0) _ (omega arith),
+    let e = c .before .before .before .before .before .move-ring .ensures in
+    let l = c .before .before .before .before .before .before .before .before .before .before .loop .inv in
+    let t = c .before .before .before .before .before .before .before .before .before .loop-test .taken in (
+      omega (arith, c .before .before .before .before .links .given, l .0),
+      omega (arith, c .before .before .points .given, l .1),
+      omega (arith, c .before .log .given, l .2),
+      l .3,
+      omega (arith, e .1, l .4, t),
+      rings-turn _ _ _ _ _ _ _ (l .5) (omega (arith, t)) _ (e .0) _ (omega (arith, t)),
     )
 
 same-length : tie.Need-same-length Inv-loop μ-loop
-same-length c = search needs
+same-length c = omega (arith, c .before .loop .inv .0)
 
 same-length-2 : tie.Need-same-length-2 Inv-loop μ-loop
-same-length-2 c = search needs
+same-length-2 c = omega (arith, c .before .loop .inv .1)
 
 same-length-3 : tie.Need-same-length-3 Inv-loop μ-loop
-same-length-3 c = search needs
+same-length-3 c = omega (arith, c .before .loop .inv .2)
 
 returns : tie.Need-returns Inv-loop μ-loop
-returns c = (rings-out _ _ _ _ _ _ _ (c .before .loop .inv .5) (omega arith), omega (arith, c .before .loop .inv .4))
+returns c = (
+  rings-out _ _ _ _ _ _ _ (c .before .loop .inv .5) (omega (arith, c .loop-test .left)),
+  omega
+      (arith, c .before .loop .inv .4),
+)
 
 pub move-rings-spec : {M : Type 1} → statement M
 move-rings-spec =

@@ -19,7 +19,12 @@ with-number-requires-3 : tie.Need-with-number-requires-3
 with-number-requires-3 c κs = search needs
 
 returns : tie.Need-returns
-returns c = cc
+returns c = rw (
+  c .with-number3 .ensures,
+  c .before .with-number2 .ensures,
+  c .before .before .with-number .ensures,
+  c .before .before .before .blank .ensures,
+)
 
 pub mfkrh-spec : {M : Type 1} → statement M
 mfkrh-spec =

@@ -16,7 +16,7 @@ with-number-requires-2 : tie.Need-with-number-requires-2
 with-number-requires-2 c κs = search needs
 
 returns : tie.Need-returns
-returns c = cc
+returns c = rw (c .with-number2 .ensures, c .before .with-number .ensures, c .before .before .blank .ensures)
 
 pub rmov-spec : {M : Type 1} → statement M
 rmov-spec = tie.close (tie.spec blank-requires with-number-requires with-number-requires-2 returns)

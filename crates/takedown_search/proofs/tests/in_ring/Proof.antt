@@ -26,8 +26,10 @@ loop-of-requires-2 c κs = search needs
 
 returns : tie.Need-returns
 returns c =
-    in-ring-read (c .before .before .before .before .before .before .args .sh) (c .before .before .before .before .before .before .args .links .now) _ _
-    (c .before .before .before .before .of-solid .ensures) (c .before .before .before .loop-of .ensures .0) (c .before .before .is-ring .ensures) (c .before .mate-of .ensures .0) (c .loop-of2 .ensures .0)
+    in-ring-read (c .before .before .before .before .before .before .args .sh)
+    (c .before .before .before .before .before .before .args .links .now) _ _
+    (c .before .before .before .before .of-solid .ensures) (c .before .before .before .loop-of .ensures .0)
+    (c .before .before .is-ring .ensures) (c .before .mate-of .ensures .0) (c .loop-of2 .ensures .0)
 
 pub in-ring-spec : {M : Type 1} → statement M
 in-ring-spec =

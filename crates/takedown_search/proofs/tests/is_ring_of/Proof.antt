@@ -15,7 +15,8 @@ is-ring-requires c κs = search needs
 
 returns : tie.Need-returns
 returns c =
-    ring-of-read (c .before .before .before .args .sh) (c .before .before .before .args .links .now) _ (c .before .before .before .args .l)
+    ring-of-read (c .before .before .before .args .sh) (c .before .before .before .args .links .now) _
+    (c .before .before .before .args .l)
     (c .before .loop-face .ensures .0) (c .is-ring .ensures)
 
 pub is-ring-of-spec : {M : Type 1} → statement M

@@ -19,7 +19,8 @@ is-ring-requires c κs = search needs
 
 returns : tie.Need-returns
 returns c =
-    stray-read (c .before .before .before .before .args .sh) (c .before .before .before .before .args .links .now) _ _ (c .before .before .before .before .args .l)
+    stray-read (c .before .before .before .before .args .sh) (c .before .before .before .before .args .links .now) _ _
+    (c .before .before .before .before .args .l)
     (c .before .before .loop-face .ensures .0) (c .before .face-solid .ensures .0) (c .is-ring .ensures)
 
 pub is-stray-spec : {M : Type 1} → statement M

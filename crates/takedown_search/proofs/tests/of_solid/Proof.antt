@@ -15,7 +15,8 @@ face-solid-requires c κs = search needs
 
 returns : tie.Need-returns
 returns c =
-    solid-read (c .before .before .before .args .sh) (c .before .before .before .args .links .now) _ (c .before .before .before .args .k)
+    solid-read (c .before .before .before .args .sh) (c .before .before .before .args .links .now) _
+    (c .before .before .before .args .k)
     (c .before .side-of .ensures .0) (c .face-solid .ensures .0)
 
 pub of-solid-spec : {M : Type 1} → statement M
