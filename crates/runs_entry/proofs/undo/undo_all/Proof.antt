@@ -50,7 +50,8 @@ returns-2 c =
     let u = c .before .before .before .before .before .undo-step .ensures in
     undo-stop _ _ _ _ _ _ _ _
     (c .before .before .before .before .before .before .before .before .before .before .before
-    .before .loop .inv .4) (omega arith) (omega arith) _ (u .0 .0) _ (u .1 .0) (c .if2 .taken)
+    .before .loop .inv .4) (omega arith) (omega arith) _ (u .0 .0) _ (u .1 .0)
+    (λ z. omega (arith, z, c .if2 .taken))
 
 add-undone : tie.Need-add-undone Inv-loop μ-loop
 add-undone c = search needs
@@ -67,8 +68,8 @@ loop-again c =
       u .1 .1,
       undo-turn _ _ _ _ _ _ _ _
           (c .before .before .before .before .before .before .before .before .before .before .before
-          .before .loop .inv .4) (omega arith) (omega arith) _ (u .0 .0) _ (u .1 .0) (c .if2 .left) _ (u .0 .1) _
-          (omega arith),
+          .before .loop .inv .4) (omega arith) (omega arith) _ (u .0 .0) _ (u .1 .0)
+          (omega (arith, c .if2 .left)) _ (u .0 .1) _ (omega arith),
     )
 
 same-length-5 : tie.Need-same-length-5 Inv-loop μ-loop
