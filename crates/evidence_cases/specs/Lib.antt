@@ -5,3 +5,4 @@ pub mod RowsTakedown
 pub mod RowsRefused
 pub mod RowsSizes
 pub mod Cases
+pub mod Kernels

@@ -1,5 +1,6 @@
 use Rattle.runs.specs.RunLaws.{run-refused, entered-small, run-entered}
 use Rattle.runs_entry.specs.EntryLaws.{entered-start, entered-good}
+use native.Mathlib.Omega.{arith}
 use borrow.Author.Needs.{needs}
 use Rattle.runs_entry.proofs.run.run.Statement.{statement}
 use Rattle.runs_entry.proofs.run.run.Tie as tie
@@ -24,20 +25,21 @@ same-length-3 : tie.Need-same-length-3
 same-length-3 c = search needs
 
 returns : tie.Need-returns
-returns c = run-refused _ _ _ _ _ (c .before .before .enter .ensures) _ (c .if1 .taken)
+returns c = run-refused _ _ _ _ _ (c .before .before .enter .ensures) _ (λ z. omega (arith, z, c .if1 .taken))
 
 shape-of-requires : tie.Need-shape-of-requires
 shape-of-requires c κs = search needs
 
 ranges-of-requires : tie.Need-ranges-of-requires
 ranges-of-requires c κs =
-    entered-small _ _ _ _ _ (c .before .before .before .before .enter .ensures) (c .before .before .if1 .left) _
-    (c .shape-of .ensures)
+    entered-small _ _ _ _ _ (c .before .before .before .before .enter .ensures)
+    (omega (arith, c .before .before .if1 .left)) _ (c .shape-of .ensures)
 
 fill-counts-requires : tie.Need-fill-counts-requires
 fill-counts-requires c κs =
     entered-small _ _ _ _ _ (c .before .before .before .before .before .before .before .enter .ensures)
-    (c .before .before .before .before .before .if1 .left) _ (c .before .before .before .shape-of .ensures)
+    (omega (arith, c .before .before .before .before .before .if1 .left)) _
+    (c .before .before .before .shape-of .ensures)
 
 run-all-requires : tie.Need-run-all-requires
 run-all-requires c κs =
@@ -46,10 +48,10 @@ run-all-requires c κs =
     let z = c .before .before .before .before .before .before .before .before .before .before .before .if1 .left in
     let h = c .before .before .before .before .before .before .before .before .before .shape-of .ensures in
     let f = c .before .before .before .before .before .fill-counts .ensures in (
-      record { good = entered-good _ _ _ _ _ e z _ h; size = f .1; counted = f .0 },
+      record { good = entered-good _ _ _ _ _ e (omega (arith, z)) _ h; size = f .1; counted = f .0 },
       (
         c .before .before .before .before .before .before .before .before .ranges-of .ensures,
-        entered-start _ _ _ _ _ e z _ h,
+        entered-start _ _ _ _ _ e (omega (arith, z)) _ h,
       ),
     )
 
@@ -67,8 +69,11 @@ returns-2 c =
     run-entered _ _ _ _ _
     (c .before .before .before .before .before .before .before .before .before .before .before .before .before
     .before .before .before .before .before .before .enter .ensures)
-    (c .before .before .before .before .before .before .before .before .before .before .before .before .before
-    .before .before .before .before .if1 .left) _
+    (omega (
+      arith,
+      c .before .before .before .before .before .before .before .before .before .before .before .before .before
+          .before .before .before .before .if1 .left,
+    )) _
     (c .before .before .before .before .before .before .before .before .before .before .before .before .before
     .before .before .shape-of .ensures) _ _
     (c .before .before .before .before .before .run-all .ensures)

@@ -69,7 +69,7 @@ returns-2 c =
       arith,
       c .before .before .before .before .before .before .before .before .before
           .before .if1 .left,
-    )) _ (u .0 .0) _ (u .1 .0) (c .if2 .taken)
+    )) _ (u .0 .0) _ (u .1 .0) (λ z. omega (arith, z, c .if2 .taken))
 
 add-undone : tie.Need-add-undone Inv-loop μ-loop
 add-undone c = search needs
@@ -97,7 +97,7 @@ loop-again c =
             arith,
             c .before .before .before .before .before .before .before .before
                 .before .before .if1 .left,
-          )) _ (u .0 .0) _ (u .1 .0) (c .if2 .left) _ (u .0 .1) _
+          )) _ (u .0 .0) _ (u .1 .0) (omega (arith, c .if2 .left)) _ (u .0 .1) _
           (omega arith),
     )
 
