@@ -14,7 +14,8 @@ use lib.IntN.{ℤ, pos, negsuc}
 use Rattle.laws.specs.Bools.{pick, same?}
 use Rattle.codec.specs.declared.Limits.{Limits}
 use Rattle.codec.specs.declared.operands.Pattern.{Pattern}
-use Rattle.codec.specs.Operands.{row, rows, pattern, leasts, largests, inRange, inRanges, each, coordinate}
+use Rattle.codec.specs.Operands.{lastCode, row, rows, pattern, leasts, largests, inRange, inRanges, each}
+use Rattle.codec.specs.Operands.{coordinate}
 use Rattle.codec.specs.Operands.{zig, zag, wire, unwire, none}
 
 -- x is none of 1 to n
@@ -32,14 +33,14 @@ pub by-row : (code k : ℕ) (p : Pattern) → code ≡ k → pattern k ≡ p →
 by-row code k p e f r g = rw (g, e, f)
 
 -- no such code
-pub no-code : (x : ℕ) → 13 < x → row [] ≡ pattern x
+pub no-code : (x : ℕ) → lastCode < x → row [] ≡ pattern x
 unfolding pattern rows
 no-code x h = let k : length rows ≤ x = omega arith in sym (List·getD-eq-default rows (row []) k)
 
-pub pattern-none : (x : ℕ) → NoneOf 13 x → row [] ≡ pattern x
+pub pattern-none : (x : ℕ) → NoneOf lastCode x → row [] ≡ pattern x
 unfolding pattern rows
 pattern-none x d =
-    ⊎-elim (λ e. rw e) (λ h. no-code x h) (none-of 13 x d)
+    ⊎-elim (λ e. rw e) (λ h. no-code x h) (none-of lastCode x d)
 
 -- the largest numbers, each by its own equation
 pub largest-is : (lim : Limits) (s f l e h v w m c : ℕ) → s ≡ lim .solids → f ≡ lim .faces → l ≡ lim .loops

@@ -81,7 +81,11 @@ padded (suc n) (k ∷ ks) = k ∷ padded n ks
 abbrev pub row : List ℕ → Pattern
 row ks = record { count = length ks; kinds = padded 8 ks }
 
--- the operands of the codes 0 to 13; 0 is no code
+-- the last code (document 01: codes are 1 to 13)
+abbrev pub lastCode : ℕ
+lastCode = 13
+
+-- the operands of the codes in order from 0, which is no code
 unfoldable pub rows : List Pattern
 rows =
     row []

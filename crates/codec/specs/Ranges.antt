@@ -12,7 +12,7 @@ use Rattle.laws.specs.Bools.{ask, allb, le?}
 use Rattle.bounds.specs.Bounds.{mostHalves, mostItems}
 use Rattle.codec.specs.declared.Limits.{Limits}
 use Rattle.codec.specs.declared.operands.Pattern.{Pattern}
-use Rattle.codec.specs.Operands.{row, rows, pattern, leasts, largests, widest, inRange, inRanges}
+use Rattle.codec.specs.Operands.{lastCode, row, rows, pattern, leasts, largests, widest, inRange, inRanges}
 use Rattle.codec.specs.OperandLaws.{no-code}
 
 pub not-true : {X : Type 0} → _≡_ {A = Bool} false true → X
@@ -118,15 +118,15 @@ all-eight = refl
 pub eight : (code : ℕ) → length (pattern code .kinds) ≡ 8
 eight code = eqb-true _ 8 (each-row eightKinds refl all-eight code)
 
--- the codes are 1 to 13
+-- the codes are 1 to the last
 pub no-code-0 : pattern 0 .count ≡ 0
 unfolding pattern rows
 no-code-0 = refl
 
-pub code-between : (code : ℕ) → (pattern code .count ≡ 0 → ⊥) → (1 ≤ code) × (code ≤ 13)
+pub code-between : (code : ℕ) → (pattern code .count ≡ 0 → ⊥) → (1 ≤ code) × (code ≤ lastCode)
 code-between zero h = absurd (h no-code-0)
 code-between (suc n) h = (
   omega arith,
   ⊎-elim (λ l. l) (λ g. absurd (h (sym (ap (λ (p : Pattern). p .count) (no-code (suc n) g))))) (le?
-      (suc n) 13),
+      (suc n) lastCode),
 )

@@ -73,7 +73,10 @@ fn made(count: u8, kinds: [u8; 8]) -> Pattern
     Pattern { count, kinds }
 }
 
-// The operands of a code; none where it is not 1 to 13.
+// The last code.
+pub const LAST_CODE: u32 = 13;
+
+// The operands of a code; none where it is no code.
 pub fn pattern_of(code: u8) -> Pattern
     ensures { λ r. ⌜ r ≡ pattern code ⌝ }
 {

@@ -17,10 +17,11 @@ use Rattle.script.specs.declared.Operator.{Operator}
 use Rattle.layout.specs.declared.shape.Shape.{Shape}
 use Rattle.layout.specs.Layout.{faceSolid, loopFace, loopFirst, startOf, loopOf, nextOf, prevOf, side}
 use Rattle.layout.specs.Mate.{mate, edgeOf}
-use Rattle.layout.specs.Fields.{Start, VertexUsed}
+use Rattle.layout.specs.Fields.{Start, VertexUsed, faceKind, loopKind, halfKind}
+use Rattle.layout.specs.Writes.{cleared}
 use Rattle.layout.specs.Items.{some, isRing}
 use Rattle.euler.specs.Surgery.{wayOf, corner, cornerVertex, operator, operatorAt}
-use Rattle.euler.specs.Surgery.{faceRecord, loopRecord, halfRecord, tied, lower}
+use Rattle.euler.specs.Surgery.{faceRecord, loopRecord, tied, lower}
 use Rattle.euler.specs.Queries.{loopsIn, firstBy}
 use Rattle.euler.specs.Steps.{Step, Store, EdgeIn, EdgeOut, InsertAfter, InsertBefore, TieBefore, Relabel, Renew}
 use Rattle.euler.specs.Steps.{half, assign, after}
@@ -166,8 +167,8 @@ abbrev pub kefSteps : Shape → List ℕ → ℕ → List Step
 kefSteps sh x k =
     Relabel (nextOf sh x k) k (loopOf sh x (mate k))  -- the rest of k's loop names the mate's
     ∷ kefEdge sh x k  -- the edge comes out
-    ∷ Store (faceRecord (side sh x k) 0 0)  -- k's face is killed
-    ∷ Store (loopRecord (loopOf sh x k) 0 0 0)  -- and its loop
+    ∷ Store (cleared faceKind (side sh x k))  -- k's face is killed
+    ∷ Store (cleared loopKind (loopOf sh x k))  -- and its loop
     -- the first of the mate's loop anew; it is lone at k's start where nothing is left
     ∷ Renew (loopOf sh x (mate k)) (lower (firstBy sh x k) (firstBy sh x (mate k))) (kefRest sh x k) (startOf sh x k)
     ∷ []
@@ -244,7 +245,7 @@ abbrev pub mekrSteps : Shape → List ℕ → ℕ → ℕ → ℕ → ℕ → �
 mekrSteps sh x l h1 l2 h2 k =
     mekrEdge sh x l h1 l2 h2 k  -- the edge between the two corners
     ∷ Relabel (pick (eqb h2 0) (mate k) h2) (mate k) l  -- the cycle of l2 names l
-    ∷ Store (loopRecord l2 0 0 0)  -- l2 is killed
+    ∷ Store (cleared loopKind l2)  -- l2 is killed
     ∷ Renew l (lower (loopFirst sh x l) (lower (loopFirst sh x l2) (lower k (mate k)))) k 0  -- l's first anew
     ∷ []
 
@@ -294,8 +295,8 @@ jekvSteps sh x k n =
     Store (tied k (nextOf sh x n))  -- k is followed by what comes after n
     ∷ TieBefore (mate n) (mate k)  -- what comes before n's mate is followed by k's mate
     ∷ assign Start (mate k) (startOf sh x (mate n))  -- which starts where n's mate did
-    ∷ Store (halfRecord n 0 0 0 0)  -- n and its mate are killed
-    ∷ Store (halfRecord (mate n) 0 0 0 0)
+    ∷ Store (cleared halfKind n)  -- n and its mate are killed
+    ∷ Store (cleared halfKind (mate n))
     ∷ Renew (loopOf sh x k) (firstBy sh x k) k 0  -- firsts anew on both sides
     ∷ Renew (loopOf sh x (mate k)) (firstBy sh x (mate k)) (mate k) 0
     ∷ assign VertexUsed (startOf sh x n) 0  -- n's start is killed

@@ -12,7 +12,8 @@ use Rattle.script.specs.declared.Operator.{Operator}
 use Rattle.layout.specs.declared.shape.Shape.{Shape}
 use Rattle.layout.specs.Layout.{faceSolid, faceOuter, loopFace, loopIsolated, startOf, loopOf, side}
 use Rattle.layout.specs.Mate.{mate}
-use Rattle.layout.specs.Fields.{SolidUsed, Solid, Outer, Face, VertexUsed}
+use Rattle.layout.specs.Fields.{SolidUsed, Solid, Outer, Face, VertexUsed, faceKind, loopKind}
+use Rattle.layout.specs.Writes.{cleared}
 use Rattle.layout.specs.Items.{some, faceIn, isRing}
 use Rattle.check_shells.specs.Shells.{facesLinkedAs}
 use Rattle.euler.specs.Surgery.{operator, operatorAt, faceRecord, loopRecord}
@@ -53,8 +54,8 @@ kvsfTest sh x s = every (
 abbrev pub kvsfSteps : ℕ → ℕ → ℕ → ℕ → List Step
 kvsfSteps s f l v =
     assign SolidUsed s 0  -- s is free
-    ∷ Store (faceRecord f 0 0)  -- and f
-    ∷ Store (loopRecord l 0 0 0)  -- and l
+    ∷ Store (cleared faceKind f)  -- and f
+    ∷ Store (cleared loopKind l)  -- and l
     ∷ assign VertexUsed v 0  -- and v
     ∷ []
 
@@ -89,7 +90,7 @@ moveFaces sh x s t = does sh (passFaces s t) x
 abbrev pub kfmrhSteps : Shape → List ℕ → ℕ → ℕ → List Step
 kfmrhSteps sh x f1 f2 =
     assign Face (faceOuter sh x f2) f1  -- f2's loop is a ring of f1
-    ∷ Store (faceRecord f2 0 0)  -- f2 is killed
+    ∷ Store (cleared faceKind f2)  -- f2 is killed
     ∷ passFaces (faceSolid sh x f2) (faceSolid sh x f1)  -- the faces of its solid pass to that of f1
     ∷ assign SolidUsed (faceSolid sh x f2) 0  -- its solid is killed
     ∷ assign SolidUsed (faceSolid sh x f1) 1  -- where the solids are one, it stays in use

@@ -6,6 +6,7 @@ use mathlib.Core.List.{List}
 use Prim.Native.Nat.{ℕ}
 use lib.ListN.{getD}
 use Rattle.script.specs.declared.Operator.{Operator}
+use Rattle.codec.specs.Operands.{lastCode}
 use Rattle.codec.specs.OperandLaws.{NoneOf}
 use Rattle.layout.specs.declared.shape.Shape.{Shape}
 use Rattle.euler.specs.ByCode.{by-code, by-none}
@@ -24,6 +25,6 @@ module _ (sh : Shape) (x : List ℕ) (o : Operator) where
       → getD (conditions sh x (itemOf o)) k true ≡ g sh x i j l m → r ≡ condition sh x o
   condition-of k g ek er ea eb ed ee z = condition-at k _ _ ek z (rw (er, ea, eb, ed, ee))
 
-  pub condition-none : NoneOf 13 (o .code) → true ≡ condition sh x o
+  pub condition-none : NoneOf lastCode (o .code) → true ≡ condition sh x o
   unfolding condition
   condition-none n = by-none (conditions sh x (itemOf o)) true (o .code) refl refl n

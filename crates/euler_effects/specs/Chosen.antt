@@ -5,6 +5,7 @@ use mathlib.Core.List.{List}
 use Prim.Native.Nat.{ℕ}
 use lib.IntN.{ℤ}
 use lib.ListN.{getD}
+use Rattle.codec.specs.Operands.{lastCode}
 use Rattle.codec.specs.OperandLaws.{NoneOf}
 use Rattle.layout.specs.declared.shape.Shape.{Shape}
 use Rattle.layout.specs.Layout.{nextOf, faceOuter, loopIsolated}
@@ -52,6 +53,6 @@ module _ (sh : Shape) (x : List ℕ) (code : ℕ) (args : List ℤ) where
   links-kvsf a r e h g =
       links-at 2 r e (subst (λ s. r ≡ kvsfLinks sh x s (faceIn sh x s) (onlyLoop sh x s) (onlyVertex sh x s)) h g)
 
-  pub links-none : NoneOf 13 code → x ≡ linksAfter sh x (operatorBy code args)
+  pub links-none : NoneOf lastCode code → x ≡ linksAfter sh x (operatorBy code args)
   unfolding linksAfter
   links-none n = by-none (linksBy sh x (itemIn args)) x code refl refl n

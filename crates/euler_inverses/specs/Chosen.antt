@@ -7,6 +7,7 @@ use lib.IntN.{ℤ}
 use lib.ListN.{getD}
 use Rattle.script.specs.declared.Operator.{Operator}
 use Rattle.script.specs.Operator.{blankOf}
+use Rattle.codec.specs.Operands.{lastCode}
 use Rattle.codec.specs.OperandLaws.{NoneOf}
 use Rattle.layout.specs.declared.shape.Shape.{Shape}
 use Rattle.layout.specs.Layout.{nextOf, faceOuter, loopIsolated}
@@ -65,6 +66,6 @@ module _ (sh : Shape) (x : List ℕ) (o : Operator) where
       → r ≡ g sh x p a → r ≡ inverse sh x p o
   inverse-of-one p k i g e f h t = inverse-of-two p k i i (λ s y q a _. g s y q a) e f h h t
 
-  pub inverse-none : (p : List ℤ) (r : Operator) → NoneOf 13 (o .code) → r ≡ blankOf 0 0 → r ≡ inverse sh x p o
+  pub inverse-none : (p : List ℤ) (r : Operator) → NoneOf lastCode (o .code) → r ≡ blankOf 0 0 → r ≡ inverse sh x p o
   unfolding inverse
   inverse-none p r n e = e ∙ by-none (inverses sh x p (itemOf o)) (blankOf 0 0) (o .code) refl refl n

@@ -12,7 +12,7 @@ use Rattle.laws.specs.Sums.{sumTo}
 use Rattle.laws.specs.Walks.{meets}
 use Rattle.laws.specs.Columns.{sweep}
 use Rattle.laws.specs.Closure.{across, pass, rounds, linkedb}
-use Rattle.codec.specs.Number.{third, second, first, readNumber, groups}
+use Rattle.numbers.specs.Number.{third, second, first, readNumber, groups}
 use Rattle.codec.specs.Operands.{pattern, rows, inRanges, inRange, zig, zag, wire, unwire}
 use Rattle.codec.specs.OperandBytes.{readOperand, readOperands, operandBytes, operandsBytes}
 use Rattle.script.specs.Operator.{readBehind, readOperator, operatorBytes, operatorRefusal, putBytes}

@@ -15,7 +15,7 @@ use Rattle.script.specs.declared.ReadAnswer.{ReadAnswer}
 use Rattle.numbers.specs.declared.Num.the-variants.{Got, Bad}
 use Rattle.codec.specs.declared.operands.Pattern.{Pattern}
 use Rattle.numbers.specs.Number.{readNumber}
-use Rattle.codec.specs.Operands.{unused, rows, pattern, largests, inRanges, unwires}
+use Rattle.codec.specs.Operands.{lastCode, unused, rows, pattern, largests, inRanges, unwires}
 use Rattle.codec.specs.OperandBytes.{Numbers, Read, Cut, onNumbers, readOperands}
 use Rattle.script.specs.Operator.{refused, readBehind}
 use Rattle.script.specs.AnswerLaws.{operator-bad, operator-behind, operator-none}
@@ -223,7 +223,7 @@ module _ (sh : Shape) (x s : List ℕ) (at : ℕ) (t : Taken) where
   take-bad e f args =
       let r = operator-bad (limits sh) s at _ e refl in rw (f, ← r) (refl, (refl, λ k. absurd (omega arith)))
 
-  pub take-none : (code behind : ℕ) → readNumber s at ≡ Got code behind → 13 < code → t ≡ taken 4 0 at
+  pub take-none : (code behind : ℕ) → readNumber s at ≡ Got code behind → lastCode < code → t ≡ taken 4 0 at
       → (args : List ℤ) → Answers sh x (readAt sh s at) t args
   unfolding admitRead
   take-none code behind e h f args =

@@ -9,6 +9,7 @@ ghost use Rattle.euler_counts.specs.Counts.{Counted};
 ghost use Rattle.runs.specs.Run.{readAt, refusalAt};
 ghost use Rattle.runs_take.specs.Take.{scanIs, joinedBy, scan, taken, settled, Answers, readFrom};
 use bounds::ITEM_PLACES;
+use codec::operands::LAST_CODE;
 use codec::operands::from_wire;
 use codec::operands::in_range;
 use codec::operands::pattern_of;
@@ -184,7 +185,7 @@ pub fn take(
     let x = read_number(script, at);
     match x {
         Num::Got(n, behind) => {
-            if n > 13 {
+            if n > LAST_CODE {
                 return told(4, 0, at);
             }
             take_behind(links, counts, sh, script, at, n as u8, behind, most, args)

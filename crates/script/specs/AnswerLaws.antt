@@ -11,7 +11,7 @@ use Rattle.script.specs.declared.ReadAnswer.{ReadAnswer}
 use Rattle.numbers.specs.declared.Num.the-variants.{Got, Bad}
 use Rattle.codec.specs.declared.bytes.NumbersAnswer.{NumbersAnswer}
 use Rattle.numbers.specs.Number.{readNumber}
-use Rattle.codec.specs.Operands.{row, pattern, largests, inRanges, unwires}
+use Rattle.codec.specs.Operands.{lastCode, row, pattern, largests, inRanges, unwires}
 use Rattle.codec.specs.OperandBytes.{numbersAnswer, readOperands}
 use Rattle.script.specs.Operator.{refused, readBehind, readOperator}
 use Rattle.codec.specs.OperandLaws.{no-code}
@@ -71,7 +71,7 @@ module _ (lim : Limits) (s : List ℕ) (at : ℕ) (r : ReadAnswer) where
   unfolding readOperator
   operator-behind code next e f = rw e f
 
-  pub operator-none : (code next : ℕ) → readNumber s at ≡ Got code next → 13 < code
+  pub operator-none : (code next : ℕ) → readNumber s at ≡ Got code next → lastCode < code
       → r ≡ refused 4 at → r ≡ readOperator lim s at
   operator-none code next e h f =
       operator-behind code next e (behind-code lim s at code next (row []) (no-code code h) r refl f)

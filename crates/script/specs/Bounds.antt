@@ -14,14 +14,14 @@ use Rattle.laws.specs.Bools.{ask, allb, le?}
 use Rattle.codec.specs.declared.Limits.{Limits}
 use Rattle.codec.specs.declared.operands.Pattern.{Pattern}
 use Rattle.codec.specs.Operands.{row, rows, pattern, coordinate, leasts, largests, inRange, inRanges, zig, zag}
-use Rattle.codec.specs.Operands.{unwire, unwires}
+use Rattle.codec.specs.Operands.{lastCode, unwire, unwires}
 use Rattle.script.specs.Operator.{readOperator, operandOf}
 use Rattle.codec.specs.SignedLaws.{zig-zag}
 use Rattle.codec.specs.Ranges.{not-true, range-between, ranges-cons, eight}
 use Rattle.codec.specs.OperandTrip.{operands-length}
 use Rattle.script.specs.Accepted.{accepted}
 
--- each of 1 to 13 is a code
+-- each number from 1 to the last code is a code
 used-at : (ps : List Pattern) (d : Pattern) → allb (map (λ p. ltb 0 (p .count)) ps) ≡ true → (k : ℕ) → k < length ps
     → 0 < getD ps k d .count
 used-at [] d a k h = absurd (omega arith)
@@ -29,7 +29,7 @@ used-at (p ∷ ps) d a zero h = ⊎-elim (λ t. ltb-true 0 (p .count) t) (λ t. 
 used-at (p ∷ ps) d a (suc k) h = ⊎-elim (λ t. used-at ps d (rw t at a) k (omega arith)) (λ t. not-true (rw t at a))
     (ask (ltb 0 (p .count)))
 
-pub is-code : (code : ℕ) → 1 ≤ code → code ≤ 13 → pattern code .count ≡ 0 → ⊥
+pub is-code : (code : ℕ) → 1 ≤ code → code ≤ lastCode → pattern code .count ≡ 0 → ⊥
 unfolding pattern rows
 is-code zero h l e = omega arith
 is-code (suc n) h l e = let b : 0 < getD (drop 1 rows) n (row []) .count =

@@ -137,7 +137,7 @@ pub fn read_within(script: &[u8], at: usize, limits: Limits) -> ReadAnswer
     let x = read_number(script, at);
     match x {
         Num::Got(n, behind) => {
-            if n > 13 {
+            if n > operands::LAST_CODE {
                 return refused(4, at);
             }
             read_behind(script, at, n as u8, behind, limits)

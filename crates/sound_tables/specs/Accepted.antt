@@ -17,6 +17,7 @@ use Rattle.bounds.specs.Bounds.{mostHalves}
 use Rattle.codec.specs.declared.Limits.{Limits}
 use Rattle.script.specs.declared.Operator.{Operator}
 use Rattle.codec.specs.Operands.{unused, coordinate, pattern, leasts, largests, inRange, inRanges, zig, wire, wires}
+use Rattle.codec.specs.Operands.{lastCode}
 use Rattle.codec.specs.OperandLaws.{NoneOf, pattern-none}
 use Rattle.codec.specs.Ranges.{range-between, between-range}
 use Rattle.script.specs.Operator.{natOf, operandOf, numbersOf}
@@ -64,7 +65,7 @@ accepted sh x o h =
     record { code = n .0; count = m .0; range = i .0; used = u .0; holds = c .0 }
 
 -- an accepted operator has one of the thirteen codes
-pub no-other : (sh : Shape) (x : List ℕ) (o : Operator) → refusalOf sh x o ≡ 0 → NoneOf 13 (o .code) → ⊥
+pub no-other : (sh : Shape) (x : List ℕ) (o : Operator) → refusalOf sh x o ≡ 0 → NoneOf lastCode (o .code) → ⊥
 no-other sh x o h n =
     false≢true (sym (accepted sh x o h .code) ∙ ap (λ q. eqb (q .count) 0) (sym (pattern-none (o .code) n)))
 
