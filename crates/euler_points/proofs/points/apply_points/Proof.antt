@@ -53,7 +53,10 @@ same-length-4 : tie.Need-same-length-4
 same-length-4 c = search needs
 
 returns-4 : tie.Need-returns-4
-returns-4 c = points-cleared _ _ _ _ (c .before .before .before .match .keys4) (c .before .clear-point .ensures)
+returns-4 c =
+    let b = c .before .before .before .before .args in
+    points-cleared (b .points .now) _ (b .v) _ (c .before .before .before .match .keys4)
+    (c .before .clear-point .ensures)
 
 returns-5 : tie.Need-returns-5
 returns-5 c =
