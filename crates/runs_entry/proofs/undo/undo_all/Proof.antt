@@ -32,7 +32,7 @@ same-length-2 c = omega (arith, c .before .before .loop .inv .1)
 
 returns : tie.Need-returns Inv-loop μ-loop
 returns c = undo-past _ _ _ _ _ _ _ _ (c .before .before .loop .inv .4)
-    (omega (arith, c .before .loop-test .taken)) (omega (arith, c .if1 .taken))
+    (omega (arith, c .before .loop-test .taken)) (c .if1 .taken)
 
 undo-step-requires : tie.Need-undo-step-requires Inv-loop μ-loop
 undo-step-requires c κs = (
@@ -65,11 +65,8 @@ returns-2 c =
       arith,
       c .before .before .before .before .before .before .before .before .before .before
           .before .loop-test .taken,
-    )) (omega (
-      arith,
-      c .before .before .before .before .before .before .before .before .before
-          .before .if1 .left,
-    )) _ (u .0 .0) _ (u .1 .0) (c .if2 .taken)
+    )) (c .before .before .before .before .before .before .before .before .before .before .if1 .left) _ (u .0 .0) _
+    (u .1 .0) (c .if2 .taken)
 
 add-undone : tie.Need-add-undone Inv-loop μ-loop
 add-undone c = search needs
@@ -93,11 +90,8 @@ loop-again c =
       omega (arith, t),
       u .1 .1,
       undo-turn _ _ _ _ _ _ _ _
-          (l .4) (omega (arith, t)) (omega (
-            arith,
-            c .before .before .before .before .before .before .before .before
-                .before .before .if1 .left,
-          )) _ (u .0 .0) _ (u .1 .0) (c .if2 .left) _ (u .0 .1) _
+          (l .4) (omega (arith, t)) (c .before .before .before .before .before .before .before .before .before
+          .before .if1 .left) _ (u .0 .0) _ (u .1 .0) (c .if2 .left) _ (u .0 .1) _
           (omega arith),
     )
 
