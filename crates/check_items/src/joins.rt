@@ -6,7 +6,6 @@ ghost use Prim.Native.Nat.{ℕ, _<_, _≤_};
 ghost use Rattle.check_items.specs.Rules.{halfLinks, firstNames, halfSides};
 ghost use Rattle.check_items.specs.Parts.{firstLow};
 use layout::columns::face_solid;
-use layout::columns::loop_face;
 use layout::columns::loop_first;
 use layout::columns::loop_of;
 use layout::columns::next_of;

@@ -4,7 +4,7 @@ ghost use Prim.Native.Nat.{ℕ, _+_, _-_, _≤_, _<_};
 ghost use lib.ListN.{length};
 ghost use Rattle.codec.specs.Operands.{widest};
 ghost use Rattle.script.specs.Operator.{blankOf, operandOf, withNumber, refused, readBehind, readOperator};
-ghost use Rattle.script.specs.Operator.{numbersOf, operatorBytes, operatorRefusal, putBytes, written};
+ghost use Rattle.script.specs.Operator.{operatorBytes, operatorRefusal, putBytes, written};
 ghost use Rattle.script.specs.Operator.{writeOperator};
 use bounds::MOST_ITEMS;
 use codec::Limits;

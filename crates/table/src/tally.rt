@@ -1,7 +1,7 @@
 // How many items of a kind are in use.
 ghost use mathlib.Core.Path.{_≡_};
 ghost use Prim.Native.Nat.{ℕ, _≤_, _<_};
-ghost use Rattle.laws.specs.Sums.{bit, countTo};
+ghost use Rattle.laws.specs.Sums.{bit};
 ghost use Rattle.bounds.specs.Bounds.{mostItems};
 ghost use Rattle.table.specs.Count.{ringUsed, itemUsed, usedTo};
 use layout::columns::face_outer;

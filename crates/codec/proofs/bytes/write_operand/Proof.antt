@@ -1,6 +1,6 @@
 use native.Mathlib.Omega.{arith}
 use mathlib.Core.Path.{refl}
-use Rattle.codec.specs.WriteLaws.{bytes-unused, bytes-number, size-unused, size-number}
+use Rattle.codec.specs.WriteLaws.{bytes-unused, bytes-number, size-number}
 use borrow.Author.Needs.{needs}
 use Rattle.codec.proofs.bytes.write_operand.Statement.{statement}
 use Rattle.codec.proofs.bytes.write_operand.Tie as tie

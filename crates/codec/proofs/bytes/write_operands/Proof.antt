@@ -4,7 +4,7 @@ use native.Mathlib.Omega.{arith}
 use lib.ListN.{length, length-set, take, drop}
 use lib.Seq.{sets}
 use Rattle.codec.specs.OperandBytes.{operandsBytes}
-use Rattle.codec.specs.WriteLaws.{size-next, size-end, write-turn, write-end}
+use Rattle.codec.specs.WriteLaws.{size-next, write-turn, write-end}
 use borrow.Author.Needs.{needs}
 use Rattle.codec.proofs.bytes.write_operands.Statement.{statement}
 use Rattle.codec.proofs.bytes.write_operands.Tie as tie
