@@ -18,15 +18,15 @@ use Rattle.codec.specs.Operands.{lastCode, row, rows, pattern, leasts, l
 use Rattle.codec.specs.Operands.{coordinate}
 use Rattle.codec.specs.Operands.{zig, zag, wire, unwire, none}
 
--- x is none of 1 to n
+-- x is none of 1 to n; nested as a match over them leaves it
 abbrev pub NoneOf : ℕ → ℕ → Type 0
 NoneOf zero x = Unit {0}
-NoneOf (suc n) x = (x ≡ suc n → ⊥) × NoneOf n x
+NoneOf (suc n) x = NoneOf n x × (x ≡ suc n → ⊥)
 
 -- so it is 0 or past them
 pub none-of : (n x : ℕ) → NoneOf n x → (x ≡ 0) ⊎ (n < x)
 none-of zero x d = ⊎-elim (λ e. inl e) (λ e. inr (omega arith)) (same? x 0)
-none-of (suc n) x d = ⊎-elim (λ e. inl e) (λ h. let f = d .0 in inr (omega arith)) (none-of n x (d .1))
+none-of (suc n) x d = ⊎-elim (λ e. inl e) (λ h. let f = d .1 in inr (omega arith)) (none-of n x (d .0))
 
 -- the row of a code that is known
 pub by-row : (code k : ℕ) (p : Pattern) → code ≡ k → pattern k ≡ p → (r : Pattern) → r ≡ p → r ≡ pattern code

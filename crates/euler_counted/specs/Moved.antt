@@ -50,7 +50,7 @@ module _ (sh : Shape) (x : List ℕ) (code : ℕ) (args : List ℤ) where
       split code 11 (λ e. rw e) (λ d11.
       split code 12 (λ e. rw e) (λ d12.
       by-none (movedLoops sh x (itemIn args)) 0 code refl refl
-      (d13, (d12, (d11, (d10, (d9, (d8, (d7, (d6, (d5, (d4, (d3, (d2, (d1, tt)))))))))))))))))
+      (((((((((((((tt, d1), d2), d3), d4), d5), d6), d7), d8), d9), d10), d11), d12), d13)))))
 
 -- kvsf of solid s: the links afterwards, and the numbers
 abbrev pub solidKilled : Shape → List ℕ → ℕ → List ℕ

@@ -36,7 +36,7 @@ module _ (sh : Shape) (x : List ℕ) (o : Operator) where
       split (o .code) 11 (λ e. rw e) (λ d11.
       split (o .code) 13 (λ e. rw e) (λ d13.
       by-none (killed sh x (itemOf o)) 0 (o .code) refl refl
-      (d13, (d12, (d11, (d10, (d9, (d8, (d7, (d6, (d5, (d4, (d3, (d2, (d1, tt)))))))))))))))))))))))
+      (((((((((((((tt, d1), d2), d3), d4), d5), d6), d7), d8), d9), d10), d11), d12), d13)))))))))))
 
 -- the points afterwards, v the killed vertex
 unfoldable pub pointsWith : List ℤ → Operator → ℕ → List ℤ
@@ -73,4 +73,4 @@ points-none p o v d1 d2 d3 d4 d11 d12 =
     split (o .code) 10 (λ e. rw e) (λ d10.
     split (o .code) 13 (λ e. rw e) (λ d13.
     by-none (pointsBy p o (itemOf o) v) p (o .code) refl refl
-    (d13, (d12, (d11, (d10, (d9, (d8, (d7, (d6, (d5, (d4, (d3, (d2, (d1, tt))))))))))))))))))))
+    (((((((((((((tt, d1), d2), d3), d4), d5), d6), d7), d8), d9), d10), d11), d12), d13))))))))

@@ -316,7 +316,7 @@ module _ (sh : Shape) (x : List ℕ) (p : List ℤ) (o : Operator) (g : Good sh 
       split (o .code) 12 moves-jekv (λ d12.
       split (o .code) 13 moves-rmov (λ d13.
       absurd (no-other sh x o h
-      (d13, (d12, (d11, (d10, (d9, (d8, (d7, (d6, (d5, (d4, (d3, (d2, (d1, tt)))))))))))))))))))))))))))
+      (((((((((((((tt, d1), d2), d3), d4), d5), d6), d7), d8), d9), d10), d11), d12), d13)))))))))))))))
 
   -- an accepted operator changes the face of no loop but the one that `movedLoop` names
   pub others-stay : (l : ℕ) → In (sh .loops) l → l ≢ movedLoop sh x o

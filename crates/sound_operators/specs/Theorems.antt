@@ -42,7 +42,7 @@ all-hold sh x p o g len h =
     split (o .code) 12 (λ e. jekv-holds sh x p o g len e h) (λ d12.
     split (o .code) 13 (λ e. rmov-holds sh x p o g len e h) (λ d13.
     absurd (no-other sh x o h
-    (d13, (d12, (d11, (d10, (d9, (d8, (d7, (d6, (d5, (d4, (d3, (d2, (d1, tt)))))))))))))))))))))))))))
+    (((((((((((((tt, d1), d2), d3), d4), d5), d6), d7), d8), d9), d10), d11), d12), d13)))))))))))))))
 
 -- a valid table stays valid
 pub valid-kept : (x : List ℕ) (p : List ℤ) (o : Operator) → Valid x p → length (o .args) ≡ 8

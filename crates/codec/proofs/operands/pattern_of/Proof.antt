@@ -105,13 +105,13 @@ returns-12 c =
     let k2 = r .0 .0 .0 .0 .0 .0 .0 .0 .0 .1 in
     let k1 = r .0 .0 .0 .0 .0 .0 .0 .0 .0 .0 .1 in
     c .made12 .ensures
-    ∙ pattern-none _ (
-      k13,
+    ∙ pattern-none _ ((
       (
+        (((((((((((tt, k1), k2), k3), λ e. k4 (inl e)), k5), λ e. k4 (inr (inl e))), k7), k8), k9), k10), k11),
         λ e. k4 (inr (inr e)),
-        (k11, (k10, (k9, (k8, (k7, (λ e. k4 (inr (inl e)), (k5, (λ e. k4 (inl e), (k3, (k2, (k1, tt))))))))))),
       ),
-    )
+      k13,
+    ))
 
 pub pattern-of-spec : {M : Type 1} → statement M
 pattern-of-spec =

@@ -149,41 +149,20 @@ returns-12 c =
 returns-13 : tie.Need-returns-13
 returns-13 c =
     let r = c .match .rest in
+    let k13 = r .1 in
+    let k12 = r .0 .1 in
+    let k10 = r .0 .0 .1 in
+    let k9 = r .0 .0 .0 .1 in
+    let k8 = r .0 .0 .0 .0 .1 in
+    let k7 = r .0 .0 .0 .0 .0 .1 in
+    let k6 = r .0 .0 .0 .0 .0 .0 .1 in
+    let k5 = r .0 .0 .0 .0 .0 .0 .0 .1 in
+    let k4 = r .0 .0 .0 .0 .0 .0 .0 .0 .1 in
+    let k3 = r .0 .0 .0 .0 .0 .0 .0 .0 .0 .1 in
+    let k2 = r .0 .0 .0 .0 .0 .0 .0 .0 .0 .0 .1 in
     let two = r .0 .0 .0 .0 .0 .0 .0 .0 .0 .0 .0 .1 in
-    condition-none _ _ _ (
-      r .1,
-      (
-        r .0 .1,
-        (
-          (λ e. two (inr e)),
-          (
-            r .0 .0 .1,
-            (
-              r .0 .0 .0 .1,
-              (
-                r .0 .0 .0 .0 .1,
-                (
-                  r .0 .0 .0 .0 .0 .1,
-                  (
-                    r .0 .0 .0 .0 .0 .0 .1,
-                    (
-                      r .0 .0 .0 .0 .0 .0 .0 .1,
-                      (
-                        r .0 .0 .0 .0 .0 .0 .0 .0 .1,
-                        (
-                          r .0 .0 .0 .0 .0 .0 .0 .0 .0 .1,
-                          (r .0 .0 .0 .0 .0 .0 .0 .0 .0 .0 .1, ((λ e. two (inl e)), tt)),
-                        ),
-                      ),
-                    ),
-                  ),
-                ),
-              ),
-            ),
-          ),
-        ),
-      ),
-    )
+    condition-none _ _ _
+    (((((((((((((tt, λ e. two (inl e)), k2), k3), k4), k5), k6), k7), k8), k9), k10), λ e. two (inr e)), k12), k13)
 
 pub condition-holds-spec : {M : Type 1} → statement M
 condition-holds-spec =

@@ -1,5 +1,4 @@
 use mathlib.Core.Path.{refl}
-use Rattle.codec.specs.OperandLaws.{NoneOf}
 use Rattle.layout.specs.Layout.{nextOf}
 use Rattle.euler.specs.EdgeOperators.{kevLinks, kefLinks, kemrLinks, jekvLinks}
 use Rattle.euler.specs.FaceOperators.{kfmrhLinks, mfkrhLinks, rmovLinks}
@@ -228,14 +227,7 @@ returns-13 c =
     (c .before .before .before .item-at13 .ensures .0) z z z z z refl)
 
 returns-14 : tie.Need-returns-14
-returns-14 c =
-    let a = c .match .rest in
-    let b = a .0 .0 .0 .0 .0 in
-    let d = b .0 .0 .0 .0 .0 in
-    let code = c .before .before .args .code in
-    let low : NoneOf 3 code = (d .1, (d .0 .1, (d .0 .0 .1, tt))) in
-    let mid : NoneOf 8 code = (b .1, (b .0 .1, (b .0 .0 .1, (b .0 .0 .0 .1, (b .0 .0 .0 .0 .1, low))))) in
-    links-none _ _ _ _ (a .1, (a .0 .1, (a .0 .0 .1, (a .0 .0 .0 .1, (a .0 .0 .0 .0 .1, mid)))))
+returns-14 c = links-none _ _ _ _ (c .match .rest)
 
 pub apply-links-spec : {M : Type 1} → statement M
 apply-links-spec =

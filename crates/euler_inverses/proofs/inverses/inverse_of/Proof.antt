@@ -187,42 +187,7 @@ returns-13 c =
     (c .rmov-inverse .ensures)
 
 returns-14 : tie.Need-returns-14
-returns-14 c = let r = c .before .match .rest in
-    inverse-none _ _ _ _ _ (
-      r .1,
-      (
-        r .0 .1,
-        (
-          r .0 .0 .1,
-          (
-            r .0 .0 .0 .1,
-            (
-              r .0 .0 .0 .0 .1,
-              (
-                r .0 .0 .0 .0 .0 .1,
-                (
-                  r .0 .0 .0 .0 .0 .0 .1,
-                  (
-                    r .0 .0 .0 .0 .0 .0 .0 .1,
-                    (
-                      r .0 .0 .0 .0 .0 .0 .0 .0 .1,
-                      (
-                        r .0 .0 .0 .0 .0 .0 .0 .0 .0 .1,
-                        (
-                          r .0 .0 .0 .0 .0 .0 .0 .0 .0 .0 .1,
-                          (r .0 .0 .0 .0 .0 .0 .0 .0 .0 .0 .0 .1, (r .0 .0 .0 .0 .0 .0 .0 .0 .0 .0 .0 .0 .1, tt)),
-                        ),
-                      ),
-                    ),
-                  ),
-                ),
-              ),
-            ),
-          ),
-        ),
-      ),
-    )
-    (c .blank .ensures)
+returns-14 c = inverse-none _ _ _ _ _ (c .before .match .rest) (c .blank .ensures)
 
 pub inverse-of-spec : {M : Type 1} → statement M
 inverse-of-spec =
