@@ -99,7 +99,7 @@ step k ks s at ns next e = one (readOperand k s at) refl e
     one Bad a f = cut ns next f
 
 -- what is behind the first of two parts
-drop-part : (s : List ℕ) (at : ℕ) (a q : List ℕ) → drop at s ≡ a ++ q → drop (at + length a) s ≡ q
+pub drop-part : (s : List ℕ) (at : ℕ) (a q : List ℕ) → drop at s ≡ a ++ q → drop (at + length a) s ≡ q
 drop-part s at a q e = sym (drop-drop (length a) at s) ∙ ap (drop (length a)) e ∙ drop-append-seam a q
 
 pub operands-written : (ks ns s : List ℕ) (at : ℕ) (q : List ℕ) → length ks ≡ length ns

@@ -1,6 +1,8 @@
 // Whole records of a table, stored: a face, a loop, a half-edge.
 ghost use mathlib.Core.Path.{_≡_};
 ghost use Prim.Native.Nat.{ℕ, _<_, _≤_};
+ghost use Rattle.layout.specs.Fields.{halfKind};
+ghost use Rattle.layout.specs.Writes.{cleared, writes};
 ghost use Rattle.euler.specs.Surgery.{putFace, putLoop, putHalf};
 use euler::records::Half;
 use layout::columns::set_face_outer;
@@ -47,7 +49,7 @@ pub fn put_half(links: &mut [u16], sh: Shape, k: usize, h: Half)
 // The record of half-edge k cleared.
 pub fn clear_half(links: &mut [u16], sh: Shape, k: usize)
     requires { ⌜ k ≤ 65536 ⌝ }
-    ensures { λ _. ⌜ now (links .exit) ≡ putHalf sh (now (links .entry)) k 0 0 0 0 ⌝ }
+    ensures { λ _. ⌜ now (links .exit) ≡ writes sh (cleared halfKind k) (now (links .entry)) ⌝ }
 {
     put_half(
         links,

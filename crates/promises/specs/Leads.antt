@@ -8,6 +8,7 @@ use native.Mathlib.Omega.{arith}
 use lib.IntN.{ℤ}
 use lib.ListN.{length, drop, length-append, length-drop}
 use borrow.Author.Tests.{lt-ltb}
+use Rattle.codec.specs.OperandTrip.{drop-part}
 use Rattle.script.specs.declared.Operator.{Operator}
 use Rattle.script.specs.Operator.{operatorBytes}
 use Rattle.codec.specs.Ranges.{Within}
@@ -17,7 +18,6 @@ use Rattle.euler.specs.Exec.{limits, refusalOf, linksAfter, pointsAfter}
 use Rattle.runs.specs.Run.{admitRead, undid, undoFrom}
 use Rattle.sound_tables.specs.Accepted.{accepted}
 use Rattle.promises.specs.Reading.{in-range, range-writable, written-at}
-use Rattle.promises.specs.Logging.{behind-part}
 
 -- the first n operators of the bytes q, carried out on the table x, p, lead to the table x₀, p₀, and q₀ are the bytes
 -- behind them
@@ -46,7 +46,7 @@ leads-undo {sh} {x} {p} v (first {n} o rest eq len acc more) log at k h d =
     let m : length (drop at log) ≡ length (operatorBytes o) + length rest = ap length g
     ∙ length-append (operatorBytes o) rest in
     let i = leads-undo v more log (at + length (operatorBytes o)) (k + 1) (omega (arith, l, m, h))
-    (behind-part log at (operatorBytes o) rest g) in
+    (drop-part log at (operatorBytes o) rest g) in
     let c : k + 1 + n ≡ k + suc n = omega arith in
     rw (
       lt-ltb at (length log) (omega (arith, l, m, h, size .0)),

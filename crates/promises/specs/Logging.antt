@@ -4,13 +4,10 @@ use mathlib.Core.List.{List, _++_, append-assoc}
 use Prim.Native.Nat.{ℕ, _+_, _-_, _≤_}
 use native.Mathlib.Omega.{arith}
 use lib.ListN.{length, take, drop}
-use lib.Seq.{length-take-le, length-sets, sets-eq, drop-at, drop-drop, drop-append-seam}
+use lib.Seq.{length-take-le, length-sets, sets-eq, drop-at, drop-drop}
 use borrow.Author.Tests.{le-leb}
+use Rattle.codec.specs.OperandTrip.{drop-part}
 use Rattle.script.specs.Operator.{putBytes}
-
--- what is behind the first of two parts
-pub behind-part : (s : List ℕ) (at : ℕ) (a q : List ℕ) → drop at s ≡ a ++ q → drop (at + length a) s ≡ q
-behind-part s at a q e = sym (drop-drop (length a) at s) ∙ ap (drop (length a)) e ∙ drop-append-seam a q
 
 module _ (log : List ℕ) (start : ℕ) (b : List ℕ) (room : length b ≤ start) (fits : start ≤ length log) where
   -- the log after
@@ -43,7 +40,7 @@ module _ (log : List ℕ) (start : ℕ) (b : List ℕ) (room : length b ≤ star
       let e : start - length b + length b ≡ start = omega arith in
       let f : start + (at - start) ≡ at = omega arith in
       let g : drop start after ≡ drop start log =
-      rw e at (behind-part after (start - length b) b (drop start log) put-live) in
+      rw e at (drop-part after (start - length b) b (drop start log) put-live) in
       let k : drop (start + (at - start)) after ≡ drop (start + (at - start)) log =
       sym (drop-drop (at - start) start after) ∙ ap (drop (at - start)) g ∙ drop-drop (at - start) start log in
       rw f at k
