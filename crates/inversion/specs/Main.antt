@@ -1,5 +1,4 @@
 -- The take-down's promise from what is known of its turns.
--- LoopCounts prove.
 use mathlib.Core.Path.{_≡_, refl, sym, ap, _∙_, subst}
 use mathlib.Core.Logic.{_≢_, inl}
 use mathlib.Core.Bool.{Bool, true, false, _||_, false≢true}

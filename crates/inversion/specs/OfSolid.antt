@@ -1,5 +1,4 @@
 -- The half-edges of the solid at hand, and the searches among them.
--- loop and none is followed by its mate, some edge is crossed.
 use mathlib.Core.Path.{_≡_, refl, sym, ap, _∙_, subst}
 use mathlib.Core.Logic.{_≢_, ⊎-elim}
 use mathlib.Core.Bool.{Bool, true, false, _&&_, false≢true}
