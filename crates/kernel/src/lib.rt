@@ -88,7 +88,7 @@ pub extern "C" fn zoghvari_run(
     ensures { λ r. ⌜ leaves r (now (links .exit)) (now (points .exit)) (now (log .exit))
         ≡ runOf (state (now (links .entry)) (now (points .entry)) (now (log .entry)) start) (now (script .entry)) ⌝ }
 {
-    runs_entry::run::run(links, points, log, start, script)
+    runs_run::run(links, points, log, start, script)
 }
 
 // Undoes the last n operators by the log's live part, which begins at `start`; no byte of the log changes. Refusal 1,
@@ -105,7 +105,7 @@ pub extern "C" fn zoghvari_undo(
     ensures { λ r. ⌜ restores r (now (links .exit)) (now (points .exit))
         ≡ undoOf (state (now (links .entry)) (now (points .entry)) (now (log .entry)) start) n ⌝ }
 {
-    runs_entry::undo::undo(links, points, log, start, n)
+    runs_undo::undo(links, points, log, start, n)
 }
 
 // Takes a sound table down to nothing (document 01: the take-down), each operator with its inverse in the log below

@@ -7,7 +7,7 @@ ghost use Rattle.runs.specs.Run.{runOf};
 ghost use Rattle.zoghvari.specs.Program.{empty, reportOf, programOf};
 use report::text;
 use report::too_long;
-use runs_entry::run::run;
+use runs_run::run;
 use table::clear::clear;
 use table::count::count;
 

@@ -3,7 +3,7 @@ use Rattle.kernel.proofs.zoghvari_run.Statement.{statement}
 use Rattle.kernel.proofs.zoghvari_run.Tie as tie
 use Rattle.kernel.proofs.zoghvari_run.Reads as reads
 use Rattle.kernel.proofs.zoghvari_run.Lts as lts
-use Rattle.runs_entry.proofs.run.run.Reads as run-reads
+use Rattle.runs_run.proofs.run.Reads as run-reads
 
 run-requires : tie.Need-run-requires
 run-requires c κs = search needs

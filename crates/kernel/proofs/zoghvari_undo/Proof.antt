@@ -3,7 +3,7 @@ use Rattle.kernel.proofs.zoghvari_undo.Statement.{statement}
 use Rattle.kernel.proofs.zoghvari_undo.Tie as tie
 use Rattle.kernel.proofs.zoghvari_undo.Reads as reads
 use Rattle.kernel.proofs.zoghvari_undo.Lts as lts
-use Rattle.runs_entry.proofs.undo.undo.Reads as undo-reads
+use Rattle.runs_undo.proofs.undo.Reads as undo-reads
 
 undo-requires : tie.Need-undo-requires
 undo-requires c κs = search needs

@@ -12,7 +12,7 @@ use Rattle.euler.proofs.admit.use_refusal.Reads as use-refusal-reads
 use Rattle.codec.proofs.operands.in_range.Reads as in-range-reads
 
 returns : tie.Need-returns
-returns c = joined-before _ _ _ (c .if1 .taken)
+returns c = joined-before _ _ _ (omega (arith, c .if1 .taken))
 
 in-range-requires : tie.Need-in-range-requires
 in-range-requires c κs = ap length (c .before .before .pre .1)
@@ -20,7 +20,7 @@ in-range-requires c κs = ap length (c .before .before .pre .1)
 returns-2 : tie.Need-returns-2
 returns-2 c =
     let b = c .before in
-    joined-range _ _ _ (b .before .if1 .left)
+    joined-range _ _ _ (λ z. omega (arith, z, b .before .if1 .left))
     (range-is _ _ _ _ _ _ (b .before .before .before .pre .1) (b .in-range .ensures) (not-true _ (c .if2 .taken)))
 
 returns-3 : tie.Need-returns-3
@@ -28,7 +28,7 @@ returns-3 c =
     let b = c .before .before in
     let p = b .before .before .before .pre .1 in
     let t = range-is _ _ _ _ _ _ p (b .in-range .ensures) (not-false _ (c .before .if2 .left)) in
-    joined-first _ _ _ (b .before .if1 .left) t (c .if3 .taken)
+    joined-first _ _ _ (λ z. omega (arith, z, b .before .if1 .left)) t (c .if3 .taken)
 
 returns-4 : tie.Need-returns-4
 returns-4 c =

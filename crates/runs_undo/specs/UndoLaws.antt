@@ -1,8 +1,8 @@
--- The ways through an undo, over plain variables, and what a run and an undo that are let in begin with.
-use mathlib.Core.Path.{_≡_, sym, ap, _∙_}
+-- The ways through an undo, over plain variables: a refusal, one operator undone.
+use mathlib.Core.Path.{_≡_}
 use mathlib.Core.Logic.{_≢_}
 use mathlib.Core.List.{List}
-use Prim.Native.Nat.{ℕ, suc, _+_, _-_, _≤_, _<_}
+use Prim.Native.Nat.{ℕ, suc, _+_, _-_, _<_}
 use native.Mathlib.Omega.{arith}
 use lib.Dec.{eqb}
 use lib.IntN.{ℤ}
@@ -10,16 +10,9 @@ use lib.ListN.{length}
 use borrow.Author.Tests.{lt-ltb}
 use Rattle.laws.specs.Bools.{pick, eqb-same, eqb-other}
 use Rattle.layout.specs.declared.shape.Shape.{Shape}
-use Rattle.layout.specs.Layout.{shapeOf}
 use Rattle.euler.specs.Exec.{Table, linksAfter, pointsAfter}
-use Rattle.table.specs.declared.check.CheckAnswer.{CheckAnswer}
-use Rattle.sound_tables.specs.Good.{Good}
-use Rattle.runs.specs.Clauses.{entry-passed}
-use Rattle.runs.specs.Run.{state, entry, readAt, refusalAt, Undid, undid, undoFrom}
-use Rattle.promises.specs.Checked.{checked-good}
+use Rattle.runs.specs.Run.{readAt, refusalAt, Undid, undid, undoFrom}
 use Rattle.runs_steps.specs.Standing.{backOf}
-
--- ---- undo: a refusal, one undone
 
 module _ (sh : Shape) (log : List ℕ) (n at k : ℕ) (x : List ℕ) (p : List ℤ) (whole : Undid)
     (rest : undoFrom n sh log at k x p ≡ whole) (m : 0 < n) (h : at < length log)
@@ -41,19 +34,3 @@ module _ (sh : Shape) (log : List ℕ) (n at k : ℕ) (x : List ℕ) (p : List �
       → undoFrom j sh log i (k + 1) (b .links) (b .points) ≡ whole
   unfolding backOf
   undo-turn z i ei j ej = rw (eb, ei, ej, ← er, eqb-same z) (rw (← er, eqb-same z) at due)
-
--- ---- what is let in
-
-module _ (x : List ℕ) (p : List ℤ) (log : List ℕ) (start : ℕ) (a : CheckAnswer) (e : a ≡ entry (state x p log start))
-    (z : a .refusal ≡ 0) (sh : Shape) (h : sh ≡ shapeOf x) where
-  -- the start is not beyond the log, and the table passes the check
-  passed : (start ≤ length log) × Good (shapeOf x) x p
-  passed =
-      let f = entry-passed (state x p log start) (sym (ap (λ c. c .refusal) e) ∙ z) in
-      (f .0, checked-good x p (f .1))
-
-  pub entered-start : start ≤ length log
-  entered-start = passed .0
-
-  pub entered-good : Good sh x p
-  entered-good = rw h (passed .1)

@@ -1,15 +1,15 @@
 use Rattle.runs.specs.RunLaws.{undo-refused, entered-small, undo-entered}
-use Rattle.runs_entry.specs.EntryLaws.{entered-good}
+use Rattle.promises.specs.Checked.{entered-good}
 use borrow.Author.Needs.{needs}
-use Rattle.runs_entry.proofs.undo.undo.Statement.{statement}
-use Rattle.runs_entry.proofs.undo.undo.Tie as tie
-use Rattle.runs_entry.proofs.undo.undo.Reads as reads
-use Rattle.runs_entry.proofs.undo.undo.Lts as lts
+use Rattle.runs_undo.proofs.undo.Statement.{statement}
+use Rattle.runs_undo.proofs.undo.Tie as tie
+use Rattle.runs_undo.proofs.undo.Reads as reads
+use Rattle.runs_undo.proofs.undo.Lts as lts
 use Rattle.euler_counts.proofs.counts.fill_counts.Reads as fill-counts-reads
 use Rattle.layout.proofs.shape.shape_of.Reads as shape-of-reads
 use Rattle.runs.proofs.enter.enter.Reads as enter-reads
 use Rattle.runs.proofs.enter.ranges_of.Reads as ranges-of-reads
-use Rattle.runs_entry.proofs.undo.undo_all.Reads as undo-all-reads
+use Rattle.runs_undo.proofs.undo_all.Reads as undo-all-reads
 
 enter-requires : tie.Need-enter-requires
 enter-requires c κs = search needs

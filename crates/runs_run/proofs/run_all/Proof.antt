@@ -6,10 +6,10 @@ use lib.ListN.{length}
 use Rattle.runs.specs.Run.{state, runFrom}
 use Rattle.runs.specs.RunLaws.{run-begins, step-next, run-stop, run-turn, run-end}
 use Rattle.runs_steps.specs.Standing.{Standing}
-use Rattle.runs_entry.proofs.run.run_all.Statement.{statement}
-use Rattle.runs_entry.proofs.run.run_all.Tie as tie
-use Rattle.runs_entry.proofs.run.run_all.Reads as reads
-use Rattle.runs_entry.proofs.run.run_all.Lts as lts
+use Rattle.runs_run.proofs.run_all.Statement.{statement}
+use Rattle.runs_run.proofs.run_all.Tie as tie
+use Rattle.runs_run.proofs.run_all.Reads as reads
+use Rattle.runs_run.proofs.run_all.Lts as lts
 use Rattle.runs_steps.proofs.steps.run_step.Reads as run-step-reads
 
 abbrev Inv-loop : tie.InvT-loop

@@ -1,16 +1,16 @@
 use Rattle.runs.specs.RunLaws.{run-refused, entered-small, run-entered}
-use Rattle.runs_entry.specs.EntryLaws.{entered-start, entered-good}
+use Rattle.promises.specs.Checked.{entered-start, entered-good}
 use native.Mathlib.Omega.{arith}
 use borrow.Author.Needs.{needs}
-use Rattle.runs_entry.proofs.run.run.Statement.{statement}
-use Rattle.runs_entry.proofs.run.run.Tie as tie
-use Rattle.runs_entry.proofs.run.run.Reads as reads
-use Rattle.runs_entry.proofs.run.run.Lts as lts
+use Rattle.runs_run.proofs.run.Statement.{statement}
+use Rattle.runs_run.proofs.run.Tie as tie
+use Rattle.runs_run.proofs.run.Reads as reads
+use Rattle.runs_run.proofs.run.Lts as lts
 use Rattle.euler_counts.proofs.counts.fill_counts.Reads as fill-counts-reads
 use Rattle.layout.proofs.shape.shape_of.Reads as shape-of-reads
 use Rattle.runs.proofs.enter.enter.Reads as enter-reads
 use Rattle.runs.proofs.enter.ranges_of.Reads as ranges-of-reads
-use Rattle.runs_entry.proofs.run.run_all.Reads as run-all-reads
+use Rattle.runs_run.proofs.run_all.Reads as run-all-reads
 
 enter-requires : tie.Need-enter-requires
 enter-requires c κs = search needs

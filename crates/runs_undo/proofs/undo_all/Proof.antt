@@ -6,11 +6,11 @@ use lib.ListN.{length}
 use Rattle.runs.specs.Run.{undoFrom}
 use Rattle.runs.specs.RunLaws.{undo-begins, undo-past, undo-end}
 use Rattle.runs_steps.specs.Standing.{Standing}
-use Rattle.runs_entry.specs.EntryLaws.{undo-stop, undo-turn}
-use Rattle.runs_entry.proofs.undo.undo_all.Statement.{statement}
-use Rattle.runs_entry.proofs.undo.undo_all.Tie as tie
-use Rattle.runs_entry.proofs.undo.undo_all.Reads as reads
-use Rattle.runs_entry.proofs.undo.undo_all.Lts as lts
+use Rattle.runs_undo.specs.UndoLaws.{undo-stop, undo-turn}
+use Rattle.runs_undo.proofs.undo_all.Statement.{statement}
+use Rattle.runs_undo.proofs.undo_all.Tie as tie
+use Rattle.runs_undo.proofs.undo_all.Reads as reads
+use Rattle.runs_undo.proofs.undo_all.Lts as lts
 use Rattle.runs_steps.proofs.back.undo_step.Reads as undo-step-reads
 
 abbrev Inv-loop : tie.InvT-loop
