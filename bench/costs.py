@@ -16,9 +16,9 @@ WORDS = [
     (r"has no `Need-", "the proof does not fit the code: shows nothing"),
     (r"`cc`.*bound", "`cc` met its own bound: shows nothing"),
     (r"no occurrence", "the proof's text does not fit: shows nothing"),
-    (r"does not follow", "numbers at which it fails"),
     (r"`search`: no proof", "not met"),
-    (r"a premise", "a premise that does not hold"),
+    (r"a listed rule proves the goal from|a premise", "a premise that does not hold"),
+    (r"does not follow", "numbers at which it fails"),
     (r"differ|is not the same|are not equal", "the two sides differ"),
     (r"expected type", "another statement than promised"),
 ]
