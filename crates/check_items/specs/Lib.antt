@@ -1,7 +1,7 @@
 pub mod Rules
 pub mod Parts
 pub mod Scan
-pub mod TestLaws
+pub mod ScanTests
 pub mod RangeLaws
 pub mod NameLaws
 pub mod JoinLaws

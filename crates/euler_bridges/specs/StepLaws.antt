@@ -39,12 +39,12 @@ unfolding withThree
 kemr-undone sh x k l2 em ha hb eh1 eh2 ee ew e1 e2 e3 =
     rw (e3, e2, e1, eh1, eh2, ee, ew, ha .owner, ha .next, hb .next, em)
 
-pub mekr-tests : (sh : Shape) (x : List ℕ) (l h1 l2 h2 : ℕ) {f g : ℕ} {ring first second : Bool}
-    → f ≡ loopFace sh x l → g ≡ loopFace sh x l2 → ring ≡ isRing sh x l2 → first ≡ corner sh x l h1
+pub mekr-tests : (sh : Shape) (x : List ℕ) (l h1 l2 h2 : ℕ) {f g : ℕ} {same ring first second : Bool}
+    → f ≡ loopFace sh x l → g ≡ loopFace sh x l2 → same ≡ eqb f g → ring ≡ isRing sh x l2 → first ≡ corner sh x l h1
     → second ≡ corner sh x l2 h2
-    → ((((not (eqb l l2) && eqb f g) && ring) && first) && second) ≡ mekrTest sh x l h1 l2 h2
+    → ((((not (eqb l l2) && same) && ring) && first) && second) ≡ mekrTest sh x l h1 l2 h2
 unfolding mekrTest
-mekr-tests sh x l h1 l2 h2 ef eg er e1 e2 = rw (e2, e1, er, eg, ef)
+mekr-tests sh x l h1 l2 h2 ef eg es er e1 e2 = rw (e2, e1, er, es, eg, ef)
 
 pub mekr-edge-steps : (sh : Shape) (x : List ℕ) (l h1 l2 h2 k : ℕ) {m u v p q n1 p1 n2 p2 : ℕ} {x1 : List ℕ}
     → m ≡ mate k → u ≡ cornerVertex sh x l h1 → v ≡ cornerVertex sh x l2 h2 → p ≡ prevOf sh x h1 → q ≡ prevOf sh x h2

@@ -26,9 +26,9 @@ module _ (sh : Shape) (left : ℕ) (x : List ℕ) (k stop l : ℕ) (whole : List
   relabel-out h = let n : left ≡ 0 = omega arith in rw n at rest
 
 -- the search for a loop's first begins at `low`, and with what follows k
-pub seek-from : (sh : Shape) (x : List ℕ) (l low k at : ℕ) → at ≡ nextOf sh x k
-    → seek sh (k - low) x l low at k k ≡ firstFrom sh x l low k
-seek-from sh x l low k at e = rw e
+pub seek-from : (sh : Shape) (x : List ℕ) (l low k at j : ℕ) → at ≡ nextOf sh x k → j ≡ low
+    → seek sh (k - j) x l j at k k ≡ firstFrom sh x l low k
+seek-from sh x l low k at j e f = rw (e, f)
 
 module _ (sh : Shape) (x : List ℕ) (l top j k stop best whole : ℕ) (rest : seek sh (top - j) x l j k stop best
     ≡ whole) where

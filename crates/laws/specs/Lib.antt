@@ -1,4 +1,5 @@
 pub mod Bools
+pub mod TestLaws
 pub mod Every
 pub mod Search
 pub mod Sums

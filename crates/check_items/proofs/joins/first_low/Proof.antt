@@ -1,6 +1,6 @@
 use native.Mathlib.Omega.{arith}
 use Rattle.check_items.specs.JoinLaws.{first-low}
-use Rattle.check_items.specs.TestLaws.{as-low}
+use Rattle.laws.specs.TestLaws.{as-low}
 use borrow.Author.Needs.{needs}
 use Rattle.check_items.proofs.joins.first_low.Statement.{statement}
 use Rattle.check_items.proofs.joins.first_low.Tie as tie

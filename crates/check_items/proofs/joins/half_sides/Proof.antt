@@ -1,6 +1,6 @@
 use native.Mathlib.Omega.{arith}
 use Rattle.check_items.specs.JoinLaws.{sides-free, sides-used}
-use Rattle.check_items.specs.TestLaws.{as-far}
+use Rattle.laws.specs.TestLaws.{as-far}
 use borrow.Author.Needs.{needs}
 use Rattle.check_items.proofs.joins.half_sides.Statement.{statement}
 use Rattle.check_items.proofs.joins.half_sides.Tie as tie

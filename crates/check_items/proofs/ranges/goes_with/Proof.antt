@@ -1,6 +1,6 @@
 use native.Mathlib.Omega.{arith}
 use Rattle.check_items.specs.RangeLaws.{with-any, with-none}
-use Rattle.check_items.specs.TestLaws.{as-far}
+use Rattle.laws.specs.TestLaws.{as-far}
 use Rattle.check_items.proofs.ranges.goes_with.Statement.{statement}
 use Rattle.check_items.proofs.ranges.goes_with.Tie as tie
 use Rattle.check_items.proofs.ranges.goes_with.Reads as reads

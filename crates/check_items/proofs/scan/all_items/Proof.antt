@@ -5,7 +5,7 @@ use native.Mathlib.Omega.{arith}
 use borrow.Author.Needs.{needs}
 use Rattle.laws.specs.Search.{allTo}
 use Rattle.check_items.specs.Scan.{itemTest}
-use Rattle.check_items.specs.TestLaws.{at-item}
+use Rattle.check_items.specs.ScanTests.{at-item}
 use Rattle.laws.specs.ScanLaws.{all-start, all-turn, all-fail, all-end}
 use Rattle.check_items.proofs.scan.all_items.Statement.{statement}
 use Rattle.check_items.proofs.scan.all_items.Tie as tie

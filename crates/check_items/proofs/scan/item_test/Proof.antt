@@ -1,5 +1,5 @@
 use Rattle.check_items.specs.Scan.{itemTest}
-use Rattle.check_items.specs.TestLaws.{by-test}
+use Rattle.check_items.specs.ScanTests.{by-test}
 use borrow.Author.Needs.{needs}
 use Rattle.check_items.proofs.scan.item_test.Statement.{statement}
 use Rattle.check_items.proofs.scan.item_test.Tie as tie

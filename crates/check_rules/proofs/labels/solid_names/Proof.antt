@@ -1,5 +1,5 @@
 use native.Mathlib.Omega.{arith}
-use Rattle.check_items.specs.TestLaws.{as-far-not}
+use Rattle.laws.specs.TestLaws.{as-far-not}
 use Rattle.check_rules.specs.LabelsLaws.{solid-free, solid-named}
 use borrow.Author.Needs.{needs}
 use Rattle.check_rules.proofs.labels.solid_names.Statement.{statement}

@@ -1,5 +1,5 @@
 use native.Mathlib.Omega.{arith}
-use Rattle.check_items.specs.TestLaws.{as-far}
+use Rattle.laws.specs.TestLaws.{as-far}
 use Rattle.check_rules.specs.LabelsLaws.{vertex-free, vertex-isolated, vertex-starting}
 use borrow.Author.Needs.{needs}
 use Rattle.check_rules.proofs.labels.vertex_either.Statement.{statement}

@@ -1,4 +1,6 @@
 use Rattle.euler_bridges.specs.StepLaws.{mekr-tests}
+use native.Mathlib.Omega.{arith}
+use Rattle.laws.specs.TestLaws.{as-far}
 use borrow.Author.Needs.{needs}
 use Rattle.euler_bridges.proofs.kemr_mekr.mekr_fits.Statement.{statement}
 use Rattle.euler_bridges.proofs.kemr_mekr.mekr_fits.Tie as tie
@@ -25,7 +27,7 @@ is-corner-requires-2 c κs = search needs
 
 returns : tie.Need-returns
 returns c = mekr-tests _ _ _ _ _ _ (c .before .before .before .before .loop-face .ensures .0)
-    (c .before .before .before .loop-face2 .ensures .0) (c .before .before .is-ring .ensures)
+    (c .before .before .before .loop-face2 .ensures .0) (omega (arith, as-far)) (c .before .before .is-ring .ensures)
     (c .before .is-corner .ensures) (c .is-corner2 .ensures)
 
 pub mekr-fits-spec : {M : Type 1} → statement M

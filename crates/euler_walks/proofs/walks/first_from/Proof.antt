@@ -24,7 +24,7 @@ next-of-requires c κs = search needs
 
 loop-holds : tie.Need-loop-holds Inv-loop μ-loop
 loop-holds c =
-    (c .next-of .ensures .1, omega arith, seek-from _ _ _ _ _ _ (c .next-of .ensures .0))
+    (c .next-of .ensures .1, omega arith, seek-from _ _ _ _ _ _ _ (c .next-of .ensures .0) (omega arith))
 
 loop-of-requires : tie.Need-loop-of-requires Inv-loop μ-loop
 loop-of-requires c κs = search needs

@@ -1,5 +1,5 @@
 use native.Mathlib.Omega.{arith}
-use Rattle.check_items.specs.TestLaws.{as-low}
+use Rattle.laws.specs.TestLaws.{as-low}
 use Rattle.table.specs.FitLaws.{no-capacity, a-capacity}
 use Rattle.table.proofs.sizes.is_capacity.Statement.{statement}
 use Rattle.table.proofs.sizes.is_capacity.Tie as tie
