@@ -16,7 +16,8 @@ use Rattle.codec.specs.declared.operands.Pattern.{Pattern}
 use Rattle.numbers.specs.Number.{groups}
 use Rattle.codec.specs.Operands.{unused, rows, pattern, filled, wire, wires}
 use Rattle.codec.specs.OperandBytes.{operandBytes, operandsBytes}
-use Rattle.codec.specs.WriteLaws.{groups-size, bytes-number, bytes-next}
+use Rattle.numbers.specs.NumberLaws.{groups-size}
+use Rattle.codec.specs.WriteLaws.{bytes-number, bytes-next}
 use Rattle.codec.specs.Ranges.{not-true, each-row}
 
 -- a store in front of stores

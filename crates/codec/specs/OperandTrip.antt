@@ -1,7 +1,8 @@
--- Operands: what is written is read back, and what is read is what would be written.
+-- Operands: what is written is read back; what is read is what would be written, in whatever form it stands; and the
+-- same is read from the shortest form.
 use mathlib.Core.Path.{_≡_, refl, sym, ap, _∙_}
 use mathlib.Core.Logic.{⊎-elim}
-use Prim.Native.Nat.{ℕ, suc, _+_, _≤_}
+use Prim.Native.Nat.{ℕ, suc, _+_, _*_, _≤_}
 use native.Mathlib.Nat.{add-zero, add-assoc}
 use native.Mathlib.Omega.{arith}
 use mathlib.Core.Bool.{true}
@@ -13,7 +14,7 @@ use lib.Dec.{eqb}
 use Rattle.laws.specs.Bools.{ask, same?}
 use Rattle.numbers.specs.declared.Num.{Num}
 use Rattle.numbers.specs.declared.Num.the-variants.{Got, Bad}
-use Rattle.numbers.specs.Number.{onNum}
+use Rattle.numbers.specs.Number.{readNumber, groups, onNum}
 use Rattle.codec.specs.Operands.{unused, coordinate, largests, widest, inRange, inRanges}
 use Rattle.codec.specs.Operands.{plain, wire, unwire, each, wires, unwires}
 use Rattle.codec.specs.OperandBytes.{Numbers, Read, Cut, onNumbers, readOperand, readOperands, operandBytes}
@@ -21,7 +22,9 @@ use Rattle.codec.specs.OperandBytes.{operandsBytes}
 use Rattle.codec.specs.SignedLaws.{zig-zag, zag-zig}
 use Rattle.codec.specs.ReadLaws.{operand-unused, operand-number}
 use Rattle.codec.specs.WriteLaws.{bytes-unused, bytes-number}
-use Rattle.numbers.specs.NumberTrip.{Bytes, number-written, written-number, number-next}
+use Rattle.numbers.specs.NumberTrip.{number-written, number-next}
+use Rattle.numbers.specs.Padded.{shorten}
+use Rattle.numbers.specs.PaddedLaws.{PadsAt, pads-none, pads-both, number-pads, number-same, alike-behind}
 use Rattle.codec.specs.Ranges.{range-between, range-small, ranges-cons}
 
 -- ONE OPERAND
@@ -43,27 +46,43 @@ operand-written k n s at q e f =
     (same? k unused)
 
 -- read, then write
-written-operand : (k n : ℕ) (s : List ℕ) (at next : ℕ) → Bytes s → readOperand k s at ≡ Got n next
-    → (next ≡ at + length (operandBytes k n)) × (drop at s ≡ operandBytes k n ++ drop next s)
-written-operand k n s at next w e =
+operand-pads : (k n : ℕ) (s : List ℕ) (at next : ℕ) → readOperand k s at ≡ Got n next
+    → PadsAt s at next (operandBytes k n)
+operand-pads k n s at next e =
     ⊎-elim
     (λ z.
     let f : Got 0 at ≡ Got n next = operand-unused k s at z ∙ e in
     let g : next ≡ at = cc in
-    rw (bytes-unused k n z, g, add-zero at) (refl, refl))
-    (λ z. rw (bytes-number k n z) (written-number s at n next w (operand-number k s at z _ refl ∙ e)))
+    rw (bytes-unused k n z, g) (pads-none s at))
+    (λ z. rw (bytes-number k n z) (number-pads s at n next (operand-number k s at z _ refl ∙ e)))
     (same? k unused)
+
+-- from the shortest form
+operand-same : (k : ℕ) (s u : List ℕ) (a b : ℕ) → drop b u ≡ shorten (drop a s)
+    → readOperand k u b ≡ onNum (readOperand k s a) (λ n next. Got n (b + length (operandBytes k n))) Bad
+operand-same k s u a b e =
+    ⊎-elim
+    (λ z. rw (← operand-unused k u b z, ← operand-unused k s a z, bytes-unused k 0 z, add-zero b))
+    (λ z. rw (← operand-number k u b z _ refl, ← operand-number k s a z _ refl)
+    (number-same s u a b e ∙ by z (readNumber s a)))
+    (same? k unused)
+  where
+    by : (k ≡ unused → ⊥) → (x : Num)
+        → onNum x (λ n next. Got n (b + length (groups n))) Bad
+        ≡ onNum x (λ n next. Got n (b + length (operandBytes k n))) Bad
+    by z (Got n next) = rw (bytes-number k n z)
+    by z Bad = refl
 
 -- reading goes forward
 pub operand-next : (k n : ℕ) (s : List ℕ) (at next : ℕ) → at ≤ length s → readOperand k s at ≡ Got n next
-    → (at ≤ next) × (next ≤ length s)
+    → (at ≤ next) × (next ≤ length s) × (next ≤ at + 3)
 operand-next k n s at next h e =
     ⊎-elim
     (λ z.
     let f : Got 0 at ≡ Got n next = operand-unused k s at z ∙ e in
     let g : next ≡ at = cc in
-    (omega arith, omega arith))
-    (λ z. let b = number-next s at n next (operand-number k s at z _ refl ∙ e) in (omega arith, b .1))
+    (omega arith, omega arith, omega arith))
+    (λ z. let b = number-next s at n next (operand-number k s at z _ refl ∙ e) in (omega (arith, b .0), b .1, b .2))
     (same? k unused)
 
 -- ALL OPERANDS
@@ -121,24 +140,53 @@ operands-written (k ∷ ks) (n ∷ ns) s at q l e f =
       add-assoc at (length (operandBytes k n)) (length (operandsBytes ks ns)),
     )
 
-pub written-operands : (ks s : List ℕ) (at : ℕ) (ns : List ℕ) (next : ℕ) → Bytes s → readOperands ks s at ≡ Read ns next
-    → (next ≡ at + length (operandsBytes ks ns)) × (drop at s ≡ operandsBytes ks ns ++ drop next s)
-    × (length ns ≡ length ks)
+pub operands-pads : (ks s : List ℕ) (at : ℕ) (ns : List ℕ) (next : ℕ) → readOperands ks s at ≡ Read ns next
+    → PadsAt s at next (operandsBytes ks ns)
 unfolding readOperands operandsBytes
-written-operands [] s at ns next w e =
-    let a : ns ≡ [] = cc in
-    let b : next ≡ at = cc in
-    rw (a, b, add-zero at) (refl, refl, refl)
-written-operands (k ∷ ks) s at ns next w e =
+operands-pads [] s at ns next e = let b : next ≡ at = cc in rw b (pads-none s at)
+operands-pads (k ∷ ks) s at ns next e =
     let t = step k ks s at ns next e in
-    let a = written-operand k (t .n) s at (t .mid) w (t .first) in
-    let b = written-operands ks s (t .mid) (t .rest) next w (t .others) in
-    rw (t .all, length-append (operandBytes k (t .n)) (operandsBytes ks (t .rest))) (
-      omega arith,
-      a .1 ∙ ap (λ (l : List ℕ). operandBytes k (t .n) ++ l) (b .1) ∙ sym (append-assoc (operandBytes k (t .n))
-          (operandsBytes ks (t .rest)) (drop next s)),
-      ap suc (b .2),
-    )
+    rw (t .all)
+    (pads-both (operand-pads k (t .n) s at (t .mid) (t .first))
+    (operands-pads ks s (t .mid) (t .rest) next (t .others)))
+
+-- all operands, read from the shortest form
+abbrev Short : ℕ → List ℕ → Numbers → Numbers
+Short b ks x = onNumbers x (λ ns next. Read ns (b + length (operandsBytes ks ns))) Cut
+
+pub operands-same : (ks s u : List ℕ) (a b : ℕ) → drop b u ≡ shorten (drop a s)
+    → readOperands ks u b ≡ Short b ks (readOperands ks s a)
+unfolding readOperands operandsBytes
+operands-same [] s u a b e = rw (add-zero b)
+operands-same (k ∷ ks) s u a b e =
+    rw (operand-same k s u a b e) (one (readOperand k s a) refl (λ c d. operands-same ks s u c d))
+  where
+    two : (n c : ℕ) (y : Numbers)
+        → onNumbers (Short c ks y) (λ ms end. Read (n ∷ ms) end) Cut
+        ≡ onNumbers y (λ ms end. Read (n ∷ ms) (c + length (operandsBytes ks ms))) Cut
+    two n c (Read ms end) = refl
+    two n c Cut = refl
+
+    three : (n : ℕ) (y : Numbers)
+        → onNumbers y (λ ms end. Read (n ∷ ms) (b + length (operandBytes k n) + length (operandsBytes ks ms))) Cut
+        ≡ Short b (k ∷ ks) (onNumbers y (λ ms end. Read (n ∷ ms) end) Cut)
+    three n (Read ms end) =
+        rw (
+          length-append (operandBytes k n) (operandsBytes ks ms),
+          add-assoc b (length (operandBytes k n)) (length (operandsBytes ks ms)),
+        )
+    three n Cut = refl
+
+    one : (x : Num) → readOperand k s a ≡ x
+        → ((c d : ℕ) → drop d u ≡ shorten (drop c s) → readOperands ks u d ≡ Short d ks (readOperands ks s c))
+        → onNum (onNum x (λ n next. Got n (b + length (operandBytes k n))) Bad)
+        (λ n mid. onNumbers (readOperands ks u mid) (λ ms end. Read (n ∷ ms) end) Cut) Cut
+        ≡ Short b (k ∷ ks) (onNum x (λ n mid. onNumbers (readOperands ks s mid) (λ ms end. Read (n ∷ ms) end) Cut) Cut)
+    one (Got n mid) f rest =
+        let c : ℕ = b + length (operandBytes k n) in
+        rw (rest mid c (alike-behind (operand-pads k n s a mid f) u b e))
+        (two n c (readOperands ks s mid) ∙ three n (readOperands ks s mid))
+    one Bad f rest = refl
 
 pub operands-length : (ks s : List ℕ) (at : ℕ) (ns : List ℕ) (next : ℕ) → readOperands ks s at ≡ Read ns next
     → length ns ≡ length ks
@@ -149,14 +197,14 @@ operands-length (k ∷ ks) s at ns next e =
     rw (t .all) (ap suc (operands-length ks s (t .mid) (t .rest) next (t .others)))
 
 pub operands-next : (ks s : List ℕ) (at : ℕ) (ns : List ℕ) (next : ℕ) → at ≤ length s
-    → readOperands ks s at ≡ Read ns next → (at ≤ next) × (next ≤ length s)
+    → readOperands ks s at ≡ Read ns next → (at ≤ next) × (next ≤ length s) × (next ≤ at + 3 * length ks)
 unfolding readOperands
-operands-next [] s at ns next h e = let b : next ≡ at = cc in (omega arith, omega arith)
+operands-next [] s at ns next h e = let b : next ≡ at = cc in (omega arith, omega arith, omega arith)
 operands-next (k ∷ ks) s at ns next h e =
     let t = step k ks s at ns next e in
     let a = operand-next k (t .n) s at (t .mid) h (t .first) in
     let b = operands-next ks s (t .mid) (t .rest) next (a .1) (t .others) in
-    (omega arith, b .1)
+    (omega (arith, a .0, b .0), b .1, omega (arith, a .2, b .2))
 
 -- THE RECORD'S OPERANDS
 -- a number that travelled, travels again

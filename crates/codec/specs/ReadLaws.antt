@@ -1,19 +1,19 @@
 -- What the code's loop over the operands finds, turn by turn.
 use mathlib.Core.Path.{_≡_, refl, ap, _∙_}
-use Prim.Native.Nat.{ℕ, zero, suc, _+_, _*_, _%_, _≤_, _<_}
+use Prim.Native.Nat.{ℕ, zero, suc, _+_, _≤_, _<_}
 use native.Mathlib.Numerals.{add-one}
 use native.Mathlib.Omega.{arith}
 use mathlib.Core.List.{List, [], _∷_, _++_, append-assoc, append-nil}
 use lib.ListN.{length, getD, take, drop, set, replicate}
 use lib.Seq.{drop-cons, take-suc-set, take-all}
-use lib.Dec.{ltb, eqb}
-use mathlib.Core.Bool.{Bool, true, false}
-use borrow.Author.Tests.{ltb-true, eq-eqb, ne-eqb}
-use Rattle.laws.specs.Bools.{pick}
+use lib.Dec.{eqb}
+use borrow.Author.Tests.{eq-eqb, ne-eqb}
+use Rattle.laws.specs.Bools.{pick-ind}
 use Rattle.numbers.specs.declared.Num.{Num}
 use Rattle.numbers.specs.declared.Num.the-variants.{Got, Bad}
 use Rattle.codec.specs.declared.bytes.NumbersAnswer.{NumbersAnswer}
-use Rattle.numbers.specs.Number.{first, second, third, readNumber, onNum}
+use Rattle.numbers.specs.Number.{readNumber, onNum}
+use Rattle.numbers.specs.NumberTrip.{number-small}
 use Rattle.codec.specs.Operands.{unused, Small}
 use Rattle.codec.specs.OperandBytes.{Numbers, Read, Cut, onNumbers, numbersAnswer, readOperand, readOperands}
 use Rattle.codec.specs.OperandLaws.{behind}
@@ -83,36 +83,16 @@ abbrev SmallNumbers : Numbers → Type 0
 SmallNumbers (Read ns next) = Small ns
 SmallNumbers Cut = Unit {0}
 
--- of a pick, with what the test says
-pick-by {ℓ} : {X : Type ℓ} (P : X → Type 0) (t : Bool) (u w : X) → (t ≡ true → P u) → P w → P (pick t u w)
-pick-by P true u w a b = a refl
-pick-by P false u w a b = b
-
-third-small : (at low : ℕ) (l : List ℕ) → low < 16384 → SmallNum (third at low l)
-unfolding third
-third-small at low [] h = tt
-third-small at low (b ∷ r) h =
-    pick-by SmallNum (eqb b 0) _ _ (λ e. tt) (pick-by SmallNum (ltb b 128) _ _ (λ e. let k : b < 128 =
-    ltb-true b 128 e in omega arith) tt)
-
-second-small : (at low : ℕ) (l : List ℕ) → low < 128 → SmallNum (second at low l)
-unfolding second
-second-small at low [] h = tt
-second-small at low (b ∷ r) h =
-    pick-by SmallNum (eqb b 0) _ _ (λ e. tt)
-    (pick-by SmallNum (ltb b 128) _ _ (λ e. let k : b < 128 = ltb-true b 128 e in
-    omega arith) (third-small at (low + b % 128 * 128) r (omega arith)))
-
-first-small : (at : ℕ) (l : List ℕ) → SmallNum (first at l)
-unfolding first
-first-small at [] = tt
-first-small at (b ∷ r) =
-    pick-by SmallNum (ltb b 128) _ _ (λ e. let k : b < 128 = ltb-true b 128 e in
-    omega arith) (second-small at (b % 128) r (omega arith))
+small-number : (s : List ℕ) (at : ℕ) → SmallNum (readNumber s at)
+small-number s at = by (readNumber s at) refl
+  where
+    by : (x : Num) → readNumber s at ≡ x → SmallNum x
+    by (Got n next) e = number-small s at n next e
+    by Bad e = tt
 
 operand-small : (k : ℕ) (s : List ℕ) (at : ℕ) → SmallNum (readOperand k s at)
-unfolding readOperand readNumber
-operand-small k s at = pick-by SmallNum (eqb k unused) _ _ (λ e. omega arith) (first-small at (drop at s))
+unfolding readOperand
+operand-small k s at = pick-ind SmallNum (eqb k unused) _ _ (omega arith) (small-number s at)
 
 small-cons : (n : ℕ) (ns : List ℕ) → n < 2097152 → Small ns → Small (n ∷ ns)
 small-cons n ns h r = record { at = go }

@@ -1,6 +1,5 @@
 -- What the code's loops over the operands store, turn by turn.
 use mathlib.Core.Path.{_≡_, sym, ap, _∙_}
-use mathlib.Core.Logic.{⊎-elim}
 use Prim.Native.Nat.{ℕ, suc, _+_, _≤_, _<_}
 use native.Mathlib.Nat.{add-zero, add-suc, suc-add}
 use native.Mathlib.Omega.{arith}
@@ -8,9 +7,7 @@ use mathlib.Core.List.{List, [], _∷_, _++_}
 use lib.ListN.{length, getD, drop, set, length-append}
 use lib.Seq.{sets}
 use borrow.Author.Tests.{eq-eqb, ne-eqb}
-use Rattle.laws.specs.Bools.{le?}
 use Rattle.numbers.specs.Number.{groups}
-use Rattle.numbers.specs.NumberLaws.{size-1, size-2, size-3}
 use Rattle.codec.specs.Operands.{unused}
 use Rattle.codec.specs.OperandBytes.{operandBytes, operandsBytes}
 use Rattle.codec.specs.OperandLaws.{ahead, behind}
@@ -20,14 +17,6 @@ sets-append l i [] b = rw (add-zero i)
 sets-append l i (x ∷ a) b =
     sets-append (set l i x) (suc i) a b
     ∙ ap (λ (k : ℕ). sets (sets (set l i x) (suc i) a) k b) (suc-add i (length a) ∙ sym (add-suc i (length a)))
-
--- a number takes one to three bytes
-pub groups-size : (n : ℕ) → (1 ≤ length (groups n)) × (length (groups n) ≤ 3)
-groups-size n =
-    ⊎-elim (λ h. let e = size-3 n h in (omega arith, omega arith))
-    (λ h. ⊎-elim (λ k. let e = size-2 n k h in (omega arith, omega arith)) (λ k. let e = size-1 n k in
-    (omega arith, omega arith)) (le? 128 n))
-    (le? 16384 n)
 
 module _ (k n : ℕ) where
   pub bytes-unused : k ≡ unused → operandBytes k n ≡ []

@@ -6,17 +6,20 @@
 -- A contract says: for every input the answer, and every word, coordinate and byte that the call leaves, are the
 -- definition's. So what is said here of a definition is said of the call, and what is said of a list of acts
 -- (`Act`, `doAll` of crate `machine`: one act for each entry point) is said of these calls one after the other.
--- In quotes: documents 00 and 01.
+-- In quotes: documents 00 and 01; what document 02 changed says so.
 use mathlib.Core.Path.{_≡_}
 use mathlib.Core.Logic.{_≢_}
 use mathlib.Core.Bool.{true}
-use mathlib.Core.List.{List, [], _∷_}
-use Prim.Native.Nat.{ℕ, _≤_}
+use mathlib.Core.List.{List, [], _∷_, _++_}
+use Prim.Native.Nat.{ℕ, _+_, _≤_, _<_}
 use lib.IntN.{ℤ}
-use lib.ListN.{length, getD, take}
+use lib.ListN.{length, getD, take, drop}
 use Rattle.script.specs.declared.Operator.{Operator}
 use Rattle.codec.specs.Operands.{widest}
 use Rattle.script.specs.Operator.{readOperator, notWritten, writeOperator, readScript}
+use Rattle.numbers.specs.declared.Num.the-variants.{Got}
+use Rattle.numbers.specs.Number.{readNumber, groups}
+use Rattle.numbers.specs.Padded.{form, shorten, shortest}
 use Rattle.numbers.specs.NumberTrip.{Bytes}
 use Rattle.script.specs.EntryTrips.{Copied, writtenAll}
 use Rattle.layout.specs.declared.shape.Shape.{Shape}
@@ -32,6 +35,7 @@ use Rattle.promises.specs.RunAll.{leftBy, runAll}
 use Rattle.promises.specs.Reading.{Taken}
 use Rattle.promises.specs.Carried.{Refusing, Carried, apart, undoneApart}
 use Rattle.promises.specs.Promises.{Restored}
+use Rattle.promises.specs.Padded.{shortUsed, shortLog, shortStart}
 use Rattle.machine.specs.Machine.{Act, behind, onlyRuns}
 use Rattle.machine.specs.Acts.{ActsUndone}
 use Rattle.inversion.specs.Promise.{clearLinks, clearPoints, Asked, InversionExact, HolesOne, CountHoles}
@@ -110,13 +114,26 @@ pub record Demand2 : Type 0 where
   pub write-read : (o : Operator) (out : List ℕ) → length (o .args) ≡ 8 → writeOperator o out .answer .refusal ≡ 0
       → readOperator widest (writeOperator o out .out) 0
       ≡ record { refusal = 0; next = writeOperator o out .answer .length; op = o }
-  -- and what is read is written back as the bytes that it was read from (`Copied`; `Bytes`: each is below 256)
-  pub read-write : (s : List ℕ) (at : ℕ) → Bytes s → readOperator widest s at .refusal ≡ 0
+  -- and what is read is written back as the shortest form of the bytes that it was read from (`Copied`)
+  pub read-write : (s : List ℕ) (at : ℕ) → readOperator widest s at .refusal ≡ 0
       → Copied s at (readOperator widest s at)
   -- "… a script read and written comes back byte for byte": read to its end, each operator written by way of any
-  -- destination of 19 bytes or more
-  pub script-copied : (s : List ℕ) → Bytes s → readScript s .refusal ≡ 0 → (out : List ℕ) → 19 ≤ length out
-      → writtenAll out (readScript s .operators) ≡ s
+  -- destination of 19 bytes or more. Document 02, job 1: "… from then on concerns shortest scripts" (`Bytes`: each is
+  -- below 256); a padded one comes back in its shortest form, which is shortest
+  pub script-copied : (s : List ℕ) → Bytes s → shortest s ≡ true → readScript s .refusal ≡ 0 → (out : List ℕ)
+      → 19 ≤ length out → writtenAll out (readScript s .operators) ≡ s
+  pub script-shortened : (s : List ℕ) → readScript s .refusal ≡ 0 → (out : List ℕ) → 19 ≤ length out
+      → writtenAll out (readScript s .operators) ≡ shorten s
+  pub script-shortest : (s : List ℕ) → readScript s .refusal ≡ 0 → shortest (shorten s) ≡ true
+  -- Document 02, job 1: "Reading shall take any form of at most three groups": those and no others
+  pub form-read : (s : List ℕ) (at n g : ℕ) (q : List ℕ) → n < 2097152 → length (groups n) ≤ g → g ≤ 3
+      → drop at s ≡ form g n ++ q → readNumber s at ≡ Got n (at + g)
+  pub read-form : (s : List ℕ) (at n k : ℕ) → Bytes s → readNumber s at ≡ Got n k
+      → (g : ℕ) × (k ≡ at + g) × (length (groups n) ≤ g) × (g ≤ 3) × (drop at s ≡ form g n ++ drop k s)
+  -- "A padded script must do what its shortest form does, bytes taken aside": of any bytes and from any state, refused
+  -- or not, all but the bytes used are the same (`shortUsed`); so too undo on a padded log (`shortStart`)
+  pub padded-run : (t : State) (s : List ℕ) → runOf t (shorten s) ≡ shortUsed s (runOf t s)
+  pub padded-undo : (t : State) (n : ℕ) → undoOf (shortLog t) n ≡ shortStart t (undoOf t n)
   -- "A sound table stays sound": under each accepted operator, under any list of runs, undone by any log, taken down or
   -- refused; and a cleared one is sound
   pub valid-kept : (x : List ℕ) (p : List ℤ) (o : Operator) → Passes x p → length (o .args) ≡ 8

@@ -1,7 +1,8 @@
 -- THE MISSION IS PROVED: each statement by its theorem.
 use mathlib.Core.Path.{ap}
 use Rattle.codec.specs.Operands.{widest}
-use Rattle.script.specs.EntryTrips.{write-read, read-write, script-copied}
+use Rattle.numbers.specs.NumberTrip.{form-read, read-form}
+use Rattle.script.specs.EntryTrips.{write-read, read-write, script-copied, script-shortened, script-shortest}
 use Rattle.table.specs.declared.check.CheckAnswer.{CheckAnswer}
 use Rattle.sound_tables.specs.ClearSound.{clear-valid}
 use Rattle.sound_operators.specs.Theorems.{valid-kept, inverse-exact}
@@ -10,6 +11,7 @@ use Rattle.promises.specs.Checked.{checked-valid}
 use Rattle.promises.specs.Reading.{taken}
 use Rattle.promises.specs.Carried.{step-refusal, run-carried, refused-apart, undo-apart}
 use Rattle.promises.specs.Promises.{undo-exact, runs-sound, undo-sound}
+use Rattle.promises.specs.Padded.{padded-run, padded-undo}
 use Rattle.machine.specs.Acts.{undo-acts}
 use Rattle.inversion.specs.Theorem.{inversion-exact, holes-one, count-holes}
 use Rattle.mission.specs.Refusals.{clear-numbered, check-numbered, count-numbered, read-numbered, write-numbered}
@@ -56,6 +58,12 @@ demand-2 = record {
   write-read = write-read;
   read-write = read-write;
   script-copied = script-copied;
+  script-shortened = script-shortened;
+  script-shortest = script-shortest;
+  form-read = form-read;
+  read-form = read-form;
+  padded-run = padded-run;
+  padded-undo = padded-undo;
   valid-kept = λ x p o h len a.
       ap (λ (c : CheckAnswer). c .refusal) (valid-kept x p o (checked-valid x p h) len a);
   clear-valid = λ x p log s f l e v h. ap (λ (a : CheckAnswer). a .refusal) (clear-valid x p log s f l e v h);

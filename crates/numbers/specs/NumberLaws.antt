@@ -1,15 +1,16 @@
 -- What `readNumber` is, place by place of the slice, as the code reads it.
 use mathlib.Core.Path.{_≡_, sym, _∙_}
+use mathlib.Core.Logic.{⊎-elim}
 use Prim.Native.Nat.{ℕ, suc, _+_, _*_, _/_, _%_, _≤_, _<_}
 use mathlib.Core.List.{List, [], _∷_}
 use lib.ListN.{length, getD, set, drop, drop-of-length-le}
 use lib.Seq.{drop-cons, sets}
-use lib.Dec.{ltb, eqb}
+use lib.Dec.{ltb}
 use native.Mathlib.Numerals.{add-one, add-two}
 use native.Mathlib.Omega.{arith}
-use borrow.Author.Tests.{lt-ltb, le-ltb, eq-eqb, ne-eqb}
+use borrow.Author.Tests.{lt-ltb, le-ltb}
 use Rattle.numbers.specs.declared.Num.the-variants.{Got, Bad}
-use Rattle.laws.specs.Bools.{pick}
+use Rattle.laws.specs.Bools.{pick, le?}
 use Rattle.numbers.specs.Number.{groups, second, third, readNumber}
 
 module _ (s : List ℕ) (at : ℕ) where
@@ -29,9 +30,8 @@ module _ (s : List ℕ) (at : ℕ) where
 
   pub second-is : (low : ℕ) → at + 1 < length s
       → second at low (drop (at + 1) s)
-      ≡ pick (eqb (getD s (at + 1) 0) 0) Bad (pick (ltb (getD s (at + 1) 0) 128)
-      (Got (low + getD s (at + 1) 0 * 128) (at + 2))
-      (third at (low + getD s (at + 1) 0 % 128 * 128) (drop (at + 2) s)))
+      ≡ pick (ltb (getD s (at + 1) 0) 128) (Got (low + getD s (at + 1) 0 * 128) (at + 2))
+      (third at (low + getD s (at + 1) 0 % 128 * 128) (drop (at + 2) s))
   unfolding second
   second-is low h = let e : at + 2 ≡ suc (at + 1) = omega arith in rw (drop-cons s (at + 1) 0 h, e)
 
@@ -41,8 +41,7 @@ module _ (s : List ℕ) (at : ℕ) where
 
   pub third-is : (low : ℕ) → at + 2 < length s
       → third at low (drop (at + 2) s)
-      ≡ pick (eqb (getD s (at + 2) 0) 0) Bad (pick (ltb (getD s (at + 2) 0) 128)
-      (Got (low + getD s (at + 2) 0 * 16384) (at + 3)) Bad)
+      ≡ pick (ltb (getD s (at + 2) 0) 128) (Got (low + getD s (at + 2) 0 * 16384) (at + 3)) Bad
   unfolding third
   third-is low h = rw (drop-cons s (at + 2) 0 h)
 
@@ -59,42 +58,30 @@ module _ (s : List ℕ) (at : ℕ) where
   pub bad-1 : at < length s → 128 ≤ getD s at 0 → length s ≤ at + 1 → Bad ≡ readNumber s at
   bad-1 h k l = sym (more-1 h k ∙ second-end _ l)
 
-  pub bad-1-zero : 128 ≤ getD s at 0 → at + 1 < length s → getD s (at + 1) 0 ≡ 0 → Bad ≡ readNumber s at
-  bad-1-zero k l z = sym (more-1 (omega arith) k ∙ second-is _ l ∙ rw (eq-eqb (getD s (at + 1) 0) 0 z))
-
-  pub got-2 : (v : ℕ) → 128 ≤ getD s at 0 → at + 1 < length s → 0 < getD s (at + 1) 0 → getD s (at + 1) 0 < 128
+  pub got-2 : (v : ℕ) → 128 ≤ getD s at 0 → at + 1 < length s → getD s (at + 1) 0 < 128
       → v ≡ getD s at 0 % 128 + getD s (at + 1) 0 * 128 → Got v (at + 2) ≡ readNumber s at
-  got-2 v k l z m e =
-      sym (more-1 (omega arith) k ∙ second-is _ l
-      ∙ rw (ne-eqb (getD s (at + 1) 0) 0 (omega arith), lt-ltb (getD s (at + 1) 0) 128 m, e))
+  got-2 v k l m e =
+      sym (more-1 (omega arith) k ∙ second-is _ l ∙ rw (lt-ltb (getD s (at + 1) 0) 128 m, e))
 
   more-2 : 128 ≤ getD s at 0 → at + 1 < length s → 128 ≤ getD s (at + 1) 0
       → readNumber s at ≡ third at (getD s at 0 % 128 + getD s (at + 1) 0 % 128 * 128) (drop (at + 2) s)
   more-2 k l m =
-      more-1 (omega arith) k ∙ second-is _ l
-      ∙ rw (ne-eqb (getD s (at + 1) 0) 0 (omega arith), le-ltb (getD s (at + 1) 0) 128 m)
+      more-1 (omega arith) k ∙ second-is _ l ∙ rw (le-ltb (getD s (at + 1) 0) 128 m)
 
   pub bad-2 : 128 ≤ getD s at 0 → at + 1 < length s → 128 ≤ getD s (at + 1) 0 → length s ≤ at + 2
       → Bad ≡ readNumber s at
   bad-2 k l m n = sym (more-2 k l m ∙ third-end _ n)
 
-  pub bad-2-zero : 128 ≤ getD s at 0 → 128 ≤ getD s (at + 1) 0 → at + 2 < length s → getD s (at + 2) 0 ≡ 0
-      → Bad ≡ readNumber s at
-  bad-2-zero k m n z = sym (more-2 k (omega arith) m ∙ third-is _ n ∙ rw (eq-eqb (getD s (at + 2) 0) 0 z))
-
-  pub got-3 : (v : ℕ) → 128 ≤ getD s at 0 → 128 ≤ getD s (at + 1) 0 → at + 2 < length s → 0 < getD s (at + 2) 0
-      → getD s (at + 2) 0 < 128
+  pub got-3 : (v : ℕ) → 128 ≤ getD s at 0 → 128 ≤ getD s (at + 1) 0 → at + 2 < length s → getD s (at + 2) 0 < 128
       → v ≡ getD s at 0 % 128 + getD s (at + 1) 0 % 128 * 128 + getD s (at + 2) 0 * 16384
       → Got v (at + 3) ≡ readNumber s at
-  got-3 v k m n z p e =
-      sym (more-2 k (omega arith) m ∙ third-is _ n
-      ∙ rw (ne-eqb (getD s (at + 2) 0) 0 (omega arith), lt-ltb (getD s (at + 2) 0) 128 p, e))
+  got-3 v k m n p e =
+      sym (more-2 k (omega arith) m ∙ third-is _ n ∙ rw (lt-ltb (getD s (at + 2) 0) 128 p, e))
 
   pub bad-3 : 128 ≤ getD s at 0 → 128 ≤ getD s (at + 1) 0 → at + 2 < length s → 128 ≤ getD s (at + 2) 0
       → Bad ≡ readNumber s at
   bad-3 k m n p =
-      sym (more-2 k (omega arith) m ∙ third-is _ n
-      ∙ rw (ne-eqb (getD s (at + 2) 0) 0 (omega arith), le-ltb (getD s (at + 2) 0) 128 p))
+      sym (more-2 k (omega arith) m ∙ third-is _ n ∙ rw (le-ltb (getD s (at + 2) 0) 128 p))
 
 pub joined : (v w b0 b1 b2 x0 x1 x2 : ℕ) → v ≡ b0 % 128 + w * 128 → w ≡ b1 % 128 + b2 * 128 → b0 ≡ x0 → b1 ≡ x1
     → b2 ≡ x2
@@ -121,6 +108,14 @@ size-2 n h k = rw (groups-2 n h k)
 
 pub size-3 : (n : ℕ) → 16384 ≤ n → length (groups n) ≡ 3
 size-3 n h = rw (groups-3 n h)
+
+-- a number takes one to three bytes
+pub groups-size : (n : ℕ) → (1 ≤ length (groups n)) × (length (groups n) ≤ 3)
+groups-size n =
+    ⊎-elim (λ h. let e = size-3 n h in (omega arith, omega arith))
+    (λ h. ⊎-elim (λ k. let e = size-2 n k h in (omega arith, omega arith)) (λ k. let e = size-1 n k in
+    (omega arith, omega arith)) (le? 128 n))
+    (le? 16384 n)
 
 -- what the code's stores leave, for each size
 module _ (l : List ℕ) (at n : ℕ) where

@@ -25,7 +25,7 @@ fn join(low: u32, high: u32) -> u32
     (low & 0x7f) | (high << 7)
 }
 
-// The number that stands at `at`.
+// The number that stands at `at`, in any form of at most three groups.
 pub fn read_number(s: &[u8], at: usize) -> Num
     ensures { λ r. ⌜ r ≡ readNumber (now (s .entry)) at ⌝ }
 {
@@ -35,27 +35,24 @@ pub fn read_number(s: &[u8], at: usize) -> Num
     }
     let b0 = wide(s[at]);
     if b0 < 128 {
-        return Num::Got(b0, at + 1);
+        let next = at + 1;
+        return Num::Got(b0, next);
     }
     if n - at <= 1 {
         return Num::Bad;
     }
     let b1 = wide(s[at + 1]);
-    if b1 == 0 {
-        return Num::Bad;
-    }
     if b1 < 128 {
-        return Num::Got(join(b0, b1), at + 2);
+        let next = at + 2;
+        return Num::Got(join(b0, b1), next);
     }
     if n - at <= 2 {
         return Num::Bad;
     }
     let b2 = wide(s[at + 2]);
-    if b2 == 0 {
-        return Num::Bad;
-    }
     if b2 < 128 {
-        return Num::Got(join(b0, join(b1, b2)), at + 3);
+        let next = at + 3;
+        return Num::Got(join(b0, join(b1, b2)), next);
     }
     Num::Bad
 }

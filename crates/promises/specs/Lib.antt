@@ -10,3 +10,4 @@ pub mod OtherLog
 pub mod UndoParts
 pub mod Promises
 pub mod Instances
+pub mod Padded

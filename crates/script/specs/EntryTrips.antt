@@ -17,14 +17,16 @@ use Rattle.codec.specs.Operands.{widest}
 use Rattle.script.specs.Operator.{readOperator, operatorBytes, operatorRefusal, Written, written, notWritten}
 use Rattle.script.specs.Operator.{writeOperator, writeScript, Script, scriptIs, before, readFrom, readScript}
 use Rattle.numbers.specs.NumberTrip.{Bytes}
+use Rattle.numbers.specs.Padded.{shorten, shortest}
+use Rattle.numbers.specs.PaddedLaws.{shorten-whole, shortest-same, shorten-shortest}
 use Rattle.codec.specs.Ranges.{Within}
-use Rattle.script.specs.RoundTrip.{Writable, operator-written, read-next, written-read, read-writable}
-use Rattle.script.specs.Scripts.{AllWritable, operator-size, written-script}
+use Rattle.script.specs.RoundTrip.{Writable, operator-written, read-size, read-pads, read-writable}
+use Rattle.script.specs.Scripts.{AllWritable, operator-size, script-pads, written-script}
 
 -- ---- what writing leaves where it does not refuse
 
 -- bytes at the front of a destination, the rest of it as it was
-abbrev inFront : List ℕ → List ℕ → Written
+abbrev pub inFront : List ℕ → List ℕ → Written
 inFront bytes out = written (record { refusal = 0; length = length bytes }) (bytes ++ drop (length bytes) out)
 
 -- the operator's bytes in front
@@ -67,38 +69,38 @@ write-read o out eight e =
     rw (write-fits o out (p .0) (p .1))
     (operator-written o w _ 0 (drop (length (operatorBytes o)) out) refl ∙ rw (zero-add (length (operatorBytes o))))
 
--- READ, THEN WRITE: an operator that was read is written as the bytes that it was read from, those from `at` up to the
--- place behind it, and of the destination nothing else changes
+-- READ, THEN WRITE: an operator that was read, from at most 27 bytes, those from `at` up to the place behind it, is
+-- written as the shortest form of these bytes, at most 19, and of the destination nothing else changes. (Where they are
+-- in shortest form, these are the very bytes: `shortest-same`.)
 pub record Copied (s : List ℕ) (at : ℕ) (r : ReadAnswer) : Type 0 where
-  -- how many bytes it took
-  pub size : ℕ
-  pub next : r .next ≡ at + size
-  pub inside : at + size ≤ length s
-  pub most : size ≤ 19
+  -- the bytes that it was read from
+  pub bytes : List ℕ
+  pub next : r .next ≡ at + length bytes
+  pub there : drop at s ≡ bytes ++ drop (r .next) s
+  pub most-read : length bytes ≤ 27
+  pub most-written : length (shorten bytes) ≤ 19
   -- written anywhere where it fits
-  pub back : (out : List ℕ) → size ≤ length out → writeOperator (r .op) out
-      ≡ written (record { refusal = 0; length = size }) (take size (drop at s) ++ drop size out)
+  pub back : (out : List ℕ) → length (shorten bytes) ≤ length out → writeOperator (r .op) out
+      ≡ inFront (shorten bytes) out
 
 -- the limits that hold without a table are the widest
 within-widest : Within widest
 within-widest = record { solids = lit≤ tt; faces = lit≤ tt; loops = lit≤ tt; edges = lit≤ tt; vertices = lit≤ tt }
 
 -- every operator that is read without a table
-pub read-write : (s : List ℕ) (at : ℕ) → Bytes s → readOperator widest s at .refusal ≡ 0
-    → Copied s at (readOperator widest s at)
-read-write s at b z =
+pub read-write : (s : List ℕ) (at : ℕ) → readOperator widest s at .refusal ≡ 0 → Copied s at (readOperator widest s at)
+read-write s at z =
     let o = readOperator widest s at .op in
-    let w = read-writable widest s at z within-widest b in
-    let r = written-read widest s at z b in
-    let n = read-next widest s at z in
+    let w = read-writable widest s at z within-widest in
+    let x = read-pads widest s at z in
+    let e = shorten-whole (x .pads) in
     record {
-      size = length (operatorBytes o);
-      next = r .0;
-      inside = omega (arith, n, r .0);
-      most = operator-size o w .1;
-      back = λ out h.
-          rw (r .1, take-append-seam (operatorBytes o) (drop (readOperator widest s at .next) s))
-          (write-fits o out (w .not-refused) h);
+      bytes = x .bytes;
+      next = x .behind;
+      there = x .there;
+      most-read = omega (arith, x .behind, read-size widest s at z);
+      most-written = rw e (operator-size o w .1);
+      back = λ out h. rw e (write-fits o out (w .not-refused) (rw e at h));
     }
 
 -- ---- a whole script
@@ -134,18 +136,27 @@ more-writable true false o r rest f w = tt
 more-writable false b o r rest f w = tt
 
 -- what is read can be written
-all-writable : (n : ℕ) (s : List ℕ) (at : ℕ) → Bytes s → AllWritable (readFrom n s at .operators)
+all-writable : (n : ℕ) (s : List ℕ) (at : ℕ) → AllWritable (readFrom n s at .operators)
 unfolding readFrom
-all-writable zero s at b = tt
-all-writable (suc n) s at b =
+all-writable zero s at = tt
+all-writable (suc n) s at =
     more-writable (ltb at (length s)) (eqb (readOperator widest s at .refusal) 0) _ _ _
-    (λ z. read-writable widest s at (eqb-true _ 0 z) within-widest b)
-    (all-writable n s (readOperator widest s at .next) b)
+    (λ z. read-writable widest s at (eqb-true _ 0 z) within-widest)
+    (all-writable n s (readOperator widest s at .next))
 
--- A SCRIPT READ AND WRITTEN COMES BACK BYTE FOR BYTE: read operator by operator to its end, each written by way of any
--- destination of 19 bytes or more, one behind the other
-pub script-copied : (s : List ℕ) → Bytes s → readScript s .refusal ≡ 0 → (out : List ℕ) → 19 ≤ length out
-    → writtenAll out (readScript s .operators) ≡ s
+-- A SCRIPT READ AND WRITTEN COMES BACK IN ITS SHORTEST FORM: read operator by operator to its end, each written by way
+-- of any destination of 19 bytes or more, one behind the other
+pub script-shortened : (s : List ℕ) → readScript s .refusal ≡ 0 → (out : List ℕ) → 19 ≤ length out
+    → writtenAll out (readScript s .operators) ≡ shorten s
 unfolding readScript
-script-copied s b z out h =
-    written-all out h (readScript s .operators) (all-writable (length s) s 0 b) ∙ written-script s b z
+script-shortened s z out h =
+    written-all out h (readScript s .operators) (all-writable (length s) s 0) ∙ written-script s z
+
+-- A SHORTEST ONE BYTE FOR BYTE
+pub script-copied : (s : List ℕ) → Bytes s → shortest s ≡ true → readScript s .refusal ≡ 0 → (out : List ℕ)
+    → 19 ≤ length out → writtenAll out (readScript s .operators) ≡ s
+script-copied s b e z out h = script-shortened s z out h ∙ shortest-same s b e
+
+-- and a script that was read is shortest just where it is its own shortest form
+pub script-shortest : (s : List ℕ) → readScript s .refusal ≡ 0 → shortest (shorten s) ≡ true
+script-shortest s z = shorten-shortest (script-pads s z)

@@ -1,5 +1,5 @@
 -- Reading one operator, as rows of one list under one theorem: each code, both ends of each range, each way to be cut
--- off. (Example f of document 01 is in crate evidence_cases.)
+-- off, padded forms. (Example f of document 01 is in crate evidence_cases.)
 use mathlib.Core.Path.{_≡_, refl}
 use Prim.Native.Nat.{ℕ}
 use mathlib.Core.Bool.{Bool, true, false, _&&_}
@@ -11,6 +11,7 @@ use Rattle.laws.specs.Bools.{pick, allb}
 use Rattle.script.specs.declared.Operator.{Operator}
 use Rattle.script.specs.declared.ReadAnswer.{ReadAnswer}
 use Rattle.numbers.specs.Number.{readNumber, groups}
+use Rattle.numbers.specs.Padded.{shortenFor, shorten}
 use Rattle.codec.specs.Operands.{zig, zag, pattern, widest, inRange, inRanges, wire, unwire}
 use Rattle.codec.specs.OperandBytes.{readOperand, readOperands, operandBytes, operandsBytes}
 use Rattle.script.specs.Operator.{refused, readBehind, readOperator, operatorBytes, operatorRefusal}
@@ -46,14 +47,14 @@ accepts bytes op = record { bytes = bytes; answer = record { refusal = 0; next =
 abbrev pub refuses : List ℕ → ℕ → Row
 refuses bytes refusal = record { bytes = bytes; answer = refused refusal 0 }
 
--- and an operator that is accepted is written as these bytes
+-- and an operator that is accepted is written as the shortest form of these bytes
 unfoldable pub holds : Row → Bool
-unfolding sameAnswer readNumber groups pattern inRange inRanges zag wire unwire readOperand readOperands readBehind
-    readOperator operandBytes operandsBytes operatorBytes operatorRefusal
+unfolding sameAnswer readNumber groups shortenFor shorten pattern inRange inRanges zag wire unwire readOperand
+    readOperands readBehind readOperator operandBytes operandsBytes operatorBytes operatorRefusal
 holds row =
     sameAnswer (readOperator widest (row .bytes) 0) (row .answer)
     && pick (eqb (row .answer .refusal) 0)
-    (eqb (operatorRefusal (row .answer .op)) 0 && same (operatorBytes (row .answer .op)) (row .bytes))
+    (eqb (operatorRefusal (row .answer .op)) 0 && same (operatorBytes (row .answer .op)) (shorten (row .bytes)))
     true
 
 abbrev pub examples : List Row
@@ -113,8 +114,10 @@ examples =
     ∷ refuses (0 ∷ []) 4
     -- a code of two groups, 142
     ∷ refuses (142 ∷ 1 ∷ []) 4
-    -- a code not shortest
-    ∷ refuses (142 ∷ 0 ∷ []) 3
+    -- a padded code: 14, 0, and 1 whose operands are cut off
+    ∷ refuses (142 ∷ 0 ∷ []) 4
+    ∷ refuses (128 ∷ 0 ∷ []) 4
+    ∷ refuses (129 ∷ 0 ∷ []) 3
     -- a code cut off
     ∷ refuses (129 ∷ []) 3
     -- an operand cut off
@@ -123,16 +126,31 @@ examples =
     ∷ refuses (4 ∷ 128 ∷ []) 3
     -- and again
     ∷ refuses (4 ∷ 128 ∷ 128 ∷ []) 3
-    -- an operand not shortest
-    ∷ refuses (4 ∷ 129 ∷ 0 ∷ []) 3
-    -- three groups not shortest
-    ∷ refuses (4 ∷ 129 ∷ 128 ∷ 0 ∷ []) 3
-    -- four groups
+    -- kev 1, padded to two groups, to three, and its code too
+    ∷ accepts (4 ∷ 129 ∷ 0 ∷ [])
+    (operator 4 1 (pos 1 ∷ pos 0 ∷ pos 0 ∷ pos 0 ∷ pos 0 ∷ pos 0 ∷ pos 0 ∷ pos 0 ∷ []))
+    ∷ accepts (4 ∷ 129 ∷ 128 ∷ 0 ∷ [])
+    (operator 4 1 (pos 1 ∷ pos 0 ∷ pos 0 ∷ pos 0 ∷ pos 0 ∷ pos 0 ∷ pos 0 ∷ pos 0 ∷ []))
+    ∷ accepts (132 ∷ 128 ∷ 0 ∷ 129 ∷ 128 ∷ 0 ∷ [])
+    (operator 4 1 (pos 1 ∷ pos 0 ∷ pos 0 ∷ pos 0 ∷ pos 0 ∷ pos 0 ∷ pos 0 ∷ pos 0 ∷ []))
+    -- half-edge 8,192 in three groups
+    ∷ accepts (4 ∷ 128 ∷ 192 ∷ 0 ∷ [])
+    (operator 4 1 (pos 8192 ∷ pos 0 ∷ pos 0 ∷ pos 0 ∷ pos 0 ∷ pos 0 ∷ pos 0 ∷ pos 0 ∷ []))
+    -- mev in three groups throughout: 27 bytes; 0 is 80 80 00
+    ∷ accepts (131 ∷ 128 ∷ 0 ∷ 129 ∷ 128 ∷ 0 ∷ 128 ∷ 128 ∷ 0 ∷ 129 ∷ 128 ∷ 0 ∷ 130 ∷ 128 ∷ 0 ∷ 128 ∷ 128 ∷ 0 ∷ 200
+    ∷ 129 ∷ 0 ∷ 159 ∷ 141 ∷ 6 ∷ 128 ∷ 128 ∷ 0 ∷ [])
+    (operator 3 8 (pos 1 ∷ pos 0 ∷ pos 1 ∷ pos 2 ∷ pos 0 ∷ pos 100 ∷ negsuc 49999 ∷ pos 0 ∷ []))
+    -- k 0, padded
+    ∷ refuses (4 ∷ 128 ∷ 128 ∷ 0 ∷ []) 5
+    -- four groups, whatever the fourth
     ∷ refuses (4 ∷ 129 ∷ 128 ∷ 128 ∷ 1 ∷ []) 3
+    ∷ refuses (4 ∷ 129 ∷ 128 ∷ 128 ∷ 0 ∷ []) 3
     -- the largest number of three groups
     ∷ refuses (4 ∷ 255 ∷ 255 ∷ 127 ∷ []) 5
     -- 3 comes before an earlier operand's 5
-    ∷ refuses (9 ∷ 0 ∷ 129 ∷ 0 ∷ []) 3
+    ∷ refuses (9 ∷ 0 ∷ 129 ∷ []) 3
+    -- which a padded number behind it leaves
+    ∷ refuses (9 ∷ 0 ∷ 129 ∷ 0 ∷ []) 5
     -- also when the script ends
     ∷ refuses (9 ∷ 0 ∷ []) 3
     -- half-edge 8,193

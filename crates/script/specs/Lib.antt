@@ -7,4 +7,5 @@ pub mod RoundTrip
 pub mod Scripts
 pub mod EntryTrips
 pub mod Front
+pub mod Padded
 pub mod Examples

@@ -15,11 +15,20 @@ use Rattle.codec.specs.Operands.{pattern, widest, largests, inRanges, filled, w
 use Rattle.codec.specs.OperandBytes.{operandsBytes}
 use Rattle.script.specs.Operator.{natOf, numbersOf, operatorBytes, operatorRefusal}
 use Rattle.script.specs.Operator.{putBytes, written, notWritten, writeOperator}
-use Rattle.codec.specs.WriteLaws.{sets-append, groups-size}
+use Rattle.numbers.specs.NumberLaws.{groups-size}
+use Rattle.codec.specs.WriteLaws.{sets-append}
 use Rattle.codec.specs.Ranges.{eight}
 use Rattle.codec.specs.BeforeLaws.{before-turn, pattern-filled, operands-bound}
 
--- an operator takes at most 27 bytes
+-- an operator takes a byte at least
+pub operator-some : (op : Operator) → 1 ≤ length (operatorBytes op)
+unfolding operatorBytes
+operator-some op =
+    let e = length-append (groups (op .code)) (operandsBytes (pattern (op .code) .kinds) (numbersOf op)) in
+    let g = groups-size (op .code) in
+    omega arith
+
+-- and at most 27
 pub operator-bound : (op : Operator) → length (operatorBytes op) ≤ 27
 unfolding operatorBytes
 operator-bound op =

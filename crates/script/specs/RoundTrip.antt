@@ -1,4 +1,4 @@
--- Operators and whole scripts: what is written is read back, what is read is what would be written, byte for byte.
+-- Operators: what is written is read back, and what is read is what would be written, in whatever form it stands.
 use mathlib.Core.Path.{_≡_, refl, sym, ap, _∙_}
 use Prim.Native.Nat.{ℕ, _+_, _-_, _≤_, _<_}
 use native.Mathlib.Nat.{add-assoc}
@@ -16,11 +16,12 @@ use Rattle.numbers.specs.Number.{groups}
 use Rattle.codec.specs.Operands.{pattern, widest, largests, inRanges, wire, unwire}
 use Rattle.codec.specs.OperandBytes.{operandsBytes}
 use Rattle.script.specs.Operator.{readOperator, numbersOf, operatorBytes, operatorRefusal}
-use Rattle.numbers.specs.NumberTrip.{Bytes, number-written, written-number, number-next}
+use Rattle.numbers.specs.NumberTrip.{number-written, number-next}
+use Rattle.numbers.specs.PaddedLaws.{PadsAt, pads-both, number-pads}
 use Rattle.codec.specs.Ranges.{Within, within-largest, ranges-wider, eight, code-between}
-use Rattle.codec.specs.OperandTrip.{operands-written, written-operands, operands-next, wires-unwires, unwires-wires}
-use Rattle.codec.specs.OperandTrip.{each-length}
-use Rattle.script.specs.Accepted.{accepted, read-accepted, operatorIs}
+use Rattle.codec.specs.OperandTrip.{operands-written, operands-pads, operands-next, operands-length}
+use Rattle.codec.specs.OperandTrip.{wires-unwires, unwires-wires, each-length}
+use Rattle.script.specs.Accepted.{Accepted, accepted, read-accepted, operatorIs}
 
 -- an operator that can be written: a record of eight operands that writing does not refuse
 pub record Writable (op : Operator) : Type 0 where
@@ -107,43 +108,48 @@ module _ (lim : Limits) (s : List ℕ) (at : ℕ) (z : readOperator lim s at .re
       (a .read) in
       (omega arith, c .1)
 
-  -- the bytes read are the bytes that the operator is written as
-  pub written-read : Bytes s → (readOperator lim s at .next ≡ at + length (operatorBytes (readOperator lim s at .op)))
-      × (drop at s ≡ operatorBytes (readOperator lim s at .op) ++ drop (readOperator lim s at .next) s)
-  unfolding operatorBytes
-  written-read w =
+  -- by 27 bytes at most: nine numbers of three groups
+  pub read-size : readOperator lim s at .next ≤ at + 27
+  read-size =
       let a = accepted lim s at z in
-      let b = written-number s at (a .code) (a .from) w (a .code-read) in
-      let c = written-operands (pattern (a .code) .kinds) s (a .from) (a .numbers) (readOperator lim s at .next) w
+      let b = number-next s at (a .code) (a .from) (a .code-read) in
+      let c = operands-next (pattern (a .code) .kinds) s (a .from) (a .numbers) (readOperator lim s at .next) (b .1)
       (a .read) in
-      let u : numbersOf (operatorIs (a .code) (a .numbers)) ≡ a .numbers =
-      wires-unwires (pattern (a .code) .kinds) (a .numbers) (c .2) in
-      rw (a .op-is, u, length-append (groups (a .code)) (operandsBytes (pattern (a .code) .kinds) (a .numbers))) (
-        omega arith,
-        b .1 ∙ ap (λ (l : List ℕ). groups (a .code) ++ l) (c .1) ∙ sym (append-assoc (groups (a .code))
-            (operandsBytes (pattern (a .code) .kinds) (a .numbers)) (drop (readOperator lim s at .next) s)),
-      )
+      omega (arith, b .2, c .2, eight (a .code))
 
-  module _ (v : Within lim) where
-    -- and what is read can be written
-    pub read-writable : Bytes s → Writable (readOperator lim s at .op)
-    read-writable w =
-        let a = accepted lim s at z in
-        let c = written-operands (pattern (a .code) .kinds) s (a .from) (a .numbers) (readOperator lim s at .next) w
-        (a .read) in
-        let k = eight (a .code) in
-        let r = ranges-wider (largests lim) (largests widest) (within-largest lim v) (pattern (a .code) .kinds)
-        (a .numbers) (a .ranges) in
-        let u : numbersOf (operatorIs (a .code) (a .numbers)) ≡ a .numbers =
-        wires-unwires (pattern (a .code) .kinds) (a .numbers) (c .2) in
-        rw (a .op-is)
-        (record {
-          eight-args = each-length unwire (pattern (a .code) .kinds) (a .numbers) (c .2) ∙ k;
-          not-refused =
-              whole (operatorIs (a .code) (a .numbers)) (record {
-                is-code = a .is-code;
-                count-is = refl;
-                ranges =
-                    rw u r;
-              });
-        })
+  -- the numbers of an operator that was read are those it travels as
+  numbers-read : (a : Accepted lim s at (readOperator lim s at))
+      → (length (a .numbers) ≡ length (pattern (a .code) .kinds))
+      × (numbersOf (operatorIs (a .code) (a .numbers)) ≡ a .numbers)
+  numbers-read a =
+      let l = operands-length (pattern (a .code) .kinds) s (a .from) (a .numbers) (readOperator lim s at .next)
+      (a .read) in
+      (l, wires-unwires (pattern (a .code) .kinds) (a .numbers) l)
+
+  -- THE BYTES READ ARE THE BYTES THAT THE OPERATOR IS WRITTEN AS, some numbers padded
+  pub read-pads : PadsAt s at (readOperator lim s at .next) (operatorBytes (readOperator lim s at .op))
+  unfolding operatorBytes
+  read-pads =
+      let a = accepted lim s at z in
+      let n = numbers-read a in
+      rw (a .op-is, n .1)
+      (pads-both (number-pads s at (a .code) (a .from) (a .code-read))
+      (operands-pads (pattern (a .code) .kinds) s (a .from) (a .numbers) (readOperator lim s at .next) (a .read)))
+
+  -- and what is read can be written
+  pub read-writable : Within lim → Writable (readOperator lim s at .op)
+  read-writable v =
+      let a = accepted lim s at z in
+      let n = numbers-read a in
+      let r = ranges-wider (largests lim) (largests widest) (within-largest lim v) (pattern (a .code) .kinds)
+      (a .numbers) (a .ranges) in
+      rw (a .op-is)
+      (record {
+        eight-args = each-length unwire (pattern (a .code) .kinds) (a .numbers) (n .0) ∙ eight (a .code);
+        not-refused =
+            whole (operatorIs (a .code) (a .numbers)) (record {
+              is-code = a .is-code;
+              count-is = refl;
+              ranges = rw (n .1) r;
+            });
+      })

@@ -5,24 +5,25 @@ use Prim.Native.Nat.{ℕ, zero, suc, _+_, _-_, _≤_, _<_}
 use native.Mathlib.Omega.{arith}
 use mathlib.Core.Bool.{Bool, true, false}
 use mathlib.Core.List.{List, [], _∷_, _++_, append-assoc, append-nil, map}
-use lib.ListN.{length, getD, drop, length-append, drop-of-length-le}
-use lib.Seq.{drop-append-seam}
+use lib.ListN.{length, getD, length-append}
+use lib.Seq.{drop-append-seam, drop-length}
 use lib.Dec.{ltb, leb, eqb}
 use borrow.Author.Tests.{lt-ltb, le-ltb, eqb-true, leb-true, ltb-true, ltb-false, eqb-false}
 use Rattle.laws.specs.Bools.{pick, ask, allb, le?}
 use Rattle.script.specs.declared.Operator.{Operator}
 use Rattle.codec.specs.declared.operands.Pattern.{Pattern}
 use Rattle.numbers.specs.Number.{groups}
-use Rattle.numbers.specs.NumberLaws.{size-1, size-2, size-3}
+use Rattle.numbers.specs.NumberLaws.{size-1, size-2, size-3, groups-size}
 use Rattle.codec.specs.Operands.{unused, row, rows, pattern, widest, largests, inRanges, wire}
 use Rattle.codec.specs.OperandBytes.{operandBytes, operandsBytes}
 use Rattle.script.specs.Operator.{readOperator, numbersOf, operatorBytes, writeScript, Script}
 use Rattle.script.specs.Operator.{scriptIs, before, readFrom, readScript}
-use Rattle.codec.specs.WriteLaws.{groups-size, size-number}
-use Rattle.numbers.specs.NumberTrip.{Bytes}
+use Rattle.codec.specs.WriteLaws.{size-number}
+use Rattle.numbers.specs.Padded.{shorten}
+use Rattle.numbers.specs.PaddedLaws.{PadsAt, pads-none, pads-both, shorten-behind, shorten-nil}
 use Rattle.codec.specs.Ranges.{range-between, ranges-cons, each-row, eight, code-between}
 use Rattle.codec.specs.OperandTrip.{each-length}
-use Rattle.script.specs.RoundTrip.{Writable, parts, operator-written, read-next, written-read}
+use Rattle.script.specs.RoundTrip.{Writable, parts, operator-written, read-next, read-pads}
 
 -- SIZES
 -- a larger number takes no fewer bytes
@@ -155,33 +156,42 @@ unfolding readScript
 script-written ops w = from-written ops (length (writeScript ops)) [] w (count-bytes ops w)
 
 -- one operator of a script that was read, by its tests
-turn-back : (s : List ℕ) (at : ℕ) (rest : Script) (a b : Bool) → Bytes s → ltb at (length s) ≡ a
+turn-back : (s : List ℕ) (at : ℕ) (rest : Script) (a b : Bool) → at ≤ length s → ltb at (length s) ≡ a
     → eqb (readOperator widest s at .refusal) 0 ≡ b
-    → (readOperator widest s at .refusal ≡ 0 → rest .refusal ≡ 0 → writeScript (rest .operators)
-    ≡ drop (readOperator widest s at .next) s)
+    → (readOperator widest s at .refusal ≡ 0 → rest .refusal ≡ 0
+    → PadsAt s (readOperator widest s at .next) (length s) (writeScript (rest .operators)))
     → pick a (pick b (before (readOperator widest s at .op) rest) (scriptIs (readOperator widest s at .refusal) []))
     (scriptIs 0 []) .refusal ≡ 0
-    → writeScript (pick a
+    → PadsAt s at (length s) (writeScript (pick a
     (pick b (before (readOperator widest s at .op) rest) (scriptIs (readOperator widest s at .refusal) []))
-    (scriptIs 0 []) .operators) ≡ drop at s
+    (scriptIs 0 []) .operators))
 unfolding writeScript
-turn-back s at rest true true w t u i e =
-    let y = written-read widest s at (eqb-true _ 0 u) w in
-    ap (λ (l : List ℕ). operatorBytes (readOperator widest s at .op) ++ l) (i (eqb-true _ 0 u) e) ∙ sym (y .1)
-turn-back s at rest true false w t u i e = absurd (eqb-false _ 0 u e)
-turn-back s at rest false b w t u i e = let l : length s ≤ at = ltb-false at (length s) t in sym (drop-of-length-le s l)
+turn-back s at rest true true h t u i e =
+    let z = eqb-true _ 0 u in pads-both (read-pads widest s at z) (i z e)
+turn-back s at rest true false h t u i e = absurd (eqb-false _ 0 u e)
+turn-back s at rest false b h t u i e =
+    let l : length s ≡ at = omega (arith, ltb-false at (length s) t, h) in rw l (pads-none s at)
 
-written-from : (n : ℕ) (s : List ℕ) (at : ℕ) → Bytes s → length s ≤ at + n → readFrom n s at .refusal ≡ 0
-    → writeScript (readFrom n s at .operators) ≡ drop at s
+pads-from : (n : ℕ) (s : List ℕ) (at : ℕ) → at ≤ length s → length s ≤ at + n → readFrom n s at .refusal ≡ 0
+    → PadsAt s at (length s) (writeScript (readFrom n s at .operators))
 unfolding readFrom writeScript
-written-from zero s at w k e = let l : length s ≤ at = omega arith in sym (drop-of-length-le s l)
-written-from (suc n) s at w k e =
+pads-from zero s at h k e = let l : length s ≡ at = omega arith in rw l (pads-none s at)
+pads-from (suc n) s at h k e =
     turn-back s at (readFrom n s (readOperator widest s at .next)) (ltb at (length s))
-    (eqb (readOperator widest s at .refusal) 0) w refl refl
-    (λ z f. let x = read-next widest s at z in written-from n s (readOperator widest s at .next) w (omega arith) f)
+    (eqb (readOperator widest s at .refusal) 0) h refl refl
+    (λ z f.
+    let x = read-next widest s at z in
+    pads-from n s (readOperator widest s at .next) (x .1) (omega (arith, x .0, k)) f)
     e
 
--- read, then write: a script read to its end is written as the same bytes
-pub written-script : (s : List ℕ) → Bytes s → readScript s .refusal ≡ 0 → writeScript (readScript s .operators) ≡ s
+-- read, then write: a script read to its end is whole numbers, those of its operators
+pub script-pads : (s : List ℕ) → readScript s .refusal ≡ 0
+    → PadsAt s 0 (length s) (writeScript (readScript s .operators))
 unfolding readScript
-written-script s b e = written-from (length s) s 0 b (omega arith) e
+script-pads s e = pads-from (length s) s 0 (omega arith) (omega arith) e
+
+-- so it is written in its shortest form
+pub written-script : (s : List ℕ) → readScript s .refusal ≡ 0 → writeScript (readScript s .operators) ≡ shorten s
+written-script s e =
+    let x = script-pads s e in
+    sym (shorten-behind x ∙ rw (drop-length s, shorten-nil) (append-nil (writeScript (readScript s .operators))))

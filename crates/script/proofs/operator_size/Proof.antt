@@ -1,5 +1,5 @@
 use native.Mathlib.Omega.{arith}
-use Rattle.codec.specs.WriteLaws.{groups-size}
+use Rattle.numbers.specs.NumberLaws.{groups-size}
 use Rattle.script.specs.OperatorLaws.{size-is}
 use borrow.Author.Needs.{needs}
 use Rattle.script.proofs.operator_size.Statement.{statement}

@@ -1,6 +1,7 @@
 use native.Mathlib.Omega.{arith}
 use mathlib.Core.Path.{sym, _∙_}
-use Rattle.codec.specs.WriteLaws.{groups-size, size-unused, size-number}
+use Rattle.numbers.specs.NumberLaws.{groups-size}
+use Rattle.codec.specs.WriteLaws.{size-unused, size-number}
 use borrow.Author.Needs.{needs}
 use Rattle.codec.proofs.bytes.operand_size.Statement.{statement}
 use Rattle.codec.proofs.bytes.operand_size.Tie as tie
