@@ -1,5 +1,6 @@
--- The checked examples a to h of document 01, one list under one theorem, by computation: what the definitions that
--- the contracts cite leave is what the rows say, to the word, the coordinate and the byte.
+-- The checked examples a to h of document 01 and those of job 1 of document 02, one list under one theorem, by
+-- computation: what the definitions that the contracts cite leave is what the rows say, to the word, the coordinate and
+-- the byte.
 use mathlib.Core.Path.{refl}
 use mathlib.Core.List.{List, _++_}
 use Rattle.laws.specs.Search.{allTo, leastFrom}
@@ -35,11 +36,12 @@ use Rattle.evidence_cases.specs.Case.{Row, Hold}
 use Rattle.evidence_cases.specs.RowsRuns.{runRows}
 use Rattle.evidence_cases.specs.RowsTakedown.{takedownRows}
 use Rattle.evidence_cases.specs.RowsRefused.{refusedRows}
+use Rattle.evidence_cases.specs.RowsPadded.{paddedRows}
 use Rattle.evidence_cases.specs.RowsSizes.{sizeRows}
 
 -- all rows
 abbrev pub cases : List Row
-cases = runRows ++ (takedownRows ++ (refusedRows ++ sizeRows))
+cases = runRows ++ (takedownRows ++ (refusedRows ++ (paddedRows ++ sizeRows)))
 
 -- what the definitions leave, step for step, is what the rows say
 pub cases-hold : Hold cases

@@ -3,6 +3,8 @@ pub mod Tables
 pub mod RowsRuns
 pub mod RowsTakedown
 pub mod RowsRefused
+pub mod RowsPadded
 pub mod RowsSizes
+pub mod Shortened
 pub mod Cases
 pub mod Kernels
