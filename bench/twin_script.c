@@ -40,7 +40,7 @@ void twin_kinds(const Records *t, OperandKind *kinds) {
     kinds[COORDINATE] = (OperandKind){100000, 0, 0, 1, 0, 0};
 }
 
-/* The number at *at, which moves behind it; BAD where it is cut off, too long or not in shortest form. */
+/* The number at *at, in however many groups, which moves behind it; BAD where it is cut off or too long. */
 enum { BAD = 1 << 21 };
 static inline unsigned read_number(const uint8_t **at, const uint8_t *end) {
     const uint8_t *p = *at;
@@ -48,7 +48,7 @@ static inline unsigned read_number(const uint8_t **at, const uint8_t *end) {
     unsigned n = 0;
     for (unsigned shift = 0; shift < 21 && p < end; shift += 7, p++) {
         n |= (*p & 127u) << shift;
-        if (*p < 128) return *at = p + 1, *p ? n : BAD;
+        if (*p < 128) return *at = p + 1, n;
     }
     return BAD;
 }

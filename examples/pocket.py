@@ -1,6 +1,7 @@
 """A block with a pocket and a through hole, as a script: writes examples/pocket.script.
 
     python3 examples/pocket.py           writes the script
+    python3 examples/pocket.py --padded  writes examples/pocket-padded.script: the same, each number in three groups
     python3 examples/pocket.py --text    prints its operators in words, with what each is for
 
 The solid, in millimetres (the script counts in hundredths): a block of 80 by 60 by 30, in its top a pocket of 50 by 30, 12 deep,
@@ -17,6 +18,7 @@ half-edge lies where, and writes the bytes.
 """
 
 import os
+import re
 import sys
 
 HERE = os.path.dirname(os.path.abspath(__file__))
@@ -125,14 +127,28 @@ def pocket():
     return part
 
 
+def three_groups(number):
+    """A number's bytes with groups of 0 behind them; all but the last have the high bit set."""
+    first, second, last = number.ljust(3, b"\x00")
+    return bytes((first | 128, second | 128, last))
+
+
+def padded(script):
+    """The same script with three groups for each number, as an exporter writes it that does not ask how many it needs."""
+    return b"".join(map(three_groups, re.findall(rb"[\x80-\xFF]*[\x00-\x7F]", script)))
+
+
 def main(arguments):
     steps = pocket().steps
     if arguments == ["--text"]:
         for op, why in steps:
             print(f"{describe(op):40} # {why}")
         return
-    with open(os.path.join(HERE, "pocket.script"), "wb") as file:
-        file.write(script_bytes([op for op, _ in steps]))
+    name, script = "pocket.script", script_bytes([op for op, _ in steps])
+    if arguments == ["--padded"]:
+        name, script = "pocket-padded.script", padded(script)
+    with open(os.path.join(HERE, name), "wb") as file:
+        file.write(script)
 
 
 if __name__ == "__main__":

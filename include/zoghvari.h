@@ -93,22 +93,28 @@ ZoghvariChecked zoghvari_check(const uint16_t *links, size_t links_n, const int3
 /* How many items a sound table has in use. */
 ZoghvariCounted zoghvari_count(const uint16_t *links, size_t links_n, const int32_t *points, size_t points_n);
 
-/* The operator that stands at `at` in a script. */
+/* The operator that stands at `at` in a script, 27 bytes at most. A number is one, two or three groups of seven bits,
+ * lowest first, with the high bit set on all but the last. Any such form is taken, also where the last groups add
+ * nothing: 1 may come as 01, 81 00 or 81 80 00 (hexadecimal).
+ * Refusals: 3 number cut off or too long, 4 code not 1 to 13, 5 operand out of range. */
 ZoghvariRead zoghvari_read(const uint8_t *script, size_t script_n, size_t at);
 
-/* Writes an operator, in shortest form, at the front of out. There are always eight args; those behind count are 0. */
+/* Writes an operator at the front of out, each number in its fewest groups: 19 bytes at most. There are always eight
+ * args; those behind count are 0. */
 ZoghvariWritten zoghvari_write(ZoghvariOperator op, uint8_t *out, size_t out_n);
 
 /* Carries out a script, operator by operator, up to its end or the first refusal; what was done before that stands.
  * Each operator's inverse is put into the log just before `start`, which moves down; no other log byte changes.
+ * The script's numbers may come in any form, as in zoghvari_read: of what is answered and left only `used` differs by
+ * it. What is logged is in fewest groups.
  * Refusals: 1 and 2 of the table and the start, 3 to 8 of the operator at script[used], 9 where the log has no room for
  * its inverse. */
 ZoghvariRan zoghvari_run(uint16_t *links, size_t links_n, int32_t *points, size_t points_n, uint8_t *log, size_t log_n,
                          size_t start, const uint8_t *script, size_t script_n);
 
 /* Takes back n operators: carries out the first n of the live log, unlogged, and moves the start up behind them. The
- * log is only read. Handed what the last run left and the sum of the done counts, it gives back every byte of links and
- * points. */
+ * log is only read, and its numbers may come in any form too. Handed what the last run left and the sum of the done
+ * counts, it gives back every byte of links and points. */
 ZoghvariUndone zoghvari_undo(uint16_t *links, size_t links_n, int32_t *points, size_t points_n, const uint8_t *log,
                              size_t log_n, size_t start, size_t n);
 

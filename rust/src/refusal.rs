@@ -21,7 +21,7 @@ pub enum Refusal {
     Lengths,
     /// 2: the table is not sound; the lowest broken rule, 1 to 6.
     Unsound { rule: u8 },
-    /// 3: a number is cut off, too long or not in shortest form.
+    /// 3: a number is cut off or too long.
     Number,
     /// 4: a code is not 1 to 13.
     Code,

@@ -23,7 +23,21 @@ impl Operator {
     }
 }
 
-/// The operator that stands at `at` in a script, and the place behind it. Refusals 3, 4 and 5.
+/// The operator that stands at `at` in a script, and the place behind it, at most 27 bytes further. Refusals 3, 4 and 5.
+///
+/// A number is taken in any form of at most three groups: 1 may come as 01, 81 00 or 81 80 00 (hexadecimal). Read and
+/// written, each number comes out in its fewest groups:
+///
+/// ```
+/// # fn main() -> Result<(), zoghvari::Refusal> {
+/// use zoghvari::{read, script_bytes, Operator};
+///
+/// let (op, next) = read(&[0x84, 0x80, 0x00, 0x81, 0x00], 0)?;
+/// assert_eq!((op, next), (Operator::new(4, &[1]), 5));
+/// assert_eq!(script_bytes(&[op])?, [0x04, 0x01]);
+/// # Ok(())
+/// # }
+/// ```
 pub fn read(script: &[u8], at: usize) -> Result<(Operator, usize), Refusal> {
     let answer = sys::read(script, at);
     let op = Operator { code: answer.op.code, count: answer.op.count, args: answer.op.args };
@@ -33,7 +47,8 @@ pub fn read(script: &[u8], at: usize) -> Result<(Operator, usize), Refusal> {
     }
 }
 
-/// Writes an operator at the front of `out`; answers how many bytes it takes, 19 at most. Refusals 4, 5 and 9 write nothing.
+/// Writes an operator at the front of `out`, each number in its fewest groups; answers how many bytes it takes, 19 at
+/// most. Refusals 4, 5 and 9 write nothing.
 pub fn write(op: &Operator, out: &mut [u8]) -> Result<usize, Refusal> {
     let answer = sys::write(sys::Operator { code: op.code, count: op.count, args: op.args }, out);
     match Refusal::of(answer.refusal, 0) {

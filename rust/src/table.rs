@@ -140,14 +140,16 @@ impl Table {
         Ok(Counts { solids, faces, loops, edges, vertices, rings, holes })
     }
 
-    /// Carries out a script up to its end or the first refusal, and logs the inverses. Refusals 1 to 9.
+    /// Carries out a script up to its end or the first refusal, and logs the inverses. Its numbers may come in any form
+    /// that [`read`](crate::read) takes, and only `used` differs by it. Refusals 1 to 9.
     pub fn run(&mut self, script: &[u8]) -> Ran {
         let answer = sys::run(&mut self.links, &mut self.points, &mut self.log, self.start, script);
         self.start = answer.start;
         Ran { refusal: Refusal::of(answer.refusal, answer.rule), done: answer.done, used: answer.used }
     }
 
-    /// Takes back the last `n` operators; the log's bytes stay. Refusals 1 to 8 and 11.
+    /// Takes back the last `n` operators; the log's bytes stay. In a log from elsewhere numbers may come in any form, as
+    /// in a script. Refusals 1 to 8 and 11.
     pub fn undo(&mut self, n: usize) -> Undone {
         let answer = sys::undo(&mut self.links, &mut self.points, &self.log, self.start, n);
         self.start = answer.start;

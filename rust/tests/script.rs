@@ -35,6 +35,21 @@ fn f_codes_numbers_and_coordinates() {
 }
 
 #[test]
+fn padded_numbers() {
+    let kev = Operator::new(4, &[1]);
+    for script in [&[4, 1][..], &[4, 0x81, 0], &[4, 0x81, 0x80, 0], &[0x84, 0x80, 0, 0x81, 0x80, 0]] {
+        assert_eq!(read(script, 0), Ok((kev, script.len())));
+    }
+    for cut_or_long in [&[4, 0x81][..], &[4, 0x81, 0x80], &[4, 0x81, 0x80, 0x80, 0], &[0x84]] {
+        assert_eq!(read(cut_or_long, 0), Err(Refusal::Number));
+    }
+    for no_code in [&[0x8E, 0][..], &[0x80, 0], &[0x80, 0x80, 0]] {
+        assert_eq!(read(no_code, 0), Err(Refusal::Code));
+    }
+    assert_eq!(script_bytes(&[kev]), Ok(vec![4, 1]));
+}
+
+#[test]
 fn a_refused_write_writes_nothing() {
     let mut out = [0xEE; 7];
     assert_eq!(write(&Operator::new(1, &[1, 1, 1, 1, 0, 0, 0]), &mut out), Err(Refusal::NoRoom));

@@ -2,8 +2,8 @@
 
 The C examples and the guide's C programs are built with the kernel's archive and run; what the take-down of the pocket
 logs is held to the model; the pocket's script is held to its source, to the model, to the solid that it is meant to be,
-and to the program where that is built; the header and the archive are held to what header.py says of them. The last
-line is 'N passed, M failed'.
+and to the program where that is built, and in padded numbers to what it does in shortest ones; the header and the
+archive are held to what header.py says of them. The last line is 'N passed, M failed'.
 """
 
 import os
@@ -62,6 +62,8 @@ def rebuild_example(tally, folder, kernel):
     tally.equal("examples/rebuild.c", output_of([rebuild], data), (0, wanted))
     refused = "build: refusal 4 done 0 used 0 of 1\n"
     tally.equal("examples/rebuild.c, a script that is refused", output_of([rebuild], b"\x0E"), (1, refused))
+    padded, said = padded_pocket(wanted)
+    tally.equal("examples/rebuild.c, padded numbers", output_of([rebuild], padded), (0, said))
     told, part = digests(wanted), table_of(pocket.pocket().table)
     tally.equal("before the take-down and after the rebuilding", told["before"], told["rebuilt"])
     tally.equal("the digest of the pocket", told["before"], digest_of(part))
@@ -110,6 +112,22 @@ def pocket_script(tally):
         tally.equal("the program on pocket.script", output_of([PROGRAM], data), (0, wanted))
 
 
+def padded_pocket(said):
+    """The pocket's script in padded numbers, and what is to be said of it: as of the short one but for its bytes."""
+    short, padded = read("examples/pocket.script", "rb"), read("examples/pocket-padded.script", "rb")
+    return padded, re.sub(rf"(used|of) {len(short)}\b", rf"\1 {len(padded)}", said)
+
+
+def padded_script(tally):
+    padded, wanted = padded_pocket(read("examples/pocket.expected"))
+    short = read("examples/pocket.script", "rb")
+    tally.equal("pocket-padded.script is what pocket.py --padded writes", padded, pocket.padded(short))
+    tally.equal("each of its numbers has three groups", re.sub(rb"[\x80-\xFF]{2}[\x00-\x7F]", b"", padded), b"")
+    tally.equal("what the model prints for pocket-padded.script", program(padded), wanted)
+    if os.path.exists(PROGRAM):
+        tally.equal("the program on pocket-padded.script", output_of([PROGRAM], padded), (0, wanted))
+
+
 def corners(b, loop):
     return [b.points[b.start[half]] for half in b.cycles[loop]]
 
@@ -143,6 +161,7 @@ def main(arguments):
         rebuild_example(tally, folder, kernel)
         guide(tally, folder, kernel)
     pocket_script(tally)
+    padded_script(tally)
     print(f"{tally.passed} passed, {tally.failed} failed")
     return 0 if tally.failed == 0 and tally.passed > 0 else 1
 
