@@ -11,6 +11,7 @@ from examples import EXAMPLES
 from exhaustive import EXHAUSTIVE
 from generate import seeded
 from operator_examples import OPERATOR_EXAMPLES
+from padded_examples import PADDED_EXAMPLES
 from properties import PROPERTIES
 from takedown_examples import TAKEDOWN_EXAMPLES
 from takedown_properties import TAKEDOWN_PROPERTIES
@@ -21,7 +22,7 @@ def main(arguments):
     scale = float(arguments[0]) if arguments else 1.0
     seed = int(arguments[1]) if len(arguments) > 1 else 1
     tally = Tally()
-    for example in EXAMPLES + OPERATOR_EXAMPLES + TAKEDOWN_EXAMPLES:
+    for example in EXAMPLES + OPERATOR_EXAMPLES + PADDED_EXAMPLES + TAKEDOWN_EXAMPLES:
         example(tally)
     print(f"examples: {tally.passed} checks")
     for number, prop in enumerate(PROPERTIES + EXHAUSTIVE + TAKEDOWN_PROPERTIES):
