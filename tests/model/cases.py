@@ -10,6 +10,7 @@ from generate import (EVEN, bend, bent_structure, damage_lengths, damaged_bytes,
 from kernel import run
 from layout import cleared_table
 from operators import plan
+from padding import half_padded, padded_log
 from script import number_bytes, operator, operator_bytes, script_bytes
 from takedown_cases import takedown_case
 
@@ -52,7 +53,7 @@ def table_case(kind):
 
 def read_case(rng):
     table = random_table(rng)
-    script = random_script(rng, table)
+    script = half_padded(rng, random_script(rng, table))
     place = rng.choice((0, 0, rng.randint(0, len(script) + 2)))
     numbers = (place,) if rng.random() < 0.5 else (place,) + table.capacities
     return wire.case(wire.READ, numbers, script=script)
@@ -93,7 +94,7 @@ def operator_case(rng):
     elif dice < 0.66:
         # Items as they have to be, and the condition left to chance: it is what has to accept or refuse.
         script = operator_bytes(propose(rng, b, pools_of(b), code))
-    return wire.case(wire.RUN, (start,), table.links, table.points, log, script)
+    return wire.case(wire.RUN, (start,), table.links, table.points, log, half_padded(rng, script))
 
 
 def roomy_log(rng):
@@ -142,14 +143,16 @@ def run_case(rng):
     if dice < 0.06:
         script = any_bytes(rng, rng.choice((1, 3, 10, 40)), rng.choice((13, 255)))
     links, points = (table.links, table.points) if dice < 0.8 else lent_table(rng)
-    return wire.case(wire.RUN, (start,), links, points, log, script)
+    return wire.case(wire.RUN, (start,), links, points, log, half_padded(rng, script))
 
 
 def undo_case(rng):
     """Undo on a log that a run left, on one that a stranger wrote, or on any bytes at all."""
     table = random_table(rng)
-    make = rng.choice((log_of_run, log_of_run, log_of_stranger, log_of_bytes))
+    make = rng.choice((log_of_run, log_of_run, log_of_stranger, log_of_script, log_of_bytes))
     links, points, log, start, live = make(rng, table)
+    if rng.random() < 0.5:
+        log = padded_log(rng, log, start)
     if log and rng.random() < 0.2:
         log = damaged_bytes(rng, bytes(log))
     if rng.random() < 0.08:
@@ -174,6 +177,12 @@ def log_of_stranger(rng, table):
     return table.links, table.points, front + script_bytes(operators) + behind, len(front), len(operators)
 
 
+def log_of_script(rng, table):
+    """Any script in the place of a log: its operators may be refused for each reason, which a run's log never is."""
+    front = any_bytes(rng, rng.choice((0, 1, 30)))
+    return table.links, table.points, front + random_script(rng, table), len(front), 16
+
+
 def log_of_bytes(rng, table):
     """Bytes up to 13 are read as operators more often than any bytes."""
     log = any_bytes(rng, rng.choice((0, 1, 2, 5, 20, 60)), rng.choice((13, 13, 255)))
@@ -190,12 +199,12 @@ CASES = {wire.CLEAR: clear_case, wire.CHECK: table_case(wire.CHECK), wire.COUNT:
 def program_input(rng):
     """Standard input for the program: scripts for capacities 64, up to and past its limit."""
     b = Boundary(cleared_table((64,) * 5))
-    script = script_bytes(random_operators(rng, b, rng.choice((0, 1, 5, 30, 120))))
+    script = half_padded(rng, script_bytes(random_operators(rng, b, rng.choice((0, 1, 5, 30, 120)))))
     dice = rng.random()
     if dice < 0.3:
         return script
     if dice < 0.5:
-        return script + operator_bytes(random_operator(rng, b))
+        return script + half_padded(rng, operator_bytes(random_operator(rng, b)))
     if dice < 0.9:
         return damaged_bytes(rng, script or b"\0")
     # A solid made and killed again and again fills any number of bytes with accepted operators.

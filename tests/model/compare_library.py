@@ -6,6 +6,9 @@ MODE  entries    COUNT cases each of clearing, checking, counting, reading and w
       operators  COUNT scripts of one operator on sound tables
       runs       COUNT runs and undos of whole scripts on any tables, logs and starts
       promise    COUNT lists of scripts, run one after the other and undone together
+      padded     COUNT runs and undos of padded scripts and logs, and the same in their shortest form
+      numbers    COUNT operators read, padded, besides every form of every number below 2^14, every script of two bytes
+                 and a net of three
       takedown   COUNT tables taken down and built again by what was logged, besides every table of two edges at most,
                  from 10,000 on of three
       all        every mode, with a count of its own (the default)
@@ -23,6 +26,9 @@ from cases import CASES, operator_case
 from generate import seeded
 from library import ask, build_driver
 from met import Met
+from padded_cases import listed_cases, padded_read_case, padded_run_case, padded_undo_case
+from padded_met import number_situations, wanted_numbers, wanted_padded
+from padded_promise import keep_promise as keep_padded_promise
 from promise import tell
 from rules import check
 from takedown_cases import LISTED, LISTED_TOO, listed_trials, takedown_trial
@@ -43,6 +49,7 @@ def compare(driver, tally, met, cases):
         wanted = wire.answer_case(case)
         if tally.equal(name, answer and wire.mask_free(answer), wanted):
             met.add(case, wanted)
+            met.situations.update(number_situations(case, wanted))
 
 
 def portions(count):
@@ -63,6 +70,7 @@ def operators(driver, tally, met, rng, count):
     if count >= ENOUGH:
         met.want_codes(tally, {"run": range(3, 10)})
         met.want_conditions(tally)
+        met.want_situations(tally, wanted_padded("run", (0, *range(3, 10))))
 
 
 def runs(driver, tally, met, rng, count):
@@ -70,6 +78,7 @@ def runs(driver, tally, met, rng, count):
         compare(driver, tally, met, [CASES[rng.choice((wire.RUN, wire.UNDO))](rng) for _ in range(size)])
     if count >= ENOUGH:
         met.want_codes(tally, {"run": range(10), "undo": list(range(9)) + [11]})
+        met.want_situations(tally, wanted_padded("run") + wanted_padded("undo"))
     # Few damaged tables come as far as rule 6, so a short comparison need not meet it.
     for kind in ("run", "undo") if count >= PLENTY else ():
         met.want_rules(tally, kind)
@@ -80,6 +89,26 @@ def promise(driver, tally, met, rng, count):
         tell(driver, tally, met, rng, size)
     if count >= ENOUGH:
         met.want_codes(tally, {"run": [0, 1] + list(range(3, 10)), "undo": [0, 1]})
+
+
+def padded(driver, tally, met, rng, count):
+    """Padded cases against the model, and then the kernel's answers to them against those to their shortest forms."""
+    for size in portions(count):
+        cases = [rng.choice((padded_run_case, padded_undo_case))(rng) for _ in range(size)]
+        compare(driver, tally, met, cases)
+        keep_padded_promise(lambda asked: ask(driver, asked), tally, cases)
+    if count >= ENOUGH:
+        met.want_situations(tally, wanted_numbers("run") + wanted_numbers("undo"))
+
+
+def numbers(driver, tally, met, rng, count):
+    listed = listed_cases()
+    for place in range(0, len(listed), PORTION):
+        compare(driver, tally, met, listed[place:place + PORTION])
+    for size in portions(count):
+        compare(driver, tally, met, [padded_read_case(rng) for _ in range(size)])
+    if count >= ENOUGH:
+        met.want_situations(tally, wanted_numbers("read"))
 
 
 def takedown(driver, tally, met, rng, count):
@@ -110,7 +139,7 @@ def compare_takedowns(driver, tally, met, trials):
 
 # Name, comparison, and the count with which the gate runs it.
 MODES = {"entries": (entries, 500), "operators": (operators, 3_000), "runs": (runs, 3_000), "promise": (promise, 2_000),
-         "takedown": (takedown, 5_000)}
+         "padded": (padded, 3_000), "numbers": (numbers, 2_000), "takedown": (takedown, 5_000)}
 
 
 def run_mode(driver, name, count, seed):

@@ -16,12 +16,14 @@ from cases import program_input
 from generate import seeded
 from kernel import PROGRAM_INPUT, program
 from library import ROOT, newest_source
+from padding import all_padded
 from script import operator, script_bytes
 from tally import Tally
 
 PROGRAM = os.path.join(ROOT, "target", "bin", "zoghvari")
 SECONDS = 20
 EXAMPLE_B = bytes.fromhex("0101010101000000")
+PADDED_B = all_padded(EXAMPLE_B)
 # A solid made and killed again: the table accepts it any number of times.
 PAIR = script_bytes([operator("mvsf", 1, 1, 1, 1, 0, 50_000, -1), operator("kvsf", 1)])
 
@@ -65,6 +67,7 @@ def filled(length):
 
 
 FIXED = [b"", EXAMPLE_B, EXAMPLE_B + EXAMPLE_B, EXAMPLE_B[:-1], b"\x0E", b"\x81\x00", b"\0", b"\xFF" * 7] \
+    + [PADDED_B, PADDED_B + PADDED_B, PADDED_B[:-1], b"\x8E\x00", b"\x80\x80\x00"] \
     + [filled(n) for n in (PROGRAM_INPUT - 1, PROGRAM_INPUT, PROGRAM_INPUT + 1, 2 * PROGRAM_INPUT, 100_000)] \
     + [bytes(PROGRAM_INPUT), bytes(PROGRAM_INPUT + 1)]
 # Whole input up to the limit, and just above it; in pieces that are no operators' boundaries.

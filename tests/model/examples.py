@@ -75,7 +75,8 @@ def example_e_counts(tally):
 
 
 def examples_f_to_h(tally):
-    for text, wanted in (("0E", 4), ("00", 4), ("8100", 3), ("818000", 3), ("81", 3), ("8E01", 4)):
+    for text, wanted in (("0E", 4), ("00", 4), ("8100", 3), ("818000", 3), ("81", 3), ("8E01", 4),
+                         ("8E00", 4), ("8E8000", 4), ("8000", 4), ("808000", 4), ("8E808000", 3)):
         data = bytes.fromhex(text)
         tally.equal(f"example f read {text}", read_operator(data, 0), (wanted, NO_OPERATOR, 0))
         tally.equal(f"example f run {text}", Desk(SMALL).run(data), (wanted, 0, 0, 0, 200))
@@ -218,7 +219,7 @@ def numbers(tally):
         data = bytes.fromhex(text)
         tally.equal(f"number {value} written", number_bytes(value), data)
         tally.equal(f"number {value} read", read_number(data + b"\xFF", 0), (value, len(data)))
-    for text in ("", "80", "8080", "8000", "FF00", "808000", "808080", "80808001", "FFFFFF7F"):
+    for text in ("", "80", "8080", "808080", "80808000", "80808001", "FFFFFF7F"):
         tally.equal(f"number {text} refused", read_number(bytes.fromhex(text), 0), None)
 
 

@@ -351,7 +351,7 @@ def random_script(rng, table):
 
 
 def damaged_bytes(rng, data):
-    """One damage: a byte changed, lost or put in, cut, extended, or a number padded."""
+    """One damage: a byte changed, lost or put in, cut, extended, or a number lengthened, be it beyond three groups."""
     place = rng.randrange(len(data))
     dice = rng.randrange(6)
     if dice == 0:
@@ -364,11 +364,11 @@ def damaged_bytes(rng, data):
         return data[:place]
     if dice == 4:
         return data + bytes(rng.randrange(256) for _ in range(rng.randint(1, 4)))
-    return padded(data, place, rng.randint(1, 3))
+    return lengthened(data, place, rng.randint(1, 3))
 
 
-def padded(data, place, groups):
-    """Lengthens the number that ends at or after place by groups of zero bits."""
+def lengthened(data, place, groups):
+    """Puts groups of zero bits behind the number that ends at or after place."""
     while data[place] >= 128 and place + 1 < len(data):
         place += 1
     tail = bytes([128] * (groups - 1) + [0])

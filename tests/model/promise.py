@@ -8,6 +8,7 @@ from cases import any_bytes
 from generate import random_log, random_script, random_table
 from layout import Table
 from library import ask
+from padding import half_padded
 
 
 class Story:
@@ -20,7 +21,7 @@ class Story:
         last = wire.case(wire.RUN, (0, 0, 0, 0, self.start), self.links, self.points, self.log)
         for _ in range(rng.choice((0, 1, 2, 3, 4, 6))):
             # The script fits the table as the model has it; which table the kernel has is its own affair.
-            script = random_script(rng, Table(list(last.links), list(last.points)))
+            script = half_padded(rng, random_script(rng, Table(list(last.links), list(last.points))))
             last = wire.answer_case(run_after(last, script))
             self.scripts.append(script)
             self.wanted.append(last)

@@ -66,8 +66,11 @@ def describe(op):
 
 # Numbers
 
+MOST_GROUPS = 3
+
+
 def number_bytes(value):
-    """Groups of seven bits, lowest first, the high bit set on all but the last."""
+    """Groups of seven bits, lowest first, the high bit set on all but the last; the fewest, as numbers are written."""
     assert 0 <= value < 1 << 21
     groups = []
     while True:
@@ -77,19 +80,48 @@ def number_bytes(value):
         groups.append(group + 128)
 
 
+def number_forms(value):
+    """All that is read as this number: its fewest groups, and those with groups of zero bits behind, up to three."""
+    shortest_form = number_bytes(value)
+    forms = [shortest_form]
+    for more in range(1, MOST_GROUPS - len(shortest_form) + 1):
+        forms.append(shortest_form[:-1] + bytes([shortest_form[-1] + 128] + [128] * (more - 1) + [0]))
+    return forms
+
+
 def read_number(data, place):
-    """Answers (value, place after it), or None where refusal 3 is due."""
+    """Answers (value, place after it), or None where refusal 3 is due: the number is cut off or has a fourth group."""
     value = 0
-    for group in range(3):
+    for group in range(MOST_GROUPS):
         if place + group >= len(data):
             return None
         byte = data[place + group]
         value += (byte % 128) << (7 * group)
         if byte < 128:
-            if group > 0 and byte == 0:
-                return None
             return value, place + group + 1
     return None
+
+
+def numbers_of(data):
+    """Value and bytes of each number from the front, up to the first that is refused; and the bytes from there on."""
+    place, numbers = 0, []
+    got = read_number(data, place)
+    while got is not None:
+        numbers.append((got[0], bytes(data[place:got[1]])))
+        place = got[1]
+        got = read_number(data, place)
+    return numbers, bytes(data[place:])
+
+
+def shorten(data):
+    """Each number that is read in its fewest groups; from the first that is cut off or too long on the bytes stay."""
+    numbers, tail = numbers_of(data)
+    return b"".join(number_bytes(value) for value, _ in numbers) + tail
+
+
+def shortest(data):
+    """No byte from 128 on is followed by a byte 0; it takes no reading to see that."""
+    return not any(one >= 128 and two == 0 for one, two in zip(data, data[1:]))
 
 
 def fold_coordinate(c):

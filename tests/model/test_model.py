@@ -11,6 +11,8 @@ from examples import EXAMPLES
 from exhaustive import EXHAUSTIVE
 from generate import seeded
 from operator_examples import OPERATOR_EXAMPLES
+from padded_examples import PADDED_EXAMPLES
+from padded_properties import PADDED_PROPERTIES
 from properties import PROPERTIES
 from takedown_examples import TAKEDOWN_EXAMPLES
 from takedown_properties import TAKEDOWN_PROPERTIES
@@ -21,10 +23,10 @@ def main(arguments):
     scale = float(arguments[0]) if arguments else 1.0
     seed = int(arguments[1]) if len(arguments) > 1 else 1
     tally = Tally()
-    for example in EXAMPLES + OPERATOR_EXAMPLES + TAKEDOWN_EXAMPLES:
+    for example in EXAMPLES + OPERATOR_EXAMPLES + PADDED_EXAMPLES + TAKEDOWN_EXAMPLES:
         example(tally)
     print(f"examples: {tally.passed} checks")
-    for number, prop in enumerate(PROPERTIES + EXHAUSTIVE + TAKEDOWN_PROPERTIES):
+    for number, prop in enumerate(PROPERTIES + EXHAUSTIVE + TAKEDOWN_PROPERTIES + PADDED_PROPERTIES):
         before, began = tally.passed, time.process_time()
         # A seed of its own, so that one property's cases do not hang on another's.
         prop(tally, seeded(1000 * seed + number), scale)
