@@ -9,7 +9,7 @@ use Rattle.machine.specs.Machine.{Read, ToRead}
 use Rattle.evidence_cases.specs.Case.{Row, row, step, runs, undoes}
 use Rattle.evidence_cases.specs.Tables.{lent, linksB, linksC, pointsZero, pointsAt, logD}
 use Rattle.evidence_cases.specs.Tables.{tableB, tableC, tableD, undoneWith}
-use Rattle.evidence_cases.specs.RowsRuns.{clearing, runningB, runningC}
+use Rattle.evidence_cases.specs.RowsRuns.{clearing, runningB}
 use Rattle.evidence_cases.specs.RowsRefused.{unread, refusedOnB}
 
 -- ---- the scripts; 0 is 80 80 00, 1 is 81 80 00

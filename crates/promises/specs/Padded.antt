@@ -12,7 +12,7 @@ use lib.IntN.{ℤ}
 use lib.ListN.{length, take, drop, length-append, drop-of-length-le}
 use lib.Seq.{length-take-le, take-all}
 use borrow.Author.Tests.{le-ltb, ltb-false, le-leb, lt-leb, eqb-true}
-use Rattle.laws.specs.Bools.{pick, le?, ask, split, eqb-same}
+use Rattle.laws.specs.Bools.{pick, le?, split, eqb-same}
 use Rattle.numbers.specs.Padded.{shorten, shortenFrom}
 use Rattle.numbers.specs.PaddedLaws.{PadsAt, pads-none, pads-both, shorten-between, shorten-nil, alike-behind}
 use Rattle.numbers.specs.PaddedLaws.{ends-alike, shorten-from}
@@ -24,7 +24,7 @@ use Rattle.layout.specs.declared.shape.Shape.{Shape}
 use Rattle.layout.specs.Layout.{shapeOf}
 use Rattle.euler.specs.Exec.{limits, linksAfter, pointsAfter}
 use Rattle.runs.specs.Run.{State, state, readAt, admitRead, refusalAt, carryRefusal, runRefusal, stepped, entry}
-use Rattle.runs.specs.Run.{Ran, leaves, ran, runFrom, runOf, Undid, restores, undid, undoFrom, undoOf}
+use Rattle.runs.specs.Run.{Ran, leaves, runFrom, runOf, Undid, restores, undoFrom, undoOf}
 use Rattle.runs.specs.RunLaws.{run-read, run-ended}
 use Rattle.runs.specs.Clauses.{run-some, run-in, run-out, entry-passed, undo-none, undo-some, undo-in, undo-out}
 use Rattle.promises.specs.Reading.{taken}
