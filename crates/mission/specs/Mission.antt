@@ -17,10 +17,11 @@ use lib.ListN.{length, getD, take, drop}
 use Rattle.script.specs.declared.Operator.{Operator}
 use Rattle.codec.specs.Operands.{widest}
 use Rattle.script.specs.Operator.{readOperator, notWritten, writeOperator, readScript}
-use Rattle.numbers.specs.declared.Num.the-variants.{Got}
+use Rattle.numbers.specs.declared.Num.the-variants.{Got, Bad}
 use Rattle.numbers.specs.Number.{readNumber, groups}
 use Rattle.numbers.specs.Padded.{form, shorten, shortest}
 use Rattle.numbers.specs.NumberTrip.{Bytes}
+use Rattle.numbers.specs.Unread.{Unread}
 use Rattle.script.specs.EntryTrips.{Copied, writtenAll}
 use Rattle.layout.specs.declared.shape.Shape.{Shape}
 use Rattle.layout.specs.Layout.{shapeOf}
@@ -130,6 +131,9 @@ pub record Demand2 : Type 0 where
       → drop at s ≡ form g n ++ q → readNumber s at ≡ Got n (at + g)
   pub read-form : (s : List ℕ) (at n k : ℕ) → Bytes s → readNumber s at ≡ Got n k
       → (g : ℕ) × (k ≡ at + g) × (length (groups n) ≤ g) × (g ≤ 3) × (drop at s ≡ form g n ++ drop k s)
+  -- "Refusal 3 then covers only cut-off and too-long numbers"
+  pub unread : (s : List ℕ) (at : ℕ) → readNumber s at ≡ Bad → Unread s at
+  pub unread-bad : (s : List ℕ) (at : ℕ) → Unread s at → readNumber s at ≡ Bad
   -- "A padded script must do what its shortest form does, bytes taken aside": of any bytes and from any state, refused
   -- or not, all but the bytes used are the same (`shortUsed`); so too undo on a padded log (`shortStart`)
   pub padded-run : (t : State) (s : List ℕ) → runOf t (shorten s) ≡ shortUsed s (runOf t s)

@@ -2,6 +2,7 @@
 use mathlib.Core.Path.{ap}
 use Rattle.codec.specs.Operands.{widest}
 use Rattle.numbers.specs.NumberTrip.{form-read, read-form}
+use Rattle.numbers.specs.Unread.{unread, unread-bad}
 use Rattle.script.specs.EntryTrips.{write-read, read-write, script-copied, script-shortened, script-shortest}
 use Rattle.table.specs.declared.check.CheckAnswer.{CheckAnswer}
 use Rattle.sound_tables.specs.ClearSound.{clear-valid}
@@ -62,6 +63,8 @@ demand-2 = record {
   script-shortest = script-shortest;
   form-read = form-read;
   read-form = read-form;
+  unread = unread;
+  unread-bad = unread-bad;
   padded-run = padded-run;
   padded-undo = padded-undo;
   valid-kept = λ x p o h len a.

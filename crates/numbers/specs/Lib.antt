@@ -4,3 +4,4 @@ pub mod Groups
 pub mod NumberLaws
 pub mod NumberTrip
 pub mod PaddedLaws
+pub mod Unread

@@ -35,7 +35,8 @@ pub record Found (at : ℕ) (l : List ℕ) (n k : ℕ) : Type 0 where
   pub behind : k ≡ at + size
   pub reads : Reads l n size
 
-never : {X : Type 0} {n k : ℕ} → Bad ≡ Got n k → X
+-- what is not read is no number
+pub never : {X : Type 0} {n k : ℕ} → Bad ≡ Got n k → X
 never e = absurd (let z : _≡_ {A = ℕ} 0 1 = cc in omega arith)
 
 module _ (at n k : ℕ) where
