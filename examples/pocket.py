@@ -134,7 +134,7 @@ def three_groups(number):
 
 
 def padded(script):
-    """The same script with three groups for each number, as an exporter writes it that does not ask how many it needs."""
+    """The same script with three groups for each number, as an exporter writes that does not ask how many it needs."""
     return b"".join(map(three_groups, re.findall(rb"[\x80-\xFF]*[\x00-\x7F]", script)))
 
 

@@ -23,7 +23,7 @@ impl Operator {
     }
 }
 
-/// The operator that stands at `at` in a script, and the place behind it, at most 27 bytes further. Refusals 3, 4 and 5.
+/// The operator that stands at `at` in a script, and the place behind it, at most 27 bytes further. Refusals 3, 4, 5.
 ///
 /// A number is taken in any form of at most three groups: 1 may come as 01, 81 00 or 81 80 00 (hexadecimal). Read and
 /// written, each number comes out in its fewest groups:

@@ -148,8 +148,8 @@ impl Table {
         Ran { refusal: Refusal::of(answer.refusal, answer.rule), done: answer.done, used: answer.used }
     }
 
-    /// Takes back the last `n` operators; the log's bytes stay. In a log from elsewhere numbers may come in any form, as
-    /// in a script. Refusals 1 to 8 and 11.
+    /// Takes back the last `n` operators; the log's bytes stay. In a log from elsewhere numbers may come in any form,
+    /// as in a script. Refusals 1 to 8 and 11.
     pub fn undo(&mut self, n: usize) -> Undone {
         let answer = sys::undo(&mut self.links, &mut self.points, &self.log, self.start, n);
         self.start = answer.start;

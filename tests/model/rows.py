@@ -1,7 +1,8 @@
 """The rows of crates/evidence_rows: operators on small tables, and what the model says they leave.
 
     python3 tests/model/rows.py           writes crates/evidence_rows/specs/Rows*.antt
-    python3 tests/model/rows.py --check   compares these files, layout aside, with what it would write
+    python3 tests/model/rows.py --check   compares these files, layout aside, with what it would write, and the rows of
+                                          crates/evidence_cases/specs/Shortened.antt with the model
 
 A table is said by the script that leads to it, a row by its operator and the refusal that
 document 01 settles; words, points and inverses are the model's. While the rows are made
@@ -11,6 +12,7 @@ has to lead back, with the operator for its own inverse. The last line printed i
 """
 
 import os
+import re
 import sys
 
 from boundary import Boundary, write_back
@@ -18,7 +20,7 @@ from layout import COORDINATE_LIMIT, Table, cleared_table
 from operators import carry_out
 from row_cases import FAMILIES
 from rules import check
-from script import NO_OPERATOR, PATTERNS, Operator, limits_of, operands_of, operator
+from script import NO_OPERATOR, PATTERNS, Operator, limits_of, operands_of, operator, shorten, shortest
 from tally import Tally
 
 USES = [
@@ -27,7 +29,11 @@ USES = [
     "use Rattle.euler.specs.Exec.{Table}",
     "use Rattle.evidence_rows.specs.Row.{Row, table, operation, accepts, refuses}",
 ]
-FOLDER = os.path.join(os.path.dirname(os.path.abspath(__file__)), "..", "..", "crates", "evidence_rows", "specs")
+CRATES = os.path.join(os.path.dirname(os.path.abspath(__file__)), "..", "..", "crates")
+FOLDER = os.path.join(CRATES, "evidence_rows", "specs")
+# Bytes, their shortest form, and whether they are shortest.
+SHORTENED = os.path.join(CRATES, "evidence_cases", "specs", "Shortened.antt")
+SAMPLE = re.compile(r"\bsample \(([^()]*)\) \(([^()]*)\) (true|false)")
 
 # Tables and misuses
 
@@ -195,6 +201,20 @@ def compare(tally, files):
         tally.holds(f"{name} is as written", files.get(name, "").split() == read(os.path.join(FOLDER, name)).split())
 
 
+def numbers_in(text):
+    return bytes(map(int, re.findall(r"\d+", text)))
+
+
+def compare_shortened(tally):
+    """The rows about shortest forms: few, and written there by hand."""
+    found = SAMPLE.findall(read(SHORTENED))
+    tally.holds("rows about shortest forms", len(found) > 10)
+    for text, short, already in found:
+        data = numbers_in(text)
+        tally.equal(f"shortest form of {data.hex()}", (numbers_in(short), already),
+                    (shorten(data), "true" if shortest(data) else "false"))
+
+
 def write(files):
     for name, text in files.items():
         with open(os.path.join(FOLDER, name), "w", encoding="utf-8") as file:
@@ -206,6 +226,7 @@ def main(arguments):
     files = all_files(tally)
     if arguments == ["--check"]:
         compare(tally, files)
+        compare_shortened(tally)
     elif tally.failed == 0:
         write(files)
     print(f"{tally.passed} passed, {tally.failed} failed")

@@ -140,6 +140,7 @@ operands-written (k ∷ ks) (n ∷ ns) s at q l e f =
       add-assoc at (length (operandBytes k n)) (length (operandsBytes ks ns)),
     )
 
+-- read, then write
 pub operands-pads : (ks s : List ℕ) (at : ℕ) (ns : List ℕ) (next : ℕ) → readOperands ks s at ≡ Read ns next
     → PadsAt s at next (operandsBytes ks ns)
 unfolding readOperands operandsBytes
@@ -154,6 +155,7 @@ operands-pads (k ∷ ks) s at ns next e =
 abbrev Short : ℕ → List ℕ → Numbers → Numbers
 Short b ks x = onNumbers x (λ ns next. Read ns (b + length (operandsBytes ks ns))) Cut
 
+-- where u has at b the shortest form of what s has at a
 pub operands-same : (ks s u : List ℕ) (a b : ℕ) → drop b u ≡ shorten (drop a s)
     → readOperands ks u b ≡ Short b ks (readOperands ks s a)
 unfolding readOperands operandsBytes

@@ -83,6 +83,7 @@ abbrev SmallNumbers : Numbers → Type 0
 SmallNumbers (Read ns next) = Small ns
 SmallNumbers Cut = Unit {0}
 
+-- of a number, of an operand, of all of them
 small-number : (s : List ℕ) (at : ℕ) → SmallNum (readNumber s at)
 small-number s at = by (readNumber s at) refl
   where

@@ -1,5 +1,6 @@
--- A row of the checked examples of document 01: memory as it is lent, the acts (crate `machine`) done on it one after
--- the other, and for each the whole answer with every word, coordinate and byte that it is to leave.
+-- A row of the checked examples of document 01, and of job 1 of document 02: memory as it is lent, the acts (crate
+-- `machine`) done on it one after the other, and for each the whole answer with every word, coordinate and byte that it
+-- is to leave.
 use Prim.Native.Nat.{ℕ}
 use mathlib.Core.Path.{_≡_}
 use mathlib.Core.List.{List, map}

@@ -42,6 +42,7 @@ kevOne = record { code = 4; count = 1; args = pos 1 ∷ pos 0 ∷ pos 0 ∷ pos 
 
 -- ---- the rows
 
+-- all of them
 abbrev pub paddedRows : List Row
 paddedRows =
     -- b, c and d in one script; undone one by one

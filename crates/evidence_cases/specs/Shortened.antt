@@ -1,5 +1,5 @@
--- The shortest form of some bytes, whole and damaged ones, and whether they are shortest, by computation. The words
--- come from the model in tests/model.
+-- The shortest form of some bytes, whole and damaged ones, and whether they are shortest, by computation. The words are
+-- those of the model in tests/model.
 use Prim.Native.Nat.{ℕ}
 use mathlib.Core.Path.{_≡_, refl}
 use mathlib.Core.Bool.{Bool, true, false}
@@ -13,9 +13,11 @@ pub record Sample : Type 0 where
   pub short : List ℕ
   pub already : Bool
 
+-- one in a line
 abbrev pub sample : List ℕ → List ℕ → Bool → Sample
 sample b s t = record { bytes = b; short = s; already = t }
 
+-- the rows, held to the model by tests/model/rows.py
 abbrev pub samples : List Sample
 samples =
     -- nothing

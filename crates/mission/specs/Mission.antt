@@ -15,14 +15,17 @@ use Prim.Native.Nat.{ℕ, _+_, _≤_, _<_}
 use lib.IntN.{ℤ}
 use lib.ListN.{length, getD, take, drop}
 use Rattle.script.specs.declared.Operator.{Operator}
+use Rattle.codec.specs.declared.Limits.{Limits}
 use Rattle.codec.specs.Operands.{widest}
-use Rattle.script.specs.Operator.{readOperator, notWritten, writeOperator, readScript}
+use Rattle.script.specs.Operator.{refused, readOperator, operatorBytes, notWritten, writeOperator, readScript}
 use Rattle.numbers.specs.declared.Num.the-variants.{Got, Bad}
 use Rattle.numbers.specs.Number.{readNumber, groups}
 use Rattle.numbers.specs.Padded.{form, shorten, shortest}
 use Rattle.numbers.specs.NumberTrip.{Bytes}
 use Rattle.numbers.specs.Unread.{Unread}
 use Rattle.script.specs.EntryTrips.{Copied, writtenAll}
+use Rattle.script.specs.Unread.{CutShort}
+use Rattle.script.specs.RoundTrip.{Writable}
 use Rattle.layout.specs.declared.shape.Shape.{Shape}
 use Rattle.layout.specs.Layout.{shapeOf}
 use Rattle.table.specs.Clear.{cleared, clearOf}
@@ -37,6 +40,7 @@ use Rattle.promises.specs.Reading.{Taken}
 use Rattle.promises.specs.Carried.{Refusing, Carried, apart, undoneApart}
 use Rattle.promises.specs.Promises.{Restored}
 use Rattle.promises.specs.Padded.{shortUsed, shortLog, shortStart}
+use Rattle.promises.specs.ShortLog.{live}
 use Rattle.machine.specs.Machine.{Act, behind, onlyRuns}
 use Rattle.machine.specs.Acts.{ActsUndone}
 use Rattle.inversion.specs.Promise.{clearLinks, clearPoints, Asked, InversionExact, HolesOne, CountHoles}
@@ -131,11 +135,22 @@ pub record Demand2 : Type 0 where
       → drop at s ≡ form g n ++ q → readNumber s at ≡ Got n (at + g)
   pub read-form : (s : List ℕ) (at n k : ℕ) → Bytes s → readNumber s at ≡ Got n k
       → (g : ℕ) × (k ≡ at + g) × (length (groups n) ≤ g) × (g ≤ 3) × (drop at s ≡ form g n ++ drop k s)
-  -- "Refusal 3 then covers only cut-off and too-long numbers"
+  -- the same: "writing keeps the shortest". An operator that is written in front of shortest bytes leaves them so, and
+  -- runs do the log's live part
+  pub operator-shortest : (o : Operator) → Writable o → (q : List ℕ) → shortest q ≡ true
+      → shortest (operatorBytes o ++ q) ≡ true
+  pub log-shortest : (t : State) (ss : List (List ℕ)) → Passes (t .links) (t .points) → shortest (live t) ≡ true
+      → shortest (live (runAll t ss .last)) ≡ true
+  -- the same: "Refusal 3 then covers only cut-off and too-long numbers". An operator is refused so, whatever its
+  -- limits, just where its code or one of its operands (`CutShort`) is a number that is cut off or too long (`Unread`),
+  -- and just such numbers are not read
+  pub refused-3 : (lim : Limits) (s : List ℕ) (at : ℕ) → readOperator lim s at .refusal ≡ 3 → CutShort s at
+  pub cut-refused : (lim : Limits) (s : List ℕ) (at : ℕ) → CutShort s at → readOperator lim s at ≡ refused 3 at
   pub unread : (s : List ℕ) (at : ℕ) → readNumber s at ≡ Bad → Unread s at
   pub unread-bad : (s : List ℕ) (at : ℕ) → Unread s at → readNumber s at ≡ Bad
-  -- "A padded script must do what its shortest form does, bytes taken aside": of any bytes and from any state, refused
-  -- or not, all but the bytes used are the same (`shortUsed`); so too undo on a padded log (`shortStart`)
+  -- the same: "A padded script must do what its shortest form does, bytes taken aside". Of any bytes and from any
+  -- state, refused or not, all but the bytes used are the same (`shortUsed`); so too undo on a padded log
+  -- (`shortStart`)
   pub padded-run : (t : State) (s : List ℕ) → runOf t (shorten s) ≡ shortUsed s (runOf t s)
   pub padded-undo : (t : State) (n : ℕ) → undoOf (shortLog t) n ≡ shortStart t (undoOf t n)
   -- "A sound table stays sound": under each accepted operator, under any list of runs, undone by any log, taken down or

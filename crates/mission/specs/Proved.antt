@@ -4,6 +4,8 @@ use Rattle.codec.specs.Operands.{widest}
 use Rattle.numbers.specs.NumberTrip.{form-read, read-form}
 use Rattle.numbers.specs.Unread.{unread, unread-bad}
 use Rattle.script.specs.EntryTrips.{write-read, read-write, script-copied, script-shortened, script-shortest}
+use Rattle.script.specs.Scripts.{operator-shortest}
+use Rattle.script.specs.Unread.{refused-3, cut-refused}
 use Rattle.table.specs.declared.check.CheckAnswer.{CheckAnswer}
 use Rattle.sound_tables.specs.ClearSound.{clear-valid}
 use Rattle.sound_operators.specs.Theorems.{valid-kept, inverse-exact}
@@ -13,6 +15,7 @@ use Rattle.promises.specs.Reading.{taken}
 use Rattle.promises.specs.Carried.{step-refusal, run-carried, refused-apart, undo-apart}
 use Rattle.promises.specs.Promises.{undo-exact, runs-sound, undo-sound}
 use Rattle.promises.specs.Padded.{padded-run, padded-undo}
+use Rattle.promises.specs.ShortLog.{log-shortest}
 use Rattle.machine.specs.Acts.{undo-acts}
 use Rattle.inversion.specs.Theorem.{inversion-exact, holes-one, count-holes}
 use Rattle.mission.specs.Refusals.{clear-numbered, check-numbered, count-numbered, read-numbered, write-numbered}
@@ -63,6 +66,10 @@ demand-2 = record {
   script-shortest = script-shortest;
   form-read = form-read;
   read-form = read-form;
+  operator-shortest = operator-shortest;
+  log-shortest = log-shortest;
+  refused-3 = refused-3;
+  cut-refused = cut-refused;
   unread = unread;
   unread-bad = unread-bad;
   padded-run = padded-run;

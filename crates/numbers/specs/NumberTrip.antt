@@ -40,12 +40,14 @@ pub never : {X : Type 0} {n k : ℕ} → Bad ≡ Got n k → X
 never e = absurd (let z : _≡_ {A = ℕ} 0 1 = cc in omega arith)
 
 module _ (at n k : ℕ) where
+  -- from the groups, whose value and place are the ones read
   got : {l : List ℕ} (v g : ℕ) → Reads l v g → Got v (at + g) ≡ Got n k → Found at l n k
   got {l} v g r e =
       let p : v ≡ n = cc in
       let q : k ≡ at + g = cc in
       record { size = g; behind = q; reads = subst (λ (m : ℕ). Reads l m g) p r }
 
+  -- behind two groups
   found-3 : (b d : ℕ) (r : List ℕ) → 128 ≤ b → 128 ≤ d → third at (b % 128 + d % 128 * 128) r ≡ Got n k
       → Found at (b ∷ d ∷ r) n k
   unfolding third
@@ -54,6 +56,7 @@ module _ (at n k : ℕ) where
       ⊎-elim (λ j. never (rw (le-ltb f 128 j) at e)) (λ j. got _ 3 (three b d f r h i j) (rw (lt-ltb f 128 j) at e))
       (le? 128 f)
 
+  -- behind one
   found-2 : (b : ℕ) (r : List ℕ) → 128 ≤ b → second at (b % 128) r ≡ Got n k → Found at (b ∷ r) n k
   unfolding second
   found-2 b [] h e = never e
@@ -61,6 +64,7 @@ module _ (at n k : ℕ) where
       ⊎-elim (λ i. found-3 b d r h i (rw (le-ltb d 128 i) at e))
       (λ i. got _ 2 (two b d r h i) (rw (lt-ltb d 128 i) at e)) (le? 128 d)
 
+  -- and from the first
   pub found : (l : List ℕ) → first at l ≡ Got n k → Found at l n k
   unfolding first
   found [] e = never e
@@ -172,6 +176,12 @@ pub number-written : (s : List ℕ) (at n : ℕ) (q : List ℕ) → n < 2097152 
 number-written s at n q h e =
     form-read s at n (length (groups n)) q h (omega arith) (groups-size n .1) (rw (form-groups n h) e)
 
+-- and so no form has fewer
+pub reads-fewest : {l : List ℕ} {n g : ℕ} → Reads l n g → length (groups n) ≤ g
+reads-fewest (one b r h) = size-most b .0 h
+reads-fewest (two b d r h i) = size-most (b % 128 + d * 128) .1 (omega arith)
+reads-fewest (three b d f r h i j) = groups-size (b % 128 + d % 128 * 128 + f * 16384) .1
+
 -- a slice of u8
 pub record Bytes (s : List ℕ) : Type 0 where
   pub at : (i : ℕ) → getD s i 0 < 256
@@ -181,14 +191,14 @@ upper : (d f : ℕ) → 128 ≤ d → d < 256 → (d ≡ (d % 128 + f * 128) % 1
 upper d f h i = (omega arith, omega arith)
 
 -- bytes that have the groups of a number are a form of it
-pub reads-form : {l : List ℕ} {n g : ℕ} → Bytes l → Reads l n g → (length (groups n) ≤ g) × (take g l ≡ form g n)
-reads-form w (one b r h) = (size-most b .0 h, refl)
+pub reads-form : {l : List ℕ} {n g : ℕ} → Bytes l → Reads l n g → take g l ≡ form g n
+reads-form w (one b r h) = refl
 reads-form w (two b d r h i) =
     let u = w .at 0 in
     let n : ℕ = b % 128 + d * 128 in
     let x : b ≡ n % 128 + 128 = omega arith in
     let y : d ≡ n / 128 = omega arith in
-    (size-most n .1 (omega arith), ap (λ (m : ℕ). m ∷ d ∷ []) x ∙ ap (λ (m : ℕ). (n % 128 + 128) ∷ m ∷ []) y)
+    ap (λ (m : ℕ). m ∷ d ∷ []) x ∙ ap (λ (m : ℕ). (n % 128 + 128) ∷ m ∷ []) y
 reads-form w (three b d f r h i j) =
     let u = w .at 0 in
     let v = w .at 1 in
@@ -197,7 +207,7 @@ reads-form w (three b d f r h i j) =
     let m : n / 128 ≡ d % 128 + f * 128 = omega arith in
     let y : d ≡ n / 128 % 128 + 128 = rw m (upper d f i v .0) in
     let z : f ≡ n / 128 / 128 = rw m (upper d f i v .1) in
-    (groups-size n .1, rw (← x, ← y, ← z))
+    rw (← x, ← y, ← z)
 
 -- AND FROM NOTHING ELSE: the bytes that a number is read from are a form of it, of at most three groups
 pub read-form : (s : List ℕ) (at n k : ℕ) → Bytes s → readNumber s at ≡ Got n k
@@ -208,7 +218,7 @@ read-form s at n k w e =
     let z = reads-form b (f .reads) in (
       f .size,
       f .behind,
-      z .0,
+      reads-fewest (f .reads),
       reads-size (f .reads) .1,
-      sym (take-append-drop (f .size) (drop at s)) ∙ rw (z .1, drop-drop (f .size) at s, ← f .behind),
+      sym (take-append-drop (f .size) (drop at s)) ∙ rw (z, drop-drop (f .size) at s, ← f .behind),
     )

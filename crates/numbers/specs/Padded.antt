@@ -28,8 +28,7 @@ shorten s = shortenFor (length s) s
 abbrev pub shortenFrom : ℕ → List ℕ → List ℕ
 shortenFrom at s = take at s ++ shorten (drop at s)
 
--- IS IT SHORTEST? No byte of 128 or more has a 0 behind it: no group that is not the last of its number is followed by
--- one that adds nothing
+-- IS IT SHORTEST? No byte of 128 or more has a 0 behind it: no number of several groups ends with a group 0
 unfoldable pub shortest : List ℕ → Bool
 shortest [] = true
 shortest (b ∷ []) = true

@@ -19,7 +19,7 @@ use Rattle.numbers.specs.Number.{first, readNumber, groups, onNum}
 use Rattle.numbers.specs.NumberLaws.{groups-1, groups-2, groups-3, size-2, size-3, groups-size}
 use Rattle.numbers.specs.NumberTrip.{Reads, one, two, three, reads-got, reads-size, reads-small, reads-own}
 use Rattle.numbers.specs.NumberTrip.{number-found, bad-anywhere, number-next, number-small, number-written}
-use Rattle.numbers.specs.NumberTrip.{Bytes, reads-form, form-groups}
+use Rattle.numbers.specs.NumberTrip.{Bytes, reads-fewest, reads-form, form-groups}
 use Rattle.numbers.specs.Padded.{shortenFor, shorten, shortenFrom, shortest}
 
 -- ---- one number of the shortest form
@@ -31,6 +31,7 @@ shorten-none zero s h = refl
 shorten-none (suc n) [] h = refl
 shorten-none (suc n) (b ∷ r) h = absurd (omega arith)
 
+-- so nothing becomes nothing
 pub shorten-nil : shorten [] ≡ []
 unfolding shorten shortenFor
 shorten-nil = refl
@@ -67,6 +68,26 @@ shorten-got s v k e =
     enough (length s) (suc (length s)) s (omega arith) (omega arith)
     ∙ rw e (ap (λ (r : List ℕ). groups v ++ r)
     (enough (length s) (length (drop k s)) (drop k s) (omega (arith, l)) (omega arith)))
+
+-- THE SHORTEST FORM IS NO LONGER
+length-for : (n : ℕ) (s : List ℕ) → length s ≤ n → length (shorten s) ≤ length s
+length-for zero [] h = rw shorten-nil (omega arith)
+length-for zero (b ∷ r) h = absurd (omega arith)
+length-for (suc n) s h = by (readNumber s 0) refl (λ l. length-for n l)
+  where
+    by : (x : Num) → readNumber s 0 ≡ x → ((l : List ℕ) → length l ≤ n → length (shorten l) ≤ length l)
+        → length (shorten s) ≤ length s
+    by (Got v k) e rest =
+        let f = number-found s 0 v k e in
+        let a = number-next s 0 v k e in
+        let l = length-drop k s in
+        let i = rest (drop k s) (omega (arith, a .0, l, h)) in
+        let p = length-append (groups v) (shorten (drop k s)) in
+        rw (shorten-got s v k e) (omega (arith, p, i, l, a .1, f .behind, reads-fewest (f .reads)))
+    by Bad e rest = rw (shorten-bad s e) (omega arith)
+
+pub shorten-length : (s : List ℕ) → length (shorten s) ≤ length s
+shorten-length s = length-for (length s) s (omega arith)
 
 -- ---- bytes that are whole numbers
 
@@ -147,6 +168,7 @@ module _ {s : List ℕ} {at k : ℕ} {w : List ℕ} (x : PadsAt s at k w) where
   pub shorten-behind : shorten (drop at s) ≡ w ++ shorten (drop k s)
   shorten-behind = rw (x .there) (shorten-pads (x .pads) (drop k s))
 
+  -- so it does in any u that has at b the shortest form of what s has here
   pub alike-behind : (u : List ℕ) (b : ℕ) → drop b u ≡ shorten (drop at s) → drop (b + length w) u ≡ shorten (drop k s)
   alike-behind u b e =
       sym (drop-drop (length w) b u) ∙ ap (drop (length w)) (e ∙ shorten-behind)
@@ -240,14 +262,14 @@ short-size e (three b d f r h i j) =
 -- so it is as it would be written
 short-groups : {l : List ℕ} {n g : ℕ} → Bytes l → shortest l ≡ true → Reads l n g → take g l ≡ groups n
 short-groups {l} {n} {g} w e r =
-    let f = reads-form w r in
-    let z : g ≡ length (groups n) = omega (arith, f .0, short-size e r) in
-    f .1 ∙ rw z (form-groups n (reads-small r))
+    let z : g ≡ length (groups n) = omega (arith, reads-fewest r, short-size e r) in
+    reads-form w r ∙ rw z (form-groups n (reads-small r))
 
 -- from any place on they are bytes
 bytes-drop : (k : ℕ) {s : List ℕ} → Bytes s → Bytes (drop k s)
 bytes-drop k {s} w = record { at = λ i. rw (getD-drop k s i 0) (w .at (k + i)) }
 
+-- number by number
 same-for : (n : ℕ) (s : List ℕ) → length s ≤ n → Bytes s → shortest s ≡ true → shorten s ≡ s
 same-for zero [] h w e = shorten-nil
 same-for zero (b ∷ r) h w e = absurd (omega arith)
@@ -270,12 +292,13 @@ same-for (suc n) s h w e = by (readNumber s 0) refl (λ l. same-for n l)
 pub shortest-same : (s : List ℕ) → Bytes s → shortest s ≡ true → shorten s ≡ s
 shortest-same s w e = same-for (length s) s (omega arith) w e
 
--- a byte in front that is the last of its number, or has no 0 behind it
+-- a byte in front that is the last of its number
 shortest-last : (b : ℕ) (s : List ℕ) → b < 128 → shortest s ≡ true → shortest (b ∷ s) ≡ true
 unfolding shortest
 shortest-last b [] h e = refl
 shortest-last b (d ∷ r) h e = rw (lt-leb 128 b h) e
 
+-- or has no 0 behind it
 shortest-more : (b d : ℕ) (r : List ℕ) → d ≢ 0 → shortest (d ∷ r) ≡ true → shortest (b ∷ d ∷ r) ≡ true
 unfolding shortest
 shortest-more b d r h e = rw (ne-eqb d 0 h) (by (leb 128 b) e)
@@ -299,7 +322,7 @@ shortest-groups n q h e =
     (le? 16384 n)
 
 -- or of several
-shortest-pads : {p w : List ℕ} → Pads p w → (q : List ℕ) → shortest q ≡ true → shortest (w ++ q) ≡ true
+pub shortest-pads : {p w : List ℕ} → Pads p w → (q : List ℕ) → shortest q ≡ true → shortest (w ++ q) ≡ true
 shortest-pads nothing q e = e
 shortest-pads (number n r) q e = shortest-groups n q (reads-small r) e
 shortest-pads (both {w} {v} a b) q e = rw (append-assoc w v q) (shortest-pads a (v ++ q) (shortest-pads b q e))

@@ -1,4 +1,4 @@
--- A number that is not read, refusal 3, is cut off or too long, and nothing else is (document 02, job 1).
+-- A number that is not read is cut off or too long, and such a number is not read (document 02, job 1).
 use mathlib.Core.Path.{_≡_, refl, sym, _∙_}
 use mathlib.Core.Logic.{⊎-elim}
 use mathlib.Core.List.{List}
@@ -63,7 +63,7 @@ module _ (s : List ℕ) (at : ℕ) where
       (λ h. never (sym e ∙ sym (got-1 s at _ l h refl)))
       (le? 128 (getD s at 0))
 
-  -- REFUSAL 3 IS A NUMBER CUT OFF OR TOO LONG
+  -- A NUMBER THAT IS NOT READ IS CUT OFF OR TOO LONG
   pub unread : readNumber s at ≡ Bad → Unread s at
   unread e =
       ⊎-elim (λ h. cut-off 0 (omega arith) open-none (rw (add-zero at) h)) (λ h. unread-1 e h) (le? (length s) at)

@@ -17,9 +17,9 @@ fn wide(b: u8) -> u32
     b as u32
 }
 
-// Two groups joined: the lower seven bits of `low`, with `high` above them.
+// Two groups joined: the lower seven bits of `low`, with `high` above them, which has room for 25 bits.
 fn join(low: u32, high: u32) -> u32
-    requires { ⌜ high < 16384 ⌝ }
+    requires { ⌜ high < 33554432 ⌝ }
     ensures { λ r. ⌜ r ≡ low % 128 + high * 128 ⌝ }
 {
     (low & 0x7f) | (high << 7)

@@ -11,3 +11,4 @@ pub mod UndoParts
 pub mod Promises
 pub mod Instances
 pub mod Padded
+pub mod ShortLog

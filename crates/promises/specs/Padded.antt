@@ -72,11 +72,12 @@ module _ (sh : Shape) (s u : List ℕ) (a b : ℕ) (e : drop b u ≡ shorten (dr
   read-alike : readAt sh u b ≡ inShort b (readAt sh s a)
   read-alike = read-padded (limits sh) s u a b e
 
-  -- and a run or undo refuses it alike
+  -- a run refuses it alike
   run-alike : (t : State) → runRefusal sh t u b ≡ runRefusal sh t s a
   unfolding runRefusal carryRefusal
   run-alike t = rw read-alike
 
+  -- and undo
   undo-alike : (x : List ℕ) → refusalAt sh x u b ≡ refusalAt sh x s a
   unfolding admitRead
   undo-alike x = rw read-alike

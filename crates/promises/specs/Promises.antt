@@ -46,7 +46,8 @@ run-beyond : (t : State) (s : List ℕ) → length (t .log) < t .start → runOf
 run-beyond t s h = run-out t s (not-0 t h) ∙ rw (entry-beyond t h)
 
 -- nor does a list of runs
-all-beyond : (t : State) (ss : List (List ℕ)) → length (t .log) < t .start → runAll t ss ≡ record { done = 0; last = t }
+pub all-beyond : (t : State) (ss : List (List ℕ)) → length (t .log) < t .start
+    → runAll t ss ≡ record { done = 0; last = t }
 unfolding runAll
 all-beyond t [] h = refl
 all-beyond t (s ∷ ss) h = rw (run-beyond t s h, all-beyond t ss h)

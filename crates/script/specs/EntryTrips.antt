@@ -3,7 +3,7 @@
 use mathlib.Core.Path.{_≡_, refl, _∙_}
 use mathlib.Core.Bool.{Bool, true, false}
 use mathlib.Core.List.{List, [], _∷_, _++_}
-use Prim.Native.Nat.{ℕ, zero, suc, _+_, _≤_}
+use Prim.Native.Nat.{ℕ, zero, suc, _+_, _≤_, _<_}
 use native.Mathlib.Nat.{zero-add}
 use native.Mathlib.Omega.{arith}
 use lib.Dec.{eqb, leb, ltb, lit≤}
@@ -20,7 +20,7 @@ use Rattle.numbers.specs.NumberTrip.{Bytes}
 use Rattle.numbers.specs.Padded.{shorten, shortest}
 use Rattle.numbers.specs.PaddedLaws.{shorten-whole, shortest-same, shorten-shortest}
 use Rattle.codec.specs.Ranges.{Within}
-use Rattle.script.specs.RoundTrip.{Writable, operator-written, read-size, read-pads, read-writable}
+use Rattle.script.specs.RoundTrip.{Writable, operator-written, read-next, read-size, read-pads, read-writable}
 use Rattle.script.specs.Scripts.{AllWritable, operator-size, script-pads, written-script}
 
 -- ---- what writing leaves where it does not refuse
@@ -76,6 +76,7 @@ pub record Copied (s : List ℕ) (at : ℕ) (r : ReadAnswer) : Type 0 where
   -- the bytes that it was read from
   pub bytes : List ℕ
   pub next : r .next ≡ at + length bytes
+  pub inside : (at < r .next) × (r .next ≤ length s)
   pub there : drop at s ≡ bytes ++ drop (r .next) s
   pub most-read : length bytes ≤ 27
   pub most-written : length (shorten bytes) ≤ 19
@@ -97,6 +98,7 @@ read-write s at z =
     record {
       bytes = x .bytes;
       next = x .behind;
+      inside = read-next widest s at z;
       there = x .there;
       most-read = omega (arith, x .behind, read-size widest s at z);
       most-written = rw e (operator-size o w .1);
@@ -157,6 +159,6 @@ pub script-copied : (s : List ℕ) → Bytes s → shortest s ≡ true → readS
     → 19 ≤ length out → writtenAll out (readScript s .operators) ≡ s
 script-copied s b e z out h = script-shortened s z out h ∙ shortest-same s b e
 
--- and a script that was read is shortest just where it is its own shortest form
+-- and the shortest form of a script that was read is shortest
 pub script-shortest : (s : List ℕ) → readScript s .refusal ≡ 0 → shortest (shorten s) ≡ true
 script-shortest s z = shorten-shortest (script-pads s z)

@@ -8,4 +8,5 @@ pub mod Scripts
 pub mod EntryTrips
 pub mod Front
 pub mod Padded
+pub mod Unread
 pub mod Examples

@@ -1,5 +1,5 @@
 -- Whole scripts, both ways; and how many bytes an operator takes.
-use mathlib.Core.Path.{_≡_, refl, sym, ap, _∙_}
+use mathlib.Core.Path.{_≡_, refl, sym, ap, _∙_, subst}
 use mathlib.Core.Logic.{⊎-elim}
 use Prim.Native.Nat.{ℕ, zero, suc, _+_, _-_, _≤_, _<_}
 use native.Mathlib.Omega.{arith}
@@ -11,6 +11,7 @@ use lib.Dec.{ltb, leb, eqb}
 use borrow.Author.Tests.{lt-ltb, le-ltb, eqb-true, leb-true, ltb-true, ltb-false, eqb-false}
 use Rattle.laws.specs.Bools.{pick, ask, allb, le?}
 use Rattle.script.specs.declared.Operator.{Operator}
+use Rattle.script.specs.declared.ReadAnswer.{ReadAnswer}
 use Rattle.codec.specs.declared.operands.Pattern.{Pattern}
 use Rattle.numbers.specs.Number.{groups}
 use Rattle.numbers.specs.NumberLaws.{size-1, size-2, size-3, groups-size}
@@ -19,8 +20,8 @@ use Rattle.codec.specs.OperandBytes.{operandBytes, operandsBytes}
 use Rattle.script.specs.Operator.{readOperator, numbersOf, operatorBytes, writeScript, Script}
 use Rattle.script.specs.Operator.{scriptIs, before, readFrom, readScript}
 use Rattle.codec.specs.WriteLaws.{size-number}
-use Rattle.numbers.specs.Padded.{shorten}
-use Rattle.numbers.specs.PaddedLaws.{PadsAt, pads-none, pads-both, shorten-behind, shorten-nil}
+use Rattle.numbers.specs.Padded.{shorten, shortest}
+use Rattle.numbers.specs.PaddedLaws.{PadsAt, pads-none, pads-both, shorten-behind, shorten-nil, shortest-pads}
 use Rattle.codec.specs.Ranges.{range-between, ranges-cons, each-row, eight, code-between}
 use Rattle.codec.specs.OperandTrip.{each-length}
 use Rattle.script.specs.RoundTrip.{Writable, parts, operator-written, read-next, read-pads}
@@ -118,6 +119,15 @@ operator-size op w =
     rw (length-append (groups (op .code)) (operandsBytes (pattern (op .code) .kinds) (numbersOf op)))
     (omega arith, omega arith)
 
+-- AND IS WRITTEN SHORTEST: in front of shortest bytes it leaves them so
+pub operator-shortest : (op : Operator) → Writable op → (q : List ℕ) → shortest q ≡ true
+    → shortest (operatorBytes op ++ q) ≡ true
+operator-shortest op w q e =
+    let r = operator-written op w (operatorBytes op ++ q) 0 q refl in
+    let x = read-pads widest (operatorBytes op ++ q) 0 (ap (λ (a : ReadAnswer). a .refusal) r) in
+    let o : readOperator widest (operatorBytes op ++ q) 0 .op ≡ op = ap (λ (a : ReadAnswer). a .op) r in
+    subst (λ (i : Operator). shortest (operatorBytes i ++ q) ≡ true) o (shortest-pads (x .pads) q e)
+
 -- SCRIPTS
 -- all operators of a script can be written
 abbrev pub AllWritable : List Operator → Type 0
@@ -172,6 +182,7 @@ turn-back s at rest true false h t u i e = absurd (eqb-false _ 0 u e)
 turn-back s at rest false b h t u i e =
     let l : length s ≡ at = omega (arith, ltb-false at (length s) t, h) in rw l (pads-none s at)
 
+-- from a place on
 pads-from : (n : ℕ) (s : List ℕ) (at : ℕ) → at ≤ length s → length s ≤ at + n → readFrom n s at .refusal ≡ 0
     → PadsAt s at (length s) (writeScript (readFrom n s at .operators))
 unfolding readFrom writeScript
