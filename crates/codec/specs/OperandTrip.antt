@@ -8,7 +8,6 @@ use native.Mathlib.Omega.{arith}
 use mathlib.Core.Bool.{true}
 use mathlib.Core.List.{List, [], _∷_, _++_, append-assoc}
 use lib.ListN.{length, getD, drop, length-append}
-use lib.Seq.{drop-drop, drop-append-seam}
 use lib.IntN.{ℤ, pos, negsuc}
 use lib.Dec.{eqb}
 use Rattle.laws.specs.Bools.{ask, same?}
@@ -24,7 +23,8 @@ use Rattle.codec.specs.ReadLaws.{operand-unused, operand-number}
 use Rattle.codec.specs.WriteLaws.{bytes-unused, bytes-number}
 use Rattle.numbers.specs.NumberTrip.{number-written, number-next}
 use Rattle.numbers.specs.Padded.{shorten}
-use Rattle.numbers.specs.PaddedLaws.{PadsAt, pads-none, pads-both, number-pads, number-same, alike-behind}
+use Rattle.numbers.specs.PaddedLaws.{drop-part, PadsAt, pads-none, pads-both, number-pads, number-same}
+use Rattle.numbers.specs.PaddedLaws.{alike-behind}
 use Rattle.codec.specs.Ranges.{range-between, range-small, ranges-cons}
 
 -- ONE OPERAND
@@ -95,7 +95,8 @@ pub record Step (k : ℕ) (ks s : List ℕ) (at : ℕ) (ns : List ℕ) (next : �
   pub others : readOperands ks s mid ≡ Read rest next
   pub all : ns ≡ n ∷ rest
 
-cut : {X : Type 0} (ns : List ℕ) (next : ℕ) → Cut ≡ Read ns next → X
+-- what is cut is not read
+pub cut : {X : Type 0} (ns : List ℕ) (next : ℕ) → Cut ≡ Read ns next → X
 cut ns next e = absurd (let z : _≡_ {A = ℕ} 0 1 = cc in omega arith)
 
 pub step : (k : ℕ) (ks s : List ℕ) (at : ℕ) (ns : List ℕ) (next : ℕ) → readOperands (k ∷ ks) s at ≡ Read ns next
@@ -116,10 +117,6 @@ step k ks s at ns next e = one (readOperand k s at) refl e
         → Step k ks s at ns next
     one (Got n mid) a f = two n mid (readOperands ks s mid) a refl f
     one Bad a f = cut ns next f
-
--- what is behind the first of two parts
-pub drop-part : (s : List ℕ) (at : ℕ) (a q : List ℕ) → drop at s ≡ a ++ q → drop (at + length a) s ≡ q
-drop-part s at a q e = sym (drop-drop (length a) at s) ∙ ap (drop (length a)) e ∙ drop-append-seam a q
 
 pub operands-written : (ks ns s : List ℕ) (at : ℕ) (q : List ℕ) → length ks ≡ length ns
     → inRanges (largests widest) ks ns ≡ true

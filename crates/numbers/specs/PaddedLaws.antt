@@ -16,7 +16,7 @@ use Rattle.laws.specs.Bools.{pick, le?}
 use Rattle.numbers.specs.declared.Num.{Num}
 use Rattle.numbers.specs.declared.Num.the-variants.{Got, Bad}
 use Rattle.numbers.specs.Number.{first, readNumber, groups, onNum}
-use Rattle.numbers.specs.NumberLaws.{groups-1, groups-2, groups-3, size-2, size-3, groups-size}
+use Rattle.numbers.specs.NumberLaws.{first-end, groups-1, groups-2, groups-3, size-2, size-3, groups-size}
 use Rattle.numbers.specs.NumberTrip.{Reads, one, two, three, reads-got, reads-size, reads-small, reads-own}
 use Rattle.numbers.specs.NumberTrip.{number-found, bad-anywhere, number-next, number-small, number-written}
 use Rattle.numbers.specs.NumberTrip.{Bytes, reads-fewest, reads-form, form-groups}
@@ -69,25 +69,34 @@ shorten-got s v k e =
     ∙ rw e (ap (λ (r : List ℕ). groups v ++ r)
     (enough (length s) (length (drop k s)) (drop k s) (omega (arith, l)) (omega arith)))
 
--- THE SHORTEST FORM IS NO LONGER
-length-for : (n : ℕ) (s : List ℕ) → length s ≤ n → length (shorten s) ≤ length s
-length-for zero [] h = rw shorten-nil (omega arith)
-length-for zero (b ∷ r) h = absurd (omega arith)
-length-for (suc n) s h = by (readNumber s 0) refl (λ l. length-for n l)
-  where
-    by : (x : Num) → readNumber s 0 ≡ x → ((l : List ℕ) → length l ≤ n → length (shorten l) ≤ length l)
-        → length (shorten s) ≤ length s
-    by (Got v k) e rest =
-        let f = number-found s 0 v k e in
-        let a = number-next s 0 v k e in
-        let l = length-drop k s in
-        let i = rest (drop k s) (omega (arith, a .0, l, h)) in
-        let p = length-append (groups v) (shorten (drop k s)) in
-        rw (shorten-got s v k e) (omega (arith, p, i, l, a .1, f .behind, reads-fewest (f .reads)))
-    by Bad e rest = rw (shorten-bad s e) (omega arith)
+-- number by number: what holds where no number is read, and of a number where it holds behind it, holds of any bytes
+module _ (P : List ℕ → Type 0) (bad : (s : List ℕ) → readNumber s 0 ≡ Bad → P s)
+    (got : (s : List ℕ) (v k : ℕ) → readNumber s 0 ≡ Got v k → P (drop k s) → P s) where
+  -- of n bytes at most
+  numbers-for : (n : ℕ) (s : List ℕ) → length s ≤ n → P s
+  numbers-for zero s h = bad s (first-end s 0 h)
+  numbers-for (suc n) s h = by (readNumber s 0) refl (λ l. numbers-for n l)
+    where
+      by : (x : Num) → readNumber s 0 ≡ x → ((l : List ℕ) → length l ≤ n → P l) → P s
+      by (Got v k) e rest =
+          let a = number-next s 0 v k e in
+          got s v k e (rest (drop k s) (omega (arith, a .0, length-drop k s, h)))
+      by Bad e rest = bad s e
 
+  -- of any
+  by-numbers : (s : List ℕ) → P s
+  by-numbers s = numbers-for (length s) s (omega arith)
+
+-- THE SHORTEST FORM IS NO LONGER
 pub shorten-length : (s : List ℕ) → length (shorten s) ≤ length s
-shorten-length s = length-for (length s) s (omega arith)
+shorten-length =
+    by-numbers (λ s. length (shorten s) ≤ length s) (λ s e. rw (shorten-bad s e) (omega arith))
+    (λ s v k e i.
+    let f = number-found s 0 v k e in
+    let a = number-next s 0 v k e in
+    let p = length-append (groups v) (shorten (drop k s)) in
+    rw (shorten-got s v k e)
+    (omega (arith, p, i, length-drop k s, a .1, f .behind, reads-fewest (f .reads))))
 
 -- ---- bytes that are whole numbers
 
@@ -151,6 +160,10 @@ number-pads s at n k e =
       pads = number n (subst (λ (g : ℕ). Reads b n g) (sym l) own);
     }
 
+-- what is behind the first of two parts
+pub drop-part : (s : List ℕ) (at : ℕ) (a q : List ℕ) → drop at s ≡ a ++ q → drop (at + length a) s ≡ q
+drop-part s at a q e = sym (drop-drop (length a) at s) ∙ ap (drop (length a)) e ∙ drop-append-seam a q
+
 -- ---- the shortest form of a slice, and the same place in it
 
 module _ {s : List ℕ} {at k : ℕ} {w : List ℕ} (x : PadsAt s at k w) where
@@ -170,9 +183,7 @@ module _ {s : List ℕ} {at k : ℕ} {w : List ℕ} (x : PadsAt s at k w) where
 
   -- so it does in any u that has at b the shortest form of what s has here
   pub alike-behind : (u : List ℕ) (b : ℕ) → drop b u ≡ shorten (drop at s) → drop (b + length w) u ≡ shorten (drop k s)
-  alike-behind u b e =
-      sym (drop-drop (length w) b u) ∙ ap (drop (length w)) (e ∙ shorten-behind)
-      ∙ drop-append-seam w (shorten (drop k s))
+  alike-behind u b e = drop-part u b w (shorten (drop k s)) (e ∙ shorten-behind)
 
 -- THE SAME NUMBERS ARE READ FROM THE SHORTEST FORM: where u stands in shortest form what s has, at another place
 pub number-same : (s u : List ℕ) (a b : ℕ) → drop b u ≡ shorten (drop a s)
@@ -269,28 +280,15 @@ short-groups {l} {n} {g} w e r =
 bytes-drop : (k : ℕ) {s : List ℕ} → Bytes s → Bytes (drop k s)
 bytes-drop k {s} w = record { at = λ i. rw (getD-drop k s i 0) (w .at (k + i)) }
 
--- number by number
-same-for : (n : ℕ) (s : List ℕ) → length s ≤ n → Bytes s → shortest s ≡ true → shorten s ≡ s
-same-for zero [] h w e = shorten-nil
-same-for zero (b ∷ r) h w e = absurd (omega arith)
-same-for (suc n) s h w e = by (readNumber s 0) refl (λ l. same-for n l)
-  where
-    by : (x : Num) → readNumber s 0 ≡ x
-        → ((l : List ℕ) → length l ≤ n → Bytes l → shortest l ≡ true → shorten l ≡ l) → shorten s ≡ s
-    by (Got v k) f rest =
-        let r = number-found s 0 v k f in
-        let k′ : k ≡ r .size = omega (arith, r .behind) in
-        let a = number-next s 0 v k f in
-        let l = length-drop k s in
-        let g : take k s ≡ groups v = rw k′ (short-groups w e (r .reads)) in
-        shorten-got s v k f
-        ∙ rw (← g, rest (drop k s) (omega (arith, a .0, l)) (bytes-drop k w) (shortest-drop k s e))
-        (take-append-drop k s)
-    by Bad f rest = shorten-bad s f
-
 -- SHORTEST BYTES ARE THEIR OWN SHORTEST FORM
 pub shortest-same : (s : List ℕ) → Bytes s → shortest s ≡ true → shorten s ≡ s
-shortest-same s w e = same-for (length s) s (omega arith) w e
+shortest-same =
+    by-numbers (λ s. Bytes s → shortest s ≡ true → shorten s ≡ s) (λ s f w e. shorten-bad s f)
+    (λ s v k f rest w e.
+    let r = number-found s 0 v k f in
+    let z : k ≡ r .size = omega (arith, r .behind) in
+    let g : take k s ≡ groups v = rw z (short-groups w e (r .reads)) in
+    shorten-got s v k f ∙ rw (← g, rest (bytes-drop k w) (shortest-drop k s e)) (take-append-drop k s))
 
 -- a byte in front that is the last of its number
 shortest-last : (b : ℕ) (s : List ℕ) → b < 128 → shortest s ≡ true → shortest (b ∷ s) ≡ true

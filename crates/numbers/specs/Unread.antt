@@ -32,14 +32,16 @@ module _ (s : List ℕ) (at : ℕ) where
   open-more : (g : ℕ) → Open s at g → 128 ≤ getD s (at + g) 0 → Open s at (g + 1)
   open-more g o h i l = ⊎-elim (λ k. let e : i ≡ g = omega arith in rw e h) (λ k. o i k) (le? g i)
 
+  -- the first of some
+  open-first : {g : ℕ} → 0 < g → Open s at g → 128 ≤ getD s at 0
+  open-first h o = rw (add-zero at) at (o 0 h)
+
   -- behind two groups
   unread-3 : readNumber s at ≡ Bad → at + 2 < length s → Open s at 2 → Unread s at
   unread-3 e l o =
       ⊎-elim
       (λ h. too-long (omega arith) (open-more 2 o h))
-      (λ h.
-      let a : 128 ≤ getD s at 0 = rw (add-zero at) at (o 0 (omega arith)) in
-      never (sym e ∙ sym (got-3 s at _ a (o 1 (omega arith)) l h refl)))
+      (λ h. never (sym e ∙ sym (got-3 s at _ (open-first (omega arith) o) (o 1 (omega arith)) l h refl)))
       (le? 128 (getD s (at + 2) 0))
 
   -- behind one
@@ -48,9 +50,7 @@ module _ (s : List ℕ) (at : ℕ) where
       ⊎-elim
       (λ h. ⊎-elim (λ k. cut-off 2 (omega arith) (open-more 1 o h) k) (λ k. unread-3 e k (open-more 1 o h))
       (le? (length s) (at + 2)))
-      (λ h.
-      let a : 128 ≤ getD s at 0 = rw (add-zero at) at (o 0 (omega arith)) in
-      never (sym e ∙ sym (got-2 s at _ a l h refl)))
+      (λ h. never (sym e ∙ sym (got-2 s at _ (open-first (omega arith) o) l h refl)))
       (le? 128 (getD s (at + 1) 0))
 
   -- at the first
@@ -76,11 +76,11 @@ module _ (s : List ℕ) (at : ℕ) where
   pub unread-bad : Unread s at → readNumber s at ≡ Bad
   unread-bad (cut-off zero h o l) = sym (bad-0 s at (rw (add-zero at) at l))
   unread-bad (cut-off (suc zero) h o l) =
-      ends-1 (rw (add-zero at) at (o 0 (omega arith))) l
+      ends-1 (open-first (omega arith) o) l
   unread-bad (cut-off (suc (suc zero)) h o l) =
-      let a : 128 ≤ getD s at 0 = rw (add-zero at) at (o 0 (omega arith)) in
+      let a = open-first (omega arith) o in
       ⊎-elim (λ k. ends-1 a k) (λ k. sym (bad-2 s at a k (o 1 (omega arith)) l)) (le? (length s) (at + 1))
   unread-bad (cut-off (suc (suc (suc g))) h o l) = absurd (omega arith)
   unread-bad (too-long l o) =
-      let a : 128 ≤ getD s at 0 = rw (add-zero at) at (o 0 (omega arith)) in
+      let a = open-first (omega arith) o in
       sym (bad-3 s at a (o 1 (omega arith)) (omega arith) (o 2 (omega arith)))

@@ -8,7 +8,7 @@ use native.Mathlib.Omega.{arith}
 use lib.IntN.{ℤ}
 use lib.ListN.{length, drop, length-append, length-drop}
 use borrow.Author.Tests.{lt-ltb}
-use Rattle.codec.specs.OperandTrip.{drop-part}
+use Rattle.numbers.specs.PaddedLaws.{drop-part}
 use Rattle.script.specs.declared.Operator.{Operator}
 use Rattle.script.specs.Operator.{operatorBytes}
 use Rattle.codec.specs.Ranges.{Within}

@@ -6,7 +6,7 @@ use native.Mathlib.Omega.{arith}
 use lib.ListN.{length, take, drop}
 use lib.Seq.{length-take-le, length-sets, sets-eq, drop-at, drop-drop}
 use borrow.Author.Tests.{le-leb}
-use Rattle.codec.specs.OperandTrip.{drop-part}
+use Rattle.numbers.specs.PaddedLaws.{drop-part}
 use Rattle.script.specs.Operator.{putBytes}
 
 module _ (log : List ℕ) (start : ℕ) (b : List ℕ) (room : length b ≤ start) (fits : start ≤ length log) where

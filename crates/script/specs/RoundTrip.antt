@@ -6,7 +6,7 @@ use native.Mathlib.Omega.{arith}
 use mathlib.Core.Bool.{Bool, true, false}
 use mathlib.Core.List.{List, _++_, append-assoc}
 use lib.ListN.{length, drop, length-append}
-use lib.Seq.{drop-drop, drop-append-seam}
+use lib.Seq.{drop-append-seam}
 use lib.Dec.{eqb}
 use borrow.Author.Tests.{eq-eqb, ne-eqb, eqb-true, eqb-false}
 use Rattle.laws.specs.Bools.{pick}
@@ -17,7 +17,7 @@ use Rattle.codec.specs.Operands.{pattern, widest, largests, inRanges, wire, unw
 use Rattle.codec.specs.OperandBytes.{operandsBytes}
 use Rattle.script.specs.Operator.{readOperator, numbersOf, operatorBytes, operatorRefusal}
 use Rattle.numbers.specs.NumberTrip.{number-written, number-next}
-use Rattle.numbers.specs.PaddedLaws.{PadsAt, pads-both, number-pads}
+use Rattle.numbers.specs.PaddedLaws.{drop-part, PadsAt, pads-both, number-pads}
 use Rattle.codec.specs.Ranges.{Within, within-largest, ranges-wider, eight, code-between}
 use Rattle.codec.specs.OperandTrip.{operands-written, operands-pads, operands-next, operands-length}
 use Rattle.codec.specs.OperandTrip.{wires-unwires, unwires-wires, each-length}
@@ -78,8 +78,7 @@ operator-written op w s at q e =
     let a = number-written s at (op .code) (operandsBytes (pattern (op .code) .kinds) (numbersOf op) ++ q)
     (omega arith) f in
     let g : drop (at + length (groups (op .code))) s ≡ operandsBytes (pattern (op .code) .kinds) (numbersOf op) ++ q =
-    sym (drop-drop (length (groups (op .code))) at s) ∙ ap (drop (length (groups (op .code)))) f
-    ∙ drop-append-seam (groups (op .code)) _ in
+    drop-part s at (groups (op .code)) _ f in
     let n : length (numbersOf op) ≡ length (pattern (op .code) .kinds) =
     each-length wire (pattern (op .code) .kinds) (op .args) (omega arith) in
     let b = operands-written (pattern (op .code) .kinds) (numbersOf op) s (at + length (groups (op .code))) q (sym n)

@@ -17,7 +17,7 @@ use Rattle.codec.specs.declared.Limits.{Limits}
 use Rattle.codec.specs.Operands.{unused, pattern, largests, inRanges}
 use Rattle.codec.specs.OperandBytes.{Numbers, Read, Cut, onNumbers, readOperand, readOperands}
 use Rattle.codec.specs.ReadLaws.{operand-unused, operand-number}
-use Rattle.codec.specs.OperandTrip.{step}
+use Rattle.codec.specs.OperandTrip.{cut, step}
 use Rattle.script.specs.Operator.{refused, readBehind, readOperator}
 use Rattle.script.specs.Accepted.{operatorIs}
 
@@ -78,11 +78,11 @@ stuck-behind k n ks s at mid e x = record {
 -- so one is not where the operands are cut
 cut-stuck : (ks s : List ℕ) (at : ℕ) → readOperands ks s at ≡ Cut → Stuck ks s at
 unfolding readOperands
-cut-stuck [] s at e = absurd (let z : _≡_ {A = ℕ} 0 1 = cc in omega arith)
+cut-stuck [] s at e = cut _ _ (sym e)
 cut-stuck (k ∷ ks) s at e = one (readOperand k s at) refl e (λ mid f. cut-stuck ks s mid f)
   where
     two : (n : ℕ) (y : Numbers) → onNumbers y (λ ms end. Read (n ∷ ms) end) Cut ≡ Cut → y ≡ Cut
-    two n (Read ms end) f = absurd (let z : _≡_ {A = ℕ} 0 1 = cc in omega arith)
+    two n (Read ms end) f = cut _ _ (sym f)
     two n Cut f = refl
 
     one : (x : Num) → readOperand k s at ≡ x
