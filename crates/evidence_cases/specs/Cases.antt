@@ -1,9 +1,9 @@
--- The checked examples a to h of document 01 and those of job 1 of document 02, one list under one theorem, by
+-- The checked examples a to h of document 01 and those of jobs 1 and 2 of document 02, one list under one theorem, by
 -- computation: what the definitions that the contracts cite leave is what the rows say, to the word, the coordinate and
 -- the byte.
 use mathlib.Core.Path.{refl}
 use mathlib.Core.List.{List, _++_}
-use Rattle.laws.specs.Search.{allTo, leastFrom}
+use Rattle.laws.specs.Search.{allTo, anyTo, leastFrom}
 use Rattle.laws.specs.Sums.{sumTo}
 use Rattle.laws.specs.Walks.{meets}
 use Rattle.laws.specs.Columns.{sweep}
@@ -22,6 +22,9 @@ use Rattle.table.specs.Sizes.{sizesFit}
 use Rattle.table.specs.Clear.{clearOf}
 use Rattle.table.specs.Check.{checkOf}
 use Rattle.table.specs.Count.{itemUsed, tallyOf, countOf}
+use Rattle.text.specs.Decimal.{digits, decimal}
+use Rattle.wavefront.specs.Obj.{passingTo, ownVertex, hundredths, millimetres, concatMap, vertexLine, lap, backwards}
+use Rattle.wavefront.specs.Obj.{cornerWord, faceLine, objText, noRingNorLone, threeSided, solidRefusal, fitted, objOf}
 use Rattle.euler.specs.Surgery.{corner, edgeIn, edgeOut, relabel, seek, renew}
 use Rattle.euler.specs.EdgeOperators.{mevLinks, kevTest, kevLinks, mefTest, mefLinks, kefTest, kefLinks}
 use Rattle.euler.specs.FaceOperators.{mvsfLinks, kvsfTest, kvsfLinks, kfmrhTest, kfmrhLinks, linkedAfter, mfkrhTest}
@@ -37,11 +40,12 @@ use Rattle.evidence_cases.specs.RowsRuns.{runRows}
 use Rattle.evidence_cases.specs.RowsTakedown.{takedownRows}
 use Rattle.evidence_cases.specs.RowsRefused.{refusedRows}
 use Rattle.evidence_cases.specs.RowsPadded.{paddedRows}
+use Rattle.evidence_cases.specs.RowsObj.{objRows}
 use Rattle.evidence_cases.specs.RowsSizes.{sizeRows}
 
 -- all rows
 abbrev pub cases : List Row
-cases = runRows ++ (takedownRows ++ (refusedRows ++ (paddedRows ++ sizeRows)))
+cases = runRows ++ (takedownRows ++ (refusedRows ++ (paddedRows ++ (objRows ++ sizeRows))))
 
 -- what the definitions leave, step for step, is what the rows say
 pub cases-hold : Hold cases
@@ -55,4 +59,6 @@ unfolding doAll clearOf runOf undoOf countOf invertOf invertBy turned turnB act 
     pointsAfter
     killedVertex inverse corner edgeIn edgeOut relabel seek renew sweep mvsfLinks kvsfTest kvsfLinks mevLinks kevTest
     kevLinks mefTest mefLinks kefTest kefLinks kfmrhTest kfmrhLinks linkedAfter mfkrhTest mfkrhLinks
+    anyTo digits decimal passingTo ownVertex hundredths millimetres concatMap vertexLine lap backwards cornerWord
+    faceLine objText noRingNorLone threeSided solidRefusal fitted objOf
 cases-hold = refl

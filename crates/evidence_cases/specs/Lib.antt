@@ -4,6 +4,7 @@ pub mod RowsRuns
 pub mod RowsTakedown
 pub mod RowsRefused
 pub mod RowsPadded
+pub mod RowsObj
 pub mod RowsSizes
 pub mod Shortened
 pub mod Cases

@@ -10,6 +10,7 @@ ghost use Rattle.table.specs.Clear.{cleared, clearOf};
 ghost use Rattle.table.specs.Count.{countOf};
 ghost use Rattle.runs.specs.Run.{state, leaves, runOf, restores, undoOf};
 ghost use Rattle.takedown.specs.Inversion.{invertOf};
+ghost use Rattle.wavefront.specs.Obj.{texted, objOf};
 ghost use Rattle.kernel.specs.Kernel.{KeepsFormula};
 use runs::answers::RunAnswer;
 use runs::answers::UndoAnswer;
@@ -20,6 +21,7 @@ use table::check::CheckAnswer;
 use table::clear::ClearAnswer;
 use table::count::CountAnswer;
 use takedown::answer::InvertAnswer;
+use wavefront::answer::TextAnswer;
 
 // Makes an empty table of five capacities: solids, faces, loops, edges, vertices. Refusal 1, or 0 and the start of the
 // empty log, of which only the length is handed in.
@@ -125,4 +127,21 @@ pub extern "C" fn zoghvari_invert(
         ⌝ }
 {
     takedown_entry::invert::invert(links, points, log, start)
+}
+
+// Writes solid s of a sound table at the front of `out` as Wavefront OBJ text, its faces seen from outside
+// counterclockwise: refusal 1, or 2 with the rule; 5 for no number of a solid, 6 for a free one, 12 where a face has a
+// ring, a lone loop or under three sides, 13 where the text does not fit; or 0. The text's length is answered with 0
+// and with 13. `out` is left as it is by a refusal, and behind the text.
+#[no_mangle]
+pub extern "C" fn zoghvari_obj(
+    links: &[u16],
+    points: &[i32],
+    s: usize,
+    out: &mut [u8],
+) -> TextAnswer
+    ensures { λ r. ⌜ texted (r .refusal) (r .rule) (r .length) (now (out .exit))
+        ≡ objOf (now (links .entry)) (now (points .entry)) s (now (out .entry)) ⌝ }
+{
+    wavefront_entry::obj::obj(links, points, s, out)
 }

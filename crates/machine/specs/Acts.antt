@@ -11,7 +11,7 @@ use Rattle.table.specs.Check.{checkOf}
 use Rattle.runs.specs.Run.{State, runOf}
 use Rattle.promises.specs.RunAll.{leftBy, runAll}
 use Rattle.promises.specs.Promises.{undo-exact}
-use Rattle.machine.specs.Machine.{Act, Clear, Check, Count, Read, Write, Run, Undo, Invert}
+use Rattle.machine.specs.Machine.{Act, Clear, Check, Count, Read, Write, Run, Undo, Invert, Obj}
 use Rattle.machine.specs.Machine.{ToUndo, Left, does, doAll, lastOf, behind, doneIn, doneBy, onlyRuns}
 
 -- undo behind the acts, by the sum of their done counts
@@ -51,6 +51,7 @@ acts-runs t (Run s ∷ acts) h =
     record { scripts = s ∷ r .scripts; last = r .last; done = ap (λ n. runOf t s .answer .done + n) (r .done) }
 acts-runs t (Undo n ∷ acts) h = absurd (false≢true h)
 acts-runs t (Invert ∷ acts) h = absurd (false≢true h)
+acts-runs t (Obj s out ∷ acts) h = quiet (acts-runs t acts h)
 
 -- UNDO BEHIND ACTS IS EXACT: of a table that passes the check, whoever made it, any log and start, and any list of acts
 -- with no other writing call

@@ -17,6 +17,8 @@ use Rattle.table.specs.declared.count.CountAnswer.{CountAnswer}
 use Rattle.table.specs.Check.{checkOf}
 use Rattle.table.specs.Clear.{Cleared, clearOf}
 use Rattle.table.specs.Count.{countOf}
+use Rattle.wavefront.specs.declared.answer.TextAnswer.{TextAnswer}
+use Rattle.wavefront.specs.Obj.{Texted, objOf}
 use Rattle.runs.specs.declared.answers.RunAnswer.{RunAnswer}
 use Rattle.runs.specs.declared.answers.UndoAnswer.{UndoAnswer}
 use Rattle.runs.specs.Run.{State, state, runOf, undoOf}
@@ -27,8 +29,8 @@ use Rattle.promises.specs.RunAll.{leftBy, undoneBy}
 -- ---- one act
 
 -- what is asked of the table at hand and its log: clearing with five capacities, the check, counting, a script run,
--- undo by a number, the take-down; and without a table: the operator at a place of a script, one written into a
--- destination
+-- undo by a number, the take-down, a solid as OBJ text in a buffer; and without a table: the operator at a place of a
+-- script, one written into a destination
 pub data Act : Type 0 where
   Clear : ℕ → ℕ → ℕ → ℕ → ℕ → Act
   Check : Act
@@ -38,8 +40,9 @@ pub data Act : Type 0 where
   Run : List ℕ → Act
   Undo : ℕ → Act
   Invert : Act
+  Obj : ℕ → List ℕ → Act
 
--- the answer to each; writing leaves a destination as well
+-- the answer to each; writing leaves a destination as well, and so does the text a buffer
 pub data Answer : Type 0 where
   ToClear : ClearAnswer → Answer
   ToCheck : CheckAnswer → Answer
@@ -49,6 +52,7 @@ pub data Answer : Type 0 where
   ToRun : RunAnswer → Answer
   ToUndo : UndoAnswer → Answer
   ToInvert : InvertAnswer → Answer
+  ToObj : TextAnswer → List ℕ → Answer
 
 -- an answer, and the table with its log afterwards; the live log begins at the start answered
 pub record Left : Type 0 where
@@ -66,6 +70,10 @@ afterClear t c = left (ToClear (c .answer)) (state (c .links) (c .points) (t .lo
 abbrev pub afterInvert : Inverted → Left
 afterInvert i = left (ToInvert (i .answer)) (state (i .links) (i .points) (i .log) (i .answer .start))
 
+-- what the text of a solid leaves: the table as it is
+abbrev pub afterObj : State → Texted → Left
+afterObj t r = left (ToObj (r .answer) (r .out)) t
+
 -- one act, on what was left before
 abbrev pub does : State → Act → Left
 does t (Clear s f l e v) = afterClear t (clearOf (t .links) (t .points) (length (t .log)) s f l e v)
@@ -76,6 +84,7 @@ does t (Write o out) = left (ToWrite (writeOperator o out .answer) (writeOperato
 does t (Run s) = left (ToRun (runOf t s .answer)) (leftBy (runOf t s))
 does t (Undo n) = left (ToUndo (undoOf t n .answer)) (undoneBy t n)
 does t Invert = afterInvert (invertOf t)
+does t (Obj s out) = afterObj t (objOf (t .links) (t .points) s out)
 
 -- ---- acts one after the other
 
@@ -103,6 +112,7 @@ doneOf (ToWrite w out) = 0
 doneOf (ToRun r) = r .done
 doneOf (ToUndo u) = 0
 doneOf (ToInvert i) = i .done
+doneOf (ToObj a out) = 0
 
 -- the sum of the done counts
 unfoldable pub doneIn : List Left → ℕ
@@ -125,6 +135,7 @@ isWriting (Write o out) = false
 isWriting (Run s) = true
 isWriting (Undo n) = true
 isWriting Invert = true
+isWriting (Obj s out) = false
 
 -- a run
 abbrev pub isRun : Act → Bool
@@ -136,6 +147,7 @@ isRun (Write o out) = false
 isRun (Run s) = true
 isRun (Undo n) = false
 isRun Invert = false
+isRun (Obj s out) = false
 
 -- "no other writing call": each act is a run or writes nothing
 abbrev pub onlyRuns : List Act → Bool

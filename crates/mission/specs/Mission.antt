@@ -2,11 +2,11 @@
 -- They speak of the definitions that the contracts of crate `kernel` cite:
 --     clearOf  zoghvari_clear       readOperator widest  zoghvari_read        runOf     zoghvari_run
 --     checkOf  zoghvari_check       writeOperator        zoghvari_write       undoOf    zoghvari_undo
---     countOf  zoghvari_count                                                 invertOf  zoghvari_invert
+--     countOf  zoghvari_count       objOf                zoghvari_obj         invertOf  zoghvari_invert
 -- A contract says: for every input the answer, and every word, coordinate and byte that the call leaves, are the
 -- definition's. So what is said here of a definition is said of the call, and what is said of a list of acts
 -- (`Act`, `doAll` of crate `machine`: one act for each entry point) is said of these calls one after the other.
--- In quotes: documents 00 and 01; what document 02 changed says so.
+-- In quotes: documents 00 and 01; where it is document 02, it says so.
 use mathlib.Core.Path.{_≡_}
 use mathlib.Core.Logic.{_≢_}
 use mathlib.Core.Bool.{true}
@@ -44,6 +44,9 @@ use Rattle.promises.specs.ShortLog.{live}
 use Rattle.machine.specs.Machine.{Act, behind, onlyRuns}
 use Rattle.machine.specs.Acts.{ActsUndone}
 use Rattle.inversion.specs.Promise.{clearLinks, clearPoints, Asked, InversionExact, HolesOne, CountHoles}
+use Rattle.wavefront.specs.Obj.{solidRefusal, objOf}
+use Rattle.wavefront_read.specs.Refused.{RefusedAs}
+use Rattle.wavefront_read.specs.Written.{TextEnds, TextRead}
 use Rattle.mission.specs.Refusals.{OneOf, Named}
 
 -- a table passes the check
@@ -54,7 +57,8 @@ Passes x p = checkOf x p .refusal ≡ 0
 -- from every entry point, and each entry point checks for itself." The contracts say so: none asks anything of its
 -- caller, and each function is proved to end.
 
--- "A refusal carries one of eleven numbers." Each entry point answers 0 or one of those that document 01 gives it
+-- "A refusal carries one of eleven numbers." Each entry point answers 0 or one of those that document 01 gives it.
+-- Document 02, job 2: "These and later jobs' new numbers join the mission's eleven": 12 and 13
 pub record RefusalsNumbered : Type 0 where
   pub clear : (x : List ℕ) (p : List ℤ) (log s f l e v : ℕ)
       → OneOf (0 ∷ 1 ∷ []) (clearOf x p log s f l e v .answer .refusal)
@@ -67,12 +71,16 @@ pub record RefusalsNumbered : Type 0 where
   pub undo : (t : State) (n : ℕ)
       → OneOf (0 ∷ 1 ∷ 2 ∷ 3 ∷ 4 ∷ 5 ∷ 6 ∷ 7 ∷ 8 ∷ 11 ∷ []) (undoOf t n .answer .refusal)
   pub invert : (t : State) → OneOf (0 ∷ 1 ∷ 2 ∷ 9 ∷ 10 ∷ []) (invertOf t .answer .refusal)
+  pub obj : (x : List ℕ) (p : List ℤ) (s : ℕ) (out : List ℕ)
+      → OneOf (0 ∷ 1 ∷ 2 ∷ 5 ∷ 6 ∷ 12 ∷ 13 ∷ []) (objOf x p s out .answer .refusal)
 
 -- the first demand
 pub record Demand1 : Type 0 where
   pub refusals-numbered : RefusalsNumbered
   -- "2 table not sound; the rule is named": with 2 one of the six, else 0
   pub rule-named : (x : List ℕ) (p : List ℤ) → Named (checkOf x p .refusal) (checkOf x p .rule)
+  pub obj-named : (x : List ℕ) (p : List ℤ) (s : ℕ) (out : List ℕ)
+      → Named (objOf x p s out .answer .refusal) (objOf x p s out .answer .rule)
   -- "The refused operator changes neither table nor log; operators before it in the script stand." The bytes used, run
   -- alone, do as many operators and leave the same table, log and start; only the entry refuses them
   pub refused-apart : (t : State) (s : List ℕ)
@@ -93,6 +101,8 @@ pub record Demand1 : Type 0 where
       → writeOperator o out ≡ notWritten (writeOperator o out .answer .refusal) out
   pub invert-out : (t : State) → invertOf t .answer .refusal ≢ 0
       → invertOf t ≡ inverted (invertOf t .answer .refusal) (invertOf t .answer .rule) (begin t)
+  pub obj-out : (x : List ℕ) (p : List ℤ) (s : ℕ) (out : List ℕ) → objOf x p s out .answer .refusal ≢ 0
+      → objOf x p s out .out ≡ out
 
 -- ---- DEMAND 2. What document 01 says of each operator stands beside its sentences in crates/euler/specs: condition
 -- (`conditions`), table after it (`linksAfter`, `pointsAfter`), inverse. The contract of a run cites them by way of
@@ -202,8 +212,30 @@ pub record Demand3 : Type 0 where
   -- and counting answers it
   pub count-holes : CountHoles
 
+-- ---- DOCUMENT 02, what its jobs ask beside the demands (job 1 changed some of them, and stands there)
+
+-- job 2: the text of a solid
+pub record Requests : Type 0 where
+  -- "(After 5 and 6 for the solid: 12, …; then 13, the text doesn't fit.)" Every call ends in one of four ways
+  -- (`TextEnds`), each with its answer and every byte of the buffer: what the check refuses; what is refused of the
+  -- solid; a text that is longer than the buffer; a text. "The length is answered", with 13 too
+  pub obj-ends : (x : List ℕ) (p : List ℤ) (s : ℕ) (out : List ℕ) → TextEnds x p s out
+  -- "5 and 6 for the solid", and "12, a face has a ring, a lone loop or, in this job only, under three sides": each
+  -- where it is so and never otherwise (`RefusedAs`), by the half-edges that name a loop, for every table that passes
+  -- the check; 0 where none is so
+  pub solid-refused : (x : List ℕ) (p : List ℤ) → Passes x p → (s : ℕ)
+      → RefusedAs (shapeOf x) x s (solidRefusal (shapeOf x) x s)
+  -- "A reader of the text must find the same points and the same vertex cycles, turned round. … bytes behind the text
+  -- stay." Of every call that answers 0 (`TextRead`): so many bytes of the buffer are the text; a reader of OBJ text,
+  -- which knows nothing of tables, finds in it the points of the solid's vertices by number and a cycle of indices for
+  -- each face by number; the cycles are the table's, turned round, each the whole loop, and each index leads to the
+  -- point of its corner (`TextShows`); behind the text all is as it was
+  pub obj-reads : (x : List ℕ) (p : List ℤ) (s : ℕ) (out : List ℕ) → objOf x p s out .answer .refusal ≡ 0
+      → TextRead x p s out (objOf x p s out)
+
 -- the whole
 pub record Mission : Type 0 where
   pub first : Demand1
   pub second : Demand2
   pub third : Demand3
+  pub requests : Requests

@@ -18,12 +18,14 @@ use Rattle.promises.specs.Padded.{padded-run, padded-undo}
 use Rattle.promises.specs.ShortLog.{log-shortest}
 use Rattle.machine.specs.Acts.{undo-acts}
 use Rattle.inversion.specs.Theorem.{inversion-exact, holes-one, count-holes}
+use Rattle.wavefront_read.specs.Refused.{solid-refused}
+use Rattle.wavefront_read.specs.Written.{obj-ends, obj-out, obj-reads}
 use Rattle.mission.specs.Refusals.{clear-numbered, check-numbered, count-numbered, read-numbered, write-numbered}
-use Rattle.mission.specs.Refusals.{run-numbered, undo-numbered, invert-numbered, rule-named}
+use Rattle.mission.specs.Refusals.{run-numbered, undo-numbered, invert-numbered, obj-numbered, rule-named}
 use Rattle.mission.specs.Refusals.{entry-numbered, clear-out, write-out, invert-out}
 use Rattle.mission.specs.TakeDown.{clear-own, invert-asked, invert-sound}
 use Rattle.mission.specs.SoundActs.{sound-acts}
-use Rattle.mission.specs.Mission.{RefusalsNumbered, Demand1, Demand2, Demand3, Mission}
+use Rattle.mission.specs.Mission.{RefusalsNumbered, Demand1, Demand2, Demand3, Requests, Mission}
 
 -- a refusal's number
 pub refusals-numbered : RefusalsNumbered
@@ -36,6 +38,7 @@ refusals-numbered = record {
   run = run-numbered;
   undo = undo-numbered;
   invert = invert-numbered;
+  obj = λ x p s out. obj-numbered x p s out .0;
 }
 
 -- a result for whoever hands over bytes
@@ -43,6 +46,7 @@ pub demand-1 : Demand1
 demand-1 = record {
   refusals-numbered = refusals-numbered;
   rule-named = rule-named;
+  obj-named = λ x p s out. obj-numbered x p s out .1;
   refused-apart = refused-apart;
   undo-apart = undo-apart;
   entry-numbered = entry-numbered;
@@ -51,6 +55,7 @@ demand-1 = record {
   clear-out = clear-out;
   write-out = write-out;
   invert-out = invert-out;
+  obj-out = obj-out;
 }
 
 -- the operators
@@ -96,6 +101,14 @@ demand-3 = record {
   count-holes = count-holes;
 }
 
+-- document 02
+pub requested : Requests
+requested = record {
+  obj-ends = obj-ends;
+  solid-refused = λ x p h. solid-refused x p (checked-valid x p h);
+  obj-reads = obj-reads;
+}
+
 -- all of it
 pub mission : Mission
-mission = record { first = demand-1; second = demand-2; third = demand-3 }
+mission = record { first = demand-1; second = demand-2; third = demand-3; requests = requested }

@@ -1,8 +1,8 @@
--- Which numbers each entry point answers (document 01, "Who causes a refusal"), for every input; and that a refusal
--- before anything is done leaves all as it was.
+-- Which numbers each entry point answers (document 01, "Who causes a refusal", and document 02), for every input; and
+-- that a refusal before anything is done leaves all as it was.
 use mathlib.Core.Path.{_≡_, refl, sym, subst}
 use mathlib.Core.Logic.{_≢_, ⊎-elim}
-use mathlib.Core.Bool.{Bool, false, _||_}
+use mathlib.Core.Bool.{Bool, false, _&&_, _||_}
 use mathlib.Core.List.{List, [], _∷_, map}
 use Prim.Native.Nat.{ℕ, zero, suc, _+_}
 use native.Mathlib.Omega.{arith}
@@ -22,7 +22,8 @@ use Rattle.codec.specs.OperandBytes.{Numbers, Read, Cut, onNumbers, readOperand
 use Rattle.script.specs.Operator.{refused, readBehind, readOperator}
 use Rattle.script.specs.Operator.{numbersOf, operatorBytes, operatorRefusal, Written, notWritten, writeOperator}
 use Rattle.layout.specs.declared.shape.Shape.{Shape}
-use Rattle.layout.specs.Layout.{shapeOf}
+use Rattle.layout.specs.Layout.{shapeOf, solidUsed}
+use Rattle.layout.specs.Items.{some}
 use Rattle.check_items.specs.Rules.{rule1, rule2, rule3, rule4, rule5, rule6, brokenRule}
 use Rattle.table.specs.declared.check.CheckAnswer.{CheckAnswer}
 use Rattle.table.specs.declared.count.CountAnswer.{CountAnswer}
@@ -36,6 +37,8 @@ use Rattle.runs.specs.Run.{State, readAt, refusalAt, inverseBytes, runRefusal, 
 use Rattle.runs.specs.Clauses.{run-out, undo-none, undo-some, undo-in, undo-out}
 use Rattle.runs.specs.RunLaws.{read-refused, read-admitted}
 use Rattle.takedown.specs.Inversion.{noneFree, shortLog, Inverted, inverted, begin, invertOf}
+use Rattle.wavefront.specs.Obj.{noRingNorLone, threeSided, solidRefusal, Texted, objOf}
+use Rattle.wavefront_read.specs.Written.{TextEnds, unsound, unshown, unfitting, written, obj-ends}
 use Rattle.promises.specs.Carried.{step-refusal, Carried, ended, refused as stopped, done, run-carried}
 
 -- ---- one of these numbers
@@ -296,6 +299,57 @@ invert-numbered t =
   where
     P : Inverted → Type 0
     P r = OneOf inverts (r .answer .refusal)
+
+-- ---- the text of a solid
+
+abbrev texts : List ℕ
+texts = 0 ∷ 1 ∷ 2 ∷ 5 ∷ 6 ∷ 12 ∷ 13 ∷ []
+
+-- what is refused of a solid
+solid-numbered : (sh : Shape) (x : List ℕ) (s : ℕ) → OneOf texts (solidRefusal sh x s)
+unfolding solidRefusal
+solid-numbered sh x s =
+    pick-ind P (leb 1 s && leb s (sh .solids)) _ _
+    (pick-ind P (some (solidUsed sh x s)) _ _ (pick-ind P (noRingNorLone sh x s && threeSided sh x s) _ _ tt tt) tt) tt
+  where
+    P : ℕ → Type 0
+    P = OneOf texts
+
+-- 2 is the check's alone
+solid-not-2 : (sh : Shape) (x : List ℕ) (s : ℕ) → solidRefusal sh x s ≢ 2
+unfolding solidRefusal
+solid-not-2 sh x s =
+    pick-ind P (leb 1 s && leb s (sh .solids)) _ _
+    (pick-ind P (some (solidUsed sh x s)) _ _
+    (pick-ind P (noRingNorLone sh x s && threeSided sh x s) _ _ (λ e. omega (arith, e)) (λ e. omega (arith, e)))
+    (λ e. omega (arith, e))) (λ e. omega (arith, e))
+  where
+    P : ℕ → Type 0
+    P n = n ≢ 2
+
+-- in document 02's order; with 2 the rule is named
+pub obj-numbered : (x : List ℕ) (p : List ℤ) (s : ℕ) (out : List ℕ) → let a = objOf x p s out .answer in
+    OneOf texts (a .refusal) × Named (a .refusal) (a .rule)
+obj-numbered x p s out = go (obj-ends x p s out)
+  where
+    P : Texted → Type 0
+    P r = OneOf texts (r .answer .refusal) × Named (r .answer .refusal) (r .answer .rule)
+
+    -- no rule where no rule is broken
+    unnamed : (r : ℕ) → r ≢ 2 → Named r 0
+    unnamed r d = record { broken = λ e. absurd (d e); none = λ e. refl }
+
+    go : TextEnds x p s out → P (objOf x p s out)
+    go (unsound d e) = subst P (sym e) (
+      wider checks texts tt (checkOf x p .refusal) (check-numbered x p),
+      rule-named x p,
+    )
+    go (unshown z d e) = subst P (sym e) (
+      solid-numbered (shapeOf x) x s,
+      unnamed (solidRefusal (shapeOf x) x s) (solid-not-2 (shapeOf x) x s),
+    )
+    go (unfitting z y l e) = subst P (sym e) (tt, unnamed 13 (λ n. omega (arith, n)))
+    go (written z y l e) = subst P (sym e) (tt, unnamed 0 (λ n. omega (arith, n)))
 
 -- ---- a refusal before anything is done leaves all as it was
 

@@ -10,7 +10,7 @@ use Rattle.sound_tables.specs.ClearSound.{clear-valid}
 use Rattle.runs.specs.Run.{State}
 use Rattle.promises.specs.RunAll.{runAll}
 use Rattle.promises.specs.Promises.{runs-sound, undo-sound}
-use Rattle.machine.specs.Machine.{Act, Clear, Check, Count, Read, Write, Run, Undo, Invert}
+use Rattle.machine.specs.Machine.{Act, Clear, Check, Count, Read, Write, Run, Undo, Invert, Obj}
 use Rattle.machine.specs.Machine.{does, doAll, lastOf, behind}
 use Rattle.mission.specs.Refusals.{clear-out}
 use Rattle.mission.specs.TakeDown.{invert-sound}
@@ -36,6 +36,7 @@ sound-act t (Write o out) h = h
 sound-act t (Run s) h = runs-sound t (s ∷ []) h
 sound-act t (Undo n) h = undo-sound t n h
 sound-act t Invert h = invert-sound t h
+sound-act t (Obj s out) h = h
 
 -- A SOUND TABLE STAYS SOUND under any list of acts
 pub sound-acts : (t : State) (acts : List Act) → checkOf (t .links) (t .points) .refusal ≡ 0

@@ -2,17 +2,8 @@
 use mathlib.Core.Path.{_≡_, refl}
 use mathlib.Core.List.{[], _∷_, _++_}
 use Rattle.table.specs.Count.{counts}
-use Rattle.report.specs.Text.{digits, decimal, field, answerLine, countLine, textOf}
-
--- 0 has one digit
-pub zero-digit : decimal 0 ≡ 48 ∷ []
-unfolding decimal digits
-zero-digit = refl
-
--- "40960"
-pub five-digits : decimal 40960 ≡ 52 ∷ 48 ∷ 57 ∷ 54 ∷ 48 ∷ []
-unfolding decimal digits
-five-digits = refl
+use Rattle.text.specs.Decimal.{digits, decimal}
+use Rattle.report.specs.Text.{field, answerLine, countLine, textOf}
 
 -- "refusal 0 done 1 used 8" and "s 1 f 1 l 1 e 0 v 1 r 0 h 0", what the program prints for example b
 pub example-b : textOf 0 1 8 (counts 0 0 1 1 1 0 1 0 0) ≡

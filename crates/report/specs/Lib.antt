@@ -1,4 +1,3 @@
 pub mod Text
 pub mod TextLaws
-pub mod Decimal
 pub mod Examples

@@ -1,23 +1,10 @@
 -- What the program prints: two lines on a run and the table it leaves, or one line on an input that is too long. Texts
 -- are lists of bytes.
-use Prim.Native.Nat.{ℕ, zero, suc, _+_, _/_, _%_}
+use Prim.Native.Nat.{ℕ}
 use mathlib.Core.List.{List, [], _∷_, _++_}
-use lib.Dec.{ltb}
-use Rattle.laws.specs.Bools.{pick}
+use Rattle.text.specs.Decimal.{decimal}
+use Rattle.text.specs.Put.{newline}
 use Rattle.table.specs.declared.count.CountAnswer.{CountAnswer}
-
--- the digits of a number that has at most k of them; digit d is the byte 48 + d
-unfoldable pub digits : ℕ → ℕ → List ℕ
-digits zero n = []
-digits (suc k) n = pick (ltb n 10) ((48 + n) ∷ []) (digits k (n / 10) ++ ((48 + n % 10) ∷ []))
-
--- a number in decimal, from the highest digit down, with no leading zeros; n + 1 digits are always enough
-unfoldable pub decimal : ℕ → List ℕ
-decimal n = digits (suc n) n
-
--- the end of a line
-abbrev pub newline : List ℕ
-newline = 10 ∷ []
 
 -- "refusal "
 abbrev pub refusalLabel : List ℕ

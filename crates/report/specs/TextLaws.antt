@@ -1,59 +1,21 @@
 -- What the code that writes the text leaves, step by step.
-use mathlib.Core.Path.{_≡_, sym, _∙_, subst}
+use mathlib.Core.Path.{_≡_, _∙_, subst}
 use mathlib.Core.Logic.{⊎-elim}
-use mathlib.Core.List.{List, [], _∷_, _++_}
-use Prim.Native.Nat.{ℕ, zero, suc, _+_, _-_, _*_, _/_, _%_, _^_, _≤_, _<_}
-use native.Mathlib.Nat.{add-zero, pow-succ', one-le-pow, pow-le-pow-right}
+use mathlib.Core.List.{List, _++_}
+use Prim.Native.Nat.{ℕ, zero, suc, _-_, _*_, _/_, _%_, _^_, _≤_, _<_}
+use native.Mathlib.Nat.{pow-succ', one-le-pow, pow-le-pow-right}
 use native.Mathlib.Omega.{arith}
-use native.Mathlib.Numerals.{add-one}
-use lib.ListN.{length, getD, take, drop, set, length-append, drop-of-length-le}
-use lib.Seq.{sets, drop-cons}
-use borrow.Author.Tests.{lt-ltb, le-ltb}
+use lib.ListN.{length, take}
+use lib.Seq.{sets}
+use borrow.Author.Tests.{lt-ltb}
 use Rattle.laws.specs.Bools.{le?}
-use Rattle.codec.specs.WriteLaws.{sets-append}
+use Rattle.text.specs.Decimal.{decimal, decimal-one, decimal-more}
+use Rattle.text.specs.Put.{newline, Put, then, put-4, put-8, put-front}
 use Rattle.table.specs.declared.count.CountAnswer.{CountAnswer}
 use Rattle.io.specs.Digits as io
-use Rattle.report.specs.Text.{digits, decimal, newline, refusalLabel, doneLabel, usedLabel, solidsLabel}
+use Rattle.report.specs.Text.{refusalLabel, doneLabel, usedLabel, solidsLabel}
 use Rattle.report.specs.Text.{facesLabel, loopsLabel, edgesLabel, verticesLabel, ringsLabel, holesLabel, field}
 use Rattle.report.specs.Text.{answerLine, countLine, textOf}
-
--- bytes copied one by one: the rest of the text, put where the copy stands, is the whole put at its place
-pub put-begin : (l : List ℕ) (at : ℕ) (text : List ℕ) → sets l (at + 0) text ≡ sets l at text
-put-begin l at text = rw (add-zero at)
-
-module _ (l : List ℕ) (at i : ℕ) (text whole : List ℕ) (rest : sets l (at + i) (drop i text) ≡ whole) where
-  pub put-turn : i < length text → sets (set l (at + i) (getD text i 0)) (at + (i + 1)) (drop (i + 1) text) ≡ whole
-  put-turn h = let n : at + (i + 1) ≡ suc (at + i) = omega arith in
-      rw (n, add-one i) (rw (drop-cons text i 0 h) at rest)
-
-  pub put-end : length text ≤ i → l ≡ whole
-  put-end h = rw (drop-of-length-le text h) at rest
-
--- a text is put into a buffer at a place: the place behind it, and the buffer then
-abbrev pub Put : List ℕ → ℕ → List ℕ → ℕ → List ℕ → Type 0
-Put x a t b y = (b ≡ a + length t) × (y ≡ sets x a t)
-
--- one text behind the other
-pub then : (x y z : List ℕ) (a b d : ℕ) (t u : List ℕ) → Put x a t b y → Put y b u d z → Put x a (t ++ u) d z
-then x y z a b d t u (e, f) (g, h) = (omega (arith, length-append t u), rw (h, f, e) (sym (sets-append x a t u)))
-
--- the digits are the same however many are allowed
-same-digits : (k m n : ℕ) → n < k → n < m → digits k n ≡ digits m n
-unfolding digits
-same-digits zero m n h g = absurd (omega arith)
-same-digits (suc k) zero n h g = absurd (omega arith)
-same-digits (suc k) (suc m) n h g =
-    ⊎-elim (λ l. rw (le-ltb n 10 l, same-digits k m (n / 10) (omega arith) (omega arith))) (λ l. rw (lt-ltb n 10 l))
-    (le? 10 n)
-
--- below 10, and from 10 on
-pub decimal-one : (n : ℕ) → n < 10 → decimal n ≡ (48 + n) ∷ []
-unfolding decimal digits
-decimal-one n h = rw (lt-ltb n 10 h)
-
-pub decimal-more : (n : ℕ) → 10 ≤ n → decimal n ≡ decimal (n / 10) ++ ((48 + n % 10) ∷ [])
-unfolding decimal digits
-decimal-more n h = rw (le-ltb n 10 h, same-digits n (suc (n / 10)) (n / 10) (omega arith) (omega arith))
 
 -- the fewest digits that hold a number, as the library `io` finds them
 pub decimal-is : (k n : ℕ) → io.Fewest 10 1 n k → io.digits 10 k n ≡ decimal n
@@ -94,27 +56,6 @@ pub put-field : (x y z label : List ℕ) (a b d n : ℕ) → Put x a label b y �
     → Put x a (field label n) d z
 unfolding field
 put-field x y z label a b d n p q = then x y z a b d label (decimal n) p q
-
--- four texts, and eight
-pub put-4 : (x x1 x2 x3 x4 : List ℕ) (a a1 a2 a3 a4 : ℕ) (t1 t2 t3 t4 : List ℕ)
-    → Put x a t1 a1 x1 → Put x1 a1 t2 a2 x2 → Put x2 a2 t3 a3 x3 → Put x3 a3 t4 a4 x4
-    → Put x a (t1 ++ t2 ++ t3 ++ t4) a4 x4
-put-4 x x1 x2 x3 x4 a a1 a2 a3 a4 t1 t2 t3 t4 p1 p2 p3 p4 =
-    then x x3 x4 a a3 a4 (t1 ++ t2 ++ t3) t4 (then x x2 x3 a a2 a3 (t1 ++ t2) t3 (then x x1 x2 a a1 a2 t1 t2 p1 p2) p3)
-    p4
-
-pub put-8 : (x x1 x2 x3 x4 x5 x6 x7 x8 : List ℕ) (a a1 a2 a3 a4 a5 a6 a7 a8 : ℕ) (t1 t2 t3 t4 t5 t6 t7 t8 : List ℕ)
-    → Put x a t1 a1 x1 → Put x1 a1 t2 a2 x2 → Put x2 a2 t3 a3 x3 → Put x3 a3 t4 a4 x4
-    → Put x4 a4 t5 a5 x5 → Put x5 a5 t6 a6 x6 → Put x6 a6 t7 a7 x7 → Put x7 a7 t8 a8 x8
-    → Put x a (t1 ++ t2 ++ t3 ++ t4 ++ t5 ++ t6 ++ t7 ++ t8) a8 x8
-put-8 x x1 x2 x3 x4 x5 x6 x7 x8 a a1 a2 a3 a4 a5 a6 a7 a8 t1 t2 t3 t4 t5 t6 t7 t8 p1 p2 p3 p4 p5 p6 p7 p8 =
-    then x x7 x8 a a7 a8 (t1 ++ t2 ++ t3 ++ t4 ++ t5 ++ t6 ++ t7) t8
-    (put-4 x x4 x5 x6 x7 a a4 a5 a6 a7 (t1 ++ t2 ++ t3 ++ t4) t5 t6 t7
-    (put-4 x x1 x2 x3 x4 a a1 a2 a3 a4 t1 t2 t3 t4 p1 p2 p3 p4) p5 p6 p7) p8
-
--- at the front of the buffer the place behind a text is its length
-pub put-front : (x y t : List ℕ) (b : ℕ) → Put x 0 t b y → (b ≡ length t) × (y ≡ sets x 0 t)
-put-front x y t b (e, f) = (omega arith, f)
 
 -- the first line
 pub put-answer : (x x1 x2 x3 x4 : List ℕ) (a1 a2 a3 a4 refusal done used : ℕ)

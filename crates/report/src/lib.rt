@@ -1,14 +1,15 @@
-// The text that the program prints.
+// The text that the program prints, and what the texts of programs are put together from.
 ghost use mathlib.Core.Path.{_≡_};
 ghost use Prim.Native.Nat.{_+_, _≤_};
 ghost use lib.ListN.{length};
 ghost use lib.Seq.{sets};
-ghost use Rattle.report.specs.Text.{decimal, field, answerLine, countLine, textOf, tooLong};
+ghost use Rattle.text.specs.Decimal.{decimal};
+ghost use Rattle.report.specs.Text.{field, answerLine, countLine, textOf, tooLong};
 use table::count::CountAnswer;
 
 // The bytes of a text, from `at` on; the place behind them.
-fn put_bytes(out: &mut [u8; 256], at: usize, text: &[u8]) -> usize
-    requires { ⌜ at + length (now text) ≤ 256 ⌝ }
+pub fn put_bytes(out: &mut [u8], at: usize, text: &[u8]) -> usize
+    requires { ⌜ at + length (now text) ≤ length (now out) ⌝ }
     ensures { λ r. ⌜ (r ≡ at + length (now (text .entry)))
         × (now (out .exit) ≡ sets (now (out .entry)) at (now (text .entry))) ⌝ }
 {
@@ -21,8 +22,8 @@ fn put_bytes(out: &mut [u8; 256], at: usize, text: &[u8]) -> usize
 }
 
 // A number in decimal, from `at` on; the place behind it.
-fn put_number(out: &mut [u8; 256], at: usize, n: usize) -> usize
-    requires { ⌜ at ≤ 236 ⌝ }
+fn put_number(out: &mut [u8], at: usize, n: usize) -> usize
+    requires { ⌜ at + 20 ≤ length (now out) ⌝ }
     ensures { λ r. ⌜ (r ≡ at + length (decimal n)) × (now (out .exit) ≡ sets (now (out .entry)) at (decimal n)) ⌝ }
     ensures { λ r. ⌜ r ≤ at + 20 ⌝ }
 {
@@ -32,8 +33,8 @@ fn put_number(out: &mut [u8; 256], at: usize, n: usize) -> usize
 }
 
 // A label and its number, from `at` on; the place behind them.
-fn put_field(out: &mut [u8; 256], at: usize, label: &[u8], n: usize) -> usize
-    requires { ⌜ at + length (now label) ≤ 236 ⌝ }
+pub fn put_field(out: &mut [u8], at: usize, label: &[u8], n: usize) -> usize
+    requires { ⌜ at + length (now label) + 20 ≤ length (now out) ⌝ }
     ensures { λ r. ⌜ (r ≡ at + length (field (now (label .entry)) n))
         × (now (out .exit) ≡ sets (now (out .entry)) at (field (now (label .entry)) n)) ⌝ }
     ensures { λ r. ⌜ r ≤ at + length (now (label .entry)) + 20 ⌝ }

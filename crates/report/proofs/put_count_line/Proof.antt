@@ -44,7 +44,20 @@ slice-aggregate-put-field-7 : tie.Need-slice-aggregate-put-field-7
 slice-aggregate-put-field-7 c = search needs
 
 put-field-requires-7 : tie.Need-put-field-requires-7
-put-field-requires-7 c κs = search needs
+put-field-requires-7 c κs =
+    omega (
+      arith,
+      c .before .before .before .before .before .before .before .before .before .before .before .before .before .before
+          .before .before .before .before .before .before .pre,
+      c .before .before .before .before .before .before .before .before .before .before .before .before .before .before
+          .before .before .before .put-field .ensures .1,
+      c .before .before .before .before .before .before .before .before .before .before .before .before .before .before
+          .put-field2 .ensures .1,
+      c .before .before .before .before .before .before .before .before .before .before .before .put-field3 .ensures .1,
+      c .before .before .before .before .before .before .before .before .put-field4 .ensures .1,
+      c .before .before .before .before .before .put-field5 .ensures .1,
+      c .before .before .put-field6 .ensures .1,
+    )
 
 slice-aggregate-put-bytes : tie.Need-slice-aggregate-put-bytes
 slice-aggregate-put-bytes c = search needs

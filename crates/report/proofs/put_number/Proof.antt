@@ -15,12 +15,20 @@ slice-aggregate-put-bytes c = search needs
 
 put-bytes-requires : tie.Need-put-bytes-requires
 put-bytes-requires c κs = let d = c .before .before .decimal .ensures in
-    omega (arith, d .0 .1, few-digits _ _ (d .1 .0) (c .before .before .before .before .fits .n .fits))
+    omega (arith, d .0 .1, few-digits _ _ (d .1 .0) (c .before .before .before .before .before .fits .n .fits))
+
+same-length : tie.Need-same-length
+same-length c = search needs
 
 returns : tie.Need-returns
-returns c = let d = c .before .before .before .decimal .ensures in (
-  put-digits _ _ _ _ _ _ _ (d .1 .0) (d .1 .1) (c .put-bytes .ensures),
-  omega (arith, d .0 .1, few-digits _ _ (d .1 .0) (c .before .before .before .before .before .fits .n .fits)),
+returns c = let d = c .before .before .before .before .before .decimal .ensures in (
+  put-digits _ _ _ _ _ _ _ (d .1 .0) (d .1 .1) (c .before .before .put-bytes .ensures),
+  omega (
+    arith,
+    d .0 .1,
+    few-digits _ _ (d .1 .0)
+        (c .before .before .before .before .before .before .before .before .fits .n .fits),
+  ),
 )
 
 pub put-number-spec : {M : Type 1} → statement M
@@ -31,4 +39,5 @@ put-number-spec =
     array-share-prefix-digits
     slice-aggregate-put-bytes
     put-bytes-requires
+    same-length
     returns)

@@ -1,6 +1,6 @@
 use Rattle.report.specs.Text.{tooLong}
 use borrow.Author.Needs.{needs}
-use Rattle.report.specs.TextLaws.{put-front}
+use Rattle.text.specs.Put.{put-front}
 use Rattle.report.proofs.too_long.Statement.{statement}
 use Rattle.report.proofs.too_long.Tie as tie
 

@@ -1,0 +1,1 @@
+// Mathematics only: numbers in decimal, and texts put into a buffer; see specs/.

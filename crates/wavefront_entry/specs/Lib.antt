@@ -1,0 +1,3 @@
+pub mod RankLaws
+pub mod SolidLaws
+pub mod ObjLaws

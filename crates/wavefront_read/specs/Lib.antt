@@ -1,0 +1,15 @@
+pub mod Reader
+pub mod Pieces
+pub mod NumberRead
+pub mod LineRead
+pub mod ReadBack
+pub mod Laps
+pub mod Counts
+pub mod TurnedRound
+pub mod Passing
+pub mod Ranks
+pub mod Length
+pub mod Shown
+pub mod Refused
+pub mod Written
+pub mod Instances

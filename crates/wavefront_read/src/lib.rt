@@ -1,0 +1,1 @@
+// Mathematics only: a reader of OBJ text, and what it finds; see specs/.
