@@ -3,7 +3,7 @@
 #include "frames.h"
 #include "zoghvari.h"
 
-enum { CLEAR = 1, CHECK, COUNT, READ, WRITE, RUN, UNDO, TAKEDOWN };
+enum { CLEAR = 1, CHECK, COUNT, READ, WRITE, RUN, UNDO, TAKEDOWN, OBJ };
 
 static uint32_t answer_clear(const Frame *f, uint64_t *out) {
     const uint64_t *a = f->numbers.data;
@@ -77,6 +77,16 @@ static uint32_t answer_takedown(const Frame *f, uint64_t *out) {
     return 4;
 }
 
+/* A buffer of no bytes is handed over as a caller does who only asks how long the text is. */
+static uint32_t answer_obj(const Frame *f, uint64_t *out) {
+    const uint64_t *a = f->numbers.data;
+    ZoghvariText r = zoghvari_obj(f->links.data, f->links.n, f->points.data, f->points.n, a[0],
+                                  f->script.n ? f->script.data : NULL, f->script.n);
+    const uint64_t all[3] = {r.refusal, r.rule, r.length};
+    for (int i = 0; i < 3; i++) out[i] = all[i];
+    return 3;
+}
+
 typedef struct {
     uint32_t numbers; /* how many numbers the case has to hold */
     uint32_t (*answer)(const Frame *f, uint64_t *out);
@@ -84,13 +94,13 @@ typedef struct {
 
 static const Kind KINDS[] = {[CLEAR] = {5, answer_clear}, [CHECK] = {0, answer_check}, [COUNT] = {0, answer_count},
                              [READ] = {1, answer_read},   [WRITE] = {11, answer_write}, [RUN] = {1, answer_run},
-                             [UNDO] = {2, answer_undo},   [TAKEDOWN] = {1, answer_takedown}};
+                             [UNDO] = {2, answer_undo},   [TAKEDOWN] = {1, answer_takedown}, [OBJ] = {1, answer_obj}};
 
 int main(void) {
     Frame f;
     while (read_frame(&f)) {
         uint64_t out[16];
-        if (f.kind < CLEAR || f.kind > TAKEDOWN) fail("a kind that the kernel does not have");
+        if (f.kind < CLEAR || f.kind > OBJ) fail("a kind that the kernel does not have");
         if (f.numbers.n < KINDS[f.kind].numbers) fail("a case with too few numbers");
         uint32_t n = KINDS[f.kind].answer(&f, out);
         write_frame(&f, out, n);

@@ -36,6 +36,7 @@ static void no_table(void) {
     ran("run", zoghvari_run(NULL, 0, NULL, 0, NULL, 0, 0, solid, sizeof solid), 1, 0, 0);
     equal("undo", zoghvari_undo(NULL, 0, NULL, 0, NULL, 0, 0, 1).refusal, 1);
     equal("invert", zoghvari_invert(NULL, 0, NULL, 0, NULL, 0, 0).refusal, 1);
+    equal("obj", zoghvari_obj(NULL, 0, NULL, 0, 1, NULL, 0).refusal, 1);
 }
 
 static void no_bytes(void) {
@@ -58,6 +59,26 @@ static void no_log(void) {
     equal("the solid stands", zoghvari_count(links, LINKS, points, POINTS).solids, 1);
 }
 
+/* A triangle, which has a text, and no buffer for it: the length is told. */
+static void no_buffer(void) {
+    enum { WORDS = ZOGHVARI_LINKS_LENGTH(1, 2, 2, 3, 3), NUMBERS = ZOGHVARI_POINTS_LENGTH(3) };
+    uint16_t words[WORDS];
+    int32_t numbers[NUMBERS];
+    const uint8_t sides[] = {3, 1, 0, 1, 2, 0, 2, 0, 0,  /* mev 1 0 1 2 0 1 0 0 */
+                             3, 1, 2, 2, 3, 0, 2, 2, 0,  /* mev 1 2 2 3 0 1 1 0 */
+                             5, 1, 1, 4, 3, 2, 2, 0};    /* mef 1 1 4 3 2 2 0 */
+    equal("clear", zoghvari_clear(words, WORDS, numbers, NUMBERS, LOG, 1, 2, 2, 3, 3).start, LOG);
+    equal("obj of a free solid", zoghvari_obj(words, WORDS, numbers, NUMBERS, 1, NULL, 0).refusal, 6);
+    ran("solid", zoghvari_run(words, WORDS, numbers, NUMBERS, log_bytes, LOG, LOG, solid, sizeof solid), 0, 1, LOG - 2);
+    equal("obj of a lone loop", zoghvari_obj(words, WORDS, numbers, NUMBERS, 1, NULL, 0).refusal, 12);
+    ran("sides", zoghvari_run(words, WORDS, numbers, NUMBERS, log_bytes, LOG, 62, sides, sizeof sides), 0, 3, 56);
+    equal("obj of no solid", zoghvari_obj(words, WORDS, numbers, NUMBERS, 0, NULL, 0).refusal, 5);
+    ZoghvariText asked = zoghvari_obj(words, WORDS, numbers, NUMBERS, 1, NULL, 0);
+    equal("obj without a buffer", asked.refusal, 13);
+    /* sizeof counts the byte behind a string, as the length counts the line feed */
+    equal("the length of the text", asked.length, 3 * sizeof "v 0.00 0.00 0.00" + 2 * sizeof "f 1 2 3");
+}
+
 /* The version in parts and in whole, and the lengths of a table of the largest capacities, from words too. */
 static void macros(void) {
     char version[32];
@@ -73,6 +94,7 @@ int main(void) {
     no_table();
     no_bytes();
     no_log();
+    no_buffer();
     macros();
     return wrong;
 }

@@ -6,7 +6,8 @@ import re
 import shutil
 import subprocess
 
-ROOT = os.path.dirname(os.path.dirname(os.path.dirname(os.path.abspath(__file__))))
+from files import ROOT, read
+
 STRICT = ["-Wall", "-Wextra", "-pedantic", "-Werror"]
 # Where the version number stands: file, and what is around it. Of the changelog the newest release counts.
 VERSION = {
@@ -15,11 +16,6 @@ VERSION = {
     "rust/Cargo.lock": r'^name = "zoghvari"\nversion = "([^"]*)"$',
     "CHANGELOG.md": r"^## \[?([0-9][^\s\]]*)",
 }
-
-
-def read(name):
-    with open(os.path.join(ROOT, name), encoding="utf-8") as file:
-        return file.read()
 
 
 def versions(text_of=read):

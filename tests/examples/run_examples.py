@@ -2,43 +2,36 @@
 
 The C examples and the guide's C programs are built with the kernel's archive and run; what the take-down of the pocket
 logs is held to the model; the pocket's script is held to its source, to the model, to the solid that it is meant to be,
-and to the program where that is built, and in padded numbers to what it does in shortest ones; the header and the
-archive are held to what header.py says of them. The last line is 'N passed, M failed'.
+and to the program where that is built, and in padded numbers to what it does in shortest ones; parts as OBJ text are
+held to what viewing.py says of them, the header and the archive to what header.py says. The last line is 'N passed, M
+failed'.
 """
 
 import os
 import re
 import struct
-import subprocess
 import sys
 import tempfile
 
-ROOT = os.path.dirname(os.path.dirname(os.path.dirname(os.path.abspath(__file__))))
+from files import ROOT, output_of, read
+
 sys.path[:0] = [os.path.join(ROOT, "tests", "model"), os.path.join(ROOT, "examples")]
 import header
 import library
 import pocket
+import viewing
+from geometry import flat, six_volumes
 from kernel import program, run
 from layout import cleared_table
 from rules import check
 from generate import table_of
+from parts import CAPACITIES, script_of
 from script import operator, script_bytes
 from tally import Tally
 
 PROGRAM = os.path.join(ROOT, "target", "bin", "zoghvari")
 # 80 x 60 x 30 less the pocket's 50 x 30 x 12 and the hole's 10 x 10 x 18, in cubic millimetres.
 VOLUME = 80 * 60 * 30 - 50 * 30 * 12 - 10 * 10 * 18
-
-
-def read(name, mode="r"):
-    with open(os.path.join(ROOT, name), mode, **({} if "b" in mode else {"encoding": "utf-8"})) as file:
-        return file.read()
-
-
-def output_of(command, data=b""):
-    """What a command prints, with its exit status."""
-    done = subprocess.run(command, input=data, stdout=subprocess.PIPE, timeout=60, check=False)
-    return done.returncode, done.stdout.decode()
 
 
 def digests(text):
@@ -67,10 +60,10 @@ def rebuild_example(tally, folder, kernel):
     told, part = digests(wanted), table_of(pocket.pocket().table)
     tally.equal("before the take-down and after the rebuilding", told["before"], told["rebuilt"])
     tally.equal("the digest of the pocket", told["before"], digest_of(part))
-    tally.equal("the digest of nothing", told["emptied"], digest_of(cleared_table(pocket.CAPACITIES)))
+    tally.equal("the digest of nothing", told["emptied"], digest_of(cleared_table(CAPACITIES)))
     words = [line.split() for line in re.findall(r"^  (.*)$", wanted, re.MULTILINE)]
     script = script_bytes([operator(name, *map(int, operands)) for name, *operands in words])
-    table, log = cleared_table(pocket.CAPACITIES), bytearray(19 * len(words))
+    table, log = cleared_table(CAPACITIES), bytearray(19 * len(words))
     ran = run(table.links, table.points, log, len(log), script)
     tally.equal("the script in words, run by the model: refusal", ran.refusal, 0)
     tally.equal("the script in words, run by the model: table", (table.links, table.points), (part.links, part.points))
@@ -102,12 +95,13 @@ def guide(tally, folder, kernel):
 
 def pocket_script(tally):
     part, data, wanted = pocket.pocket(), read("examples/pocket.script", "rb"), read("examples/pocket.expected")
-    tally.equal("pocket.script is what pocket.py writes", data, script_bytes([op for op, _ in part.steps]))
+    tally.equal("pocket.script is what pocket.py writes", data, script_of(part))
     tally.equal("pocket.expected is what the model prints", wanted, program(data))
     table = table_of(part.table)
     tally.equal("the pocket's table is sound", check(table.links, table.points), (0, 0))
-    tally.equal("the pocket's volume", six_volumes(part.table), 6 * VOLUME * 100 ** 3)
-    tally.equal("its faces are flat", [f for f in part.table.face_solid if not flat(part.table, f)], [])
+    turned = [corners(part.table, loop)[::-1] for loop in part.table.loop_face]
+    tally.equal("the pocket's volume", six_volumes(turned), 6 * VOLUME * 100 ** 3)
+    tally.equal("its faces are flat", [f for f in part.table.face_solid if not flat(face_points(part.table, f))], [])
     if os.path.exists(PROGRAM):
         tally.equal("the program on pocket.script", output_of([PROGRAM], data), (0, wanted))
 
@@ -132,23 +126,9 @@ def corners(b, loop):
     return [b.points[b.start[half]] for half in b.cycles[loop]]
 
 
-def six_volumes(b):
-    """Six times the volume: each loop is a fan of triangles, clockwise from outside, so the sum is taken negative."""
-    total = 0
-    for loop in b.loop_face:
-        first, *rest = corners(b, loop)
-        total -= sum(determinant(first, p, q) for p, q in zip(rest, rest[1:]))
-    return total
-
-
-def determinant(a, b, c):
-    return (a[0] * (b[1] * c[2] - b[2] * c[1]) - a[1] * (b[0] * c[2] - b[2] * c[0]) + a[2] * (b[0] * c[1] - b[1] * c[0]))
-
-
-def flat(b, face):
-    """The block's faces lie along the axes: all corners of a face and its rings share one coordinate."""
-    points = [point for loop in b.loops_of_face(face) for point in corners(b, loop)]
-    return any(len({point[axis] for point in points}) == 1 for axis in range(3))
+def face_points(b, face):
+    """The corners of a face and its rings."""
+    return [point for loop in b.loops_of_face(face) for point in corners(b, loop)]
 
 
 def main(arguments):
@@ -159,9 +139,12 @@ def main(arguments):
         header.both_languages(tally, folder, kernel)
         edit_example(tally, folder, kernel)
         rebuild_example(tally, folder, kernel)
+        viewing.view_example(tally, folder, kernel, VOLUME)
         guide(tally, folder, kernel)
     pocket_script(tally)
     padded_script(tally)
+    viewing.insert_script(tally)
+    viewing.pictures(tally)
     print(f"{tally.passed} passed, {tally.failed} failed")
     return 0 if tally.failed == 0 and tally.passed > 0 else 1
 

@@ -30,6 +30,8 @@ def steps():
         ("examples and guide", ["tests/examples/run_examples.py"]),
         ("Rust wrapper", ["tests/rust/run_cargo.py"]),
         ("program against model", ["tests/model/compare_program.py"]),
+        ("OBJ program against model", ["tests/model/compare_obj.py"]),
+        ("OBJ text in other programs", ["tests/model/loaders.py"]),
     ]
     return [(name, [sys.executable] + words if words else ["rt", "ci"]) for name, words in found]
 

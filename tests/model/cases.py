@@ -13,6 +13,7 @@ from operators import plan
 from padding import half_padded, padded_log
 from script import number_bytes, operator, operator_bytes, script_bytes
 from takedown_cases import takedown_case
+from wavefront_cases import obj_case
 
 # Counts for undo that no log holds, up to the largest number a caller can hand in.
 TOO_MANY = (1_000, 1 << 32, (1 << 64) - 1)
@@ -20,7 +21,7 @@ TOO_MANY = (1_000, 1 << 32, (1 << 64) - 1)
 
 def random_case(rng):
     kind = rng.choice((wire.CLEAR, wire.CHECK, wire.COUNT, wire.READ, wire.WRITE,
-                       wire.RUN, wire.RUN, wire.RUN, wire.UNDO, wire.UNDO, wire.TAKEDOWN))
+                       wire.RUN, wire.RUN, wire.RUN, wire.UNDO, wire.UNDO, wire.TAKEDOWN, wire.OBJ))
     return CASES[kind](rng)
 
 
@@ -191,7 +192,7 @@ def log_of_bytes(rng, table):
 
 CASES = {wire.CLEAR: clear_case, wire.CHECK: table_case(wire.CHECK), wire.COUNT: table_case(wire.COUNT),
          wire.READ: read_case, wire.WRITE: write_case, wire.RUN: run_case, wire.UNDO: undo_case,
-         wire.TAKEDOWN: takedown_case}
+         wire.TAKEDOWN: takedown_case, wire.OBJ: obj_case}
 
 
 # The program

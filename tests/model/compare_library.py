@@ -11,6 +11,8 @@ MODE  entries    COUNT cases each of clearing, checking, counting, reading and w
                  and a net of three
       takedown   COUNT tables taken down and built again by what was logged, besides every table of two edges at most,
                  from 10,000 on of three
+      obj        COUNT solids written as OBJ text and read again, besides every small table, each coordinate, and parts
+                 as large as a table can hold
       all        every mode, with a count of its own (the default)
 
 Every answer and every byte of links, points, log and script afterwards must be equal; a crash or a hang is a failure. Prints
@@ -35,6 +37,9 @@ from takedown_cases import LISTED, LISTED_TOO, listed_trials, takedown_trial
 from takedown_met import WANTED, case_situations
 from takedown_promise import keep_promise, model_answer
 from tally import Tally
+from wavefront_cases import coordinate_cases, large_cases, obj_case, small_cases
+from wavefront_met import WANTED as WANTED_TEXTS, obj_situations
+from wavefront_promise import keep_promise as keep_text_promise
 
 ENTRIES = (wire.CLEAR, wire.CHECK, wire.COUNT, wire.READ, wire.WRITE)
 # Cases are made and asked by so many at a time, so that a long comparison needs no more memory than a short one.
@@ -137,9 +142,33 @@ def compare_takedowns(driver, tally, met, trials):
     keep_promise(lambda cases: ask(driver, cases), tally, met, taken)
 
 
+def obj(driver, tally, met, rng, count):
+    """Small tables first, so that a slip shows on one that can be read."""
+    compare_texts(driver, tally, met, small_cases())
+    compare_texts(driver, tally, met, coordinate_cases() + large_cases(rng))
+    for size in portions(count):
+        compare_texts(driver, tally, met, [obj_case(rng) for _ in range(size)])
+    if count >= ENOUGH:
+        met.want_answers(tally, {"obj": (0, 1, 2, 5, 6, 12, 13)})
+        met.want_situations(tally, WANTED_TEXTS + ["0, places of 4 digits"])
+    if count >= PLENTY:
+        met.want_rules(tally, "obj")
+
+
+def compare_texts(driver, tally, met, cases):
+    """The answers, every byte of the buffer among them, and then what a reader finds in the kernel's text."""
+    for case, answer in zip(cases, ask(driver, cases)):
+        if tally.equal(f"obj: {case}", answer, wire.answer_case(case)):
+            met.add(case, answer)
+            met.situations.update(obj_situations(case, answer))
+            if answer.numbers[0] == 0:
+                keep_text_promise(tally, case, answer)
+
+
 # Name, comparison, and the count with which the gate runs it.
 MODES = {"entries": (entries, 500), "operators": (operators, 3_000), "runs": (runs, 3_000), "promise": (promise, 2_000),
-         "padded": (padded, 3_000), "numbers": (numbers, 2_000), "takedown": (takedown, 5_000)}
+         "padded": (padded, 3_000), "numbers": (numbers, 2_000), "takedown": (takedown, 5_000),
+         "obj": (obj, 5_000)}
 
 
 def run_mode(driver, name, count, seed):

@@ -40,7 +40,7 @@ class Met:
         """A line for each entry point, each code and the rules."""
         for kind in wire.KIND_NAMES.values():
             self.line(f"answers of {kind}", {refusal: n for (of, refusal), n in self.answers.items() if of == kind})
-        for kind in ("check", "count", "run", "undo", "takedown"):
+        for kind in ("check", "count", "run", "undo", "takedown", "obj"):
             self.line(f"rules named by {kind}", {rule: n for (of, rule), n in self.rules.items() if of == kind})
         for code in sorted({code for code, _ in self.codes}):
             self.line(NAMES.get(code, "no code"), {refusal: n for (of, refusal), n in self.codes.items() if of == code})

@@ -17,16 +17,19 @@ from properties import PROPERTIES
 from takedown_examples import TAKEDOWN_EXAMPLES
 from takedown_properties import TAKEDOWN_PROPERTIES
 from tally import Tally
+from wavefront_examples import WAVEFRONT_EXAMPLES
+from wavefront_properties import WAVEFRONT_PROPERTIES
 
 
 def main(arguments):
     scale = float(arguments[0]) if arguments else 1.0
     seed = int(arguments[1]) if len(arguments) > 1 else 1
     tally = Tally()
-    for example in EXAMPLES + OPERATOR_EXAMPLES + PADDED_EXAMPLES + TAKEDOWN_EXAMPLES:
+    for example in EXAMPLES + OPERATOR_EXAMPLES + PADDED_EXAMPLES + TAKEDOWN_EXAMPLES + WAVEFRONT_EXAMPLES:
         example(tally)
     print(f"examples: {tally.passed} checks")
-    for number, prop in enumerate(PROPERTIES + EXHAUSTIVE + TAKEDOWN_PROPERTIES + PADDED_PROPERTIES):
+    properties = PROPERTIES + EXHAUSTIVE + TAKEDOWN_PROPERTIES + PADDED_PROPERTIES + WAVEFRONT_PROPERTIES
+    for number, prop in enumerate(properties):
         before, began = tally.passed, time.process_time()
         # A seed of its own, so that one property's cases do not hang on another's.
         prop(tally, seeded(1000 * seed + number), scale)

@@ -24,6 +24,7 @@ them (a call that is not handed one of them passes it on unchanged).
     6 run       start                           refusal rule done used start
     7 undo      start n                         refusal rule undone start
     8 takedown  start                           refusal rule done start
+    9 obj       solid                           refusal rule length (script: the buffer)
 
 rule is 0 unless the refusal is 2. What document 01 leaves free is 0 in the model's
 answers, and mask_free sets it to 0 in any answer before two are compared.
@@ -37,11 +38,12 @@ from layout import clear
 from rules import check, count
 from script import Operator, read_operator, write_operator
 from takedown import take_down
+from wavefront import obj
 
-CLEAR, CHECK, COUNT, READ, WRITE, RUN, UNDO, TAKEDOWN = range(1, 9)
+CLEAR, CHECK, COUNT, READ, WRITE, RUN, UNDO, TAKEDOWN, OBJ = range(1, 10)
 WORD = 1 << 64
 KIND_NAMES = {CLEAR: "clear", CHECK: "check", COUNT: "count", READ: "read",
-              WRITE: "write", RUN: "run", UNDO: "undo", TAKEDOWN: "takedown"}
+              WRITE: "write", RUN: "run", UNDO: "undo", TAKEDOWN: "takedown", OBJ: "obj"}
 
 Frame = namedtuple("Frame", "kind numbers links points log script")
 
@@ -134,4 +136,5 @@ ANSWERS = {
     RUN: lambda numbers, links, points, log, script: run(links, points, log, numbers[0], script),
     UNDO: lambda numbers, links, points, log, script: undo(links, points, log, *numbers),
     TAKEDOWN: lambda numbers, links, points, log, script: take_down(links, points, log, numbers[0]),
+    OBJ: lambda numbers, links, points, log, script: obj(links, points, numbers[0], script),
 }
