@@ -52,7 +52,7 @@ static void put_lower_loop(Table *t, const Wall *w, unsigned f, unsigned l) {
     put_loop(t, f, l, halves, w->corners);
 }
 
-/* Face 1 above, face 2 below, the wall between them. */
+/* Face 1 above, face 2 below, the wall between them, where there are rows of it. */
 static Shape lifted(unsigned corners, unsigned rows, uint16_t cap) {
     Shape s = {empty_table(cap), 1, (2 * rows + 1) * corners, 0, 0};
     Wall w = {corners, rows, 0, 0, 0, 2};
@@ -66,6 +66,7 @@ static Shape lifted(unsigned corners, unsigned rows, uint16_t cap) {
 
 Shape tower(unsigned n, uint16_t cap) { return lifted(4, n, cap); }
 Shape prism(unsigned n, uint16_t cap) { return lifted(n, 1, cap); }
+Shape sheet(unsigned n, uint16_t cap) { return lifted(n, 0, cap); }
 
 Shape torus(unsigned n, uint16_t cap) {
     Shape s = {empty_table(cap), 1, 2 * n * n, 0, 1};

@@ -1,4 +1,4 @@
-/* The tables that the take-down is measured on, each with what counting must find in it. */
+/* The tables that the take-down and the OBJ text are measured on, each with what counting must find in it. */
 #ifndef BENCH_SHAPES_H
 #define BENCH_SHAPES_H
 
@@ -14,6 +14,9 @@ Shape tower(unsigned n, uint16_t cap);
 
 /* A prism of n corners: two long loops and many short ones. */
 Shape prism(unsigned n, uint16_t cap);
+
+/* n corners and two faces, one on each side: as many vertices as edges, and two long loops. */
+Shape sheet(unsigned n, uint16_t cap);
 
 /* A torus of n times n quads. When the faces are gone a long loop is left that must be cut to get at the one hole. */
 Shape torus(unsigned n, uint16_t cap);

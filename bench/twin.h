@@ -17,6 +17,11 @@ typedef struct {
     size_t done, used, start;
 } TwinRan;
 
+typedef struct {
+    unsigned refusal;
+    size_t length;
+} TwinText;
+
 /* How many operands an operator has, by its code. */
 uint8_t twin_operands(unsigned code);
 
@@ -29,5 +34,8 @@ TwinRan twin_undo(Records t, const uint8_t *log, size_t log_n, size_t start, siz
 
 /* The lowest rule that a table of good lengths breaks, 0 where it is sound. */
 unsigned twin_check(Records t);
+
+/* As zoghvari_obj, for a table that is known to be sound. */
+TwinText twin_obj(Records t, size_t solid, uint8_t *out, size_t out_n);
 
 #endif

@@ -12,79 +12,18 @@ and in the pocket's floor a square hole of 10 by 10 down through the bottom. It 
     mev, mef, kemr      an outline on the top, whose bridge to the rim is taken away again: the face around it keeps a ring
     mev, mef            the face inside the outline swept down: the pocket's walls and floor; then the same for the hole
     kfmrh               the hole's end joined with the bottom: its loop is a ring of the bottom now, and the solid has a hole
-
-Loops run clockwise seen from outside, rings the other way. Numbers are the least free ones. The model of the tests says which
-half-edge lies where, and writes the bytes.
 """
 
-import os
 import re
 import sys
 
-HERE = os.path.dirname(os.path.abspath(__file__))
-sys.path.insert(0, os.path.join(HERE, "..", "tests", "model"))
-from boundary import Boundary
-from generate import pools_of
-from layout import cleared_table
-from operators import carry_out
-from script import describe, operator, script_bytes
+from parts import Part, at, save, script_of, sheet, sweep, tell
 
-CAPACITIES = (64,) * 5
 # Corners in the order that is clockwise seen from above.
 BLOCK = ((-4_000, -3_000), (-4_000, 3_000), (4_000, 3_000), (4_000, -3_000))
 POCKET = ((-2_500, -1_500), (-2_500, 1_500), (2_500, 1_500), (2_500, -1_500))
 HOLE = ((-500, -500), (-500, 500), (500, 500), (500, -500))
 BOTTOM, FLOOR, TOP = 0, 1_800, 3_000
-
-
-class Part:
-    """The table so far, and the operators that made it with what each is for."""
-
-    def __init__(self):
-        self.table, self.steps = Boundary(cleared_table(CAPACITIES)), []
-
-    def do(self, why, name, *args):
-        op = operator(name, *args)
-        refusal, _ = carry_out(self.table, op)
-        assert refusal == 0, (refusal, describe(op))
-        self.steps.append((op, why))
-
-    def free(self, kind):
-        return min(pools_of(self.table)["new", kind])
-
-    def half_at(self, loop, vertex):
-        """The half-edge of a loop that starts at a vertex; 0 where the loop is lone."""
-        return next((half for half in self.table.cycles[loop] if self.table.start[half] == vertex), 0)
-
-    def spur(self, why, loop, vertex, point):
-        """An edge from a vertex of the loop to a new one. Answers the half-edge that leads there, and the new vertex."""
-        edge, new = self.free("edge"), self.free("vertex")
-        self.do(why, "mev", loop, self.half_at(loop, vertex), edge, new, 0, *point)
-        return 2 * edge - 1, new
-
-    def path(self, why, loop, vertex, points):
-        """Edges along these points, one behind the other; answers the last vertex."""
-        for point in points:
-            _, vertex = self.spur(why, loop, vertex, point)
-        return vertex
-
-    def cut(self, why, loop, first, second):
-        """A new face with the loop's run from first up to before second, and an edge back. Answers its loop."""
-        edge, face, new = self.free("edge"), self.free("face"), self.free("loop")
-        self.do(why, "mef", loop, first, second, edge, face, new, 0)
-        return new
-
-
-def at(points, height):
-    return [(x, y, height) for x, y in points]
-
-
-def rectangle(part):
-    """The block's outline as a solid of two faces. Loop 1 is seen from below; answers the loop seen from above."""
-    corners = at(BLOCK, BOTTOM)
-    part.do("a solid: the first corner of the block's bottom", "mvsf", 1, 1, 1, 1, *corners[0])
-    last = part.path("along the block's outline", 1, 1, corners[1:])
-    return part.cut("the outline closed: a face above", 1, part.half_at(1, 1), part.half_at(1, last))
 
 
 def nearest(part, loop, point):
@@ -104,19 +43,10 @@ def outline(part, loop, points, height):
     return inner
 
 
-def sweep(part, loop, height):
-    """Moves the face of a loop to a height: an edge from each corner, then a wall between each two of them."""
-    corners = [part.table.start[half] for half in part.table.cycles[loop]]
-    moved = [part.spur("an edge from a corner", loop, vertex, (*part.table.points[vertex][:2], height))[1]
-             for vertex in corners]
-    for here, there in zip(moved, moved[1:] + moved[:1]):
-        part.cut("a wall", loop, part.half_at(loop, here), part.half_at(loop, there))
-
-
 def pocket():
     """The whole part."""
     part = Part()
-    loop = rectangle(part)
+    loop = sheet(part, BLOCK, BOTTOM)
     sweep(part, loop, TOP)
     loop = outline(part, loop, POCKET, TOP)
     sweep(part, loop, FLOOR)
@@ -139,16 +69,13 @@ def padded(script):
 
 
 def main(arguments):
-    steps = pocket().steps
+    part = pocket()
     if arguments == ["--text"]:
-        for op, why in steps:
-            print(f"{describe(op):40} # {why}")
-        return
-    name, script = "pocket.script", script_bytes([op for op, _ in steps])
-    if arguments == ["--padded"]:
-        name, script = "pocket-padded.script", padded(script)
-    with open(os.path.join(HERE, name), "wb") as file:
-        file.write(script)
+        tell(part)
+    elif arguments == ["--padded"]:
+        save("pocket-padded.script", padded(script_of(part)))
+    else:
+        save("pocket.script", script_of(part))
 
 
 if __name__ == "__main__":

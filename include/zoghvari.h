@@ -81,6 +81,12 @@ typedef struct {
     size_t start;    /* where the script in the log, and so the live part, starts; with a refusal the start handed in */
 } ZoghvariInverted;
 
+typedef struct {
+    uint8_t refusal; /* 0, 1, 2, 5, 6, 12 or 13 */
+    uint8_t rule;    /* with 2: the lowest broken rule, 1 to 6 */
+    size_t length;   /* the text's bytes; with 13 those that it would have, with other refusals 0 */
+} ZoghvariText;
+
 /* Makes an empty table of the capacities s, f, l, e, v (solids, faces, loops, edges, vertices), each 1 to 4,096.
  * links has ZOGHVARI_LINKS_LENGTH(s, f, l, e, v) words, points ZOGHVARI_POINTS_LENGTH(v) numbers; of the log only its
  * length is told. */
@@ -127,6 +133,17 @@ ZoghvariUndone zoghvari_undo(uint16_t *links, size_t links_n, int32_t *points, s
  * answers. There is no half-way: a refusal changes no byte. */
 ZoghvariInverted zoghvari_invert(uint16_t *links, size_t links_n, int32_t *points, size_t points_n, uint8_t *log,
                                  size_t log_n, size_t start);
+
+/* Writes one solid of a sound table as Wavefront OBJ text, for a viewer, at the front of out; the bytes behind it stay.
+ * A line ends with a line feed, one space parts its words. First come lines "v x y z", one for each vertex of the solid
+ * by number, in millimetres with two decimals; then lines "f a b c ..", one for each face by number: its corners, by
+ * their places among the v lines, counted from 1. A loop is written from the start of its first half-edge and then
+ * backwards: where loops run clockwise seen from outside, OBJ gets the counterclockwise ones that it wants.
+ * Refusals, in this order: 1 and 2 of the table, 5 where `solid` is 0 or above the capacity, 6 where it is free, 12
+ * where a face of it has a ring, a lone loop or under three sides, 13 where the text is longer than out. A refusal
+ * writes no byte. 13 tells the length, so a call with out_n 0 asks for it; no text is longer than 155,648 bytes. */
+ZoghvariText zoghvari_obj(const uint16_t *links, size_t links_n, const int32_t *points, size_t points_n, size_t solid,
+                          uint8_t *out, size_t out_n);
 
 #ifdef __cplusplus
 }

@@ -1,5 +1,5 @@
-//! Half-edge tables and the thirteen Euler operators, with undo to the byte and a take-down that turns a table into a
-//! script: the proved kernel's archive behind safe types.
+//! Half-edge tables and the thirteen Euler operators, with undo to the byte, a take-down that turns a table into a
+//! script, and solids as OBJ text for a viewer: the proved kernel's archive behind safe types.
 //!
 //! What is proved is the archive, not this wrapper, which does no more than hand slices over and give numbers names.
 //! docs/GUIDE.md says what each call promises.

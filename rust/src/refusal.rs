@@ -5,7 +5,7 @@
 pub enum Cause {
     /// Who lends the memory: links, points and the log's start.
     Lender,
-    /// Who wrote the script or the log.
+    /// Who wrote the script or the log, and so made the part; of a solid that is asked for, who named it.
     Author,
     /// Who chose how long the memory is.
     Sizer,
@@ -25,9 +25,9 @@ pub enum Refusal {
     Number,
     /// 4: a code is not 1 to 13.
     Code,
-    /// 5: an operand is out of range.
+    /// 5: an operand is out of range, or the number of a solid that is asked for.
     Range,
-    /// 6: an old item is free.
+    /// 6: an old item is free, or the solid that is asked for.
     Free,
     /// 7: a new number is in use.
     InUse,
@@ -40,10 +40,14 @@ pub enum Refusal {
     NoNumber,
     /// 11: undo finds the log ended where its next operator should begin; what it undid stands.
     LogEnded,
+    /// 12: a face of the solid is no polygon: it has a ring, a lone loop or under three sides.
+    NoPolygon,
+    /// 13: the text is longer than the buffer; [`Table::obj`](crate::Table::obj) lends one that is long enough.
+    TooLong,
 }
 
 impl Refusal {
-    /// The refusal of a number, `None` for 0. The kernel answers no number above 11.
+    /// The refusal of a number, `None` for 0. The kernel answers no number above 13.
     pub(crate) fn of(number: u8, rule: u8) -> Option<Refusal> {
         Some(match number {
             0 => return None,
@@ -58,11 +62,13 @@ impl Refusal {
             9 => Refusal::NoRoom,
             10 => Refusal::NoNumber,
             11 => Refusal::LogEnded,
+            12 => Refusal::NoPolygon,
+            13 => Refusal::TooLong,
             other => unreachable!("the kernel has no refusal {other}"),
         })
     }
 
-    /// The specification's number, 1 to 11.
+    /// The specification's number, 1 to 13.
     pub fn number(self) -> u8 {
         match self {
             Refusal::Lengths => 1,
@@ -76,14 +82,16 @@ impl Refusal {
             Refusal::NoRoom => 9,
             Refusal::NoNumber => 10,
             Refusal::LogEnded => 11,
+            Refusal::NoPolygon => 12,
+            Refusal::TooLong => 13,
         }
     }
 
     pub fn cause(self) -> Cause {
         match self.number() {
             1 | 2 => Cause::Lender,
-            3..=8 => Cause::Author,
-            9 | 10 => Cause::Sizer,
+            3..=8 | 12 => Cause::Author,
+            9 | 10 | 13 => Cause::Sizer,
             _ => Cause::Asker,
         }
     }

@@ -68,8 +68,15 @@ pub struct Inverted {
     pub start: usize,
 }
 
+#[repr(C)]
+pub struct Text {
+    pub refusal: u8,
+    pub rule: u8,
+    pub length: usize,
+}
+
 mod c {
-    use super::{Checked, Cleared, Counted, Inverted, Operator, Ran, Read, Undone, Written};
+    use super::{Checked, Cleared, Counted, Inverted, Operator, Ran, Read, Text, Undone, Written};
 
     extern "C" {
         #[rustfmt::skip]
@@ -122,6 +129,16 @@ mod c {
             log_n: usize,
             start: usize,
         ) -> Inverted;
+        #[rustfmt::skip]
+        pub fn zoghvari_obj(
+            links: *const u16,
+            links_n: usize,
+            points: *const i32,
+            points_n: usize,
+            solid: usize,
+            out: *mut u8,
+            out_n: usize,
+        ) -> Text;
     }
 }
 
@@ -162,4 +179,9 @@ pub fn undo(links: &mut [u16], points: &mut [i32], log: &[u8], start: usize, n: 
 pub fn invert(links: &mut [u16], points: &mut [i32], log: &mut [u8], start: usize) -> Inverted {
     let (lp, ln, pp, pn) = (links.as_mut_ptr(), links.len(), points.as_mut_ptr(), points.len());
     unsafe { c::zoghvari_invert(lp, ln, pp, pn, log.as_mut_ptr(), log.len(), start) }
+}
+
+pub fn obj(links: &[u16], points: &[i32], solid: usize, out: &mut [u8]) -> Text {
+    let (lp, ln, pp, pn) = (links.as_ptr(), links.len(), points.as_ptr(), points.len());
+    unsafe { c::zoghvari_obj(lp, ln, pp, pn, solid, out.as_mut_ptr(), out.len()) }
 }

@@ -194,6 +194,42 @@ impl Table {
         Ok(Inverted { done: answer.done, script: self.log[answer.start..end].to_vec() })
     }
 
+    /// One solid as Wavefront OBJ text, for a viewer: a line `v` for each of its vertices, by number and in millimetres,
+    /// then a line `f` for each of its faces, by number, its corners counted among the `v` lines from 1. Loops are
+    /// written backwards, so that those that run clockwise seen from outside are counterclockwise, as OBJ wants them.
+    ///
+    /// Refusals 1 and 2; 5 where the table has no such number of a solid, 6 where that solid is free; 12 where a face of
+    /// it has a ring, a lone loop or under three sides. The text's length is asked for first, so 13 does not come.
+    ///
+    /// ```
+    /// # fn main() -> Result<(), zoghvari::Refusal> {
+    /// use zoghvari::{script_bytes, Capacities, Operator, Table};
+    ///
+    /// let triangle = [
+    ///     Operator::new(1, &[1, 1, 1, 1, 0, 0, 0]),
+    ///     Operator::new(3, &[1, 0, 1, 2, 0, 1_000, 0, 0]),
+    ///     Operator::new(3, &[1, 2, 2, 3, 0, 500, -250, 0]),
+    ///     Operator::new(5, &[1, 1, 4, 3, 2, 2, 0]),
+    /// ];
+    /// let mut table = Table::new(Capacities::all(8), 256)?;
+    /// assert_eq!(table.run(&script_bytes(&triangle)?).refusal, None);
+    /// let text = b"v 0.00 0.00 0.00\nv 10.00 0.00 0.00\nv 5.00 -2.50 0.00\nf 2 3 1\nf 1 3 2\n";
+    /// assert_eq!(table.obj(1)?, text);
+    /// # Ok(())
+    /// # }
+    /// ```
+    pub fn obj(&self, solid: usize) -> Result<Vec<u8>, Refusal> {
+        let asked = sys::obj(&self.links, &self.points, solid, &mut []);
+        match Refusal::of(asked.refusal, asked.rule) {
+            // Every text is too long for no buffer, and this refusal tells how long it is.
+            None | Some(Refusal::TooLong) => {}
+            Some(refusal) => return Err(refusal),
+        }
+        let mut text = vec![0; asked.length];
+        let answer = sys::obj(&self.links, &self.points, solid, &mut text);
+        Refusal::of(answer.refusal, answer.rule).map_or(Ok(text), Err)
+    }
+
     pub fn links(&self) -> &[u16] {
         &self.links
     }

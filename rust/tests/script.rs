@@ -72,6 +72,8 @@ fn who_causes_a_refusal() {
         (Refusal::NoRoom, 9, Cause::Sizer),
         (Refusal::NoNumber, 10, Cause::Sizer),
         (Refusal::LogEnded, 11, Cause::Asker),
+        (Refusal::NoPolygon, 12, Cause::Author),
+        (Refusal::TooLong, 13, Cause::Sizer),
     ];
     for (refusal, number, cause) in all {
         assert_eq!((refusal.number(), refusal.cause()), (number, cause));
