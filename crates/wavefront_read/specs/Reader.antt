@@ -1,6 +1,6 @@
 -- A reader of OBJ text, for any bytes: the points of its v lines and the index cycles of its f lines, each in order.
--- What is neither such a line nor ended by a line feed is not read, nor a v line behind an f line, nor a minus sign but
--- below zero. It knows nothing of tables.
+-- It answers nothing where a line is neither of the two, or is not ended by a line feed, where a v line stands behind
+-- an f line, or a minus sign before 0. It knows nothing of tables.
 use Prim.Native.Nat.{ℕ, zero, suc, _+_, _*_}
 use mathlib.Core.Bool.{Bool, false, _&&_}
 use mathlib.Core.List.{List, [], _∷_, map}
@@ -82,10 +82,11 @@ pub record Mesh : Type 0 where
   pub points : List (List ℤ)
   pub cycles : List (List ℕ)
 
+-- by its two lists
 abbrev pub mesh : List (List ℤ) → List (List ℕ) → Mesh
 mesh ps cs = record { points = ps; cycles = cs }
 
--- three coordinates are a point
+-- a point, or a cycle, in front of what the lines behind it say
 abbrev pub addPoint : List ℤ → Mesh → Mesh
 addPoint q r = mesh (q ∷ r .points) (r .cycles)
 

@@ -67,6 +67,7 @@ fn put_vertex(out: &mut [u8], at: usize, points: &[i32], v: usize) -> usize
     put_byte(out, end, b'\n')
 }
 
+// A word as a number that can be counted with.
 fn wide(x: u16) -> usize
     ensures { λ r. ⌜ r ≡ x ⌝ }
 {
