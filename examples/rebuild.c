@@ -9,18 +9,8 @@
 #include <string.h>
 
 #include "digest.h"
+#include "lent.h"
 #include "zoghvari.h"
-
-/* The log has room for the inverses of whatever SCRIPT bytes can hold, 19 for each two of them, and for a take-down. */
-enum { N = 64, LOG = 65536, SCRIPT = 4096 };
-enum { LINKS = ZOGHVARI_LINKS_LENGTH(N, N, N, N, N), POINTS = ZOGHVARI_POINTS_LENGTH(N) };
-
-typedef struct {
-    uint16_t links[LINKS];
-    int32_t points[POINTS];
-    uint8_t log[LOG];
-    size_t start; /* of the log's live part */
-} Table;
 
 static const char *const names[] = {"",     "mvsf", "kvsf",  "mev",   "kev",  "mef",  "kef",
                                     "kemr", "mekr", "kfmrh", "mfkrh", "semv", "jekv", "rmov"};

@@ -10,18 +10,8 @@
 #include <stdio.h>
 #include <stdlib.h>
 
+#include "lent.h"
 #include "zoghvari.h"
-
-/* The log has room for the inverses of whatever SCRIPT bytes can hold, 19 for each two of them, and for the edges. */
-enum { N = 64, LOG = 65536, SCRIPT = 4096 };
-enum { LINKS = ZOGHVARI_LINKS_LENGTH(N, N, N, N, N), POINTS = ZOGHVARI_POINTS_LENGTH(N) };
-
-typedef struct {
-    uint16_t links[LINKS];
-    int32_t points[POINTS];
-    uint8_t log[LOG];
-    size_t start; /* of the log's live part */
-} Table;
 
 /* The records that are looked at, by number. A face: its solid, its outer loop. A loop: its face, its first half-edge,
  * its lone vertex. A half-edge: its start, its loop, the next one, the one before. */

@@ -20,13 +20,9 @@ use Rattle.layout.specs.Items.{some}
 use Rattle.wavefront.specs.Obj.{ownVertex, rank}
 use Rattle.wavefront_text.specs.LineLaws.{Low}
 
--- v is the number of a vertex that a table can have
-abbrev pub isPlace : ℕ → Bool
-isPlace v = leb 1 v && leb v mostItems
-
--- 1 at place v, where there is one
+-- 1 at place v, where v is the number of a vertex that a table can have
 abbrev pub markedAt : List ℕ → ℕ → List ℕ
-markedAt ranks v = pick (isPlace v) (set ranks v 1) ranks
+markedAt ranks v = pick (leb 1 v && leb v mostItems) (set ranks v 1) ranks
 
 -- r at place v, where it is marked
 abbrev pub numbered : List ℕ → ℕ → ℕ → List ℕ
@@ -59,7 +55,6 @@ pub record CountedTo (l : List ℕ) (n : ℕ) (m : List ℕ) : Type 0 where
 
 -- all have it, in at most four digits
 pub record Ranked (sh : Shape) (x : List ℕ) (s : ℕ) (ranks : List ℕ) : Type 0 where
-  pub size : length ranks ≡ itemPlaces
   pub low : Low ranks
   pub all : (v : ℕ) → 1 ≤ v → v ≤ sh .vertices → getD ranks v 0 ≡ ranked sh x s v
 
@@ -92,10 +87,11 @@ marked-none sh x s = record {
 }
 
 marked-length : (l : List ℕ) (v : ℕ) → length (markedAt l v) ≡ length l
-marked-length l v = pick-ind {X = List ℕ} (λ m. length m ≡ length l) (isPlace v) (set l v 1) l (length-set l v 1) refl
+marked-length l v = pick-ind {X = List ℕ} (λ m. length m ≡ length l) (leb 1 v && leb v mostItems)
+    (set l v 1) l (length-set l v 1) refl
 
 marked-off : (l : List ℕ) (v u : ℕ) → v ≢ u → getD (markedAt l v) u 0 ≡ getD l u 0
-marked-off l v u d = pick-ind (λ m. getD m u 0 ≡ getD l u 0) (isPlace v) (set l v 1) l
+marked-off l v u d = pick-ind (λ m. getD m u 0 ≡ getD l u 0) (leb 1 v && leb v mostItems) (set l v 1) l
     (getD-set-other l v u 1 0 (λ e. d (sym e))) refl
 
 marked-at : (l : List ℕ) (v : ℕ) → length l ≡ itemPlaces → 1 ≤ v → v ≤ mostItems → getD (markedAt l v) v 0 ≡ 1
@@ -240,15 +236,10 @@ few-ranks : (sh : Shape) (x : List ℕ) (s v : ℕ) → v ≤ mostItems → rank
 few-ranks sh x s v h = pick-ind (λ r. r < 10000) (ownVertex sh x s v) (rank sh x s v) 0
     (omega (arith, count-le v (ownVertex sh x s))) (omega arith)
 
--- equal tests, equal counts
-count-ext : (n : ℕ) (p q : ℕ → Bool) → ((k : ℕ) → 1 ≤ k → k ≤ n → p k ≡ q k) → countTo n p ≡ countTo n q
-count-ext n p q h = sum-ext n (λ k. bit (p k)) (λ k. bit (q k)) (λ k l u. ap bit (h k l u))
-
 -- the marked vertices are those of the solid: so what is counted are the ranks
 pub ranked-all : (sh : Shape) (x : List ℕ) (s : ℕ) (l m : List ℕ) → sh .vertices ≤ mostItems
     → MarkedTo sh x s (2 * sh .edges) l → CountedTo l (sh .vertices) m → Ranked sh x s m
 ranked-all sh x s l m few a b = record {
-  size = b .size ∙ a .size;
   low = low;
   all = all;
 }
@@ -259,8 +250,7 @@ ranked-all sh x s l m few a b = record {
     all : (v : ℕ) → 1 ≤ v → v ≤ sh .vertices → getD m v 0 ≡ ranked sh x s v
     all v h i = b .below v h i ∙ rw (
       own v h (omega arith),
-      count-ext v (isMarked l) (ownVertex sh x s)
-          (λ u j k. own u j (omega arith)),
+      sum-ext v (λ u. bit (isMarked l u)) (λ u. bit (ownVertex sh x s u)) (λ u j k. ap bit (own u j (omega arith))),
     ) refl
 
     low : (v : ℕ) → getD m v 0 < 10000

@@ -1,8 +1,6 @@
 // A solid as OBJ text, written into a lent buffer.
 ghost use mathlib.Core.Path.{_≡_};
 ghost use Prim.Native.Nat.{ℕ, _+_, _*_, _≤_, _<_};
-ghost use lib.ListN.{length, getD};
-ghost use Rattle.bounds.specs.Bounds.{itemPlaces};
 ghost use Rattle.layout.specs.Small.{Small};
 ghost use Rattle.text.specs.Put.{Put};
 ghost use Rattle.wavefront.specs.Obj.{objText, texted, fitted, objOf};
@@ -28,7 +26,7 @@ fn put_text(
     s: usize,
     ranks: &[u16; ITEM_PLACES],
 ) -> usize
-    requires { ⌜ (length (now ranks) ≡ itemPlaces) × Low (now ranks) × Small sh ⌝ }
+    requires { ⌜ Low (now ranks) × Small sh ⌝ }
     requires { ⌜ AllInRange (now points) (sh .vertices) ⌝ }
     ensures { λ r. ⌜ Put (now (out .entry)) 0
         (textBy sh (now (links .entry)) (now (points .entry)) s (now (ranks .entry))) r (now (out .exit)) ⌝ }

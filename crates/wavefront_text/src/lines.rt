@@ -4,9 +4,9 @@ ghost use mathlib.Core.Bool.{Bool};
 ghost use mathlib.Core.List.{List, []};
 ghost use Prim.Native.Nat.{ℕ, _+_, _-_, _*_, _≤_, _<_};
 ghost use lib.Dec.{T, eqb};
-ghost use lib.ListN.{length, getD};
+ghost use lib.ListN.{getD};
 ghost use Rattle.laws.specs.Bools.{pick};
-ghost use Rattle.bounds.specs.Bounds.{mostItems, itemPlaces};
+ghost use Rattle.bounds.specs.Bounds.{mostItems};
 ghost use Rattle.layout.specs.Points.{pointWidth, coordinate, inRange};
 ghost use Rattle.layout.specs.Items.{some};
 ghost use Rattle.layout.specs.Small.{Small};
@@ -18,7 +18,7 @@ use crate::bytes::put_byte;
 use crate::bytes::put_coordinate;
 use crate::bytes::put_number;
 use bounds::ITEM_PLACES;
-use bounds::MOST_ITEMS;
+use layout::cells::word;
 use layout::columns::face_outer;
 use layout::columns::face_solid;
 use layout::columns::loop_first;
@@ -67,22 +67,11 @@ fn put_vertex(out: &mut [u8], at: usize, points: &[i32], v: usize) -> usize
     put_byte(out, end, b'\n')
 }
 
-// A word as a number that can be counted with.
-fn wide(x: u16) -> usize
-    ensures { λ r. ⌜ r ≡ x ⌝ }
-{
-    x as usize
-}
-
 // What vertex v counts as; 0 past the array's end.
 fn rank_of(ranks: &[u16; ITEM_PLACES], v: usize) -> usize
-    requires { ⌜ length (now ranks) ≡ itemPlaces ⌝ }
     ensures { λ r. ⌜ r ≡ getD (now (ranks .entry)) v 0 ⌝ }
 {
-    if v > MOST_ITEMS {
-        return 0;
-    }
-    wide(ranks[v])
+    word(ranks, v)
 }
 
 // The line of vertex v, where it has a rank.
@@ -93,7 +82,7 @@ fn put_ranked(
     ranks: &[u16; ITEM_PLACES],
     v: usize,
 ) -> usize
-    requires { ⌜ (at + 26 ≤ 4294967296) × (v ≤ 65536) × InRanges (now points) v × (length (now ranks) ≡ itemPlaces) ⌝ }
+    requires { ⌜ (at + 26 ≤ 4294967296) × (v ≤ 65536) × InRanges (now points) v ⌝ }
     ensures { λ r. ⌜ Put (now (out .entry)) at
         (pick (some (getD (now (ranks .entry)) v 0)) (vertexLine (now (points .entry)) v) []) r (now (out .exit)) ⌝ }
     ensures { λ r. ⌜ r ≤ at + 26 ⌝ }
@@ -106,7 +95,7 @@ fn put_ranked(
 
 // The lines of those of the vertices 1 to n that have a rank, from the front on.
 pub fn put_vertices(out: &mut [u8], points: &[i32], n: usize, ranks: &[u16; ITEM_PLACES]) -> usize
-    requires { ⌜ (n ≤ mostItems) × (length (now ranks) ≡ itemPlaces) ⌝ }
+    requires { ⌜ n ≤ mostItems ⌝ }
     requires { ⌜ AllInRange (now points) n ⌝ }
     ensures { λ r. ⌜ Put (now (out .entry)) 0
         (concatMap (vertexLine (now (points .entry))) (passingTo n (λ v. some (getD (now (ranks .entry)) v 0)))) r
@@ -133,7 +122,7 @@ fn put_corner(
     ranks: &[u16; ITEM_PLACES],
     k: usize,
 ) -> usize
-    requires { ⌜ (at + 5 ≤ 4294967296) × (k ≤ 65536) × (length (now ranks) ≡ itemPlaces) × Low (now ranks) ⌝ }
+    requires { ⌜ (at + 5 ≤ 4294967296) × (k ≤ 65536) × Low (now ranks) ⌝ }
     ensures { λ r. ⌜ Put (now (out .entry)) at
         (cornerWord sh (now (links .entry)) (λ v. getD (now (ranks .entry)) v 0) k) r (now (out .exit)) ⌝ }
     ensures { λ r. ⌜ r ≤ at + 5 ⌝ }
@@ -164,7 +153,7 @@ fn put_face(
     ranks: &[u16; ITEM_PLACES],
     f: usize,
 ) -> usize
-    requires { ⌜ (at + 40962 ≤ 4294967296) × (f ≤ 65536) × (length (now ranks) ≡ itemPlaces) ⌝ }
+    requires { ⌜ (at + 40962 ≤ 4294967296) × (f ≤ 65536) ⌝ }
     requires { ⌜ Low (now ranks) × Small sh ⌝ }
     ensures { λ r. ⌜ Put (now (out .entry)) at
         (faceLine sh (now (links .entry)) (λ v. getD (now (ranks .entry)) v 0) f) r (now (out .exit)) ⌝ }
@@ -192,7 +181,7 @@ fn put_own_face(
     ranks: &[u16; ITEM_PLACES],
     f: usize,
 ) -> usize
-    requires { ⌜ (at + 40962 ≤ 4294967296) × (f ≤ 65536) × (length (now ranks) ≡ itemPlaces) ⌝ }
+    requires { ⌜ (at + 40962 ≤ 4294967296) × (f ≤ 65536) ⌝ }
     requires { ⌜ Low (now ranks) × Small sh ⌝ }
     ensures { λ r. ⌜ Put (now (out .entry)) at (pick (ownFace sh (now (links .entry)) s f)
         (faceLine sh (now (links .entry)) (λ v. getD (now (ranks .entry)) v 0) f) []) r (now (out .exit)) ⌝ }
@@ -213,7 +202,7 @@ pub fn put_faces(
     s: usize,
     ranks: &[u16; ITEM_PLACES],
 ) -> usize
-    requires { ⌜ (at ≤ 106496) × (length (now ranks) ≡ itemPlaces) × Low (now ranks) × Small sh ⌝ }
+    requires { ⌜ (at ≤ 106496) × Low (now ranks) × Small sh ⌝ }
     ensures { λ r. ⌜ Put (now (out .entry)) at (concatMap (faceLine sh (now (links .entry))
         (λ v. getD (now (ranks .entry)) v 0)) (ownFaces sh (now (links .entry)) s)) r (now (out .exit)) ⌝ }
 {

@@ -17,7 +17,7 @@ slice-aggregate-put-text c = search needs
 put-text-requires : tie.Need-put-text-requires
 put-text-requires c κs = let a = c .before .before .before .before .pre .0 in
     let k = c .before .before .before .before .pre .1 in
-    ((k .size, k .low, drawable-small a), drawable-ranges a)
+    ((k .low, drawable-small a), drawable-ranges a)
 
 returns-2 : tie.Need-returns-2
 returns-2 c = measured-short (c .before .before .before .before .before .before .before .pre .0)

@@ -17,7 +17,7 @@ returns c = refused-13 _ (c .before .before .before .before .before .before .bef
 put-text-requires : tie.Need-put-text-requires
 put-text-requires c κs = let a = c .before .before .before .before .before .before .before .before .before .pre in
     let k = c .before .before .before .before .before .rank-vertices .ensures in
-    ((k .size, k .low, drawable-small a), drawable-ranges a)
+    ((k .low, drawable-small a), drawable-ranges a)
 
 same-length : tie.Need-same-length
 same-length c = search needs

@@ -21,7 +21,7 @@ put-number-requires c κs = (
     rank-low
         (c .before .before .before .before .before .before .before .before .before .args .ranks .now)
         (c .before .before .start-of .result)
-        _ (c .before .before .before .before .before .before .before .before .before .pre .3)
+        _ (c .before .before .before .before .before .before .before .before .before .pre .2)
         (c .before .rank-of .ensures),
   ),
 )
@@ -34,7 +34,7 @@ returns c =
     let a = c .before .before .before .before .before .before .before .before .before .before .before .before .args in
     let r = put-corner (a .out .now) _ _ _ _ _ (a .sh) (a .links .now) (a .ranks .now) (a .k)
     _ _ _ (c .before .before .before .before .before .before .before .before .before .before .before
-    .before .pre .3)
+    .before .pre .2)
     (c .before .before .before .before .before .start-of .ensures .0)
     (c .before .before .before .before .rank-of .ensures)
     (c .before .before .before .before .before .before .before .before .put-byte .ensures)

@@ -27,15 +27,11 @@ add-f c = search needs
 
 put-own-face-requires : tie.Need-put-own-face-requires Inv-loop μ-loop
 put-own-face-requires c κs = (
+  (omega arith, omega arith),
   (
-    omega arith,
-    omega arith,
     c .before .before .before .before .before
         .before .pre .1,
-  ),
-  (
     c .before .before .before .before .before .before .pre .2,
-    c .before .before .before .before .before .before .pre .3,
   ),
 )
 

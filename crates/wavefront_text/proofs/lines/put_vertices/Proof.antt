@@ -29,7 +29,6 @@ put-ranked-requires c κs = (
   omega arith,
   c .before .before .before .before .pre .1
       (c .before .before .loop .v + 1) (omega arith) (omega arith),
-  c .before .before .before .before .pre .0 .1,
 )
 
 loop-less : tie.Need-loop-less Inv-loop μ-loop
