@@ -1,4 +1,5 @@
 pub mod Surgery
+pub mod Passed
 pub mod Queries
 pub mod Steps
 pub mod EdgeOperators

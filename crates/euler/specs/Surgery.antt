@@ -8,6 +8,7 @@ use lib.Dec.{eqb, leb, ltb}
 use lib.IntN.{ℤ, pos}
 use lib.ListN.{length, getD, set}
 use Rattle.laws.specs.Bools.{pick}
+use Rattle.laws.specs.Permutations.{iter}
 use Rattle.bounds.specs.Bounds.{mostHalves}
 use Rattle.script.specs.declared.Operator.{Operator}
 use Rattle.script.specs.Operator.{natOf, blankOf, withNumber}
@@ -158,6 +159,11 @@ relabel sh (suc n) x k stop l =
 -- a run given loop l
 abbrev pub relabelRun : Shape → List ℕ → ℕ → ℕ → ℕ → List ℕ
 relabelRun sh x k stop l = relabel sh (2 * sh .edges) x k stop l
+
+-- amid such a walk: the links once the first n half-edges from k on have been given loop l
+unfoldable pub passed : Shape → ℕ → List ℕ → ℕ → ℕ → List ℕ
+passed sh zero x k l = x
+passed sh (suc n) x k l = setLoop sh (passed sh n x k l) (iter (nextOf sh x) n k) l
 
 -- ---- a loop's first
 

@@ -1,4 +1,5 @@
--- The ways out of the loops that walk along next, one law each: what is left of the walk is the whole of it.
+-- The ways out of the loop that looks for a loop's first, one law each: what is left of the search is the whole of it.
+-- (Those of a run given another loop are in `Passed` of crate euler.)
 use mathlib.Core.Path.{_≡_}
 use Prim.Native.Nat.{ℕ, suc, _+_, _-_, _<_, _≤_}
 use native.Mathlib.Omega.{arith}
@@ -7,23 +8,8 @@ use lib.Dec.{eqb, ltb}
 use borrow.Author.Tests.{eq-eqb, ne-eqb}
 use Rattle.laws.specs.Bools.{pick}
 use Rattle.layout.specs.declared.shape.Shape.{Shape}
-use Rattle.layout.specs.Layout.{loopOf, nextOf, setLoop, setLoopFirst, setLoopIsolated}
-use Rattle.euler.specs.Surgery.{relabel, seek, firstFrom, renew}
-
-module _ (sh : Shape) (left : ℕ) (x : List ℕ) (k stop l : ℕ) (whole : List ℕ) (rest : relabel sh left x k stop l
-    ≡ whole) where
-  pub relabel-stop : 0 < left → k ≡ stop → x ≡ whole
-  unfolding relabel
-  relabel-stop h e = let n : left ≡ suc (left - 1) = omega arith in rw (n, eq-eqb k stop e) at rest
-
-  pub relabel-turn : 0 < left → (k ≡ stop → ⊥) → (y : List ℕ) (m : ℕ) → y ≡ setLoop sh x k l → m ≡ nextOf sh y k
-      → relabel sh (left - 1) y m stop l ≡ whole
-  unfolding relabel
-  relabel-turn h e y m p q = let n : left ≡ suc (left - 1) = omega arith in rw (q, p) (rw (n, ne-eqb k stop e) at rest)
-
-  pub relabel-out : left ≤ 0 → x ≡ whole
-  unfolding relabel
-  relabel-out h = let n : left ≡ 0 = omega arith in rw n at rest
+use Rattle.layout.specs.Layout.{loopOf, nextOf, setLoopFirst, setLoopIsolated}
+use Rattle.euler.specs.Surgery.{seek, firstFrom, renew}
 
 -- the search for a loop's first begins at `low`, and with what follows k
 pub seek-from : (sh : Shape) (x : List ℕ) (l low k at j : ℕ) → at ≡ nextOf sh x k → j ≡ low

@@ -1,6 +1,7 @@
 // Walks along next: a run given another loop, the least half-edge of a loop, a loop's first anew.
 ghost use mathlib.Core.Path.{_≡_};
 ghost use Prim.Native.Nat.{ℕ, _*_, _<_, _≤_};
+ghost use Rattle.layout.specs.Layout.{nextOf, setLoop};
 ghost use Rattle.euler.specs.Surgery.{relabel, relabelRun, lower, firstFrom, renew};
 use euler::records::choose;
 use layout::columns::loop_of;
@@ -10,8 +11,20 @@ use layout::columns::set_loop_first;
 use layout::columns::set_loop_isolated;
 use layout::shape::Shape;
 
-// The half-edges from k up to before stop are given loop l. They are relabelled where they sit: at each half-edge
-// passed, those behind name l, those ahead do not yet.
+// Half-edge k is passed: it is given loop l where it sits, and what follows it is next. That is read first, so that the
+// walk does not wait for the store.
+fn pass_one(links: &mut [u16], sh: Shape, k: usize, l: usize) -> usize
+    requires { ⌜ (k ≤ 65536) × (l < 65536) ⌝ }
+    ensures { λ _. ⌜ now (links .exit) ≡ setLoop sh (now (links .entry)) k l ⌝ }
+    ensures { λ r. ⌜ (r ≡ nextOf sh (now (links .entry)) k) × (r < 65536) ⌝ }
+{
+    let next = next_of(links, sh, k);
+    set_loop(links, sh, k, l);
+    next
+}
+
+// The half-edges from `from` up to before stop are given loop l, one in each turn. At each turn those behind name l and
+// nothing else has changed: the loop's invariant is `Walked`.
 fn relabel_steps(links: &mut [u16], sh: Shape, fuel: usize, from: usize, stop: usize, l: usize)
     requires { ⌜ (from ≤ 65536) × (l < 65536) ⌝ }
     ensures { λ _. ⌜ now (links .exit) ≡ relabel sh fuel (now (links .entry)) from stop l ⌝ }
@@ -22,8 +35,7 @@ fn relabel_steps(links: &mut [u16], sh: Shape, fuel: usize, from: usize, stop: u
         if k == stop {
             return;
         }
-        set_loop(links, sh, k, l);
-        k = next_of(links, sh, k);
+        k = pass_one(links, sh, k, l);
         left -= 1;
     }
 }

@@ -2,7 +2,7 @@
 -- loop 2 has 1, 4.
 use mathlib.Core.Path.{_≡_, refl}
 use mathlib.Core.List.{List, [], _∷_}
-use Prim.Native.Nat.{ℕ, _+_, _*_}
+use Prim.Native.Nat.{ℕ, _+_, _*_, _≤_}
 use lib.Dec.{lit≤}
 use native.Mathlib.Omega.{arith}
 use lib.IntN.{ℤ, pos}
@@ -13,7 +13,7 @@ use Rattle.laws.specs.Closure.{across, pass, rounds, linkedb}
 use Rattle.codec.specs.Operands.{pattern, rows, inRanges, inRange, wire, zig}
 use Rattle.script.specs.declared.Operator.{Operator}
 use Rattle.layout.specs.declared.shape.Shape.{Shape}
-use Rattle.layout.specs.Layout.{shapeOf}
+use Rattle.layout.specs.Layout.{shapeOf, nextOf}
 use Rattle.layout.specs.Mate.{mate}
 use Rattle.check_items.specs.Rules.{solidRange, faceRange, loopRange, halfRange, vertexRange, rule1, solidNames}
 use Rattle.check_items.specs.Rules.{faceNames, loopNames, halfNames, rule2, loopEither, rule3, halfLinks, firstNames}
@@ -21,14 +21,16 @@ use Rattle.check_items.specs.Rules.{halfInLoop, rule4, vertexEither, halfAtVert
 use Rattle.check_items.specs.Rules.{brokenRule}
 use Rattle.table.specs.Sizes.{sizesFit}
 use Rattle.table.specs.Check.{checkOf}
-use Rattle.euler.specs.Surgery.{seek, firstFrom, relabel, relabelRun, operator}
+use Rattle.euler.specs.Surgery.{seek, firstFrom, relabel, relabelRun, passed, operator}
 use Rattle.euler.specs.EdgeOperators.{kefTest}
 use Rattle.euler.specs.Exec.{refusalOf, admitOf, rangeRefusal, useRefusals, useRefusal, useWord, condition, inverse}
 use Rattle.sound_tables.specs.Sound.{HalfUsed}
 use Rattle.sound_tables.specs.Good.{Good, own}
+use Rattle.sound_tables.specs.Walking.{Steps}
+use Rattle.sound_tables.specs.Passing.{RunPassed}
 use Rattle.promises.specs.Checked.{checked-good}
 use Rattle.evidence_fuel.specs.Walks.{LeastFuel, RelabelFuel, least-fuel, relabel-fuel}
-use Rattle.evidence_fuel.specs.Amid.{relabel-amid}
+use Rattle.evidence_fuel.specs.Amid.{relabel-amid, run-amid}
 use Rattle.evidence_fuel.specs.Held.{HeldInRange, held-in-range}
 use Rattle.evidence_fuel.specs.Inverse.{SmallOperator, inverse-small}
 
@@ -85,3 +87,8 @@ inverse-kef-4 = inverse-small good kef-4 refl refl
 -- and as amid an operator, the list standing for itself: the run from 4 to 1
 amid-4 : (n : ℕ) → relabel shape (2 * shape .edges + n) links 4 1 1 ≡ relabelRun shape links 4 1 1
 amid-4 = relabel-amid good links (λ i u. refl) 4 1 1 used-4 used-1 refl
+
+-- half-edge by half-edge
+passed-4 : (d : ℕ) × Steps (nextOf shape links) 4 1 d
+    × ((n : ℕ) → n ≤ d → RunPassed shape (own shape links) 4 1 n (passed shape n links 4 1))
+passed-4 = run-amid good links (λ i u. refl) 4 1 1 used-4 used-1 refl (good .fit)

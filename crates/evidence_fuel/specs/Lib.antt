@@ -1,4 +1,3 @@
-pub mod Fuel
 pub mod Walks
 pub mod Amid
 pub mod Held
@@ -6,3 +5,4 @@ pub mod Operands
 pub mod Inverse
 pub mod Scripts
 pub mod Instances
+pub mod KefMoments

@@ -4,7 +4,6 @@ use mathlib.Core.Logic.{_≢_, ⊎-elim}
 use mathlib.Core.Bool.{true, false, _&&_, false≢true}
 use mathlib.Core.List.{List}
 use Prim.Native.Nat.{ℕ, _*_}
-use native.Mathlib.Omega.{arith}
 use lib.Dec.{eqb, eqb→eq, not-T}
 use lib.IntN.{ℤ}
 use Rattle.laws.specs.Bools.{split, T-true, eqb-same, eqb-other}
@@ -13,6 +12,7 @@ use Rattle.layout.specs.declared.shape.Shape.{Shape}
 use Rattle.layout.specs.Fields.{SolidUsed, Solid, Outer, Face, First, Isolated, Loop, VertexUsed}
 use Rattle.layout.specs.Items.{some, isRing, faceIn}
 use Rattle.sound_tables.specs.Sound.{In}
+use Rattle.sound_tables.specs.Names.{named-used}
 use Rattle.sound_tables.specs.Labels.{LeastIs, label-found, label-some}
 use Rattle.sound_tables.specs.Good.{Good, own}
 use Rattle.takedown.specs.Inversion.{solidAt, ofSolid, edgesLeft, inRing, ringHalf, isRingOf, ringOf}
@@ -64,11 +64,7 @@ module _ {sh : Shape} {x : List ℕ} {p : List ℤ} (g : Good sh x p) (sn : soli
         let b = label-found (2 * sh .edges) (own sh x Loop) m (λ z. q .0 (L .first ∙ z)) in
         let k = least (2 * sh .edges) (λ k. eqb (own sh x Loop k) m) in
         absurd (no-half k (
-          (
-            b .range .0,
-            b .range .1,
-            λ z. omega (arith, i .0, sym (b .label) ∙ g .sound .half-free k (b .range) z .loop),
-          ),
+          named-used (g .sound) (i .0) k (b .range) (b .label),
           ap (λ l. own sh x Solid (own sh x Face l)) (b .label) ∙ e,
         )))
         (λ q. q) (L .either)

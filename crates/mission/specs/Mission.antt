@@ -32,6 +32,8 @@ use Rattle.table.specs.Clear.{cleared, clearOf}
 use Rattle.table.specs.Check.{checkOf}
 use Rattle.table.specs.Count.{countOf}
 use Rattle.euler.specs.Exec.{Table, exec, admitOf, refusalOf, linksAfter, pointsAfter}
+use Rattle.sound_cuts.specs.MefOperands.{kefOf}
+use Rattle.sound_cuts.specs.KefAmid.{KefInPlace}
 use Rattle.runs.specs.Run.{State, readAt, refusalAt, inverseBytes, runRefusal, entry}
 use Rattle.runs.specs.Run.{notRun, runOf, notUndone, undoOf}
 use Rattle.takedown.specs.Inversion.{inverted, begin, invertOf}
@@ -214,7 +216,7 @@ pub record Demand3 : Type 0 where
 
 -- ---- DOCUMENT 02, what its jobs ask beside the demands (job 1 changed some of them, and stands there)
 
--- job 2: the text of a solid
+-- job 2: the text of a solid; job 3: kef in place
 pub record Requests : Type 0 where
   -- "(After 5 and 6 for the solid: 12, …; then 13, the text doesn't fit.)" Every call ends in one of four ways
   -- (`TextEnds`), each with its answer and every byte of the buffer: what the check refuses; what is refused of the
@@ -232,6 +234,15 @@ pub record Requests : Type 0 where
   -- point of its corner (`TextShows`); behind the text all is as it was
   pub obj-reads : (x : List ℕ) (p : List ℤ) (s : ℕ) (out : List ℕ) → objOf x p s out .answer .refusal ≡ 0
       → TextRead x p s out (objOf x p s out)
+  -- "However kef joins the loops now, it shall … relabel the run where it sits, proved so: at each half-edge passed,
+  -- those behind name the kept loop, those ahead the killed one, and besides only the killed edge's loop words differ."
+  -- Of every kef that a table accepts (`KefInPlace`): the run is the rest of k's loop; when n of it have been passed,
+  -- for each n from none to all, it is so, besides nothing differs, and no other links are like that; with all of them
+  -- passed kef goes on. That these are the states of the code is the invariant of its loop (`Walked` in the proof of
+  -- `relabel_steps`, crate `euler_walks`), of which a turn is one store (`pass_one`); that it has no scratch memory is
+  -- seen in its text (tests/gate/scratch.py)
+  pub kef-in-place : (x : List ℕ) (p : List ℤ) → Passes x p → (k : ℕ) → refusalOf (shapeOf x) x (kefOf k) ≡ 0
+      → KefInPlace (shapeOf x) x k
 
 -- the whole
 pub record Mission : Type 0 where

@@ -8,9 +8,10 @@ use Rattle.script.specs.Scripts.{operator-shortest}
 use Rattle.script.specs.Unread.{refused-3, cut-refused}
 use Rattle.table.specs.declared.check.CheckAnswer.{CheckAnswer}
 use Rattle.sound_tables.specs.ClearSound.{clear-valid}
+use Rattle.sound_cuts.specs.KefAmid.{kef-in-place}
 use Rattle.sound_operators.specs.Theorems.{valid-kept, inverse-exact}
 use Rattle.runs.specs.Clauses.{run-out, undo-out}
-use Rattle.promises.specs.Checked.{checked-valid}
+use Rattle.promises.specs.Checked.{checked-valid, checked-good}
 use Rattle.promises.specs.Reading.{taken}
 use Rattle.promises.specs.Carried.{step-refusal, run-carried, refused-apart, undo-apart}
 use Rattle.promises.specs.Promises.{undo-exact, runs-sound, undo-sound}
@@ -107,6 +108,7 @@ requested = record {
   obj-ends = obj-ends;
   solid-refused = λ x p h. solid-refused x p (checked-valid x p h);
   obj-reads = obj-reads;
+  kef-in-place = λ x p h k. kef-in-place (checked-good x p h) k;
 }
 
 -- all of it

@@ -18,7 +18,7 @@ use Rattle.sound_tables.specs.Cells.{Shows}
 use Rattle.sound_tables.specs.WriteLaws.{shows-writes}
 use Rattle.sound_tables.specs.Sound.{In, HalfUsed, firstOf, Sound}
 use Rattle.sound_tables.specs.Labels.{label-none}
-use Rattle.sound_tables.specs.Names.{lone-unnamed}
+use Rattle.sound_tables.specs.Names.{named-used, lone-unnamed}
 use Rattle.sound_tables.specs.Walking.{runColumns, shows-relabel}
 use Rattle.sound_tables.specs.FirstLow.{first-low}
 use Rattle.sound_tables.specs.Shown.{withFirst, shows-no-edge, shows-first, shows-isolated}
@@ -89,7 +89,7 @@ module _ {sh : Shape} {x : List ℕ} {p : List ℤ} (g : Good sh x p) {k l2 : �
   -- what names the ring or the loop afterwards named the loop before
   from : (m : ℕ) → In (sh .loops) m → (m ≡ l2) ⊎ (m ≡ l) → (i : ℕ) → In n i → c Loop i ≡ m → d First l ≤ i
   from m r w i j e =
-      let u : HalfUsed sh c i = (j .0, j .1, λ z. omega (arith, r .0, sym e ∙ kemr-sound .half-free i j z .loop)) in
+      let u = named-used kemr-sound (r .0) i j e in
       let was : d Loop i ≡ l = split (c Loop i) l2 (b .loop-2 i j)
       (λ z. b .loop-o i (off-k b i u) (off-a b i u) z ∙ ⊎-elim (λ q. absurd (z (e ∙ q))) (λ q. e ∙ q) w) in
       first-low (g .sound) l i (loop-in .0) j was .1
@@ -108,7 +108,7 @@ module _ {sh : Shape} {x : List ℕ} {p : List ℤ} (g : Good sh x p) {k l2 : �
       rw (eqb-same (r .after), f) (shows-isolated v (s .l) (d First l) (s .u) i))
       (λ r. rw (eqb-other (off (s .N) (r .after)))
       (shows-first {U = HalfUsed sh c} v (s .l) (d First l) (s .N) (s .u) i cy (r .after) (el (s .N) ∙ r .loop)
-      (λ j v w. (v .0, v .1, λ y. omega (arith, i .0, sym w ∙ el j ∙ kemr-sound .half-free j v y .loop)))
+      (λ j v w. named-used kemr-sound (i .0) j v (sym (el j) ∙ w))
       (λ j v w. from (s .l) i which j v (sym (el j) ∙ w)))) q
 
   -- the list shows these columns

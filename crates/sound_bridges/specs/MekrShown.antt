@@ -17,7 +17,7 @@ use Rattle.euler.specs.Surgery.{relabelRun, lower}
 use Rattle.sound_tables.specs.Cells.{Shows, shows-agree, upd-near}
 use Rattle.sound_tables.specs.WriteLaws.{shows-writes, among-off, withColumn, column-off}
 use Rattle.sound_tables.specs.Sound.{In, HalfUsed, Sound}
-use Rattle.sound_tables.specs.Names.{lone-unnamed}
+use Rattle.sound_tables.specs.Names.{named-used, lone-unnamed}
 use Rattle.sound_tables.specs.Walking.{Steps, runColumns, shows-relabel, run-met, run-off, run-other}
 use Rattle.sound_tables.specs.FirstLow.{lower-one, lower-other, lower-new, first-low}
 use Rattle.sound_tables.specs.Shown.{shows-edge, shows-first}
@@ -126,9 +126,7 @@ module _ {sh : Shape} {x : List ℕ} {p : List ℤ} (g : Good sh x p) {B : Bridg
       not-ring m z =
           let i0 : 1 ≤ i = split i 0 (λ e. absurd (omega (arith, ring-in .0, sym z ∙ ap (c Loop) e)))
           (λ e. omega (arith, e)) in
-          let w : HalfUsed sh c i =
-          (i0, h, λ q. omega (arith, ring-in .0, sym z ∙ g .sound .half-free i (i0, h) q .loop)) in
-          let t = all-met i w z in m (t .0) (t .1) (t .2)
+          let t = all-met i (named-used (g .sound) (ring-in .0) i (i0, h) z) z in m (t .0) (t .1) (t .2)
 
   -- and all other columns
   run-agree : (F : Field) (i : ℕ) → i ≤ capOf sh F
@@ -171,7 +169,7 @@ module _ {sh : Shape} {x : List ℕ} {p : List ℤ} (g : Good sh x p) {B : Bridg
       shows-first {U = HalfUsed sh d} (shows-writes (cleared loopKind l2) joined-shows
       (ring-in, (ring-in, (ring-in, tt))))
       l low k 0 loop-in cycles (new-k b) (b .loop-k)
-      (λ i j e. (j .0, j .1, λ q. omega (arith, loop-in .0, sym e ∙ mekr-sound .half-free i j q .loop))) from
+      (named-used mekr-sound (loop-in .0)) from
 
   -- the table is good afterwards
   pub mekr-good : Good sh (mekrList sh x B) p

@@ -14,7 +14,7 @@ use Rattle.layout.specs.declared.shape.Shape.{Shape}
 use Rattle.layout.specs.Mate.{mate}
 use Rattle.layout.specs.Fields.{Field, Face, First, Isolated, Start, Loop, Next, Prev, Columns, capOf, by-fields}
 use Rattle.sound_tables.specs.Sound.{In, HalfUsed, Sound}
-use Rattle.sound_tables.specs.Names.{lone-unnamed}
+use Rattle.sound_tables.specs.Names.{named-used, lone-unnamed}
 use Rattle.sound_bridges.specs.Relation.{Corner, HasCorner, real-before, real-after, Bridge, Ends, Bridged}
 use Rattle.sound_bridges.specs.Relation.{touched, off-k, off-a}
 
@@ -98,7 +98,7 @@ module _ {sh : Shape} {p p′ : List ℤ} {c c′ d d′ : Columns} {B : Bridge}
     where
       -- i is in use
       used : HalfUsed sh c i
-      used = (j .0, j .1, λ y. omega (arith, ring-in .0, sym z ∙ s .half-free i j y .loop))
+      used = named-used s (ring-in .0) i j z
 
       -- a step of c stays in a loop of c′
       step : (x : ℕ) → HalfUsed sh c x → c′ Loop x ≡ c′ Loop (c Next x)

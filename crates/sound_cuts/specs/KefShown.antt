@@ -17,7 +17,7 @@ use Rattle.euler.specs.Surgery.{tied, relabelRun, lower, renew}
 use Rattle.sound_tables.specs.Cells.{Shows, shows-agree}
 use Rattle.sound_tables.specs.WriteLaws.{shows-writes}
 use Rattle.sound_tables.specs.Sound.{In, HalfUsed, firstOf, Sound}
-use Rattle.sound_tables.specs.Names.{lone-used}
+use Rattle.sound_tables.specs.Names.{named-used, lone-used}
 use Rattle.sound_tables.specs.FirstLow.{lower-one, lower-other, first-low}
 use Rattle.sound_tables.specs.Shown.{withFirst, shows-first, shows-isolated}
 use Rattle.sound_tables.specs.WriteLaws.{among-off, unwritten}
@@ -207,7 +207,7 @@ module _ {sh : Shape} {p : List ℤ} {c d : Columns} {q : Spot} (k : Cut sh c d 
   -- what names l in c named l or m in d
   from : (i : ℕ) → In n i → c Loop i ≡ q .l → lower (loopFirst sh x (q .m)) (loopFirst sh x (q .l)) ≤ i
   from i j e =
-      let w : HalfUsed sh c i = (j .0, j .1, λ r. omega (arith, k .site .l-in .0, sym e ∙ s .half-free i j r .loop)) in
+      let w = named-used s (k .site .l-in .0) i j e in
       split (d Loop i) (q .m)
       (λ z. let f = first-d (q .m) i (k .site .m-in) j z in lower-one _ _ i (f .0) (f .1))
       (λ z. lower-other (loopFirst sh x (q .m)) _ i

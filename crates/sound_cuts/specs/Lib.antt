@@ -22,3 +22,4 @@ pub mod MefAccepted
 pub mod KefAccepted
 pub mod Exact
 pub mod MefHolds
+pub mod KefAmid

@@ -16,7 +16,8 @@ use Rattle.layout.specs.declared.shape.Shape.{Shape}
 use Rattle.euler.specs.Surgery.{relabelRun}
 use Rattle.layout.specs.Fields.{Field, Loop, Next, Columns, sameField}
 use Rattle.sound_tables.specs.Cells.{Shows}
-use Rattle.sound_tables.specs.Sound.{In, HalfUsed, Sound}
+use Rattle.sound_tables.specs.Sound.{HalfUsed, Sound}
+use Rattle.sound_tables.specs.Names.{named-used}
 use Rattle.sound_tables.specs.Walking.{runColumns, shows-relabel, run-met, run-off, run-other, way-round, on-the-way}
 use Rattle.sound_cuts.specs.Relation.{Spot, Cut}
 
@@ -24,8 +25,7 @@ use Rattle.sound_cuts.specs.Relation.{Spot, Cut}
 pub names-new : {sh : Shape} {p : List ℤ} {c d : Columns} {q : Spot} → Cut sh c d q → Sound sh p d → (i : ℕ)
     → i ≤ 2 * sh .edges → d Loop i ≡ q .m → HalfUsed sh d i
 names-new {sh} {d = d} k t i h e = split i 0 (λ z. absurd (k .loop-zero (ap (d Loop) (sym z) ∙ e))) (λ z.
-    let j : In (2 * sh .edges) i = (omega arith, h) in
-    (j .0, h, λ r. omega (arith, k .site .m-in .0, sym e ∙ t .half-free i j r .loop)))
+    named-used t (k .site .m-in .0) i (omega arith, h) e)
 
 module _ {sh : Shape} {x : List ℕ} {e : Columns} {U : ℕ → Type 0} {lab : ℕ → ℕ} (s : Shows sh x e)
     (y : Cycles (2 * sh .edges) U (e Next) lab) (b : ℕ) (w : U b) (l : ℕ) where

@@ -26,6 +26,7 @@ pub mod ClearSound
 pub mod WithDummies
 pub mod FirstLow
 pub mod Walking
+pub mod Passing
 pub mod Shown
 pub mod EdgeInstances
 pub mod WriteLaws

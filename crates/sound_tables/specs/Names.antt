@@ -3,7 +3,7 @@
 use mathlib.Core.Path.{_≡_, refl, sym, ap, _∙_, subst}
 use mathlib.Core.Logic.{_≢_, ⊎-elim}
 use mathlib.Core.List.{List}
-use Prim.Native.Nat.{ℕ, _-_, _*_, _%_}
+use Prim.Native.Nat.{ℕ, _-_, _*_, _%_, _≤_}
 use native.Mathlib.Omega.{arith}
 use lib.IntN.{ℤ}
 use Rattle.laws.specs.Bools.{split, eqb-same, eqb-other}
@@ -40,6 +40,10 @@ module _ {sh : Shape} {p : List ℤ} {c : Columns} (a : Sound sh p c) where
   -- a free half-edge is all zero
   pub free-zero : (k : ℕ) → In (2 * sh .edges) k → c Start k ≡ 0 → Zero (halves c) k
   free-zero k j z = let f = a .half-free k j z in record { s = z; l = f .loop; n = f .next; p = f .prev }
+
+  -- a half-edge that names a loop is in use
+  pub named-used : {l : ℕ} → 1 ≤ l → (k : ℕ) → In (2 * sh .edges) k → c Loop k ≡ l → HalfUsed sh c k
+  named-used h k j e = (j .0, j .1, λ z. omega (arith, h, sym e ∙ a .half-free k j z .loop))
 
   -- a ring is the outer loop of no face
   pub outer-other : (l : ℕ) → c Outer (c Face l) ≢ l → (f : ℕ) → In (sh .faces) f → c Solid f ≢ 0 → c Outer f ≢ l

@@ -14,7 +14,8 @@ use Rattle.laws.specs.Permutations.{iter, iter-add, iter-last, iter-in, comes-b
 use Rattle.laws.specs.Cycles.{Cycles, forwards}
 use Rattle.layout.specs.declared.shape.Shape.{Shape}
 use Rattle.layout.specs.Layout.{loopOf, nextOf}
-use Rattle.euler.specs.Surgery.{relabel, seek}
+use Rattle.euler.specs.Surgery.{relabel, passed, seek}
+use Rattle.euler.specs.Passed.{passed-first, relabel-passed}
 use Rattle.layout.specs.Fields.{Field, Loop, Next, Columns, change, sameField}
 use Rattle.sound_tables.specs.Cells.{Shows, shows-put}
 use Rattle.sound_tables.specs.Sound.{In}
@@ -46,6 +47,19 @@ pub steps-on : (f : ℕ → ℕ) (x y d : ℕ) → Steps f x y (suc d) → (x �
 unfolding iter
 steps-on f x y d s = (s .first 0 (omega arith), record { at = s .at; first = λ t l. s .first (suc t) (omega arith) })
 
+-- it is so far and no other way
+pub steps-one : (f : ℕ → ℕ) (x y d e : ℕ) → Steps f x y d → Steps f x y e → d ≡ e
+steps-one f x y d e s r = ⊎-elim (λ h. absurd (r .first d h (s .at)))
+    (λ h. ⊎-elim (λ g. absurd (s .first e g (r .at))) (λ g. omega (arith, g, h)) (le? (suc e) d)) (le? (suc d) e)
+
+-- and none is met twice on the way
+pub steps-apart : (f : ℕ → ℕ) (x y d : ℕ) → Steps f x y d → (t u : ℕ) → t < u → u < d → iter f t x ≢ iter f u x
+steps-apart f x y d s t u h v e =
+    let m : ℕ = d - u in
+    let p : u + m ≡ d = omega arith in
+    s .first (t + m) (omega arith)
+    (iter-add f t m x ∙ ap (iter f m) e ∙ sym (iter-add f u m x) ∙ ap (λ n. iter f n x) p ∙ s .at)
+
 -- ---- a run given another loop
 
 -- the columns once d half-edges from k on name l
@@ -53,22 +67,37 @@ unfoldable pub runColumns : Columns → ℕ → ℕ → ℕ → Columns
 runColumns c k zero l = c
 runColumns c k (suc d) l = runColumns (change c Loop k l) (c Next k) d l
 
--- the walk stores at each of them
+-- the links show them
+pub shows-passed : (sh : Shape) (d : ℕ) (x : List ℕ) (c : Columns) (k l : ℕ) → Shows sh x c
+    → ((t : ℕ) → t < d → In (2 * sh .edges) (iter (c Next) t k)) → Shows sh (passed sh d x k l) (runColumns c k d l)
+unfolding passed runColumns iter
+shows-passed sh zero x c k l s i = s
+shows-passed sh (suc d) x c k l s i =
+    let r = i 0 (omega arith) in
+    rw (passed-first sh d x k l, s .at Next k (r .1))
+    (shows-passed sh d _ (change c Loop k l) (c Next k) l (shows-put s Loop k l (r .0) (r .1))
+    (λ t b. i (suc t) (omega arith)))
+
+-- the list leads the same way as the columns
+same-way : (sh : Shape) (d : ℕ) (x : List ℕ) (c : Columns) (k : ℕ) → Shows sh x c
+    → ((t : ℕ) → t < d → In (2 * sh .edges) (iter (c Next) t k)) → (t : ℕ) → t ≤ d → iter (nextOf sh x) t k
+    ≡ iter (c Next) t k
+unfolding iter
+same-way sh d x c k s i zero h = refl
+same-way sh zero x c k s i (suc t) h = absurd (omega arith)
+same-way sh (suc d) x c k s i (suc t) h =
+    rw (s .at Next k (i 0 (omega arith) .1))
+    (same-way sh d x c (c Next k) s (λ u b. i (suc u) (omega arith)) t (omega arith))
+
+-- and so does what the whole walk leaves
 pub shows-relabel : (sh : Shape) (n d : ℕ) (x : List ℕ) (c : Columns) (k stop l : ℕ) → Shows sh x c → d ≤ n
     → Steps (c Next) k stop d
     → ((t : ℕ) → t < d → In (2 * sh .edges) (iter (c Next) t k)) → Shows sh (relabel sh n x k stop l)
     (runColumns c k d l)
-unfolding relabel runColumns iter
-shows-relabel sh zero zero x c k stop l s h w i = s
-shows-relabel sh (suc n) zero x c k stop l s h w i = rw (eqb-same (w .at)) s
-shows-relabel sh zero (suc d) x c k stop l s h w i = absurd (omega arith)
-shows-relabel sh (suc n) (suc d) x c k stop l s h w i =
-    let o = steps-on (c Next) k stop d w in
-    let r = i 0 (omega arith) in
-    let s′ = shows-put s Loop k l (r .0) (r .1) in
-    rw (eqb-other (o .0), s′ .at Next k (r .1))
-    (shows-relabel sh n d _ (change c Loop k l) (c Next k) stop l s′ (omega arith) (o .1)
-    (λ t b. i (suc t) (omega arith)))
+shows-relabel sh n d x c k stop l s h w i =
+    let e = same-way sh d x c k s i in
+    rw (relabel-passed sh n d x k stop l h (λ t b q. w .first t b (sym (e t (omega arith)) ∙ q))
+    (inr (e d (omega arith) ∙ w .at))) (shows-passed sh d x c k l s i)
 
 -- what names l goes on to do so
 run-kept : (c : Columns) (d k l i : ℕ) → c Loop i ≡ l → runColumns c k d l Loop i ≡ l
