@@ -1,15 +1,18 @@
 """The gate refuses what it must refuse: an unlisted crate, a theorem that is not where the table says, a name that is
 not where the architecture says, a line too wide, a record's place named outside layout, a dependency that is not named
-or not listed, a failed step, a step that tested nothing or was cut short."""
+or not listed, scratch memory in what kef reaches, a walk that no invariant holds, a failed step, a step that tested
+nothing or was cut short."""
 import os
 import sys
 import tempfile
 
 sys.path.insert(0, os.path.dirname(os.path.abspath(__file__)))
+import amid
 import architecture
 import gate
 import listed
 import rules
+import scratch
 import theorems
 
 
@@ -62,7 +65,56 @@ def rule_faults(path, text, lines):
         return rules.faults(folder)[1]
 
 
+# crates that the functions below may use: an operator's operands and its making, a helper that lends, a record
+SCRIPT = """pub struct Operator { pub code: u8, pub args: [i32; 8], }
+pub fn blank(code: u8) -> Operator { Operator { code, args: [0i32; 8], } }
+"""
+OTHERS = """use script::Operator;
+pub const ROW: [u8; 2] = [1, 2];
+pub struct Held { pub words: [u16; 4], }
+pub struct Pair { pub held: Held, pub n: usize, }
+pub const NONE: Held = Held { words: [0u16; 4], };
+pub fn first(s: &[u16]) -> u16 requires { ⌜ length [s; 1] ⌝ } { s[0] }
+pub fn buffer(s: &[u16]) -> u16 { let t = [0u16; 8]; t[0] }
+"""
+NAMES = ("others::ROW", "others::NONE", "others::Held", "others::Pair", "others::first", "others::buffer",
+         "others::gone", "script::Operator", "script::blank")
+USES = "".join(f"use {name};\n" for name in NAMES)
+
+
+def scratch_faults(code):
+    """What is wrong with each function that f of this code reaches."""
+    with tempfile.TemporaryDirectory() as folder:
+        for path, text in (("a/src/b.rt", USES + code), ("script/src/lib.rt", SCRIPT), ("others/src/lib.rt", OTHERS)):
+            os.makedirs(os.path.dirname(os.path.join(folder, "crates", path)))
+            with open(os.path.join(folder, "crates", path), "w", encoding="utf-8") as f:
+                f.write(text)
+        return {name: bad for name, bad in scratch.faults(folder, ["a::b::f"]).items() if bad}
+
+
+def scratch_in(parameters, body):
+    """What is wrong with a function of these parameters and this body."""
+    return scratch_faults(f"fn f({parameters}) {{ {body} }}\n").get("a::b::f", [])
+
+
 ROOT = os.path.dirname(os.path.dirname(os.path.dirname(os.path.abspath(__file__))))
+
+
+WALKED = "(left ≤ fuel) × Walked sh links₀ from stop l (fuel - left) links k"
+
+
+def amid_faults(turn="put(links, k, l);", walk="k = pass_one(links, k, l);", invariant=WALKED):
+    """What is wrong with a walk of this turn, this loop's body and this invariant."""
+    code = (f"fn put(links: &mut [u16], k: usize, l: u16) {{ links[k] = l; }}\n"
+            f"fn pass_one(links: &mut [u16], k: usize, l: u16) -> usize {{ {turn} k }}\n"
+            f"fn relabel_steps(links: &mut [u16], mut k: usize, l: u16) {{ while k > 0 {{ {walk} }} }}\n")
+    proof = f"abbrev Inv-loop : T\nInv-loop links₀ sh left = (k ≤ 65536)\n    × {invariant}\n\nabbrev μ-loop : T\n"
+    with tempfile.TemporaryDirectory() as folder:
+        for path, text in ((os.path.join("crates", "euler_walks", "src", "walks.rt"), code), (amid.PROOF, proof)):
+            os.makedirs(os.path.dirname(os.path.join(folder, path)))
+            with open(os.path.join(folder, path), "w", encoding="utf-8") as f:
+                f.write(text)
+        return amid.faults(folder)
 
 CASES = [
     ("`rt ci` is a step", lambda: ("rt ci", ["rt", "ci"]) in gate.steps()),
@@ -107,6 +159,55 @@ CASES = [
     ("a crate that is listed has to be named", lambda: rule_faults(
         "crates/a/src/lib.rt", "use b::c;\n", ["a: b c", "b:", "c:"])
      == ["crates.txt: a lists c and does not name it"]),
+    ("what is lent and an operator's operands are no scratch memory", lambda: scratch_faults(
+        "// let t = [0u16; 8];\npub fn f(s: &mut [u16], t: &[u16; 4], k: usize) -> Operator\n"
+        "    ensures { λ r. ⌜ r ≡ [k] ⌝ }\n{\n    s[k] = t[0];\n    let n = first(s);\n    g(n, &ROW, s.len())\n"
+        "}\nfn g(n: u16, row: &[u8; 2], k: usize) -> Operator {\n    let mut op = blank(row[0] + ROW[1]);\n"
+        "    if (k > 2) & (n == 1) { op.args[0] = 1; }\n    op\n}\n") == {}),
+    ("an array that is made fails", lambda: scratch_in("", "let t = [0u16; 8];") == ["makes an array"]),
+    ("an array of words fails", lambda: scratch_in("k: u16", "first(&[k, k]);") == ["makes an array"]),
+    ("an array by its type fails", lambda: scratch_in("", "let t: [u16; 8] = g();\n} fn g() -> u8 { 0")
+     == ["has an array"]),
+    ("an array by value fails", lambda: scratch_in("t: [u16; 8]", "") == ["takes an array"]),
+    ("an array as the answer fails", lambda: scratch_faults("fn f() -> [u16; 8] { f2() }\nfn f2() -> u8 { 0 }\n")
+     == {"a::b::f": ["answers an array"]}),
+    ("a struct that holds an array fails", lambda: scratch_in("p: Pair", "") == ["takes Pair, which holds an array"]),
+    ("a struct of another file has to be found", lambda: scratch_in("p: Lost", "")
+     == ["takes the type Lost, which is not found"]),
+    ("a copy of a lent array fails", lambda: scratch_in("t: &[u16; 4]", "let c = *t;") == ["copies what t lends"]),
+    ("by way of another name too", lambda: scratch_in("t: &[u16; 4]", "let u = t; let c = *u;")
+     == ["copies what u lends"]),
+    ("a copy of a lent struct fails", lambda: scratch_in("p: &Pair", "match *p { q => 1 };")
+     == ["copies what p lends"]),
+    ("a product and a word of a lent array are no copies", lambda: scratch_in(
+        "t: &[u16; 4], n: u16", "let c = n * n; let d = t[0] * c;") == []),
+    ("a copy of operands fails", lambda: scratch_in("op: Operator", "let a = op.args;") == ["copies args"]),
+    ("a copy of a lent struct's part fails", lambda: scratch_in("p: &Pair", "let h = p.held;") == ["copies held"]),
+    ("a copy of a constant fails", lambda: scratch_in("", "let r = ROW;") == ["copies ROW"]),
+    ("of a constant struct too", lambda: scratch_in("", "let r = NONE;") == ["copies NONE"]),
+    ("scratch memory of another crate's function fails", lambda: scratch_faults(
+        "fn f(s: &[u16]) -> u16 { g(s) }\nfn g(s: &[u16]) -> u16 { buffer(s) }\n")
+     == {"others::buffer": ["makes an array"]}),
+    ("a cycle of calls fails", lambda: scratch_faults("fn f(n: u8) { g(n) }\nfn g(n: u8) { if n > 0 { f(n - 1) } }\n")
+     == {"a::b::f": ["calls itself: a::b::f > a::b::g > a::b::f"]}),
+    ("a called name that is nowhere fails", lambda: scratch_in("", "lost(1);") == ["calls lost, which is not found"]),
+    ("a called name that its crate lacks fails", lambda: scratch_in("", "gone(1);")
+     == ["calls gone, which is not found"]),
+    ("a call by a path is followed", lambda: "others::buffer" in scratch_faults(
+        "fn f(s: &[u16]) -> u16 { others::buffer(s) }\n")),
+    ("a method that is not known fails", lambda: scratch_in("s: &[u16]", "s.to_vec();")
+     == ["calls to_vec, which is not found"]),
+    ("kef's functions have to be there", lambda: scratch_faults("fn other() {}\n")
+     == {"a::b::f": ["there is no such function"]}),
+    ("a walk of one store a turn, held by its invariant, passes", lambda: amid_faults() == []),
+    ("a turn of two stores fails", lambda: len(amid_faults(turn="put(links, k, 0); put(links, k, l);")) == 1),
+    ("a turn of no store fails", lambda: len(amid_faults(turn="")) == 2),
+    ("a turn that stores in a loop fails", lambda: len(amid_faults(turn="while k > 9 { put(links, k, l); }")) == 1),
+    ("a walk that stores beside its turns fails", lambda: len(amid_faults(
+        walk="k = pass_one(links, k, l); put(links, k, l);")) == 1),
+    ("a walk that stores by itself fails", lambda: len(amid_faults(
+        walk="k = pass_one(links, k, l); links[k] = l;")) == 1),
+    ("another invariant fails", lambda: len(amid_faults(invariant="(relabel sh left links k stop l ≡ whole)")) == 1),
     ("a good step counts", lambda: gate.judge(0, "ok\n3 passed, 0 failed\n") == (3, 0)),
     ("a failed test fails the step", lambda: gate.judge(1, "2 passed, 1 failed\n") == (2, 1)),
     ("a bad exit status fails the step", lambda: gate.judge(1, "3 passed, 0 failed\n") == (3, 1)),

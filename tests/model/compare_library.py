@@ -13,6 +13,8 @@ MODE  entries    COUNT cases each of clearing, checking, counting, reading and w
                  from 10,000 on of three
       obj        COUNT solids written as OBJ text and read again, besides every small table, each coordinate, and parts
                  as large as a table can hold
+      kef        COUNT scripts of one kef on loops of 3 half-edges up to some thousand, and of one; each undone; besides
+                 some on loops of 4,000 and of all that a table can hold
       all        every mode, with a count of its own (the default)
 
 Every answer and every byte of links, points, log and script afterwards must be equal; a crash or a hang is a failure. Prints
@@ -26,7 +28,9 @@ import time
 import wire
 from cases import CASES, operator_case
 from generate import seeded
-from library import ask, build_driver
+from kef_cases import kef_case, long_cases
+from kef_met import WANTED_CASES, case_situations as kef_case_situations
+from library import ask, build_driver, library_given
 from met import Met
 from padded_cases import listed_cases, padded_read_case, padded_run_case, padded_undo_case
 from padded_met import number_situations, wanted_numbers, wanted_padded
@@ -46,6 +50,8 @@ ENTRIES = (wire.CLEAR, wire.CHECK, wire.COUNT, wire.READ, wire.WRITE)
 PORTION = 1_000
 # From the first count on a comparison has to have met every code and refusal that it can meet, from the second on every rule.
 ENOUGH, PLENTY = 2_000, 10_000
+# Of kefs fewer are enough: each is made for what it has to meet.
+KEFS_ENOUGH = 500
 
 
 def compare(driver, tally, met, cases):
@@ -165,10 +171,39 @@ def compare_texts(driver, tally, met, cases):
                 keep_text_promise(tally, case, answer)
 
 
+def kef(driver, tally, met, rng, count):
+    """Small tables first, so that a slip shows on one that can be read."""
+    for size in portions(count):
+        cases = [kef_case(rng) for _ in range(size)]
+        compare_kefs(driver, tally, met, sorted(cases, key=lambda case: len(case.links)))
+    compare_kefs(driver, tally, met, long_cases(rng))
+    if count >= KEFS_ENOUGH:
+        met.want_situations(tally, WANTED_CASES)
+
+
+def compare_kefs(driver, tally, met, cases):
+    """The answers to the cases, and then their undo, which is handed what the kernel has left."""
+    carried = []
+    for case, answer in zip(cases, ask(driver, cases)):
+        wanted = wire.answer_case(case)
+        # By 1 or 2 the model would say that its check has found the table wrong.
+        tally.holds(f"made sound: {case}", wanted.numbers[0] in (0, 8, 9))
+        if tally.equal(f"kef: {case}", answer, wanted):
+            met.add(case, answer)
+            met.situations.update(kef_case_situations(case, answer))
+            carried += [(case, answer)] if answer.numbers[0] == 0 else []
+    undos = [wire.case(wire.UNDO, (left.numbers[4], 1), left.links, left.points, left.log) for _, left in carried]
+    for (case, _), undo, answer in zip(carried, undos, ask(driver, undos)):
+        if tally.equal(f"undo of a kef: {case}", answer, wire.answer_case(undo)):
+            met.add(undo, answer)
+            tally.equal(f"back to the byte: {case}", (answer.links, answer.points, answer.numbers),
+                        (case.links, case.points, (0, 0, 1) + case.numbers))
+
+
 # Name, comparison, and the count with which the gate runs it.
 MODES = {"entries": (entries, 500), "operators": (operators, 3_000), "runs": (runs, 3_000), "promise": (promise, 2_000),
          "padded": (padded, 3_000), "numbers": (numbers, 2_000), "takedown": (takedown, 5_000),
-         "obj": (obj, 5_000)}
+         "obj": (obj, 5_000), "kef": (kef, 500)}
 
 
 def run_mode(driver, name, count, seed):
@@ -182,10 +217,7 @@ def run_mode(driver, name, count, seed):
 
 
 def main(arguments):
-    kernel = None
-    if "--library" in arguments:
-        place = arguments.index("--library")
-        kernel, arguments = arguments[place + 1], arguments[:place] + arguments[place + 2:]
+    kernel, arguments = library_given(arguments)
     mode, count, seed = (arguments + ["all", "0", "1"][len(arguments):])[:3]
     if mode != "all" and mode not in MODES:
         print(__doc__)

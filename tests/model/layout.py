@@ -1,7 +1,8 @@
 """The table of document 01 as plain lists: links (words) and points (coordinates).
 
 Everything the other files know about places of words comes from WIDTHS below, so a field put into a record has to be
-put in here; beside that, only what writes or takes apart a whole half-edge (boundary.py, rules.py, exhaustive.py) asks for it.
+put in here; beside that, only what writes or takes apart a half-edge (boundary.py, rules.py, exhaustive.py,
+kef_properties.py) asks for it.
 """
 
 CAPACITY_LIMIT = 4096

@@ -27,16 +27,27 @@ def archive():
     return ARCHIVE
 
 
-def compile_c(sources, output, kernel=None):
+def compile_c(sources, output, kernel=None, flags=()):
     """A C program of these files (named from the repository's root), linked with the archive."""
     paths = [os.path.join(ROOT, source) for source in sources]
     subprocess.run(["cc", "-std=gnu11", "-O1", "-g", "-Wall", "-Wextra", "-Werror", "-I", os.path.join(ROOT, "include"),
-                    "-o", output] + paths + [kernel or archive()], check=True)
+                    "-o", output] + paths + [kernel or archive(), *flags], check=True)
     return output
 
 
-def build_driver(folder, kernel=None):
-    return compile_c(["tests/driver/driver.c", "tests/driver/frames.c"], os.path.join(folder, "driver"), kernel)
+def build_driver(folder, kernel=None, name="driver"):
+    """A program of tests/driver that answers frames by calls of the kernel. Its symbols are bound before it begins: a
+    call that had to bind memset first would take some KB of stack for it."""
+    sources = [f"tests/driver/{part}.c" for part in (name, "calls", "frames")]
+    return compile_c(sources, os.path.join(folder, name), kernel, ["-Wl,-z,now"])
+
+
+def library_given(arguments):
+    """The archive behind --library, None without it; and the other arguments."""
+    if "--library" not in arguments:
+        return None, arguments
+    place = arguments.index("--library")
+    return arguments[place + 1], arguments[:place] + arguments[place + 2:]
 
 
 def ask(driver, cases):

@@ -10,6 +10,7 @@ import time
 from examples import EXAMPLES
 from exhaustive import EXHAUSTIVE
 from generate import seeded
+from kef_properties import KEF_PROPERTIES
 from operator_examples import OPERATOR_EXAMPLES
 from padded_examples import PADDED_EXAMPLES
 from padded_properties import PADDED_PROPERTIES
@@ -28,7 +29,8 @@ def main(arguments):
     for example in EXAMPLES + OPERATOR_EXAMPLES + PADDED_EXAMPLES + TAKEDOWN_EXAMPLES + WAVEFRONT_EXAMPLES:
         example(tally)
     print(f"examples: {tally.passed} checks")
-    properties = PROPERTIES + EXHAUSTIVE + TAKEDOWN_PROPERTIES + PADDED_PROPERTIES + WAVEFRONT_PROPERTIES
+    properties = (PROPERTIES + EXHAUSTIVE + TAKEDOWN_PROPERTIES + PADDED_PROPERTIES + WAVEFRONT_PROPERTIES
+                  + KEF_PROPERTIES)
     for number, prop in enumerate(properties):
         before, began = tally.passed, time.process_time()
         # A seed of its own, so that one property's cases do not hang on another's.

@@ -1,0 +1,141 @@
+"""How much stack the compiled kernel takes, by tests/driver/stack.c, which makes each call on a stack of its own.
+
+Scratch memory of kef could only be stack: the library has no variables of its own and asks for no memory. A run takes
+most of its stack in the check at its head, so that scratch memory of an operator could hide in the room that the check
+has left; hence what counts is how many bytes a kef writes to, behind another operator in the same run. These have to be
+as many for a killed loop of 3 half-edges as for one of 8,000, and too few to hold one bit for each of the 8,000. (What
+lies above the frame in which the log is stored to, some 300 bytes, is not counted. What is reserved and not written is
+not kef's: compiled into one function, all operators have one frame, and mfkrh has a union-find in it.)
+"""
+
+import shutil
+import subprocess
+
+import wire
+from boundary import Boundary
+from cases import operator_for
+from generate import grown, pools_of, renumbered
+from layout import CAPACITY_LIMIT, links_length, points_length
+from library import ask
+from script import PATTERNS, operator, operator_bytes
+from takedown import LONGEST_OPERATOR, bytes_needed
+from watch_cases import kef_bytes, long_kef
+from wavefront_cases import large_cases
+
+LARGEST = (CAPACITY_LIMIT,) * 5
+SHORT, LONG = 3, 8_000
+# What docs/GUIDE.md tells callers to allow for a call.
+ALLOWED = 64 * 1024
+# What the library may ask for: functions that move or compare bytes in memory that they are handed.
+ASKED = {"memset", "memcpy", "memmove", "memcmp", "bcmp"}
+
+
+def stacks(driver, cases):
+    """What each case took: bytes reached, whether the last number is measured, bytes written to behind the first store
+    to the log. None where there was no answer, or a refusal."""
+    return [answer.numbers[-3:] if answer is not None and answer.numbers[0] == 0 else None
+            for answer in ask(driver, cases)]
+
+
+# kef
+
+def first_solid(table):
+    """An operator to come before: a solid of the least free numbers."""
+    pools = pools_of(Boundary(table))
+    return operator_bytes(operator("mvsf", *(pools["new", kind][0] for kind in ("solid", "face", "loop", "vertex")),
+                                   0, 0, 0))
+
+
+def stack_cases(rng, killed, capacities=None):
+    """One kef alone, and one behind another operator."""
+    table, k = long_kef(rng, killed, 3, capacities)
+    room = 2 * LONGEST_OPERATOR
+    return [wire.case(wire.RUN, (room,), table.links, table.points, bytes(room), front + kef_bytes(k))
+            for front in (b"", first_solid(table))]
+
+
+def compare_kef_stacks(tally, driver, rng):
+    """A short and a long loop at the same capacities, and for the record a short one in a table with little room."""
+    sizes = ((SHORT, LARGEST), (LONG, LARGEST), (SHORT, None))
+    taken = stacks(driver, [case for killed, capacities in sizes for case in stack_cases(rng, killed, capacities)])
+    if not tally.holds("kefs are carried out on a stack of their own", None not in taken):
+        return
+    short, long, small = (reached for reached, _, _ in taken[0::2])
+    tally.equal(f"stack of a run of one kef: killed loop of {LONG} half-edges, as of {SHORT}", long, short)
+    print(f"  stack of a run of one kef, in bytes: {short} for a killed loop of {SHORT} half-edges, {long} for one of"
+          f" {LONG}, both at capacities {CAPACITY_LIMIT}; {small} for one of {SHORT} in a small table")
+    if all(measured for _, measured, _ in taken):
+        compare_written(tally, *(written for _, _, written in taken[1::2]))
+    else:
+        print("  what a kef alone writes to cannot be measured here (Linux on x86-64 is needed)")
+
+
+def compare_written(tally, short, long, small):
+    tally.holds("stack that a kef writes to: is seen", short > 0)
+    tally.equal(f"stack that a kef writes to: killed loop of {LONG} half-edges, as of {SHORT}", long, short)
+    tally.holds("stack that a kef writes to: too little for a bit for each half-edge", 8 * long < LONG)
+    print(f"  stack that the kef alone writes to, read, admitted, carried out and logged: {short}, {long}; {small}")
+
+
+def compare_memory(tally, archive):
+    """The library has no variables, and asks for nothing that could lend it memory."""
+    if shutil.which("nm") is None:
+        print("  nm is not installed: whether the library has memory of its own was not looked at")
+        return
+    lines = subprocess.run(["nm", "-P", archive], stdout=subprocess.PIPE, text=True, check=True).stdout.splitlines()
+    # name, kind, and for what is defined its place and size; a line of one word names a file of the archive
+    kinds = [(line.split()[0], line.split()[1]) for line in lines if len(line.split()) > 1]
+    there = {name for name, kind in kinds if kind not in "Uw"}
+    tally.holds("the library's functions are listed", ("zoghvari_run", "T") in kinds)
+    tally.equal("the library's variables", [name for name, kind in kinds if kind not in "TtRrUw"], [])
+    tally.equal("the library asks for no memory", {name for name, _ in kinds} - there - ASKED, set())
+
+
+# All calls
+
+def one_of_each(rng):
+    """For each code a run of one accepted operator, and an undo of one, on tables of the largest capacities."""
+    runs, undos, left = [], [], set(PATTERNS)
+    while left:
+        table = renumbered(rng, grown(rng, (12,) * 5, 40), LARGEST)
+        b = Boundary(table)
+        for code in sorted(left):
+            op = operator_for(rng, b, code)
+            if op.code != code:
+                continue
+            script, lent = operator_bytes(op), (table.links, table.points)
+            runs.append(wire.case(wire.RUN, (LONGEST_OPERATOR,), *lent, bytes(LONGEST_OPERATOR), script))
+            undos.append(wire.case(wire.UNDO, (0, 1), *lent, script))
+            left.remove(code)
+    return runs + undos
+
+
+def large_calls(rng):
+    """A case or more of each kind, all accepted, at the largest capacities."""
+    operators, texts = one_of_each(rng), large_cases(rng)[:1]
+    table = renumbered(rng, grown(rng, (12,) * 5, 40), LARGEST)
+    lent, need = (table.links, table.points), bytes_needed(table.links, table.points)
+    return operators + texts + [
+        wire.case(wire.CLEAR, LARGEST, [0] * links_length(LARGEST), [0] * points_length(LARGEST)),
+        wire.case(wire.CHECK, (), *lent), wire.case(wire.COUNT, (), *lent),
+        wire.case(wire.TAKEDOWN, (need,), *lent, bytes(need)),
+        wire.case(wire.READ, (0,), script=operators[0].script),
+        wire.case(wire.WRITE, (2, 1, 1) + (0,) * 8, script=bytes(LONGEST_OPERATOR))]
+
+
+def compare_calls(tally, driver, rng):
+    cases, most = large_calls(rng), {}
+    for case, taken in zip(cases, stacks(driver, cases)):
+        name = wire.KIND_NAMES[case.kind]
+        if tally.holds(f"{name} is carried out on a stack of its own", taken is not None):
+            most[name] = max(most.get(name, 0), taken[0])
+    print("  stack of calls at the largest capacities, in bytes: "
+          + ", ".join(f"{name} {taken}" for name, taken in most.items()))
+    tally.holds(f"no call takes more stack than the {ALLOWED} bytes that the guide allows",
+                max(most.values(), default=0) <= ALLOWED)
+
+
+def compare_stacks(tally, driver, archive, rng):
+    compare_memory(tally, archive)
+    compare_kef_stacks(tally, driver, rng)
+    compare_calls(tally, driver, rng)
