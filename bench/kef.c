@@ -11,8 +11,8 @@
 #include <stdio.h>
 #include <stdlib.h>
 #include <string.h>
-#include <unistd.h>
 
+#include "options.h"
 #include "table.h"
 #include "timing.h"
 #include "twin.h"
@@ -202,13 +202,8 @@ static void bench_all(Bench *b, int n) {
 
 int main(int argc, char **argv) {
     static Bench b[KINDS];
-    const char *word = "";
-    int c, n = 0;
-    while ((c = getopt(argc, argv, "w:")) == 'w') word = optarg;
-    if (c != -1 || optind < argc) {
-        fprintf(stderr, "usage: kef [-w WORD]\n");
-        return 2;
-    }
+    const char *word = wanted_word(argc, argv, "kef");
+    int n = 0;
     print_head();
     for (int i = 0; i < KINDS; i++)
         if (strstr(kinds[i].name, word)) b[n++] = open_bench(&kinds[i]);

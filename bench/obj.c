@@ -9,8 +9,8 @@
 #include <stdio.h>
 #include <stdlib.h>
 #include <string.h>
-#include <unistd.h>
 
+#include "options.h"
 #include "shapes.h"
 #include "timing.h"
 #include "twin.h"
@@ -155,13 +155,8 @@ static void bench_all(Bench *b, int n) {
 
 int main(int argc, char **argv) {
     static Bench b[KINDS];
-    const char *word = "";
-    int c, n = 0;
-    while ((c = getopt(argc, argv, "w:")) == 'w') word = optarg;
-    if (c != -1 || optind < argc) {
-        fprintf(stderr, "usage: obj [-w WORD]\n");
-        return 2;
-    }
+    const char *word = wanted_word(argc, argv, "obj");
+    int n = 0;
     print_head();
     verify_refusals();
     for (int i = 0; i < KINDS; i++)

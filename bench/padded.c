@@ -11,8 +11,8 @@
 #include <stdio.h>
 #include <stdlib.h>
 #include <string.h>
-#include <unistd.h>
 
+#include "options.h"
 #include "timing.h"
 #include "twin.h"
 #include "workloads.h"
@@ -185,13 +185,7 @@ static int open_all(Bench *b, const char *word) {
 }
 
 int main(int argc, char **argv) {
-    const char *word = "";
-    int c;
-    while ((c = getopt(argc, argv, "w:")) == 'w') word = optarg;
-    if (c != -1 || optind < argc) {
-        fprintf(stderr, "usage: padded [-w WORD]\n");
-        return 2;
-    }
+    const char *word = wanted_word(argc, argv, "padded");
     print_head();
     Bench *b = calloc(workload_kinds_n * SIZES, sizeof *b);
     must(b != NULL, "padded", 0, "no memory");

@@ -123,7 +123,7 @@ def watch_kefs(driver, tally, kefs):
 
 # That the watch misses nothing
 
-# What goes wrong behind the last half-edge of the run is told by the table that is left, which is the model's.
+# Behind the last half-edge of the run the walk is over and the edge comes out: the sentence says nothing any more.
 BEHIND_THE_RUN = (mate_relabelled,)
 
 
