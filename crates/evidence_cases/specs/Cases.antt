@@ -1,6 +1,6 @@
--- The checked examples a to h of document 01 and those of jobs 1 and 2 of document 02, one list under one theorem, by
--- computation: what the definitions that the contracts cite leave is what the rows say, to the word, the coordinate and
--- the byte.
+-- The checked examples a to h of document 01 and those of jobs 1, 2 and 4 of document 02, one list under one theorem,
+-- by computation: what the definitions that the contracts cite leave is what the rows say, to the word, the coordinate
+-- and the byte.
 use mathlib.Core.Path.{refl}
 use mathlib.Core.List.{List, _++_}
 use Rattle.laws.specs.Search.{allTo, anyTo, leastFrom}
@@ -28,12 +28,13 @@ use Rattle.wavefront.specs.Obj.{cornerWord, faceLine, objText, noRingNorLone, t
 use Rattle.euler.specs.Surgery.{corner, edgeIn, edgeOut, relabel, seek, renew}
 use Rattle.euler.specs.EdgeOperators.{mevLinks, kevTest, kevLinks, mefTest, mefLinks, kefTest, kefLinks}
 use Rattle.euler.specs.FaceOperators.{mvsfLinks, kvsfTest, kvsfLinks, kfmrhTest, kfmrhLinks, linkedAfter, mfkrhTest}
-use Rattle.euler.specs.FaceOperators.{mfkrhLinks}
+use Rattle.euler.specs.FaceOperators.{mfkrhLinks, rmovTest}
 use Rattle.euler.specs.Exec.{admitOf, useRefusals, useRefusal, useWord, condition, linksAfter, pointsAfter}
 use Rattle.euler.specs.Exec.{killedVertex, inverse}
-use Rattle.runs.specs.Run.{admitRead, inverseBytes, carryRefusal, runRefusal, stepped, runFrom, entry, runOf, undoFrom}
-use Rattle.runs.specs.Run.{undoOf}
+use Rattle.runs.specs.Run.{admitRead, inverseBytes, carryRefusal, runRefusal, stepped, runFrom, entry, runOf}
+use Rattle.runs.specs.Move.{partOf, moveOf}
 use Rattle.takedown.specs.Inversion.{act, turnB, turned, invertBy, invertOf}
+use Rattle.sessions.specs.Session.{sessionClear, sessionRun, sessionUndo, sessionRedo, sessionInvert}
 use Rattle.machine.specs.Machine.{doAll}
 use Rattle.evidence_cases.specs.Case.{Row, Hold}
 use Rattle.evidence_cases.specs.RowsRuns.{runRows}
@@ -42,23 +43,24 @@ use Rattle.evidence_cases.specs.RowsRefused.{refusedRows}
 use Rattle.evidence_cases.specs.RowsPadded.{paddedRows}
 use Rattle.evidence_cases.specs.RowsObj.{objRows}
 use Rattle.evidence_cases.specs.RowsSizes.{sizeRows}
+use Rattle.evidence_cases.specs.RowsRedo.{redoRows}
 
 -- all rows
 abbrev pub cases : List Row
-cases = runRows ++ (takedownRows ++ (refusedRows ++ (paddedRows ++ (objRows ++ sizeRows))))
+cases = runRows ++ (takedownRows ++ (refusedRows ++ (paddedRows ++ (objRows ++ (sizeRows ++ redoRows)))))
 
 -- what the definitions leave, step for step, is what the rows say
 pub cases-hold : Hold cases
-unfolding doAll clearOf runOf undoOf countOf invertOf invertBy turned turnB act readOperator writeOperator entry
-    checkOf sizesFit tallyOf itemUsed brokenRule rule1 rule2 rule3 rule4 rule5 rule6 solidRange faceRange loopRange
-    halfRange vertexRange solidNames faceNames loopNames halfNames loopEither halfLinks firstNames halfInLoop
-    vertexEither halfAtVertex halfSides faceLinked allTo leastFrom sumTo meets linkedb rounds pass across mate within
-    joins linkedBy third second first readNumber groups pattern rows inRanges inRange zig zag wire unwire readOperand
-    readOperands readBehind operandBytes operandsBytes operatorBytes operatorRefusal putBytes admitRead inverseBytes
-    carryRefusal runRefusal stepped runFrom undoFrom admitOf useRefusals useRefusal useWord condition linksAfter
-    pointsAfter
-    killedVertex inverse corner edgeIn edgeOut relabel seek renew sweep mvsfLinks kvsfTest kvsfLinks mevLinks kevTest
-    kevLinks mefTest mefLinks kefTest kefLinks kfmrhTest kfmrhLinks linkedAfter mfkrhTest mfkrhLinks
-    anyTo digits decimal passingTo ownVertex hundredths millimetres concatMap vertexLine lap backwards cornerWord
-    faceLine objText noRingNorLone threeSided solidRefusal fitted objOf
+unfolding doAll sessionClear sessionRun sessionUndo sessionRedo sessionInvert clearOf runOf moveOf partOf countOf
+    invertOf invertBy turned turnB act readOperator writeOperator entry checkOf sizesFit tallyOf itemUsed brokenRule
+    rule1 rule2 rule3 rule4 rule5 rule6 solidRange faceRange loopRange halfRange vertexRange solidNames faceNames
+    loopNames halfNames loopEither halfLinks firstNames halfInLoop vertexEither halfAtVertex halfSides faceLinked
+    allTo leastFrom sumTo meets linkedb rounds pass across mate within joins linkedBy third second first readNumber
+    groups pattern rows inRanges inRange zig zag wire unwire readOperand readOperands readBehind operandBytes
+    operandsBytes operatorBytes operatorRefusal putBytes admitRead inverseBytes carryRefusal runRefusal stepped
+    runFrom admitOf useRefusals useRefusal useWord condition linksAfter pointsAfter killedVertex inverse corner edgeIn
+    edgeOut relabel seek renew sweep mvsfLinks kvsfTest kvsfLinks mevLinks kevTest kevLinks mefTest mefLinks kefTest
+    kefLinks kfmrhTest kfmrhLinks linkedAfter mfkrhTest mfkrhLinks rmovTest anyTo digits decimal passingTo ownVertex
+    hundredths millimetres concatMap vertexLine lap backwards cornerWord faceLine objText noRingNorLone threeSided
+    solidRefusal fitted objOf
 cases-hold = refl

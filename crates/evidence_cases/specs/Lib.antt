@@ -6,6 +6,7 @@ pub mod RowsRefused
 pub mod RowsPadded
 pub mod RowsObj
 pub mod RowsSizes
+pub mod RowsRedo
 pub mod Shortened
 pub mod Cases
 pub mod Kernels

@@ -4,29 +4,29 @@ use Prim.Native.Nat.{ℕ, _+_}
 use mathlib.Core.List.{List, [], _∷_, _++_}
 use lib.ListN.{set, replicate}
 use lib.IntN.{pos, negsuc}
-use Rattle.runs.specs.Run.{State, state}
+use Rattle.sessions.specs.Editing.{Editing}
 use Rattle.machine.specs.Machine.{Obj, ToObj}
 use Rattle.wavefront_read.specs.Instances.{triangleLinks, trianglePoints, triangleBytes}
-use Rattle.evidence_cases.specs.Case.{Step, Row, row, step}
+use Rattle.evidence_cases.specs.Case.{Step, Row, row, editing, step}
 use Rattle.evidence_cases.specs.Tables.{lent, empty, linksE, pointsAt, tableB, tableC, tableD}
 
 -- a triangle of two faces, with no log
-abbrev pub triangle : State
-triangle = state triangleLinks trianglePoints [] 0
+abbrev pub triangle : Editing
+triangle = editing triangleLinks trianglePoints [] 0
 
 -- example e: a ring and a hole
-abbrev pub ringed : State
-ringed = state linksE (pointsAt (pos 0)) [] 0
+abbrev pub ringed : Editing
+ringed = editing linksE (pointsAt (pos 0)) [] 0
 
 -- the triangle with vertex 3 free, and its point left
-abbrev pub damaged : State
-damaged = state (set triangleLinks 42 0) trianglePoints [] 0
+abbrev pub damaged : Editing
+damaged = editing (set triangleLinks 42 0) trianglePoints [] 0
 
 -- two solids under numbers with gaps: solid 1 is a lone vertex, 1; solid 3 has the vertices 2, 4, 5, 7, 8 and the faces
 -- 1, 4 and 5, of four, five and three sides
-abbrev pub twoSolids : State
+abbrev pub twoSolids : Editing
 twoSolids =
-    state
+    editing
     (3 ∷ 5 ∷ 5 ∷ 8 ∷ 8 ∷ 1 ∷ 0 ∷ 1 ∷ 3 ∷ 4 ∷ 0 ∷ 0 ∷ 1 ∷ 2 ∷ 3 ∷ 1 ∷ 3 ∷ 5 ∷ 4 ∷ 4 ∷ 0 ∷ 3 ∷ 0 ∷ 1 ∷ 0 ∷ 0 ∷ 0
     ∷ 1 ∷ 8 ∷ 0 ∷ 5 ∷ 3 ∷ 0 ∷ 0 ∷ 0 ∷ 0 ∷ 0 ∷ 0 ∷ 0 ∷ 0 ∷ 0 ∷ 2 ∷ 5 ∷ 5 ∷ 7 ∷ 4 ∷ 1 ∷ 16 ∷ 6 ∷ 4 ∷ 5 ∷ 7 ∷ 3
     ∷ 5 ∷ 1 ∷ 4 ∷ 10 ∷ 5 ∷ 5 ∷ 3 ∷ 5 ∷ 2 ∷ 4 ∷ 9 ∷ 15 ∷ 5 ∷ 4 ∷ 11 ∷ 8 ∷ 7 ∷ 1 ∷ 6 ∷ 12 ∷ 7 ∷ 4 ∷ 15 ∷ 9 ∷ 8
@@ -61,7 +61,7 @@ abbrev pub buffer : ℕ → List ℕ
 buffer n = replicate n 238
 
 -- the text of solid s of t is refused, and the buffer of n bytes is as it was
-abbrev pub noText : ℕ → ℕ → ℕ → ℕ → ℕ → State → Step
+abbrev pub noText : ℕ → ℕ → ℕ → ℕ → ℕ → Editing → Step
 noText s n refusal rule length t =
     step (Obj s (buffer n)) (ToObj (record { refusal = refusal; rule = rule; length = length }) (buffer n)) t
 

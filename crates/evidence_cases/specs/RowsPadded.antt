@@ -1,15 +1,15 @@
 -- Job 1 of document 02: examples b, c and d as the drawing office sends them, three groups for every number. The same
--- tables and logs, but for the bytes used; what is logged is in fewest groups, and a padded log is undone too.
+-- tables and logs, but for the bytes used; what is logged is in fewest groups, in the redo log too, and a padded log is
+-- undone.
 use Prim.Native.Nat.{ℕ}
 use mathlib.Core.List.{List, [], _∷_, _++_}
 use lib.IntN.{pos}
-use Rattle.runs.specs.Run.{state}
 use Rattle.script.specs.declared.Operator.{Operator}
 use Rattle.machine.specs.Machine.{Read, ToRead}
-use Rattle.evidence_cases.specs.Case.{Row, row, step, runs, undoes}
-use Rattle.evidence_cases.specs.Tables.{lent, linksB, linksC, pointsZero, pointsAt, logD}
-use Rattle.evidence_cases.specs.Tables.{tableB, tableC, tableD, undoneWith}
-use Rattle.evidence_cases.specs.RowsRuns.{clearing, runningB}
+use Rattle.evidence_cases.specs.Case.{Row, row, editing, redoable, step, runs, undoes}
+use Rattle.evidence_cases.specs.Tables.{lent, linksB, pointsZero, logD, tableB, tableC, tableD, backC, backB}
+use Rattle.evidence_cases.specs.Tables.{undoneWith}
+use Rattle.evidence_cases.specs.RowsRuns.{scriptB, scriptD, scriptCD, scriptBCD, clearing, runningB}
 use Rattle.evidence_cases.specs.RowsRefused.{unread, refusedOnB}
 
 -- ---- the scripts; 0 is 80 80 00, 1 is 81 80 00
@@ -48,13 +48,14 @@ paddedRows =
     -- b, c and d in one script; undone one by one
     row lent
     (clearing ∷ runs (paddedB ++ (paddedC ++ paddedD)) 0 3 75 tableD
-    ∷ undoes 1 0 1 (state linksC (pointsAt (pos 100)) logD 4) ∷ undoes 1 0 1 (state linksB pointsZero logD 6)
-    ∷ undoes 1 0 1 (undoneWith logD) ∷ [])
+    ∷ undoes 1 0 1 (redoable backC scriptD) ∷ undoes 1 0 1 (redoable backB scriptCD)
+    ∷ undoes 1 0 1 (redoable (undoneWith logD) scriptBCD) ∷ [])
     -- c behind b, then a code cut off within
     ∷ row lent (clearing ∷ runningB ∷ runs (paddedC ++ (133 ∷ 128 ∷ [])) 3 1 27 tableC ∷ [])
     -- a padded log undone; one more finds it ended
-    ∷ row (state linksB pointsZero paddedLog 3)
-    (undoes 1 0 1 (undoneWith paddedLog) ∷ undoes 1 11 0 (undoneWith paddedLog) ∷ [])
+    ∷ row (editing linksB pointsZero paddedLog 3)
+    (undoes 1 0 1 (redoable (undoneWith paddedLog) scriptB) ∷ undoes 1 11 0 (redoable (undoneWith paddedLog) scriptB)
+    ∷ [])
     -- codes 14 and 0; four groups
     ∷ row lent
     (clearing ∷ runningB ∷ refusedOnB (142 ∷ 0 ∷ []) 4 ∷ unread (142 ∷ 0 ∷ []) 4 ∷ refusedOnB (128 ∷ 0 ∷ []) 4

@@ -1,12 +1,12 @@
 -- Examples f and g of document 01: operators that are refused on the tables of b and c and change nothing, and the
 -- coordinates that are just accepted. What f says of one operator is asked without a table too.
 use Prim.Native.Nat.{ℕ}
-use mathlib.Core.List.{List, [], _∷_}
+use mathlib.Core.List.{List, [], _∷_, _++_}
 use lib.IntN.{ℤ, pos, negsuc}
 use Rattle.script.specs.declared.Operator.{Operator}
 use Rattle.script.specs.Operator.{blankOf}
 use Rattle.machine.specs.Machine.{Read, Write, ToRead, ToWrite}
-use Rattle.evidence_cases.specs.Case.{Step, Row, row, step, runs, undoes}
+use Rattle.evidence_cases.specs.Case.{Step, Row, row, step, redoable, runs, undoes}
 use Rattle.evidence_cases.specs.Tables.{lent, logC, tableB, tableC, tableCAt, undoneWith}
 use Rattle.evidence_cases.specs.RowsRuns.{scriptB, clearing, runningB, runningC}
 
@@ -58,11 +58,13 @@ refusedRows =
     -- f: coordinate 50,000; then undone
     ∷ row lent
     (clearing ∷ runningB ∷ readAs (pos 50000) 160 141 ∷ writtenAs (pos 50000) 160 141
-    ∷ runs (mevBytes 160 141) 0 1 11 (tableCAt (pos 50000)) ∷ undoes 2 0 2 (undoneWith logC) ∷ [])
+    ∷ runs (mevBytes 160 141) 0 1 11 (tableCAt (pos 50000))
+    ∷ undoes 2 0 2 (redoable (undoneWith logC) (scriptB ++ mevBytes 160 141)) ∷ [])
     -- f: coordinate −50,000; then undone
     ∷ row lent
     (clearing ∷ runningB ∷ readAs (negsuc 49999) 159 141 ∷ writtenAs (negsuc 49999) 159 141
-    ∷ runs (mevBytes 159 141) 0 1 11 (tableCAt (negsuc 49999)) ∷ undoes 2 0 2 (undoneWith logC) ∷ [])
+    ∷ runs (mevBytes 159 141) 0 1 11 (tableCAt (negsuc 49999))
+    ∷ undoes 2 0 2 (redoable (undoneWith logC) (scriptB ++ mevBytes 159 141)) ∷ [])
     -- f: coordinates 50,001 and −50,001
     ∷ row lent
     (clearing ∷ runningB ∷ refusedOnB (mevBytes 162 141) 5 ∷ unread (mevBytes 162 141) 5

@@ -1,20 +1,20 @@
 -- Example h of document 01: a capacity of 4,096 is accepted, 0 and 4,097 are refused with 1 and nothing changes; of
--- each of the five kinds, the other capacities being 1. The memory lent is as long as the capacities say. (The start
--- that a refused clearing answers is free in document 01; here it is the log's length, as in the contract.)
+-- each of the five kinds, the other capacities being 1. The memory lent is as long as the capacities say. What
+-- is accepted sets both starts to the ends of their logs, and what is refused leaves them (document 02, job 4).
 use Prim.Native.Nat.{ℕ, _+_}
 use mathlib.Core.List.{List, [], _∷_}
 use lib.IntN.{pos}
 use lib.ListN.{replicate}
-use Rattle.runs.specs.Run.{State, state}
-use Rattle.evidence_cases.specs.Case.{Row, row, clears}
+use Rattle.sessions.specs.Editing.{Editing}
+use Rattle.evidence_cases.specs.Case.{Row, row, lending, editing, clears}
 
 -- m words, n coordinates, a log of three bytes, with something in every place
-abbrev pub memory : ℕ → ℕ → State
-memory m n = state (replicate m 7) (replicate n (pos 7)) (238 ∷ 238 ∷ 238 ∷ []) 3
+abbrev pub memory : ℕ → ℕ → Editing
+memory m n = lending (replicate m 7) (replicate n (pos 7)) (238 ∷ 238 ∷ 238 ∷ []) 1 (replicate 30 221) 4
 
 -- these capacities, then m zeros; n zeros
-abbrev pub zeros : ℕ → ℕ → ℕ → ℕ → ℕ → ℕ → ℕ → State
-zeros s f l e v m n = state (s ∷ f ∷ l ∷ e ∷ v ∷ replicate m 0) (replicate n (pos 0)) (238 ∷ 238 ∷ 238 ∷ []) 3
+abbrev pub zeros : ℕ → ℕ → ℕ → ℕ → ℕ → ℕ → ℕ → Editing
+zeros s f l e v m n = editing (s ∷ f ∷ l ∷ e ∷ v ∷ replicate m 0) (replicate n (pos 0)) (238 ∷ 238 ∷ 238 ∷ []) 3
 
 -- clearing is accepted: five words for the capacities, then m
 abbrev pub accepted : ℕ → ℕ → ℕ → ℕ → ℕ → ℕ → ℕ → Row

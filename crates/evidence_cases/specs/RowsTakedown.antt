@@ -4,8 +4,9 @@ use Prim.Native.Nat.{ℕ, _+_}
 use mathlib.Core.List.{List, [], _∷_, _++_}
 use lib.IntN.{pos}
 use lib.ListN.{replicate}
-use Rattle.runs.specs.Run.{State, state}
-use Rattle.evidence_cases.specs.Case.{Step, Row, row, clears, checks, counting, runs, undoes, inverts}
+use Rattle.sessions.specs.Editing.{Editing}
+use Rattle.evidence_cases.specs.Case.{Step, Row, row, lending, editing, redoable, clears, checks, counting, runs}
+use Rattle.evidence_cases.specs.Case.{undoes, inverts}
 use Rattle.evidence_cases.specs.Tables.{linksEmpty, linksB, linksE, linksEmpty3, linksB3, linksE3}
 use Rattle.evidence_cases.specs.Tables.{pointsZero, logE}
 use Rattle.evidence_cases.specs.RowsRuns.{scriptB}
@@ -27,26 +28,26 @@ scriptUp = 1 ∷ 1 ∷ 1 ∷ 1 ∷ 1 ∷ 0 ∷ 0 ∷ 0 ∷ 5 ∷ 1 ∷ 0 ∷ 0 �
 -- ---- tables with their logs, of n bytes more than b and e fill
 
 -- memory as it is lent, m words, with something in every place
-abbrev pub lentWith : ℕ → ℕ → State
-lentWith m n = state (replicate m 7) (replicate 6 (pos 7)) (replicate (n + 8) 238) 3
+abbrev pub lentWith : ℕ → ℕ → Editing
+lentWith m n = lending (replicate m 7) (replicate 6 (pos 7)) (replicate (n + 8) 238) 3 (replicate 30 221) 4
 
 -- cleared; after b; after e: links x, and what is logged at the end
-abbrev pub clearedWith : List ℕ → ℕ → State
-clearedWith x n = state x pointsZero (replicate (n + 8) 238) (n + 8)
+abbrev pub clearedWith : List ℕ → ℕ → Editing
+clearedWith x n = editing x pointsZero (replicate (n + 8) 238) (n + 8)
 
-abbrev pub afterB : List ℕ → ℕ → State
-afterB x n = state x pointsZero (replicate (n + 6) 238 ++ (2 ∷ 1 ∷ [])) (n + 6)
+abbrev pub afterB : List ℕ → ℕ → Editing
+afterB x n = editing x pointsZero (replicate (n + 6) 238 ++ (2 ∷ 1 ∷ [])) (n + 6)
 
-abbrev pub afterE : List ℕ → ℕ → State
-afterE x n = state x pointsZero (replicate n 238 ++ logE) n
+abbrev pub afterE : List ℕ → ℕ → Editing
+afterE x n = editing x pointsZero (replicate n 238 ++ logE) n
 
 -- all undone: no byte of the log has changed
-abbrev pub undoneE : List ℕ → ℕ → State
-undoneE x n = state x pointsZero (replicate n 238 ++ logE) (n + 8)
+abbrev pub undoneE : List ℕ → ℕ → Editing
+undoneE x n = editing x pointsZero (replicate n 238 ++ logE) (n + 8)
 
 -- links x with the log that the take-down leaves where 114 bytes are free; the live part begins at i
-abbrev pub downAt : List ℕ → ℕ → State
-downAt x i = state x pointsZero (replicate 95 238 ++ (scriptUp ++ logE)) i
+abbrev pub downAt : List ℕ → ℕ → Editing
+downAt x i = editing x pointsZero (replicate 95 238 ++ (scriptUp ++ logE)) i
 
 -- ---- the steps that lead to them
 
@@ -69,9 +70,9 @@ making3 n ss = row (lentWith 37 n) (making 3 linksEmpty3 linksB3 linksE3 n ++ ss
 abbrev pub takedownRows : List Row
 takedownRows =
     -- two loops, 114 bytes free: 10; all undone
-    making2 114 (inverts 10 0 (afterE linksE 114) ∷ undoes 3 0 3 (undoneE linksEmpty 114) ∷ [])
+    making2 114 (inverts 10 0 (afterE linksE 114) ∷ undoes 3 0 3 (redoable (undoneE linksEmpty 114) scriptUp) ∷ [])
     -- two loops, no byte free: 10 comes before 9; all undone
-    ∷ making2 0 (inverts 10 0 (afterE linksE 0) ∷ undoes 3 0 3 (undoneE linksEmpty 0) ∷ [])
+    ∷ making2 0 (inverts 10 0 (afterE linksE 0) ∷ undoes 3 0 3 (redoable (undoneE linksEmpty 0) scriptUp) ∷ [])
     -- three loops, 114 bytes free: down to nothing; cleared, and built again by what was logged
     ∷ making3 114
     (inverts 0 3 (downAt linksEmpty3 95) ∷ clears 1 2 3 2 2 0 (downAt linksEmpty3 122)
@@ -80,8 +81,8 @@ takedownRows =
     ∷ making3 114 (runs scriptDown 0 3 8 (downAt linksEmpty3 95) ∷ [])
     -- the take-down undone, then all else
     ∷ making3 114
-    (inverts 0 3 (downAt linksEmpty3 95) ∷ undoes 3 0 3 (downAt linksE3 114) ∷ undoes 3 0 3 (downAt linksEmpty3 122)
-    ∷ [])
+    (inverts 0 3 (downAt linksEmpty3 95) ∷ undoes 3 0 3 (redoable (downAt linksE3 114) scriptDown)
+    ∷ undoes 3 0 3 (redoable (downAt linksEmpty3 122) (scriptUp ++ scriptDown)) ∷ [])
     -- what was logged, run with another log
     ∷ row (lentWith 37 0)
     (clears 1 2 3 2 2 0 (clearedWith linksEmpty3 0) ∷ runs scriptUp 0 3 19 (afterE linksE3 0) ∷ [])

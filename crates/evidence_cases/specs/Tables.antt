@@ -1,14 +1,17 @@
--- The tables and logs that the rows speak of: capacities 1, 2, 2, 2, 2 and a log of eight bytes; for e the links with a
--- third loop too. What document 01 does not print of them comes from the model in tests/model.
+-- The tables and logs that the rows speak of: capacities 1, 2, 2, 2, 2 and a log of eight bytes, nothing to redo; for e
+-- the links with a third loop too. What document 01 does not print of them comes from the model in tests/model.
 use Prim.Native.Nat.{ℕ}
 use mathlib.Core.List.{List, [], _∷_}
 use lib.IntN.{ℤ, pos}
 use lib.ListN.{replicate}
-use Rattle.runs.specs.Run.{State, state}
+use Rattle.sessions.specs.Editing.{Editing}
+use Rattle.evidence_cases.specs.Case.{lending, editing}
 
 -- memory as it is lent, with something in every place
-abbrev pub lent : State
-lent = state (replicate 34 7) (replicate 6 (pos 7)) (238 ∷ 238 ∷ 238 ∷ 238 ∷ 238 ∷ 238 ∷ 238 ∷ 238 ∷ []) 3
+abbrev pub lent : Editing
+lent =
+    lending (replicate 34 7) (replicate 6 (pos 7)) (238 ∷ 238 ∷ 238 ∷ 238 ∷ 238 ∷ 238 ∷ 238 ∷ 238 ∷ []) 3
+    (replicate 30 221) 4
 
 -- ---- links: the capacities, the solid, two faces, two loops, four half-edges, two vertices
 
@@ -89,22 +92,30 @@ logE = 10 ∷ 2 ∷ 2 ∷ 0 ∷ 6 ∷ 2 ∷ 2 ∷ 1 ∷ []
 
 -- ---- tables with their logs
 
-abbrev pub empty : State
-empty = state linksEmpty pointsZero logEmpty 8
+abbrev pub empty : Editing
+empty = editing linksEmpty pointsZero logEmpty 8
 
-abbrev pub tableB : State
-tableB = state linksB pointsZero logB 6
+abbrev pub tableB : Editing
+tableB = editing linksB pointsZero logB 6
 
 -- with the second vertex at c 0 0
-abbrev pub tableCAt : ℤ → State
-tableCAt c = state linksC (pointsAt c) logC 4
+abbrev pub tableCAt : ℤ → Editing
+tableCAt c = editing linksC (pointsAt c) logC 4
 
-abbrev pub tableC : State
+abbrev pub tableC : Editing
 tableC = tableCAt (pos 100)
 
-abbrev pub tableD : State
-tableD = state linksD (pointsAt (pos 100)) logD 2
+abbrev pub tableD : Editing
+tableD = editing linksD (pointsAt (pos 100)) logD 2
+
+-- d undone: no byte of the log has changed
+abbrev pub backC : Editing
+backC = editing linksC (pointsAt (pos 100)) logD 4
+
+-- c undone too
+abbrev pub backB : Editing
+backB = editing linksB pointsZero logD 6
 
 -- all undone: the cleared table, a log of which no byte has changed, its live part empty
-abbrev pub undoneWith : List ℕ → State
-undoneWith log = state linksEmpty pointsZero log 8
+abbrev pub undoneWith : List ℕ → Editing
+undoneWith log = editing linksEmpty pointsZero log 8

@@ -2,44 +2,48 @@
 // whatever, checks for itself, and answers a refusal by document 01's number; none asks anything of its caller. For C
 // they are in include/zoghvari.h.
 ghost use mathlib.Core.Path.{_≡_};
-ghost use lib.ListN.{length};
 ghost use Rattle.codec.specs.Operands.{widest};
 ghost use Rattle.script.specs.Operator.{readOperator, writeOperator, written};
 ghost use Rattle.table.specs.Check.{checkOf};
-ghost use Rattle.table.specs.Clear.{cleared, clearOf};
 ghost use Rattle.table.specs.Count.{countOf};
-ghost use Rattle.runs.specs.Run.{state, leaves, runOf, restores, undoOf};
-ghost use Rattle.takedown.specs.Inversion.{invertOf};
+ghost use Rattle.sessions.specs.Session.{Clears, Runs, Undoes, Redoes, Inverts};
 ghost use Rattle.wavefront.specs.Obj.{texted, objOf};
 ghost use Rattle.kernel.specs.Kernel.{KeepsFormula};
 use runs::answers::RunAnswer;
-use runs::answers::UndoAnswer;
 use script::Operator;
 use script::ReadAnswer;
 use script::WriteAnswer;
+use sessions::RedoAnswer;
+use sessions::Session;
+use sessions::UndoAnswer;
 use table::check::CheckAnswer;
 use table::clear::ClearAnswer;
 use table::count::CountAnswer;
 use takedown::answer::InvertAnswer;
 use wavefront::answer::TextAnswer;
 
-// Makes an empty table of five capacities: solids, faces, loops, edges, vertices. Refusal 1, or 0 and the start of the
-// empty log, of which only the length is handed in.
+// Makes an empty table of five capacities: solids, faces, loops, edges, vertices. Refusal 1, or 0 and both logs start
+// at their ends; of them only the lengths are handed in.
 #[no_mangle]
 pub extern "C" fn zoghvari_clear(
     links: &mut [u16],
     points: &mut [i32],
     log: usize,
+    redo: usize,
+    session: &mut Session,
     s: u16,
     f: u16,
     l: u16,
     e: u16,
     v: u16,
 ) -> ClearAnswer
-    ensures { λ r. ⌜ cleared (r .refusal) (r .start) (now (links .exit)) (now (points .exit))
-        ≡ clearOf (now (links .entry)) (now (points .entry)) log s f l e v ⌝ }
+    ensures { λ r. ⌜ Clears (now (links .entry)) (now (points .entry)) log redo (now (session .entry)) s f l e v
+        (record { answer = r; session = now (session .exit) }) (now (links .exit)) (now (points .exit)) ⌝ }
 {
-    table::clear::clear(links, points, log, s, f, l, e, v)
+    let held = *session;
+    let r = sessions_entry::clear(links, points, log, redo, held, s, f, l, e, v);
+    *session = r.session;
+    r.answer
 }
 
 // Whether a table is sound: refusal 1, or 2 with the lowest broken rule, or 0.
@@ -76,57 +80,93 @@ pub extern "C" fn zoghvari_write(op: Operator, out: &mut [u8]) -> WriteAnswer
     script::write_operator(op, out)
 }
 
-// Runs a script on a table, each operator with its inverse in the log below `start`: refusal 1, or 2 with the rule;
+// Runs a script on a table, each operator with its inverse in the log below its start: refusal 1, or 2 with the rule;
 // else the refusal of the first operator that is refused, 3 to 9, or 0; the operators done, the script bytes they took,
-// and the log's new start.
+// and the log's new start. If an operator was done the redo log, of which only the length is handed in, is emptied.
 #[no_mangle]
 pub extern "C" fn zoghvari_run(
     links: &mut [u16],
     points: &mut [i32],
     log: &mut [u8],
-    start: usize,
+    redo: usize,
+    session: &mut Session,
     script: &[u8],
 ) -> RunAnswer
-    ensures { λ r. ⌜ leaves r (now (links .exit)) (now (points .exit)) (now (log .exit))
-        ≡ runOf (state (now (links .entry)) (now (points .entry)) (now (log .entry)) start) (now (script .entry)) ⌝ }
+    ensures { λ r. ⌜ Runs (now (links .entry)) (now (points .entry)) (now (log .entry)) redo (now (session .entry))
+        (now (script .entry)) (record { answer = r; session = now (session .exit) }) (now (links .exit))
+        (now (points .exit)) (now (log .exit)) ⌝ }
 {
-    runs_run::run(links, points, log, start, script)
+    let held = *session;
+    let r = sessions_entry::run(links, points, log, redo, held, script);
+    *session = r.session;
+    r.answer
 }
 
-// Undoes the last n operators by the log's live part, which begins at `start`; no byte of the log changes. Refusal 1,
-// or 2 with the rule; else 3 to 8 of a log that no run wrote, 11 where it ends too soon, or 0; the operators undone and
-// the log's new start.
+// Undoes the last n operators by the log's live part, and writes the inverse of each into the redo log below its start;
+// no byte of the log changes. Refusal 1, or 2 with the rule; else 3 to 8 of a log that no run wrote, 9 where the redo
+// log has no room, 11 where the log ends too soon, or 0; the operators undone and the log's new start.
 #[no_mangle]
 pub extern "C" fn zoghvari_undo(
     links: &mut [u16],
     points: &mut [i32],
     log: &[u8],
-    start: usize,
+    redo: &mut [u8],
+    session: &mut Session,
     n: usize,
 ) -> UndoAnswer
-    ensures { λ r. ⌜ restores r (now (links .exit)) (now (points .exit))
-        ≡ undoOf (state (now (links .entry)) (now (points .entry)) (now (log .entry)) start) n ⌝ }
+    ensures { λ r. ⌜ Undoes (now (links .entry)) (now (points .entry)) (now (log .entry)) (now (redo .entry))
+        (now (session .entry)) n (record { answer = r; session = now (session .exit) }) (now (links .exit))
+        (now (points .exit)) (now (redo .exit)) ⌝ }
 {
-    runs_undo::undo(links, points, log, start, n)
+    let held = *session;
+    let r = sessions_entry::undo(links, points, log, redo, held, n);
+    *session = r.session;
+    r.answer
 }
 
-// Takes a sound table down to nothing (document 01: the take-down), each operator with its inverse in the log below
-// `start`, so that the part of the log from the new start up to the old one is a script that builds the table again.
+// Redoes the last n operators that were undone, by the redo log's live part, each with its inverse in the log as in a
+// run; no byte of the redo log changes. Refusal 1, or 2 with the rule; else 3 to 8 of a redo log that no undo wrote, 9
+// where the log has no room, 11 where the redo log ends too soon, or 0; and the operators done.
+#[no_mangle]
+pub extern "C" fn zoghvari_redo(
+    links: &mut [u16],
+    points: &mut [i32],
+    log: &mut [u8],
+    redo: &[u8],
+    session: &mut Session,
+    n: usize,
+) -> RedoAnswer
+    ensures { λ r. ⌜ Redoes (now (links .entry)) (now (points .entry)) (now (log .entry)) (now (redo .entry))
+        (now (session .entry)) n (record { answer = r; session = now (session .exit) }) (now (links .exit))
+        (now (points .exit)) (now (log .exit)) ⌝ }
+{
+    let held = *session;
+    let r = sessions_entry::redo(links, points, log, redo, held, n);
+    *session = r.session;
+    r.answer
+}
+
+// Takes a sound table down to nothing (document 01: the take-down), each operator with its inverse in the log below its
+// start, so that the part of the log from the new start up to the old one is a script that builds the table again.
 // Refusal 1, or 2 with the rule; 10 where no face, loop or edge number is free; 9 where fewer than 19 (v + 2f + 2r + 3h
-// − 2s) bytes are free; or 0; the operators done and the log's new start.
+// − 2s) bytes are free; or 0; the operators done and the log's new start. If an operator was done the redo log is
+// emptied.
 #[no_mangle]
 pub extern "C" fn zoghvari_invert(
     links: &mut [u16],
     points: &mut [i32],
     log: &mut [u8],
-    start: usize,
+    redo: usize,
+    session: &mut Session,
 ) -> InvertAnswer
-    ensures { λ r. ⌜
-        leaves r (now (links .exit)) (now (points .exit)) (now (log .exit))
-        ≡ invertOf (state (now (links .entry)) (now (points .entry)) (now (log .entry)) start)
-        ⌝ }
+    ensures { λ r. ⌜ Inverts (now (links .entry)) (now (points .entry)) (now (log .entry)) redo (now (session .entry))
+        (record { answer = r; session = now (session .exit) }) (now (links .exit)) (now (points .exit))
+        (now (log .exit)) ⌝ }
 {
-    takedown_entry::invert::invert(links, points, log, start)
+    let held = *session;
+    let r = sessions_entry::invert(links, points, log, redo, held);
+    *session = r.session;
+    r.answer
 }
 
 // Writes solid s of a sound table at the front of `out` as Wavefront OBJ text, its faces seen from outside

@@ -1,8 +1,12 @@
 -- THE MISSION, in statements: types only. `Proved` has a proof of each, by the theorem of the field's name.
 -- They speak of the definitions that the contracts of crate `kernel` cite:
---     clearOf  zoghvari_clear       readOperator widest  zoghvari_read        runOf     zoghvari_run
---     checkOf  zoghvari_check       writeOperator        zoghvari_write       undoOf    zoghvari_undo
---     countOf  zoghvari_count       objOf                zoghvari_obj         invertOf  zoghvari_invert
+--     sessionClear  zoghvari_clear     checkOf  zoghvari_check     readOperator widest  zoghvari_read
+--     sessionRun    zoghvari_run       countOf  zoghvari_count     writeOperator        zoghvari_write
+--     sessionUndo   zoghvari_undo      objOf    zoghvari_obj
+--     sessionRedo   zoghvari_redo
+--     sessionInvert zoghvari_invert
+-- Those with a session are a line each over `clearOf`, `runOf`, `moveOf` (undo and redo) and `invertOf`, whose answer,
+-- table and log they give as they are (crates/sessions/specs/Session.antt).
 -- A contract says: for every input the answer, and every word, coordinate and byte that the call leaves, are the
 -- definition's. So what is said here of a definition is said of the call, and what is said of a list of acts
 -- (`Act`, `doAll` of crate `machine`: one act for each entry point) is said of these calls one after the other.
@@ -11,7 +15,7 @@ use mathlib.Core.Path.{_≡_}
 use mathlib.Core.Logic.{_≢_}
 use mathlib.Core.Bool.{true}
 use mathlib.Core.List.{List, [], _∷_, _++_}
-use Prim.Native.Nat.{ℕ, _+_, _≤_, _<_}
+use Prim.Native.Nat.{ℕ, _+_, _-_, _≤_, _<_}
 use lib.IntN.{ℤ}
 use lib.ListN.{length, getD, take, drop}
 use Rattle.script.specs.declared.Operator.{Operator}
@@ -20,7 +24,7 @@ use Rattle.codec.specs.Operands.{widest}
 use Rattle.script.specs.Operator.{refused, readOperator, operatorBytes, notWritten, writeOperator, readScript}
 use Rattle.numbers.specs.declared.Num.the-variants.{Got, Bad}
 use Rattle.numbers.specs.Number.{readNumber, groups}
-use Rattle.numbers.specs.Padded.{form, shorten, shortest}
+use Rattle.numbers.specs.Padded.{form, shorten, shortenFrom, shortest}
 use Rattle.numbers.specs.NumberTrip.{Bytes}
 use Rattle.numbers.specs.Unread.{Unread}
 use Rattle.script.specs.EntryTrips.{Copied, writtenAll}
@@ -34,17 +38,25 @@ use Rattle.table.specs.Count.{countOf}
 use Rattle.euler.specs.Exec.{Table, exec, admitOf, refusalOf, linksAfter, pointsAfter}
 use Rattle.sound_cuts.specs.MefOperands.{kefOf}
 use Rattle.sound_cuts.specs.KefAmid.{KefInPlace}
-use Rattle.runs.specs.Run.{State, readAt, refusalAt, inverseBytes, runRefusal, entry}
-use Rattle.runs.specs.Run.{notRun, runOf, notUndone, undoOf}
+use Rattle.runs.specs.Run.{State, readAt, refusalAt, inverseBytes, runRefusal, entry, notRun, runOf}
+use Rattle.runs.specs.Move.{moved, moveOf, moveEntry}
 use Rattle.takedown.specs.Inversion.{inverted, begin, invertOf}
+use Rattle.sessions.specs.Session.{redoneSession}
+use Rattle.sessions.specs.Editing.{Editing, logState, undoIn, undoneFrom, redoIn, redoneFrom}
 use Rattle.promises.specs.RunAll.{leftBy, runAll}
 use Rattle.promises.specs.Reading.{Taken}
-use Rattle.promises.specs.Carried.{Refusing, Carried, apart, undoneApart}
-use Rattle.promises.specs.Promises.{Restored}
-use Rattle.promises.specs.Padded.{shortUsed, shortLog, shortStart}
+use Rattle.promises.specs.Carried.{Refusing, Carried, apart}
+use Rattle.promises.specs.Moves.{movedTo}
+use Rattle.promises.specs.MoveParts.{movedApart}
+use Rattle.promises.specs.MoveSteps.{Moves}
+use Rattle.promises.specs.Edits.{editAll, doneScript, usedAll}
+use Rattle.promises.specs.Promises.{undoAll, Restored, RedoRoom}
+use Rattle.promises.specs.Redo.{LetIn, Returned, undoRead, redoRead, UndoRedone, RedoUndone}
+use Rattle.promises.specs.Sessions.{Empties, Starts, LooksAtRedo, undoEntry, redoEntry, notUndone, notRedone}
+use Rattle.promises.specs.Padded.{shortUsed, shortSource}
 use Rattle.promises.specs.ShortLog.{live}
 use Rattle.machine.specs.Machine.{Act, behind, onlyRuns}
-use Rattle.machine.specs.Acts.{ActsUndone}
+use Rattle.machine.specs.Acts.{scriptsOf, ActsUndone}
 use Rattle.inversion.specs.Promise.{clearLinks, clearPoints, Asked, InversionExact, HolesOne, CountHoles}
 use Rattle.wavefront.specs.Obj.{solidRefusal, objOf}
 use Rattle.wavefront_read.specs.Refused.{RefusedAs}
@@ -62,16 +74,17 @@ Passes x p = checkOf x p .refusal ≡ 0
 -- "A refusal carries one of eleven numbers." Each entry point answers 0 or one of those that document 01 gives it.
 -- Document 02, job 2: "These and later jobs' new numbers join the mission's eleven": 12 and 13
 pub record RefusalsNumbered : Type 0 where
-  pub clear : (x : List ℕ) (p : List ℤ) (log s f l e v : ℕ)
-      → OneOf (0 ∷ 1 ∷ []) (clearOf x p log s f l e v .answer .refusal)
+  pub clear : (x : List ℕ) (p : List ℤ) (s f l e v : ℕ) → OneOf (0 ∷ 1 ∷ []) (clearOf x p s f l e v .answer .refusal)
   pub check : (x : List ℕ) (p : List ℤ) → OneOf (0 ∷ 1 ∷ 2 ∷ []) (checkOf x p .refusal)
   pub count : (x : List ℕ) (p : List ℤ) → OneOf (0 ∷ 1 ∷ 2 ∷ []) (countOf x p .refusal)
   pub read : (s : List ℕ) (at : ℕ) → OneOf (0 ∷ 3 ∷ 4 ∷ 5 ∷ []) (readOperator widest s at .refusal)
   pub write : (o : Operator) (out : List ℕ) → OneOf (0 ∷ 4 ∷ 5 ∷ 9 ∷ []) (writeOperator o out .answer .refusal)
   pub run : (t : State) (s : List ℕ)
       → OneOf (0 ∷ 1 ∷ 2 ∷ 3 ∷ 4 ∷ 5 ∷ 6 ∷ 7 ∷ 8 ∷ 9 ∷ []) (runOf t s .answer .refusal)
-  pub undo : (t : State) (n : ℕ)
-      → OneOf (0 ∷ 1 ∷ 2 ∷ 3 ∷ 4 ∷ 5 ∷ 6 ∷ 7 ∷ 8 ∷ 11 ∷ []) (undoOf t n .answer .refusal)
+  pub undo : (e : Editing) (n : ℕ)
+      → OneOf (0 ∷ 1 ∷ 2 ∷ 3 ∷ 4 ∷ 5 ∷ 6 ∷ 7 ∷ 8 ∷ 9 ∷ 11 ∷ []) (undoIn e n .answer .answer .refusal)
+  pub redo : (e : Editing) (n : ℕ)
+      → OneOf (0 ∷ 1 ∷ 2 ∷ 3 ∷ 4 ∷ 5 ∷ 6 ∷ 7 ∷ 8 ∷ 9 ∷ 11 ∷ []) (redoIn e n .answer .answer .refusal)
   pub invert : (t : State) → OneOf (0 ∷ 1 ∷ 2 ∷ 9 ∷ 10 ∷ []) (invertOf t .answer .refusal)
   pub obj : (x : List ℕ) (p : List ℤ) (s : ℕ) (out : List ℕ)
       → OneOf (0 ∷ 1 ∷ 2 ∷ 5 ∷ 6 ∷ 12 ∷ 13 ∷ []) (objOf x p s out .answer .refusal)
@@ -87,18 +100,21 @@ pub record Demand1 : Type 0 where
   -- alone, do as many operators and leave the same table, log and start; only the entry refuses them
   pub refused-apart : (t : State) (s : List ℕ)
       → runOf t (take (runOf t s .answer .used) s) ≡ apart (entry t) (runOf t s)
-  -- and undo of as many as it answers: "what it undid stands"
-  pub undo-apart : (t : State) (n : ℕ)
-      → undoOf t (undoOf t n .answer .undone) ≡ undoneApart (entry t) (undoOf t n)
+  -- and undo of as many as it answers: "what it undid stands"; so too redo, which is the same of the two logs exchanged
+  pub move-apart : (source : List ℕ) (from : ℕ) (t : State) (n : ℕ)
+      → moveOf source from t (moveOf source from t n .answer .done)
+      ≡ movedApart (moveEntry source from t) (moveOf source from t n)
   -- "A refusal writes no byte of its own." Where the entry refuses (1 for a start beyond the log, else what the check
   -- answers), none is done and all is as before; so too where clearing, writing or the take-down refuses
   pub entry-numbered : (t : State) → OneOf (0 ∷ 1 ∷ 2 ∷ []) (entry t .refusal)
   pub run-out : (t : State) (s : List ℕ) → entry t .refusal ≢ 0
       → runOf t s ≡ notRun (entry t .refusal) (entry t .rule) t
-  pub undo-out : (t : State) (n : ℕ) → entry t .refusal ≢ 0
-      → undoOf t n ≡ notUndone (entry t .refusal) (entry t .rule) t
-  pub clear-out : (x : List ℕ) (p : List ℤ) (log s f l e v : ℕ) → clearOf x p log s f l e v .answer .refusal ≢ 0
-      → clearOf x p log s f l e v ≡ cleared 1 log x p
+  pub undo-out : (e : Editing) (n : ℕ) → undoEntry e .refusal ≢ 0
+      → undoIn e n ≡ notUndone e (undoEntry e .refusal) (undoEntry e .rule)
+  pub redo-out : (e : Editing) (n : ℕ) → redoEntry e .refusal ≢ 0
+      → redoIn e n ≡ notRedone e (redoEntry e .refusal) (redoEntry e .rule)
+  pub clear-out : (x : List ℕ) (p : List ℤ) (s f l e v : ℕ) → clearOf x p s f l e v .answer .refusal ≢ 0
+      → clearOf x p s f l e v ≡ cleared 1 x p
   pub write-out : (o : Operator) (out : List ℕ) → writeOperator o out .answer .refusal ≢ 0
       → writeOperator o out ≡ notWritten (writeOperator o out .answer .refusal) out
   pub invert-out : (t : State) → invertOf t .answer .refusal ≢ 0
@@ -161,22 +177,24 @@ pub record Demand2 : Type 0 where
   pub unread : (s : List ℕ) (at : ℕ) → readNumber s at ≡ Bad → Unread s at
   pub unread-bad : (s : List ℕ) (at : ℕ) → Unread s at → readNumber s at ≡ Bad
   -- the same: "A padded script must do what its shortest form does, bytes taken aside". Of any bytes and from any
-  -- state, refused or not, all but the bytes used are the same (`shortUsed`); so too undo on a padded log
-  -- (`shortStart`)
+  -- state, refused or not, all but the bytes used are the same (`shortUsed`); so too undo of a padded log and
+  -- redo of a padded redo log (`shortSource`)
   pub padded-run : (t : State) (s : List ℕ) → runOf t (shorten s) ≡ shortUsed s (runOf t s)
-  pub padded-undo : (t : State) (n : ℕ) → undoOf (shortLog t) n ≡ shortStart t (undoOf t n)
-  -- "A sound table stays sound": under each accepted operator, under any list of runs, undone by any log, taken down or
-  -- refused; and a cleared one is sound
+  pub padded-move : (source : List ℕ) (from : ℕ) (t : State) (n : ℕ)
+      → moveOf (shortenFrom from source) from t n ≡ shortSource source from (moveOf source from t n)
+  -- "A sound table stays sound": under each accepted operator, under any list of runs, undone and redone by any log,
+  -- taken down or refused; and a cleared one is sound
   pub valid-kept : (x : List ℕ) (p : List ℤ) (o : Operator) → Passes x p → length (o .args) ≡ 8
       → refusalOf (shapeOf x) x o ≡ 0 → Passes (linksAfter (shapeOf x) x o) (pointsAfter (shapeOf x) x p o)
-  pub clear-valid : (x : List ℕ) (p : List ℤ) (log s f l e v : ℕ) → clearOf x p log s f l e v .answer .refusal ≡ 0
-      → Passes (clearOf x p log s f l e v .links) (clearOf x p log s f l e v .points)
+  pub clear-valid : (x : List ℕ) (p : List ℤ) (s f l e v : ℕ) → clearOf x p s f l e v .answer .refusal ≡ 0
+      → Passes (clearOf x p s f l e v .links) (clearOf x p s f l e v .points)
   pub runs-sound : (t : State) (ss : List (List ℕ)) → Passes (t .links) (t .points)
       → Passes (runAll t ss .last .links) (runAll t ss .last .points)
-  pub undo-sound : (t : State) (n : ℕ) → Passes (t .links) (t .points) → Passes (undoOf t n .links) (undoOf t n .points)
+  pub move-sound : (source : List ℕ) (from : ℕ) (t : State) (n : ℕ) → Passes (t .links) (t .points)
+      → Passes (moveOf source from t n .links) (moveOf source from t n .points)
   pub invert-sound : (t : State) → Passes (t .links) (t .points) → Passes (invertOf t .links) (invertOf t .points)
   -- and so under any list of calls, whichever they are
-  pub sound-acts : (t : State) (acts : List Act) → Passes (t .links) (t .points)
+  pub sound-acts : (t : Editing) (acts : List Act) → Passes (t .links) (t .points)
       → Passes (behind t acts .links) (behind t acts .points)
 
 -- ---- DEMAND 3. "This is one statement about the whole list, not one per run."
@@ -185,12 +203,14 @@ pub record Demand2 : Type 0 where
 pub record Demand3 : Type 0 where
   -- "Suppose a table passes the check, whoever made it. Run any list of scripts from it, whatever they hold, refused
   -- runs included: … Undoing as many operators as were done in all, by document 01's meaning of done, then gives the
-  -- earlier table, to the byte." (`Restored`: also the log from the first start on, and undo's answer)
-  pub undo-exact : (t : State) (ss : List (List ℕ)) → Passes (t .links) (t .points) → Restored t ss
+  -- earlier table, to the byte." (`Restored`: also the log from the first start on, and undo's answer.) Document 02,
+  -- job 4: "every promise about undoing, the mission's …, supposes a redo start not beyond the redo log, and room in
+  -- that log for the operators undo writes there" (`RedoRoom`: for the operators done, in shortest form)
+  pub undo-exact : (e : Editing) (ss : List (List ℕ)) → Passes (e .links) (e .points) → RedoRoom e ss → Restored e ss
   -- "… each …, on the table, log and start the last one left, with no other writing call until the undo and no outside
-  -- hand on table or log": the same of any list of calls of which each is a run or writes neither table nor log
-  pub undo-acts : (t : State) (acts : List Act) → onlyRuns acts ≡ true → Passes (t .links) (t .points)
-      → ActsUndone t acts
+  -- hand on table or log": the same of any list of calls of which each is a run or writes none of these
+  pub undo-acts : (t : Editing) (acts : List Act) → onlyRuns acts ≡ true → Passes (t .links) (t .points)
+      → RedoRoom t (scriptsOf acts) → ActsUndone t acts
   -- It rests on the inverses, which a run logs: on what an accepted operator left its inverse is accepted, gives back
   -- every word and coordinate, and has that operator for its own inverse
   pub inverse-exact : (t : Table) (o : Operator) → Passes (t .links) (t .points) → length (o .args) ≡ 8
@@ -206,9 +226,9 @@ pub record Demand3 : Type 0 where
   -- and it answers 0 only where all that is so
   pub invert-asked : (t : State) → invertOf t .answer .refusal ≡ 0 → (h : ℕ) × Asked t h
   -- "an empty one of the same capacities": what clearing leaves
-  pub clear-own : (x : List ℕ) (p : List ℤ) (log : ℕ) → Passes x p
-      → clearOf x p log (getD x 0 0) (getD x 1 0) (getD x 2 0) (getD x 3 0) (getD x 4 0)
-      ≡ cleared 0 log (clearLinks x) (clearPoints x)
+  pub clear-own : (x : List ℕ) (p : List ℤ) → Passes x p
+      → clearOf x p (getD x 0 0) (getD x 1 0) (getD x 2 0) (getD x 3 0) (getD x 4 0)
+      ≡ cleared 0 (clearLinks x) (clearPoints x)
   -- "… where v − e + f = 2(s − h) + r": one such h and no other, whole and not negative, for every sound table
   pub holes-one : HolesOne
   -- and counting answers it
@@ -216,7 +236,7 @@ pub record Demand3 : Type 0 where
 
 -- ---- DOCUMENT 02, what its jobs ask beside the demands (job 1 changed some of them, and stands there)
 
--- job 2: the text of a solid; job 3: kef in place
+-- job 2: the text of a solid; job 3: kef in place; job 4: redo
 pub record Requests : Type 0 where
   -- "(After 5 and 6 for the solid: 12, …; then 13, the text doesn't fit.)" Every call ends in one of four ways
   -- (`TextEnds`), each with its answer and every byte of the buffer: what the check refuses; what is refused of the
@@ -243,6 +263,43 @@ pub record Requests : Type 0 where
   -- seen in its text (tests/gate/scratch.py)
   pub kef-in-place : (x : List ℕ) (p : List ℤ) → Passes x p → (k : ℕ) → refusalOf (shapeOf x) x (kefOf k) ≡ 0
       → KefInPlace (shapeOf x) x k
+  -- Job 4. "Undo shall write the inverse of each operator it does into … the redo log, filled from its end like the
+  -- first. Redo n runs its first n operators, logged as in a run". Both are moves: one that is let in carries out as
+  -- many of the source's operators from its start on as it answers, each on the state that the one before left and with
+  -- its inverse just below the destination's start (`stepped`), up to the number due, the source's end (11) or the
+  -- first refusal (3 to 8, then 9, by `step-refusal`), which it answers
+  pub move-carried : (source : List ℕ) (from : ℕ) (t : State) (n : ℕ) → moveEntry source from t .refusal ≡ 0
+      → let m = moveOf source from t n in
+      Moves (shapeOf (t .links)) source (m .answer .refusal) (m .answer .from) (movedTo m) n (m .answer .done) from t
+  -- "clearing, or an operator done by any call but these two, empties it" (`Empties`), and nothing else does
+  pub redo-emptied : (e : Editing) → Empties e
+  -- "The editor lends one session record, … and the kernel updates that record": the log's start, which run, undo and
+  -- take-down answer too
+  pub starts-answered : (e : Editing) → Starts e
+  -- "Undoing n and redoing as many as were undone must return table, session and live log bytes exactly, when no other
+  -- call and no outside hand on table, session or logs comes between and the log is in shortest form." (`UndoRedone`:
+  -- every byte of the log.) For any n and whatever undo answers; only what undo read need be in shortest form, and what
+  -- runs and redo log always is (`log-shortest`, `move-shortest`). `LetIn`: a sound table, neither start beyond its log
+  pub undo-redo : (e : Editing) (n : ℕ) → LetIn e → Bytes (e .log) → shortest (undoRead e n) ≡ true → UndoRedone e n
+  -- and the other way round
+  pub redo-undo : (e : Editing) (n : ℕ) → LetIn e → Bytes (e .redo) → shortest (redoRead e n) ≡ true → RedoUndone e n
+  -- and in part
+  pub undo-redo-less : (e : Editing) (m n : ℕ) → LetIn e → m ≤ n → undoIn e n .answer .answer .refusal ≡ 0
+      → Bytes (e .log) → shortest (live (logState e)) ≡ true
+      → Returned (undoneFrom e (n - m)) (redoneFrom (undoneFrom e n) m)
+  pub move-shortest : (source : List ℕ) (from : ℕ) (t : State) (n : ℕ) → Passes (t .links) (t .points)
+      → shortest (live t) ≡ true → shortest (live (movedTo (moveOf source from t n))) ≡ true
+  -- "Redo past its log's end gives 11; it and undo alone give 1 for a redo start beyond that log." (`LooksAtRedo`)
+  pub redo-ended : (e : Editing) (n : ℕ) → LetIn e → 0 < n → e .session .redo ≡ length (e .redo)
+      → redoIn e n ≡ redoneSession (moved 11 0 (e .session .redo) (logState e))
+  pub redo-beyond : (e : Editing) → LooksAtRedo e
+  -- "A full redo log gives 9, and the operator that met it isn't undone: table and session are as before it" (by
+  -- `move-apart`). So the room that the undo promise supposes is needed; a redo log as long as the bytes used is enough
+  pub undo-full : (e : Editing) (ss : List (List ℕ)) → Passes (e .links) (e .points) → e .session .log ≤ length (e .log)
+      → e .session .redo ≤ length (e .redo) → editAll e ss .last .session .redo < length (doneScript (logState e) ss)
+      → undoAll e ss .answer .answer .refusal ≡ 9
+  pub used-room : (e : Editing) (ss : List (List ℕ)) → Passes (e .links) (e .points)
+      → e .session .redo ≤ length (e .redo) → usedAll (logState e) ss ≤ length (e .redo) → RedoRoom e ss
 
 -- the whole
 pub record Mission : Type 0 where

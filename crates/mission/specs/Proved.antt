@@ -10,20 +10,25 @@ use Rattle.table.specs.declared.check.CheckAnswer.{CheckAnswer}
 use Rattle.sound_tables.specs.ClearSound.{clear-valid}
 use Rattle.sound_cuts.specs.KefAmid.{kef-in-place}
 use Rattle.sound_operators.specs.Theorems.{valid-kept, inverse-exact}
-use Rattle.runs.specs.Clauses.{run-out, undo-out}
+use Rattle.runs.specs.Clauses.{run-out}
 use Rattle.promises.specs.Checked.{checked-valid, checked-good}
 use Rattle.promises.specs.Reading.{taken}
-use Rattle.promises.specs.Carried.{step-refusal, run-carried, refused-apart, undo-apart}
-use Rattle.promises.specs.Promises.{undo-exact, runs-sound, undo-sound}
-use Rattle.promises.specs.Padded.{padded-run, padded-undo}
-use Rattle.promises.specs.ShortLog.{log-shortest}
+use Rattle.promises.specs.Carried.{step-refusal, run-carried, refused-apart}
+use Rattle.promises.specs.Moves.{move-sound}
+use Rattle.promises.specs.MoveParts.{move-apart}
+use Rattle.promises.specs.MoveSteps.{move-carried}
+use Rattle.promises.specs.Promises.{undo-exact, undo-full, used-room, runs-sound}
+use Rattle.promises.specs.Redo.{undo-redo, redo-undo, undo-redo-less}
+use Rattle.promises.specs.Sessions.{redo-emptied, starts-answered, redo-ended, redo-beyond, undo-out, redo-out}
+use Rattle.promises.specs.Padded.{padded-run, padded-move}
+use Rattle.promises.specs.ShortLog.{log-shortest, move-shortest}
 use Rattle.machine.specs.Acts.{undo-acts}
 use Rattle.inversion.specs.Theorem.{inversion-exact, holes-one, count-holes}
 use Rattle.wavefront_read.specs.Refused.{solid-refused}
 use Rattle.wavefront_read.specs.Written.{obj-ends, obj-out, obj-reads}
 use Rattle.mission.specs.Refusals.{clear-numbered, check-numbered, count-numbered, read-numbered, write-numbered}
-use Rattle.mission.specs.Refusals.{run-numbered, undo-numbered, invert-numbered, obj-numbered, rule-named}
-use Rattle.mission.specs.Refusals.{entry-numbered, clear-out, write-out, invert-out}
+use Rattle.mission.specs.Refusals.{run-numbered, undo-numbered, redo-numbered, invert-numbered, obj-numbered}
+use Rattle.mission.specs.Refusals.{rule-named, entry-numbered, clear-out, write-out, invert-out}
 use Rattle.mission.specs.TakeDown.{clear-own, invert-asked, invert-sound}
 use Rattle.mission.specs.SoundActs.{sound-acts}
 use Rattle.mission.specs.Mission.{RefusalsNumbered, Demand1, Demand2, Demand3, Requests, Mission}
@@ -38,6 +43,7 @@ refusals-numbered = record {
   write = write-numbered;
   run = run-numbered;
   undo = undo-numbered;
+  redo = redo-numbered;
   invert = invert-numbered;
   obj = λ x p s out. obj-numbered x p s out .0;
 }
@@ -49,10 +55,11 @@ demand-1 = record {
   rule-named = rule-named;
   obj-named = λ x p s out. obj-numbered x p s out .1;
   refused-apart = refused-apart;
-  undo-apart = undo-apart;
+  move-apart = move-apart;
   entry-numbered = entry-numbered;
   run-out = run-out;
   undo-out = undo-out;
+  redo-out = redo-out;
   clear-out = clear-out;
   write-out = write-out;
   invert-out = invert-out;
@@ -79,12 +86,12 @@ demand-2 = record {
   unread = unread;
   unread-bad = unread-bad;
   padded-run = padded-run;
-  padded-undo = padded-undo;
+  padded-move = padded-move;
   valid-kept = λ x p o h len a.
       ap (λ (c : CheckAnswer). c .refusal) (valid-kept x p o (checked-valid x p h) len a);
-  clear-valid = λ x p log s f l e v h. ap (λ (a : CheckAnswer). a .refusal) (clear-valid x p log s f l e v h);
+  clear-valid = λ x p s f l e v h. ap (λ (a : CheckAnswer). a .refusal) (clear-valid x p s f l e v h);
   runs-sound = runs-sound;
-  undo-sound = undo-sound;
+  move-sound = move-sound;
   invert-sound = invert-sound;
   sound-acts = sound-acts;
 }
@@ -109,6 +116,17 @@ requested = record {
   solid-refused = λ x p h. solid-refused x p (checked-valid x p h);
   obj-reads = obj-reads;
   kef-in-place = λ x p h k. kef-in-place (checked-good x p h) k;
+  move-carried = move-carried;
+  redo-emptied = redo-emptied;
+  starts-answered = starts-answered;
+  undo-redo = undo-redo;
+  redo-undo = redo-undo;
+  undo-redo-less = undo-redo-less;
+  move-shortest = move-shortest;
+  redo-ended = redo-ended;
+  redo-beyond = redo-beyond;
+  undo-full = undo-full;
+  used-room = used-room;
 }
 
 -- all of it

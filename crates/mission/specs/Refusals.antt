@@ -6,7 +6,7 @@ use mathlib.Core.Bool.{Bool, false, _&&_, _||_}
 use mathlib.Core.List.{List, [], _∷_, map}
 use Prim.Native.Nat.{ℕ, zero, suc, _+_}
 use native.Mathlib.Omega.{arith}
-use lib.Dec.{T, eqb, leb, ltb, eqb→eq}
+use lib.Dec.{T, eqb, leb, eqb→eq}
 use lib.IntN.{ℤ}
 use lib.ListN.{length, getD}
 use Rattle.laws.specs.Bools.{pick, pick-ind, split, eqb-same, eqb-other, le?, or-T, and-T, allb}
@@ -33,13 +33,17 @@ use Rattle.table.specs.Check.{ruled, checkOf}
 use Rattle.table.specs.Count.{tallyOf, countOf}
 use Rattle.euler.specs.Surgery.{itemOf}
 use Rattle.euler.specs.Exec.{useWord, whenFree, whenUsed, useRefusal, useRefusals, condition, admitOf}
-use Rattle.runs.specs.Run.{State, readAt, refusalAt, inverseBytes, runRefusal, entry, runOf, Undid, undoFrom, undoOf}
-use Rattle.runs.specs.Clauses.{run-out, undo-none, undo-some, undo-in, undo-out}
-use Rattle.runs.specs.RunLaws.{read-refused, read-admitted}
+use Rattle.runs.specs.Run.{State, readAt, inverseBytes, runRefusal, entry, runOf}
+use Rattle.runs.specs.Move.{moveOf, moveEntry}
+use Rattle.runs.specs.Clauses.{run-out, move-out}
+use Rattle.sessions.specs.Session.{sessionUndo, sessionRedo}
+use Rattle.sessions.specs.Editing.{Editing, logState, redoState, undoIn, redoIn}
 use Rattle.takedown.specs.Inversion.{noneFree, shortLog, Inverted, inverted, begin, invertOf}
 use Rattle.wavefront.specs.Obj.{noRingNorLone, threeSided, solidRefusal, Texted, objOf}
 use Rattle.wavefront_read.specs.Written.{TextEnds, unsound, unshown, unfitting, written, obj-ends}
 use Rattle.promises.specs.Carried.{step-refusal, Carried, ended, refused as stopped, done, run-carried}
+use Rattle.promises.specs.MoveSteps.{Moves, all, ended as moved-end, refused as moved-stop, done as moved-one}
+use Rattle.promises.specs.MoveSteps.{move-carried}
 
 -- ---- one of these numbers
 
@@ -66,8 +70,8 @@ looked-up ms [] d h t k = t
 looked-up ms (a ∷ l) d h t zero = and-T (among ms a) (allb (map (among ms) l)) h .0
 looked-up ms (a ∷ l) d h t (suc k) = looked-up ms l d (and-T (among ms a) (allb (map (among ms) l)) h .1) t k
 
--- what can come of the check; of reading; of an operator's items; of them and its condition; of an operator of a log;
--- of one of a script
+-- what can come of the check; of reading; of an operator's items; of them and its condition; of an operator of a script
+-- or log
 abbrev checks : List ℕ
 checks = 0 ∷ 1 ∷ 2 ∷ []
 
@@ -80,9 +84,6 @@ uses = 0 ∷ 6 ∷ 7 ∷ []
 abbrev admits : List ℕ
 admits = 0 ∷ 6 ∷ 7 ∷ 8 ∷ []
 
-abbrev logged : List ℕ
-logged = 0 ∷ 3 ∷ 4 ∷ 5 ∷ 6 ∷ 7 ∷ 8 ∷ []
-
 abbrev steps : List ℕ
 steps = 0 ∷ 3 ∷ 4 ∷ 5 ∷ 6 ∷ 7 ∷ 8 ∷ 9 ∷ []
 
@@ -90,9 +91,9 @@ steps = 0 ∷ 3 ∷ 4 ∷ 5 ∷ 6 ∷ 7 ∷ 8 ∷ 9 ∷ []
 
 module _ (x : List ℕ) (p : List ℤ) where
   -- clearing gives only 1
-  pub clear-numbered : (log s f l e v : ℕ) → OneOf (0 ∷ 1 ∷ []) (clearOf x p log s f l e v .answer .refusal)
+  pub clear-numbered : (s f l e v : ℕ) → OneOf (0 ∷ 1 ∷ []) (clearOf x p s f l e v .answer .refusal)
   unfolding clearOf
-  clear-numbered log s f l e v =
+  clear-numbered s f l e v =
       pick-ind (λ (c : Cleared). OneOf (0 ∷ 1 ∷ []) (c .answer .refusal)) (sizesFit (length x) (length p) s f l e v) _ _
       tt tt
 
@@ -211,16 +212,7 @@ module _ (sh : Shape) (x : List ℕ) where
       (pick-ind (OneOf admits) (condition sh x o) _ _ tt tt)
       (wider uses admits tt (useRefusals sh x o ks 0) (uses-numbered o ks 0))
 
-  -- an operator of a log
-  at-numbered : (s : List ℕ) (at : ℕ) → OneOf logged (refusalAt sh x s at)
-  at-numbered s at =
-      let r = readAt sh s at in
-      let k = admitOf sh x (r .op) in
-      split (r .refusal) 0
-      (λ z. subst (OneOf logged) (read-admitted sh x r z k refl) (wider admits logged tt k (admit-numbered (r .op))))
-      (λ d. subst (OneOf logged) (read-refused sh x r d) (wider reads logged tt (r .refusal) (read-numbered _ s at)))
-
--- an operator of a script
+-- an operator of a script or log
 step-numbered : (sh : Shape) (t : State) (s : List ℕ) (at : ℕ) → OneOf steps (runRefusal sh t s at)
 step-numbered sh t s at =
     let r = step-refusal sh t s at in
@@ -233,7 +225,7 @@ step-numbered sh t s at =
     (λ d. rw (r .not-admitted z d) (wider admits steps tt k (admit-numbered sh (t .links) o))))
     (λ d. rw (r .not-read d) (wider reads steps tt (readAt sh s at .refusal) (read-numbered _ s at)))
 
--- ---- run, undo, take-down
+-- ---- run, undo and redo, take-down
 
 -- the way in
 pub entry-numbered : (t : State) → OneOf checks (entry t .refusal)
@@ -259,30 +251,41 @@ run-numbered t s = split (entry t .refusal) 0
     (λ h. wider steps runs tt (runOf t s .answer .refusal) (carried-numbered (run-carried t s h)))
     (λ d. rw (run-out t s d) (wider checks runs tt (entry t .refusal) (entry-numbered t)))
 
--- undo 1 to 8, and 11
-abbrev undos : List ℕ
-undos = 0 ∷ 1 ∷ 2 ∷ 3 ∷ 4 ∷ 5 ∷ 6 ∷ 7 ∷ 8 ∷ 11 ∷ []
+-- undo and redo the same, and 11
+abbrev moves : List ℕ
+moves = 0 ∷ 1 ∷ 2 ∷ 3 ∷ 4 ∷ 5 ∷ 6 ∷ 7 ∷ 8 ∷ 9 ∷ 11 ∷ []
 
--- from a place of the log on
-undo-from-numbered : (sh : Shape) (log : List ℕ) (n at k : ℕ) (x : List ℕ) (p : List ℤ)
-    → OneOf undos (undoFrom n sh log at k x p .answer .refusal)
-undo-from-numbered sh log zero at k x p = rw (undo-none sh log at k x p) tt
-undo-from-numbered sh log (suc n) at k x p =
-    rw (undo-some n sh log at k x p)
-    (pick-ind P (ltb at (length log)) _ _
-    (pick-ind P (eqb (refusalAt sh x log at) 0) _ _ (undo-from-numbered sh log n _ _ _ _)
-    (wider logged undos tt (refusalAt sh x log at) (at-numbered sh x log at)))
-    tt)
-  where
-    P : Undid → Type 0
-    P u = OneOf undos (u .answer .refusal)
+-- the refusal at which a move stops
+moved-numbered : {sh : Shape} {s : List ℕ} {refusal from : ℕ} {last : State} {n k at : ℕ} {t : State}
+    → Moves sh s refusal from last n k at t → OneOf moves refusal
+moved-numbered (all r u l) = rw r tt
+moved-numbered (moved-end h r u l) = rw r tt
+moved-numbered {sh} {s} {at} {t} (moved-stop h z r u l) =
+    rw r (wider steps moves tt (runRefusal sh t s at) (step-numbered sh t s at))
+moved-numbered (moved-one h z w) = moved-numbered w
+
+-- the way in
+pub move-entry-numbered : (source : List ℕ) (from : ℕ) (t : State) → OneOf checks (moveEntry source from t .refusal)
+unfolding moveEntry
+move-entry-numbered source from t =
+    pick-ind (λ (a : CheckAnswer). OneOf checks (a .refusal)) (leb from (length source)) _ _ (entry-numbered t) tt
 
 -- the whole of it
-pub undo-numbered : (t : State) (n : ℕ) → OneOf undos (undoOf t n .answer .refusal)
-undo-numbered t n = split (entry t .refusal) 0
-    (λ h. rw (undo-in t n h)
-    (undo-from-numbered (shapeOf (t .links)) (t .log) n (t .start) 0 (t .links) (t .points)))
-    (λ d. rw (undo-out t n d) (wider checks undos tt (entry t .refusal) (entry-numbered t)))
+move-numbered : (source : List ℕ) (from : ℕ) (t : State) (n : ℕ)
+    → OneOf moves (moveOf source from t n .answer .refusal)
+move-numbered source from t n = split (moveEntry source from t .refusal) 0
+    (λ h. moved-numbered (move-carried source from t n h))
+    (λ d. rw (move-out source from t n d)
+    (wider checks moves tt (moveEntry source from t .refusal) (move-entry-numbered source from t)))
+
+-- as undo, and as redo
+pub undo-numbered : (e : Editing) (n : ℕ) → OneOf moves (undoIn e n .answer .answer .refusal)
+unfolding sessionUndo
+undo-numbered e n = move-numbered (e .log) (e .session .log) (redoState e) n
+
+pub redo-numbered : (e : Editing) (n : ℕ) → OneOf moves (redoIn e n .answer .answer .refusal)
+unfolding sessionRedo
+redo-numbered e n = move-numbered (e .redo) (e .session .redo) (logState e) n
 
 -- the take-down 1, 2, 9 and 10
 abbrev inverts : List ℕ
@@ -354,11 +357,11 @@ obj-numbered x p s out = go (obj-ends x p s out)
 -- ---- a refusal before anything is done leaves all as it was
 
 -- of clearing
-pub clear-out : (x : List ℕ) (p : List ℤ) (log s f l e v : ℕ) → clearOf x p log s f l e v .answer .refusal ≢ 0
-    → clearOf x p log s f l e v ≡ cleared 1 log x p
+pub clear-out : (x : List ℕ) (p : List ℤ) (s f l e v : ℕ) → clearOf x p s f l e v .answer .refusal ≢ 0
+    → clearOf x p s f l e v ≡ cleared 1 x p
 unfolding clearOf
-clear-out x p log s f l e v =
-    pick-ind (λ (c : Cleared). c .answer .refusal ≢ 0 → c ≡ cleared 1 log x p)
+clear-out x p s f l e v =
+    pick-ind (λ (c : Cleared). c .answer .refusal ≢ 0 → c ≡ cleared 1 x p)
     (sizesFit (length x) (length p) s f l e v) _ _ (λ d. absurd (d refl)) (λ d. refl)
 
 -- of writing

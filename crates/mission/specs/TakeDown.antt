@@ -25,12 +25,12 @@ use Rattle.inversion.specs.Main.{half-is}
 use Rattle.inversion.specs.Theorem.{inversion-exact, holes-one}
 use Rattle.mission.specs.Refusals.{invert-out}
 
--- clearing with a table's own capacities, whatever the log: what the take-down leaves, and what its script is run on
-pub clear-own : (x : List ℕ) (p : List ℤ) (log : ℕ) → checkOf x p .refusal ≡ 0
-    → clearOf x p log (getD x 0 0) (getD x 1 0) (getD x 2 0) (getD x 3 0) (getD x 4 0)
-    ≡ cleared 0 log (clearLinks x) (clearPoints x)
+-- clearing with a table's own capacities: what the take-down leaves, and what its script is run on
+pub clear-own : (x : List ℕ) (p : List ℤ) → checkOf x p .refusal ≡ 0
+    → clearOf x p (getD x 0 0) (getD x 1 0) (getD x 2 0) (getD x 3 0) (getD x 4 0)
+    ≡ cleared 0 (clearLinks x) (clearPoints x)
 unfolding clearOf
-clear-own x p log h = rw (checked-fits x p h)
+clear-own x p h = rw (checked-fits x p h)
 
 -- by the take-down's three tests
 tests : (a b c : Bool) (u : Inverted) (k r : ℕ) (t : State) → (a ≡ false → k ≡ 0 → ⊥)
@@ -59,8 +59,8 @@ invert-asked t e =
 -- what that leaves is sound
 own-sound : (x : List ℕ) (p : List ℤ) → checkOf x p .refusal ≡ 0 → checkOf (clearLinks x) (clearPoints x) .refusal ≡ 0
 own-sound x p h =
-    let c = clear-own x p 0 h in
-    let v = clear-valid x p 0 (getD x 0 0) (getD x 1 0) (getD x 2 0) (getD x 3 0) (getD x 4 0) (rw c) in
+    let c = clear-own x p h in
+    let v = clear-valid x p (getD x 0 0) (getD x 1 0) (getD x 2 0) (getD x 3 0) (getD x 4 0) (rw c) in
     ap (λ (a : CheckAnswer). a .refusal) (rw c at v)
 
 -- A SOUND TABLE STAYS SOUND when it is taken down, or not

@@ -5,13 +5,14 @@ use mathlib.Core.Logic.{_≢_, ⊎-elim}
 use mathlib.Core.Bool.{Bool, true, false, _&&_}
 use mathlib.Core.List.{List, [], _∷_, _++_, append-assoc, append-nil}
 use Prim.Native.Nat.{ℕ, zero, suc, _+_, _-_, _*_, _/_, _%_, _≤_, _<_}
-use native.Mathlib.Nat.{add-zero, zero-add, add-assoc}
+use native.Mathlib.Nat.{add-zero, zero-add}
 use native.Mathlib.Omega.{arith}
 use lib.Dec.{ltb, leb, eqb}
-use lib.ListN.{length, getD, take, drop, length-drop, length-append, take-append-drop, drop-of-length-le}
+use lib.ListN.{length, take, drop, length-take, length-drop, length-append, take-append-drop}
+use lib.ListN.{drop-of-length-le, List·getD-eq-default}
 use lib.Seq.{length-take-le, take-length, take-append-seam}
-use lib.Seq.{drop-at, drop-drop, drop-length, drop-append-seam, getD-drop}
-use borrow.Author.Tests.{lt-ltb, le-ltb, lt-leb, leb-false, ne-eqb, eqb-false}
+use lib.Seq.{drop-at, drop-drop, drop-length, drop-append-seam, getD-take, getD-drop}
+use borrow.Author.Tests.{lt-ltb, le-ltb, le-leb, lt-leb, leb-false, ne-eqb, eqb-false}
 use Rattle.laws.specs.Bools.{pick, le?}
 use Rattle.numbers.specs.declared.Num.{Num}
 use Rattle.numbers.specs.declared.Num.the-variants.{Got, Bad}
@@ -248,13 +249,29 @@ shortest-head b d r e = by (leb 128 b) (eqb d 0) refl refl e
     by true false f g h = (λ k. eqb-false d 0 g, h)
     by false y f g h = (λ k. absurd (let l = leb-false 128 b f in omega arith), h)
 
+-- and the other way
+shortest-front : (b d : ℕ) (r : List ℕ) → (128 ≤ b → d ≢ 0) → shortest (d ∷ r) ≡ true → shortest (b ∷ d ∷ r) ≡ true
+unfolding shortest
+shortest-front b d r h e =
+    ⊎-elim (λ i. rw (ne-eqb d 0 (h i), le-leb 128 b i) e) (λ i. rw (lt-leb 128 b i) e) (le? 128 b)
+
 -- from any place on
-shortest-drop : (k : ℕ) (s : List ℕ) → shortest s ≡ true → shortest (drop k s) ≡ true
+pub shortest-drop : (k : ℕ) (s : List ℕ) → shortest s ≡ true → shortest (drop k s) ≡ true
 unfolding shortest
 shortest-drop zero s e = e
 shortest-drop (suc k) [] e = refl
 shortest-drop (suc k) (b ∷ []) e = shortest-drop k [] refl
 shortest-drop (suc k) (b ∷ d ∷ r) e = shortest-drop k (d ∷ r) (shortest-head b d r e .1)
+
+-- and up to any place
+pub shortest-take : (k : ℕ) (s : List ℕ) → shortest s ≡ true → shortest (take k s) ≡ true
+unfolding shortest
+shortest-take zero s e = refl
+shortest-take (suc k) [] e = refl
+shortest-take (suc zero) (b ∷ r) e = refl
+shortest-take (suc (suc k)) (b ∷ []) e = refl
+shortest-take (suc (suc k)) (b ∷ d ∷ r) e =
+    shortest-front b d (take k r) (shortest-head b d r e .0) (shortest-take (suc k) (d ∷ r) (shortest-head b d r e .1))
 
 -- a number of shortest bytes has no more groups than it needs
 short-size : {l : List ℕ} {n g : ℕ} → shortest l ≡ true → Reads l n g → g ≤ length (groups n)
@@ -280,6 +297,19 @@ short-groups {l} {n} {g} w e r =
 bytes-drop : (k : ℕ) {s : List ℕ} → Bytes s → Bytes (drop k s)
 bytes-drop k {s} w = record { at = λ i. rw (getD-drop k s i 0) (w .at (k + i)) }
 
+-- and so are some of these
+pub bytes-part : (at n : ℕ) {s : List ℕ} → Bytes s → Bytes (take n (drop at s))
+bytes-part at n {s} w = record {
+  at = λ i.
+      ⊎-elim (λ h. let e = List·getD-eq-default (take n (drop at s)) 0 h in omega (arith, e))
+      (λ h.
+      let l = length-take n (drop at s) in
+      let e = getD-take n (drop at s) i 0 (omega (arith, l, h)) in
+      let b = bytes-drop at w .at i in
+      omega (arith, e, b))
+      (le? (length (take n (drop at s))) i);
+}
+
 -- SHORTEST BYTES ARE THEIR OWN SHORTEST FORM
 pub shortest-same : (s : List ℕ) → Bytes s → shortest s ≡ true → shorten s ≡ s
 shortest-same =
@@ -296,25 +326,16 @@ unfolding shortest
 shortest-last b [] h e = refl
 shortest-last b (d ∷ r) h e = rw (lt-leb 128 b h) e
 
--- or has no 0 behind it
-shortest-more : (b d : ℕ) (r : List ℕ) → d ≢ 0 → shortest (d ∷ r) ≡ true → shortest (b ∷ d ∷ r) ≡ true
-unfolding shortest
-shortest-more b d r h e = rw (ne-eqb d 0 h) (by (leb 128 b) e)
-  where
-    by : (x : Bool) → shortest (d ∷ r) ≡ true → pick (x && false) false (shortest (d ∷ r)) ≡ true
-    by true e = e
-    by false e = e
-
 -- the bytes of a number in front
 shortest-groups : (n : ℕ) (q : List ℕ) → n < 2097152 → shortest q ≡ true → shortest (groups n ++ q) ≡ true
 shortest-groups n q h e =
     ⊎-elim
-    (λ i. rw (groups-3 n i) (shortest-more (n % 128 + 128) (n / 128 % 128 + 128) _ (λ z. omega arith)
-    (shortest-more (n / 128 % 128 + 128) (n / 16384 % 128) q (λ z. omega arith)
+    (λ i. rw (groups-3 n i) (shortest-front (n % 128 + 128) (n / 128 % 128 + 128) _ (λ a z. omega arith)
+    (shortest-front (n / 128 % 128 + 128) (n / 16384 % 128) q (λ a z. omega arith)
     (shortest-last (n / 16384 % 128) q (omega arith) e))))
     (λ i. ⊎-elim
     (λ j. rw (groups-2 n j i)
-    (shortest-more (n % 128 + 128) (n / 128) q (λ z. omega arith) (shortest-last (n / 128) q (omega arith) e)))
+    (shortest-front (n % 128 + 128) (n / 128) q (λ a z. omega arith) (shortest-last (n / 128) q (omega arith) e)))
     (λ j. rw (groups-1 n j) (shortest-last n q j e))
     (le? 128 n))
     (le? 16384 n)

@@ -1,7 +1,7 @@
 -- A run as its steps. `Carried` says which operators of a script are carried out, each on the state that the one before
 -- left, up to the script's end or the first refusal: document 01's meaning of done. Every run that is let in goes so
 -- (`run-carried`), an operator is refused just where a condition fails (`step-refusal`), and the operators done, run
--- alone, leave the same (`refused-apart`): the refused one has changed nothing. Likewise undo (`undo-apart`).
+-- alone, leave the same (`refused-apart`): the refused one has changed nothing. Likewise a move (`move-apart`, Moves).
 use mathlib.Core.Path.{_≡_, refl, sym, _∙_, subst}
 use mathlib.Core.Logic.{_≢_}
 use mathlib.Core.List.{List}
@@ -9,7 +9,6 @@ use Prim.Native.Nat.{ℕ, zero, suc, _+_, _≤_, _<_}
 use native.Mathlib.Nat.{add-zero, zero-add}
 use native.Mathlib.Omega.{arith}
 use lib.Dec.{eqb, ltb}
-use lib.IntN.{ℤ}
 use lib.ListN.{length, take}
 use lib.Seq.{length-take-le}
 use borrow.Author.Tests.{lt-leb, le-leb, lt-ltb, ltb-true, ltb-false, eqb-true, eqb-false}
@@ -18,14 +17,13 @@ use Rattle.script.specs.RoundTrip.{read-next}
 use Rattle.script.specs.Front.{operator-front}
 use Rattle.layout.specs.declared.shape.Shape.{Shape}
 use Rattle.layout.specs.Layout.{shapeOf}
-use Rattle.euler.specs.Exec.{limits, admitOf, linksAfter, pointsAfter}
+use Rattle.euler.specs.Exec.{limits, admitOf}
 use Rattle.table.specs.declared.check.CheckAnswer.{CheckAnswer}
 use Rattle.table.specs.Check.{answer}
-use Rattle.runs.specs.Run.{State, readAt, refusalAt, inverseBytes, carryRefusal, runRefusal, stepped, entry}
-use Rattle.runs.specs.Run.{Ran, leaves, ran, runFrom, runOf, Undid, restores, undid, undoFrom, undoOf}
+use Rattle.runs.specs.Run.{State, readAt, inverseBytes, carryRefusal, runRefusal, stepped, entry}
+use Rattle.runs.specs.Run.{Ran, leaves, ran, runFrom, runOf}
 use Rattle.runs.specs.RunLaws.{run-read, run-ended}
 use Rattle.runs.specs.Clauses.{pick-by, run-none, run-some, run-in, run-out, entry-passed}
-use Rattle.runs.specs.Clauses.{undo-none, undo-some, undo-in, undo-out}
 use Rattle.promises.specs.RunAll.{leftBy}
 use Rattle.promises.specs.Checked.{checked-good, good-entry}
 
@@ -149,7 +147,7 @@ alone {sh} {s} {used} {last} {at} {t} (done {n} l z w) i =
         ∙ rw (lt-ltb at (length (take used s)) (omega arith), y, e, ← q) (f .2 m (c + 1) (omega arith))
 
 -- where the entry does not refuse it names no rule
-let-in : (t : State) → entry t .refusal ≡ 0 → entry t ≡ answer 0 0
+pub let-in : (t : State) → entry t .refusal ≡ 0 → entry t ≡ answer 0 0
 let-in t h = let p = entry-passed t h in good-entry t (checked-good (t .links) (t .points) (p .1)) (p .0)
 
 -- a run's answer and what it left, but for the refusal: that is the entry's
@@ -175,50 +173,3 @@ refused-apart t s = split (entry t .refusal) 0
     let k = length-take-le (runOf t s .answer .used) s (f .1) in
     run-in t q h ∙ f .2 (length q) 0 (omega arith) ∙ rw (let-in t h, zero-add (runOf t s .answer .done)))
     (λ d. rw (run-out t s d) (run-out t (take 0 s) d))
-
--- ---- what was undone, undone alone
-
--- from a place of the log on, c operators having been undone before
-abbrev Undone : Shape → List ℕ → ℕ → ℕ → List ℕ → List ℤ → Undid → Type 0
-Undone sh log at c x p r =
-    (n : ℕ) × (r .answer .undone ≡ c + n)
-    × (undoFrom n sh log at c x p ≡ undid 0 (c + n) (r .answer .start) (r .links) (r .points))
-
--- none was
-undone-none : (sh : Shape) (log : List ℕ) (at c : ℕ) (x : List ℕ) (p : List ℤ) (refusal : ℕ)
-    → Undone sh log at c x p (undid refusal c at x p)
-undone-none sh log at c x p refusal = (0, sym (add-zero c), undo-none sh log at c x p ∙ rw (add-zero c))
-
--- or some
-undone : (sh : Shape) (log : List ℕ) (n at c : ℕ) (x : List ℕ) (p : List ℤ)
-    → Undone sh log at c x p (undoFrom n sh log at c x p)
-undone sh log zero at c x p =
-    subst (Undone sh log at c x p) (sym (undo-none sh log at c x p)) (undone-none sh log at c x p 0)
-undone sh log (suc n) at c x p =
-    let o = readAt sh log at .op in
-    subst (Undone sh log at c x p) (sym (undo-some n sh log at c x p))
-    (pick-by (Undone sh log at c x p) (ltb at (length log)) _ _
-    (λ l. pick-by (Undone sh log at c x p) (eqb (refusalAt sh x log at) 0) _ _
-    (λ z.
-    let g = undone sh log n (readAt sh log at .next) (c + 1) (linksAfter sh x o) (pointsAfter sh x p o) in
-    let q : c + 1 + g .0 ≡ c + suc (g .0) = omega arith in
-    (suc (g .0), omega (arith, g .1), undo-some (g .0) sh log at c x p ∙ rw (l, z, ← q) (g .2)))
-    (λ z. undone-none sh log at c x p (refusalAt sh x log at)))
-    (λ l. undone-none sh log at c x p 11))
-
--- undo's answer and what it left, but for the refusal: that is the entry's
-abbrev pub undoneApart : CheckAnswer → Undid → Undid
-undoneApart a r =
-    restores (record { refusal = a .refusal; rule = a .rule; undone = r .answer .undone; start = r .answer .start })
-    (r .links) (r .points)
-
--- WHAT UNDO UNDID STANDS: undo of as many as it answers undoes as many, leaves the same table and start, and is refused
--- only where the entry refuses
-pub undo-apart : (t : State) (n : ℕ) → undoOf t (undoOf t n .answer .undone) ≡ undoneApart (entry t) (undoOf t n)
-undo-apart t n = split (entry t .refusal) 0
-    (λ h.
-    let sh = shapeOf (t .links) in
-    let g = undone sh (t .log) n (t .start) 0 (t .links) (t .points) in
-    let e : undoFrom n sh (t .log) (t .start) 0 (t .links) (t .points) .answer .undone ≡ g .0 = omega (arith, g .1) in
-    rw (undo-in t n h, e) (undo-in t (g .0) h ∙ g .2 ∙ rw (let-in t h, zero-add (g .0))))
-    (λ d. rw (undo-out t n d) (undo-out t 0 d))

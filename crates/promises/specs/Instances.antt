@@ -27,14 +27,22 @@ use Rattle.euler.specs.EdgeOperators.{mevLinks, kevTest, kevLinks, mefTest, mef
 use Rattle.euler.specs.FaceOperators.{mvsfLinks, kvsfTest, kvsfLinks}
 use Rattle.euler.specs.Exec.{admitOf, useRefusals, useRefusal, useWord, condition, linksAfter, pointsAfter}
 use Rattle.euler.specs.Exec.{killedVertex, inverse}
-use Rattle.runs.specs.Run.{State, state, admitRead, inverseBytes, carryRefusal, stepped, runRefusal}
-use Rattle.runs.specs.Run.{runFrom, entry, runOf, undid, undoFrom, undoOf}
-use Rattle.promises.specs.RunAll.{runAll}
-use Rattle.promises.specs.Promises.{undoAll}
+use Rattle.runs.specs.Run.{admitRead, inverseBytes, carryRefusal, stepped, runRefusal, runFrom, entry, runOf}
+use Rattle.runs.specs.Move.{partOf, moveOf}
+use Rattle.sessions.specs.Session.{starts, sessionRun, sessionUndo, sessionRedo}
+use Rattle.sessions.specs.Editing.{Editing, redoneFrom}
+use Rattle.promises.specs.Edits.{editAll}
+use Rattle.promises.specs.Promises.{undoneAll}
 
--- an empty table of capacities 1, 2, 2, 2, 2, and a log
-abbrev begin : State
-begin = state (1 ∷ 2 ∷ 2 ∷ 2 ∷ 2 ∷ replicate 29 0) (replicate 6 (pos 0)) (11 ∷ 12 ∷ 13 ∷ 14 ∷ 15 ∷ 16 ∷ 17 ∷ 18 ∷ []) 6
+-- an empty table of capacities 1, 2, 2, 2, 2, a log, and a redo log with something in it
+abbrev begin : Editing
+begin = record {
+  links = 1 ∷ 2 ∷ 2 ∷ 2 ∷ 2 ∷ replicate 29 0;
+  points = replicate 6 (pos 0);
+  log = 11 ∷ 12 ∷ 13 ∷ 14 ∷ 15 ∷ 16 ∷ 17 ∷ 18 ∷ [];
+  redo = replicate 28 99;
+  session = starts 6 3;
+}
 
 -- it passes the check
 pub begin-sound : checkOf (begin .links) (begin .points) .refusal ≡ 0
@@ -49,10 +57,23 @@ scripts =
     (1 ∷ 1 ∷ 1 ∷ 1 ∷ 1 ∷ 0 ∷ 0 ∷ 0 ∷ 3 ∷ 1 ∷ 0 ∷ 1 ∷ 2 ∷ 0 ∷ 200 ∷ 1 ∷ 0 ∷ 0 ∷ [])
     ∷ (5 ∷ 1 ∷ 1 ∷ 2 ∷ 2 ∷ 2 ∷ 2 ∷ 0 ∷ 2 ∷ 1 ∷ []) ∷ []
 
--- three operators are done, their inverses stand in the log, newest first; undo by three gives back what there was
-pub begin-undone : (runAll begin scripts .done ≡ 3) × (runAll begin scripts .last .log ≡ 6 ∷ 4 ∷ 4 ∷ 1 ∷ 2 ∷ 1 ∷ 17 ∷ 18
-    ∷ [])
-    × (undoAll begin scripts ≡ undid 0 3 6 (begin .links) (begin .points))
+-- what undo puts into the redo log: the operators done, in the order in which they were run, in front of nothing
+abbrev filled : List ℕ
+filled = 99 ∷ 99 ∷ 1 ∷ 1 ∷ 1 ∷ 1 ∷ 1 ∷ 0 ∷ 0 ∷ 0 ∷ 3 ∷ 1 ∷ 0 ∷ 1 ∷ 2 ∷ 0 ∷ 200 ∷ 1 ∷ 0 ∷ 0 ∷ 5 ∷ 1 ∷ 1 ∷ 2 ∷ 2 ∷ 2 ∷ 2 ∷
+    0 ∷ []
+
+-- what the runs leave
+abbrev ran : Editing
+ran = editAll begin scripts .last
+
+-- three operators are done, their inverses stand in the log, newest first, and the redo log is emptied; undo by three
+-- gives back what there was; and redo by three what the runs left
+pub begin-undone : (editAll begin scripts .done ≡ 3) × (ran .log ≡ 6 ∷ 4 ∷ 4 ∷ 1 ∷ 2 ∷ 1 ∷ 17 ∷ 18 ∷ [])
+    × (ran .session ≡ starts 0 28)
+    × (undoneAll begin scripts
+    ≡ record { links = begin .links; points = begin .points; log = ran .log; redo = filled; session = starts 6 2 })
+    × (redoneFrom (undoneAll begin scripts) 3
+    ≡ record { links = ran .links; points = ran .points; log = ran .log; redo = filled; session = ran .session })
 unfolding checkOf sizesFit brokenRule rule1 rule2 rule3 rule4 rule5 rule6 solidRange faceRange loopRange halfRange
     vertexRange solidNames faceNames loopNames halfNames loopEither halfLinks firstNames halfInLoop vertexEither
     halfAtVertex halfSides faceLinked allTo leastFrom sumTo meets linkedb rounds pass across mate third second first
@@ -60,5 +81,5 @@ unfolding checkOf sizesFit brokenRule rule1 rule2 rule3 rule4 rule5 rule6 solidR
     operandBytes operandsBytes operatorBytes putBytes corner edgeIn edgeOut relabel seek renew mvsfLinks kvsfTest
     kvsfLinks mevLinks kevTest kevLinks mefTest mefLinks kefTest kefLinks admitOf useRefusals useRefusal useWord
     condition linksAfter pointsAfter killedVertex inverse sweep admitRead inverseBytes carryRefusal stepped runRefusal
-    runFrom entry runOf undoFrom undoOf runAll
-begin-undone = (refl, refl, refl)
+    runFrom entry runOf editAll partOf moveOf sessionRun sessionUndo sessionRedo
+begin-undone = (refl, refl, refl, refl, refl)

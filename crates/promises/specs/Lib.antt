@@ -5,9 +5,15 @@ pub mod Logging
 pub mod Leads
 pub mod Checked
 pub mod WayBack
+pub mod Trail
+pub mod Moves
+pub mod MoveParts
+pub mod MoveSteps
+pub mod Edits
+pub mod Redo
+pub mod Sessions
 pub mod Carried
 pub mod OtherLog
-pub mod UndoParts
 pub mod Promises
 pub mod Instances
 pub mod Padded

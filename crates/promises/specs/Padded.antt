@@ -1,33 +1,30 @@
 -- A PADDED SCRIPT DOES WHAT ITS SHORTEST FORM DOES, bytes taken aside (document 02, job 1): from any state and of any
--- bytes, refused ones too. The same of undo on a padded log.
+-- bytes, refused ones too. The same of a padded log that operators are moved out of, by undo or redo.
 use mathlib.Core.Path.{_≡_, refl, sym, ap, _∙_}
-use mathlib.Core.Logic.{_⊎_, inl, inr}
+use mathlib.Core.Logic.{⊎-elim}
 use mathlib.Core.Bool.{Bool, true, false}
 use mathlib.Core.List.{List, [], _++_, append-nil}
 use Prim.Native.Nat.{ℕ, zero, suc, _+_, _-_, _≤_, _<_}
-use native.Mathlib.Nat.{zero-add, add-zero, add-assoc}
+use native.Mathlib.Nat.{add-zero, add-assoc}
 use native.Mathlib.Omega.{arith}
-use lib.Dec.{eqb, leb, ltb}
-use lib.IntN.{ℤ}
+use lib.Dec.{eqb, ltb}
 use lib.ListN.{length, take, drop, length-append, drop-of-length-le}
 use lib.Seq.{length-take-le, take-all}
-use borrow.Author.Tests.{le-ltb, ltb-false, le-leb, lt-leb, eqb-true}
+use borrow.Author.Tests.{eqb-true}
 use Rattle.laws.specs.Bools.{pick, le?, split, eqb-same}
 use Rattle.numbers.specs.Padded.{shorten, shortenFrom}
-use Rattle.numbers.specs.PaddedLaws.{PadsAt, pads-none, pads-both, shorten-between, shorten-nil, alike-behind}
-use Rattle.numbers.specs.PaddedLaws.{ends-alike, shorten-from}
+use Rattle.numbers.specs.PaddedLaws.{PadsAt, pads-none, pads-both, shorten-between, shorten-nil, shorten-length}
+use Rattle.numbers.specs.PaddedLaws.{alike-behind, ends-alike, shorten-from}
 use Rattle.script.specs.Operator.{operatorBytes}
-use Rattle.script.specs.OperatorLaws.{operator-some}
 use Rattle.script.specs.RoundTrip.{read-next, read-pads}
 use Rattle.script.specs.Padded.{inShort, read-padded}
 use Rattle.layout.specs.declared.shape.Shape.{Shape}
 use Rattle.layout.specs.Layout.{shapeOf}
-use Rattle.euler.specs.Exec.{limits, linksAfter, pointsAfter}
-use Rattle.runs.specs.Run.{State, state, readAt, admitRead, refusalAt, carryRefusal, runRefusal, stepped, entry}
-use Rattle.runs.specs.Run.{Ran, leaves, runFrom, runOf, Undid, restores, undoFrom, undoOf}
+use Rattle.euler.specs.Exec.{limits}
+use Rattle.runs.specs.Run.{State, readAt, carryRefusal, runRefusal, stepped, entry, Ran, leaves, runFrom, runOf}
+use Rattle.runs.specs.Move.{Moved, movedBy, moveOf}
 use Rattle.runs.specs.RunLaws.{run-read, run-ended}
-use Rattle.runs.specs.Clauses.{run-some, run-in, run-out, entry-passed, undo-none, undo-some, undo-in, undo-out}
-use Rattle.promises.specs.Reading.{taken}
+use Rattle.runs.specs.Clauses.{run-none, run-some, run-in, run-out, moved-beyond, move-within, move-in, move-out}
 
 -- a run's answer and what it left, the bytes used counted in shortest form
 abbrev pub shortUsed : List ℕ → Ran → Ran
@@ -41,22 +38,6 @@ shortUsed s r =
       start = r .answer .start;
     })
     (r .links) (r .points) (r .log)
-
--- the table with the live part of its log in shortest form
-abbrev pub shortLog : State → State
-shortLog t = state (t .links) (t .points) (shortenFrom (t .start) (t .log)) (t .start)
-
--- undo's answer and what it left, the bytes of the log that it used counted in shortest form
-abbrev pub shortStart : State → Undid → Undid
-shortStart t r =
-    restores
-    (record {
-      refusal = r .answer .refusal;
-      rule = r .answer .rule;
-      undone = r .answer .undone;
-      start = t .start + length (shorten (take (r .answer .start - t .start) (drop (t .start) (t .log))));
-    })
-    (r .links) (r .points)
 
 -- of two values taken by one test
 pick-alike : {X : Type 0} (f : X → X) (b : Bool) {u w u′ w′ : X} → (b ≡ true → u′ ≡ f u) → (b ≡ false → w′ ≡ f w)
@@ -77,11 +58,6 @@ module _ (sh : Shape) (s u : List ℕ) (a b : ℕ) (e : drop b u ≡ shorten (dr
   unfolding runRefusal carryRefusal
   run-alike t = rw read-alike
 
-  -- and undo
-  undo-alike : (x : List ℕ) → refusalAt sh x u b ≡ refusalAt sh x s a
-  unfolding admitRead
-  undo-alike x = rw read-alike
-
 -- a place of u goes on behind an operator by its bytes in fewest groups
 behind-alike : (sh : Shape) (s : List ℕ) (from at : ℕ) (w : List ℕ) → readAt sh s at .refusal ≡ 0
     → inShort (from + length w) (readAt sh s at) .next
@@ -90,129 +66,139 @@ behind-alike sh s from at w z =
     let o = operatorBytes (readAt sh s at .op) in
     rw (eqb-same z, length-append w o) (add-assoc from (length w) (length o))
 
--- ---- run
+-- ---- operator by operator
 
--- the bytes used so far, counted in shortest form
-used-alike : (s : List ℕ) (at : ℕ) (w : List ℕ) → PadsAt s 0 at w → 0 + length w ≡ length (shorten (take at s))
-used-alike s at w x =
-    let n : at - 0 ≡ at = omega arith in
-    let e = shorten-between x in
-    zero-add (length w) ∙ ap length (sym (rw n at e))
+-- what is left of a run whose place in s is counted in shortest form from `from` on
+abbrev shortPlace : ℕ → List ℕ → Ran → Ran
+shortPlace from s r =
+    leaves
+    (record {
+      refusal = r .answer .refusal;
+      rule = r .answer .rule;
+      done = r .answer .done;
+      used = from + length (shorten (take (r .answer .used - from) (drop from s)));
+      start = r .answer .start;
+    })
+    (r .links) (r .points) (r .log)
 
--- where the script has ended
-run-over : (sh : Shape) (s : List ℕ) (n m at done : ℕ) (t : State) (w : List ℕ) → PadsAt s 0 at w → length s ≤ at
-    → length (shorten s) ≤ 0 + length w
-    → runFrom m sh (shorten s) (0 + length w) done t ≡ shortUsed s (runFrom n sh s at done t)
-run-over sh s n m at done t w x h i =
-    run-ended sh (shorten s) m (0 + length w) done t i
-    ∙ rw (run-ended sh s n at done t h, used-alike s at w x)
+-- such a place
+place-alike : (s : List ℕ) (from at : ℕ) (w : List ℕ) → PadsAt s from at w
+    → from + length w ≡ from + length (shorten (take (at - from) (drop from s)))
+place-alike s from at w x = rw (shorten-between x)
 
--- from a place on, behind whole numbers: operator by operator, with steps enough for the bytes left in each
-run-from : (sh : Shape) (s : List ℕ) (n m at done : ℕ) (t : State) (w : List ℕ) → PadsAt s 0 at w → length s ≤ at + n
-    → length (shorten s) ≤ 0 + length w + m
-    → runFrom m sh (shorten s) (0 + length w) done t ≡ shortUsed s (runFrom n sh s at done t)
-run-from sh s zero m at done t w x h i =
-    let e = ends-alike s (shorten s) at (0 + length w) (alike-behind x (shorten s) 0 refl) in
-    let k : length s ≤ at = omega arith in
-    run-over sh s zero m at done t w x k (ltb-false _ _ (e ∙ le-ltb at (length s) k))
-run-from sh s (suc n) zero at done t w x h i =
-    let e = ends-alike s (shorten s) at (0 + length w) (alike-behind x (shorten s) 0 refl) in
-    let k : length (shorten s) ≤ 0 + length w = omega arith in
-    run-over sh s (suc n) zero at done t w x (ltb-false _ _ (sym e ∙ le-ltb (0 + length w) (length (shorten s)) k)) k
-run-from sh s (suc n) (suc m) at done t w x h i =
-    let u = shorten s in
-    let b : ℕ = 0 + length w in
+-- from a place on, behind whole numbers: u has there the shortest form of what s has
+part-alike : (sh : Shape) (s u : List ℕ) (from n at done : ℕ) (t : State) (w : List ℕ)
+    → drop from u ≡ shorten (drop from s) → PadsAt s from at w
+    → runFrom n sh u (from + length w) done t ≡ shortPlace from s (runFrom n sh s at done t)
+part-alike sh s u from zero at done t w f x =
+    run-none sh u (from + length w) done t ∙ rw (run-none sh s at done t, place-alike s from at w x)
+part-alike sh s u from (suc n) at done t w f x =
+    let b : ℕ = from + length w in
     let o = readAt sh s at .op in
-    let e = alike-behind x u 0 refl in
-    run-some m sh u b done t
+    let e = alike-behind x u from f in
+    let p = place-alike s from at w x in
+    run-some n sh u b done t
     ∙ rw (ends-alike s u at b e, run-alike sh s u at b e t, read-alike sh s u at b e)
-    (pick-alike (shortUsed s) (ltb at (length s))
-    (λ l. pick-alike (shortUsed s) (eqb (runRefusal sh t s at) 0)
+    (pick-alike (shortPlace from s) (ltb at (length s))
+    (λ l. pick-alike (shortPlace from s) (eqb (runRefusal sh t s at) 0)
     (λ z.
     let r = run-read sh t s at (eqb-true _ 0 z) in
-    let g = read-next (limits sh) s at r in
-    let l = length-append w (operatorBytes o) in
-    rw (behind-alike sh s 0 at w r)
-    (run-from sh s n m (readAt sh s at .next) (done + 1) (stepped sh t o) (w ++ operatorBytes o)
-    (pads-both x (read-pads (limits sh) s at r)) (omega (arith, g .0, h)) (omega (arith, i, l, operator-some o))))
-    (λ z. rw (used-alike s at w x)))
-    (λ l. rw (used-alike s at w x)))
-    ∙ sym (ap (shortUsed s) (run-some n sh s at done t))
+    rw (behind-alike sh s from at w r)
+    (part-alike sh s u from n (readAt sh s at .next) (done + 1) (stepped sh t o) (w ++ operatorBytes o) f
+    (pads-both x (read-pads (limits sh) s at r))))
+    (λ z. rw p))
+    (λ l. rw p))
+    ∙ sym (ap (shortPlace from s) (run-some n sh s at done t))
+
+-- ---- run
+
+-- there are no more operators than bytes: more steps change nothing
+run-enough : (sh : Shape) (s : List ℕ) (m n at done : ℕ) (t : State) → length s ≤ at + m → length s ≤ at + n
+    → runFrom m sh s at done t ≡ runFrom n sh s at done t
+run-enough sh s zero n at done t h i = run-none sh s at done t ∙ sym (run-ended sh s n at done t (omega arith))
+run-enough sh s (suc m) zero at done t h i = run-ended sh s (suc m) at done t (omega arith) ∙ sym (run-none sh s at done
+    t)
+run-enough sh s (suc m) (suc n) at done t h i =
+    run-some m sh s at done t
+    ∙ pick-alike (λ r. r) (ltb at (length s))
+    (λ l. pick-alike (λ r. r) (eqb (runRefusal sh t s at) 0)
+    (λ z.
+    let g = read-next (limits sh) s at (run-read sh t s at (eqb-true _ 0 z)) in
+    run-enough sh s m n (readAt sh s at .next) (done + 1) (stepped sh t (readAt sh s at .op)) (omega (arith, g .0))
+    (omega (arith, g .0)))
+    (λ z. refl))
+    (λ l. refl)
+    ∙ sym (run-some n sh s at done t)
 
 -- A PADDED SCRIPT: the same refusal, rule, done and start, the same table and log; `used` is the length of the shortest
 -- form of the bytes used
 pub padded-run : (t : State) (s : List ℕ) → runOf t (shorten s) ≡ shortUsed s (runOf t s)
 padded-run t s = split (entry t .refusal) 0
     (λ h.
+    let sh = shapeOf (t .links) in
+    let r = runFrom (length s) sh s 0 0 t in
+    let l = shorten-length s in
+    let z : r .answer .used - 0 ≡ r .answer .used = omega arith in
+    let q : 0 + length (shorten (take (r .answer .used) s)) ≡ length (shorten (take (r .answer .used) s)) = omega arith
+    in
     run-in t (shorten s) h
-    ∙ run-from (shapeOf (t .links)) s (length s) (length (shorten s)) 0 0 t [] (pads-none s 0) (omega arith)
-    (omega arith)
-    ∙ rw (run-in t s h))
+    ∙ run-enough sh (shorten s) (length (shorten s)) (length s) 0 0 t (omega arith) (omega (arith, l))
+    ∙ part-alike sh s (shorten s) 0 (length s) 0 0 t [] refl (pads-none s 0)
+    ∙ rw (run-in t s h, z, q))
     (λ d. run-out t (shorten s) d ∙ rw (run-out t s d, shorten-nil))
 
--- ---- undo
+-- ---- moves
 
--- the bytes of the log used so far
-start-alike : (log : List ℕ) (from at : ℕ) (w : List ℕ) → PadsAt log from at w
-    → from + length w ≡ from + length (shorten (take (at - from) (drop from log)))
-start-alike log from at w x = rw (shorten-between x)
+-- what a move leaves, the bytes of the source that it used counted in shortest form
+abbrev pub shortSource : List ℕ → ℕ → Moved → Moved
+shortSource source from m =
+    leaves
+    (record {
+      refusal = m .answer .refusal;
+      rule = m .answer .rule;
+      done = m .answer .done;
+      from = from + length (shorten (take (m .answer .from - from) (drop from source)));
+      to = m .answer .to;
+    })
+    (m .links) (m .points) (m .log)
 
--- from a place of the log on
-undo-from : (sh : Shape) (t : State) (n at undone : ℕ) (x : List ℕ) (p : List ℤ) (w : List ℕ)
-    → t .start ≤ length (t .log) → PadsAt (t .log) (t .start) at w
-    → undoFrom n sh (shortLog t .log) (t .start + length w) undone x p
-    ≡ shortStart t (undoFrom n sh (t .log) at undone x p)
-undo-from sh t zero at undone x p w h y =
-    undo-none sh (shortLog t .log) (t .start + length w) undone x p
-    ∙ rw (undo-none sh (t .log) at undone x p, start-alike (t .log) (t .start) at w y)
-undo-from sh t (suc n) at undone x p w h y =
-    let log = t .log in
-    let u = shortLog t .log in
-    let b : ℕ = t .start + length w in
-    let o = readAt sh log at .op in
-    let f = start-alike log (t .start) at w y in
-    let e = alike-behind y u (t .start) (shorten-from (t .start) log h) in
-    undo-some n sh u b undone x p
-    ∙ rw (ends-alike log u at b e, undo-alike sh log u at b e x, read-alike sh log u at b e)
-    (pick-alike (shortStart t) (ltb at (length log))
-    (λ l. pick-alike (shortStart t) (eqb (refusalAt sh x log at) 0)
-    (λ z.
-    let r = taken sh x log at (eqb-true _ 0 z) .read in
-    rw (behind-alike sh log (t .start) at w r)
-    (undo-from sh t n (readAt sh log at .next) (undone + 1) (linksAfter sh x o) (pointsAfter sh x p o)
-    (w ++ operatorBytes o) h (pads-both y (read-pads (limits sh) log at r))))
-    (λ z. rw f))
-    (λ l. rw f))
-    ∙ sym (ap (shortStart t) (undo-some n sh log at undone x p))
+-- shortening the live part of a log leaves its start where it was, beyond the log or not
+inside-alike : (s : List ℕ) (from : ℕ) → from ≤ length s → from ≤ length (shortenFrom from s)
+inside-alike s from h =
+    let l = length-append (take from s) (shorten (drop from s)) in
+    let k = length-take-le from s h in
+    omega (arith, l, k)
 
--- shortening the live part of a log leaves the start where it was, beyond the log or not
-entry-alike : (t : State) → entry (shortLog t) ≡ entry t
-unfolding entry
-entry-alike t = rw (same (le? (t .start) (length (t .log))))
-  where
-    same : (t .start ≤ length (t .log)) ⊎ (length (t .log) < t .start)
-        → leb (t .start) (length (shortLog t .log)) ≡ leb (t .start) (length (t .log))
-    same (inl h) =
-        let l = length-append (take (t .start) (t .log)) (shorten (drop (t .start) (t .log))) in
-        let k = length-take-le (t .start) (t .log) h in
-        rw (le-leb (t .start) (length (t .log)) h, le-leb (t .start) (length (shortLog t .log)) (omega (arith, l, k)))
-    same (inr h) =
-        let k : length (t .log) ≤ t .start = omega arith in
-        let d : drop (t .start) (t .log) ≡ [] = drop-of-length-le (t .log) k in
-        rw (take-all (t .start) (t .log) k, d, shorten-nil, append-nil (t .log))
+beyond-alike : (s : List ℕ) (from : ℕ) → length s < from → shortenFrom from s ≡ s
+beyond-alike s from h =
+    let k : length s ≤ from = omega arith in
+    let d : drop from s ≡ [] = drop-of-length-le s k in
+    rw (take-all from s k, d, shorten-nil, append-nil s)
 
--- A PADDED LOG: undo of its shortest form gives the same refusal, rule and count, and the same table; it starts then
--- behind the shortest form of the bytes used
-pub padded-undo : (t : State) (n : ℕ) → undoOf (shortLog t) n ≡ shortStart t (undoOf t n)
-padded-undo t n = split (entry t .refusal) 0
+-- A PADDED LOG: a move of its shortest form gives the same refusal, rule and count, and leaves the same table and the
+-- same other log; its place is then behind the shortest form of the bytes used
+pub padded-move : (source : List ℕ) (from : ℕ) (t : State) (n : ℕ)
+    → moveOf (shortenFrom from source) from t n ≡ shortSource source from (moveOf source from t n)
+padded-move source from t n =
+    ⊎-elim inside
     (λ h.
-    let g = entry-alike t in
-    let k = entry-passed t h .0 in
-    let none = pads-none (t .log) (t .start) in
-    let f = undo-from (shapeOf (t .links)) t n (t .start) 0 (t .links) (t .points) [] k none in
-    undo-in (shortLog t) n (rw g h) ∙ rw (add-zero (t .start)) at f
-    ∙ rw (undo-in t n h))
-    (λ d.
-    let g = entry-alike t in
-    let z : t .start - t .start ≡ 0 = omega arith in
-    undo-out (shortLog t) n (rw g d) ∙ rw (g, undo-out t n d, z, shorten-nil, add-zero (t .start)))
+    let z : from - from ≡ 0 = omega arith in
+    rw (beyond-alike source from h, moved-beyond source from t n h, z, shorten-nil, add-zero from))
+    (le? from (length source))
+  where
+    inside : from ≤ length source → moveOf (shortenFrom from source) from t n
+        ≡ shortSource source from (moveOf source from t n)
+    inside h =
+        let sh = shapeOf (t .links) in
+        let e = move-within source from t h in
+        let f = move-within (shortenFrom from source) from t (inside-alike source from h) in
+        let z : from - from ≡ 0 = omega arith in
+        split (entry t .refusal) 0
+        (λ a.
+        let p = part-alike sh source (shortenFrom from source) from n from 0 t [] (shorten-from from source h)
+        (pads-none source from) in
+        move-in (shortenFrom from source) from t n (rw f a) ∙ ap (movedBy n) (rw (add-zero from) at p)
+        ∙ rw (move-in source from t n (rw e a)))
+        (λ d.
+        move-out (shortenFrom from source) from t n (rw f d)
+        ∙ rw (move-out source from t n (rw e d), e, f, z, shorten-nil, add-zero from))

@@ -1,39 +1,63 @@
--- The undo promise (document 01, "Demand 3 in detail"), and what comes with it.
--- It is about `runOf` and `undoOf`, the very definitions that the contracts of `zoghvari_run` and `zoghvari_undo`
--- (crate `kernel`) cite: these say that answer, links, points and log after a call are the definition's, for every
+-- The undo promise (document 01, "Demand 3 in detail"; document 02, job 4), and what comes with it. It is about
+-- `sessionRun` and `sessionUndo`, the very definitions that the contracts of `zoghvari_run` and `zoghvari_undo` (crate
+-- `kernel`) cite: these say that answer, session, links, points and logs after a call are the definition's, for every
 -- input. So what is said here of a chain of such values is said of the same calls made one after the other on memory
 -- that nobody else writes to.
 use mathlib.Core.Path.{_≡_, refl, sym, ap, _∙_, subst}
 use mathlib.Core.Logic.{⊎-elim}
-use mathlib.Core.List.{List, [], _∷_}
+use mathlib.Core.List.{List, [], _∷_, _++_}
 use Prim.Native.Nat.{ℕ, _+_, _-_, _≤_, _<_}
 use native.Mathlib.Nat.{zero-add}
 use native.Mathlib.Omega.{arith}
+use lib.Dec.{eqb}
+use lib.IntN.{ℤ}
 use lib.ListN.{length, drop}
-use Rattle.laws.specs.Bools.{le?, split}
+use Rattle.laws.specs.Bools.{le?, split, eqb-other}
 use Rattle.layout.specs.Layout.{shapeOf}
+use Rattle.numbers.specs.PaddedLaws.{shorten-nil}
 use Rattle.table.specs.Check.{checkOf}
-use Rattle.runs.specs.Run.{State, Undid, undid, undoFrom, notRun, notUndone, entry, runOf, undoOf}
-use Rattle.promises.specs.RunAll.{runAll, undoneBy}
-use Rattle.runs.specs.Clauses.{run-out, undo-in, undo-out, entry-beyond}
-use Rattle.promises.specs.Checked.{checked-good, good-checked, good-entry}
-use Rattle.promises.specs.OtherLog.{withLog, Alike, Same, same-run}
-use Rattle.promises.specs.UndoParts.{counted, onward, undo-counted, undo-add, undo-fewer, undo-full, undo-entered}
-use Rattle.promises.specs.UndoParts.{undo-kept}
-use Rattle.promises.specs.WayBack.{Back, back-none, back-undo, back-all}
+use Rattle.runs.specs.Run.{State, state, Leaves, notRun, entry, runOf}
+use Rattle.runs.specs.Move.{Moved, moved, notMoved, moveOf}
+use Rattle.runs.specs.Clauses.{pick-by, run-out, entry-beyond, move-out, move-beyond}
+use Rattle.sessions.specs.declared.UndoLeft.{UndoLeft}
+use Rattle.sessions.specs.Session.{undoneSession, sessionUndo}
+use Rattle.sessions.specs.Editing.{Editing, logState, undoIn, undoneFrom}
+use Rattle.promises.specs.RunAll.{runAll}
+use Rattle.promises.specs.Checked.{checked-good, good-checked}
+use Rattle.promises.specs.Logging.{below, below-live}
+use Rattle.promises.specs.OtherLog.{withLog, Same, same-run}
+use Rattle.promises.specs.Trail.{trail-none, Gone, gone-none, gone-length, gone-rest}
+use Rattle.promises.specs.Moves.{gone-back, gone-full}
+use Rattle.promises.specs.Edits.{editAll, emptiedBy, edited, doneScript, gone-all, usedAll}
+use Rattle.promises.specs.Edits.{room-by-used}
 
--- undo by the sum of the done counts, after the scripts ss were run, one after the other, from the state t on
-abbrev pub undoAll : State → List (List ℕ) → Undid
-undoAll t ss = undoOf (runAll t ss .last) (runAll t ss .done)
+-- undo by the sum of the done counts, after the scripts ss were run, one after the other, on what was lent
+abbrev pub undoAll : Editing → List (List ℕ) → Leaves UndoLeft
+undoAll e ss = undoIn (editAll e ss .last) (editAll e ss .done)
 
--- everything is as it was: every word of links and points; the log from the first start on; and if that start is not
--- beyond the log, undo answers 0, that sum and the first start
-pub record Restored (t : State) (ss : List (List ℕ)) : Type 0 where
-  pub links : undoAll t ss .links ≡ t .links
-  pub points : undoAll t ss .points ≡ t .points
-  pub log : drop (t .start) (runAll t ss .last .log) ≡ drop (t .start) (t .log)
-  pub answer : t .start ≤ length (t .log)
-      → undoAll t ss .answer ≡ record { refusal = 0; rule = 0; undone = runAll t ss .done; start = t .start }
+-- and all that it leaves
+abbrev pub undoneAll : Editing → List (List ℕ) → Editing
+undoneAll e ss = undoneFrom (editAll e ss .last) (editAll e ss .done)
+
+-- everything is as it was: every word of links and points; the log's start, and the log from there on; if that start is
+-- not beyond the log, undo answers 0, that sum and the first start. And what redo finds are the operators done, in
+-- fewest groups, in front of what was live when undo began
+pub record Restored (e : Editing) (ss : List (List ℕ)) : Type 0 where
+  pub links : undoneAll e ss .links ≡ e .links
+  pub points : undoneAll e ss .points ≡ e .points
+  pub start : undoneAll e ss .session .log ≡ e .session .log
+  pub log : drop (e .session .log) (undoneAll e ss .log) ≡ drop (e .session .log) (e .log)
+  pub answer : e .session .log ≤ length (e .log)
+      → undoAll e ss .answer .answer
+      ≡ record { refusal = 0; rule = 0; undone = editAll e ss .done; start = e .session .log }
+  pub redo : drop (undoneAll e ss .session .redo) (undoneAll e ss .redo)
+      ≡ doneScript (logState e) ss ++ drop (editAll e ss .last .session .redo) (e .redo)
+
+-- "every promise about undoing … supposes a redo start not beyond the redo log, and room in that log for the operators
+-- undo writes there" (document 02, job 4): in front of the start that the last run left
+pub record RedoRoom (e : Editing) (ss : List (List ℕ)) : Type 0 where
+  pub fits : e .session .redo ≤ length (e .redo)
+  pub room : length (doneScript (logState e) ss) ≤ editAll e ss .last .session .redo
 
 -- ---- a start beyond the log: nothing is run
 
@@ -52,111 +76,176 @@ unfolding runAll
 all-beyond t [] h = refl
 all-beyond t (s ∷ ss) h = rw (run-beyond t s h, all-beyond t ss h)
 
--- nor undo
-undo-beyond : (t : State) (n : ℕ) → length (t .log) < t .start → undoOf t n ≡ notUndone 1 0 t
-undo-beyond t n h = undo-out t n (not-0 t h) ∙ rw (entry-beyond t h)
+-- so no operator is done
+nothing-done : (t : State) (ss : List (List ℕ)) → length (t .log) < t .start → doneScript t ss ≡ []
+unfolding doneScript
+nothing-done t [] h = refl
+nothing-done t (s ∷ ss) h = rw (run-beyond t s h, shorten-nil) (nothing-done t ss h)
+
+-- nor is anything moved out of it
+moved-beyond : (source : List ℕ) (from : ℕ) (t : State) (n : ℕ) → length source < from
+    → moveOf source from t n ≡ notMoved 1 0 from t
+moved-beyond source from t n h =
+    let e = move-beyond source from t h in
+    move-out source from t n (λ z. let y : _≡_ {A = ℕ} 1 0 = rw e at z in omega arith) ∙ rw e
+
+-- two states of the same log
+state-alike : {x y log : List ℕ} {p q : List ℤ} {i j : ℕ} → x ≡ y → p ≡ q → i ≡ j
+    → state x p log i ≡ state y q log j
+state-alike a b c = rw (a, b, c)
+
+-- ---- runs
 
 module _ (t : State) (ss : List (List ℕ)) (sound : checkOf (t .links) (t .points) .refusal ≡ 0) where
-  -- what the runs leave leads back to the first state, if its start is not beyond the log
-  all-back : t .start ≤ length (t .log) → Back (shapeOf (t .links)) (runAll t ss .done) t (runAll t ss .last)
-  all-back h =
-      rw (zero-add (runAll t ss .done)) at (back-all t t ss (back-none t (checked-good (t .links) (t .points) sound) h))
-
-  -- the whole of undo's answer then
-  all-undone : t .start ≤ length (t .log) → undoAll t ss ≡ undid 0 (runAll t ss .done) (t .start) (t .links) (t .points)
-  all-undone h =
-      let b = all-back h in
-      let u : State = runAll t ss .last in
-      let e = good-entry u (b .good) (omega (arith, b .below, b .fits, b .same-length)) in
-      let f = back-undo t u b in
-      undo-in u (runAll t ss .done) (rw e) ∙ rw (← b .good .shape) f
-
-  -- UNDO IS EXACT: of a table that passes the check, whoever made it, any list of scripts, any log and start
-  pub undo-exact : Restored t ss
-  undo-exact =
-      ⊎-elim
-      (λ h. let e = all-undone h in record {
-        links = ap (λ (u : Undid). u .links) e;
-        points = ap (λ (u : Undid). u .points) e;
-        log = all-back h .rest;
-        answer = λ i. ap (λ (u : Undid). u .answer) e;
-      })
-      (λ h. let e = all-beyond t ss h in let f = undo-beyond t 0 h in record {
-        links = rw (e, f);
-        points = rw (e, f);
-        log = rw e;
-        answer = λ i. absurd (omega (arith, i, h));
-      })
-      (le? (t .start) (length (t .log)))
+  -- from the first state to what the runs leave lead the operators done, if its start is not beyond the log
+  pub all-gone : t .start ≤ length (t .log)
+      → Gone (shapeOf (t .links)) t (runAll t ss .done) (doneScript t ss) (runAll t ss .last)
+  all-gone h =
+      rw (zero-add (runAll t ss .done)) at (gone-all t ss (gone-none t (checked-good (t .links) (t .points) sound) h))
 
   -- a sound table stays sound
   pub runs-sound : checkOf (runAll t ss .last .links) (runAll t ss .last .points) .refusal ≡ 0
   runs-sound =
-      ⊎-elim (λ h. rw (good-checked (all-back h .good))) (λ h. rw (all-beyond t ss h) sound)
+      ⊎-elim (λ h. rw (good-checked (all-gone h .good))) (λ h. rw (all-beyond t ss h) sound)
       (le? (t .start) (length (t .log)))
+
+-- ---- undo
+
+module _ (e : Editing) (ss : List (List ℕ)) (sound : checkOf (e .links) (e .points) .refusal ≡ 0) where
+  -- what the runs leave
+  abbrev ran : Editing
+  ran = editAll e ss .last
+
+  abbrev script : List ℕ
+  script = doneScript (logState e) ss
+
+  -- the first state with what undo writes into the redo log
+  abbrev back : State
+  back =
+      state (e .links) (e .points) (below (ran .redo) (ran .session .redo) script)
+      (ran .session .redo - length script)
+
+  -- the redo log's start behind the runs is not beyond it
+  redo-fits : e .session .redo ≤ length (e .redo) → ran .session .redo ≤ length (ran .redo)
+  redo-fits h =
+      let r = edited e ss in
+      let n = runAll (logState e) ss .done in
+      let k : emptiedBy e n ≤ length (e .redo) =
+      pick-by (λ m. m ≤ length (e .redo)) (eqb n 0) (e .session .redo) (length (e .redo)) (λ z. h) (λ z. omega arith) in
+      omega (arith, k, r .start, ap length (r .redo))
+
+  -- of any move by what the runs left, said of what the runs without a session leave
+  by-runs : (P : Moved → Type 0)
+      → (let t = runAll (logState e) ss .last in
+      P (moveOf (t .log) (t .start) (state (t .links) (t .points) (ran .redo) (ran .session .redo))
+      (runAll (logState e) ss .done)))
+      → P (moveOf (ran .log) (ran .session .log) (state (ran .links) (ran .points) (ran .redo) (ran .session .redo))
+      (editAll e ss .done))
+  by-runs P h =
+      let r = edited e ss in
+      subst (λ (t : State). P (moveOf (t .log) (t .start) (state (t .links) (t .points) (ran .redo) (ran .session
+      .redo))
+      (editAll e ss .done))) (sym (r .state)) (rw (r .done) h)
+
+  -- the whole of what undo leaves
+  undone-is : RedoRoom e ss → e .session .log ≤ length (e .log)
+      → undoAll e ss ≡ undoneSession (moved 0 (editAll e ss .done) (e .session .log) back)
+  unfolding sessionUndo
+  undone-is q h =
+      let r = edited e ss in
+      let g = all-gone (logState e) ss sound h in
+      let f = gone-back g (ran .redo) (ran .session .redo) (redo-fits (q .fits)) (q .room) in
+      ap undoneSession (by-runs (λ m. m ≡ moved 0 (editAll e ss .done) (e .session .log) back) (rw (r .done) f))
+
+  -- the log is what it was from the first start on
+  log-kept : drop (e .session .log) (ran .log) ≡ drop (e .session .log) (e .log)
+  log-kept =
+      let r = edited e ss in
+      ap (λ (t : State). drop (e .session .log) (t .log)) (r .state)
+      ∙ ⊎-elim (λ h. gone-rest (all-gone (logState e) ss sound h)) (λ h. rw (all-beyond (logState e) ss h))
+      (le? (e .session .log) (length (e .log)))
+
+  -- where the start is beyond the log, neither runs nor undo change anything
+  module _ (h : length (e .log) < e .session .log) where
+    stays : undoAll e ss ≡ undoneSession (notMoved 1 0 (e .session .log) (state (e .links) (e .points) (e .redo)
+        (e .session .redo)))
+    unfolding sessionUndo
+    stays =
+        let r = edited e ss in
+        let b = all-beyond (logState e) ss h in
+        let s : ran .session .redo ≡ e .session .redo = r .start ∙ rw b in
+        ap undoneSession (by-runs (λ m. m ≡ notMoved 1 0 (e .session .log) (state (e .links) (e .points) (e .redo)
+        (e .session .redo))) (rw (b, r .redo, s) (moved-beyond (e .log) (e .session .log) _ 0 h)))
+
+    -- no operator is done
+    none-done : script ≡ []
+    none-done = nothing-done (logState e) ss h
+
+  -- UNDO IS EXACT: of a table that passes the check, whoever made it, any list of scripts, any log and start, with room
+  -- in the redo log
+  pub undo-exact : RedoRoom e ss → Restored e ss
+  undo-exact q =
+      ⊎-elim
+      (λ h. let f = undone-is q h in record {
+        links = ap (λ (u : Leaves UndoLeft). u .links) f;
+        points = ap (λ (u : Leaves UndoLeft). u .points) f;
+        start = ap (λ (u : Leaves UndoLeft). u .answer .session .log) f;
+        log = log-kept;
+        answer = λ i. ap (λ (u : Leaves UndoLeft). u .answer .answer) f;
+        redo = ap (λ (u : Leaves UndoLeft). drop (u .answer .session .redo) (u .log)) f
+            ∙ below-live (ran .redo) (ran .session .redo) (redo-fits (q .fits)) script (q .room)
+            ∙ rw (edited e ss .redo);
+      })
+      (λ h. let f = stays h in record {
+        links = ap (λ (u : Leaves UndoLeft). u .links) f;
+        points = ap (λ (u : Leaves UndoLeft). u .points) f;
+        start = ap (λ (u : Leaves UndoLeft). u .answer .session .log) f;
+        log = log-kept;
+        answer = λ i. absurd (omega (arith, i, h));
+        redo = ap (λ (u : Leaves UndoLeft). drop (u .answer .session .redo) (u .log)) f
+            ∙ rw (none-done h, edited e ss .start, all-beyond (logState e) ss h);
+      })
+      (le? (e .session .log) (length (e .log)))
+
+  -- AND WITHOUT THAT ROOM IT IS NOT: undo is refused with 9
+  pub undo-full : e .session .log ≤ length (e .log) → e .session .redo ≤ length (e .redo)
+      → ran .session .redo < length script → undoAll e ss .answer .answer .refusal ≡ 9
+  unfolding sessionUndo
+  undo-full h k short =
+      by-runs (λ m. m .answer .refusal ≡ 9)
+      (gone-full (all-gone (logState e) ss sound h) (ran .redo) (ran .session .redo) (redo-fits k) short)
+
+  -- where nothing was done there is nothing to write
+  none-written : runAll (logState e) ss .done ≡ 0 → script ≡ []
+  none-written z =
+      ⊎-elim (λ h. trail-none (rw z at (all-gone (logState e) ss sound h .trail))) none-done
+      (le? (e .session .log) (length (e .log)))
+
+  -- A REDO LOG AS LONG AS THE BYTES USED IS ENOUGH: the sum of what the runs answer as used
+  pub used-room : e .session .redo ≤ length (e .redo) → usedAll (logState e) ss ≤ length (e .redo) → RedoRoom e ss
+  used-room h k =
+      let n = runAll (logState e) ss .done in
+      let r = edited e ss in
+      record {
+        fits = h;
+        room = split n 0
+            (λ z. rw (none-written z) (omega arith))
+            (λ d.
+            let f : ran .session .redo ≡ length (e .redo) = r .start ∙ rw (eqb-other d) in
+            omega (arith, f, k, room-by-used (logState e) ss));
+      }
 
   -- undo leaves the first table and the first start; only the log's bytes below it may be others
-  pub undone-first : undoneBy (runAll t ss .last) (runAll t ss .done) ≡ withLog t (runAll t ss .last .log)
-  undone-first =
-      ⊎-elim (λ h. rw (all-undone h)) (λ h. rw (all-beyond t ss h, undo-beyond t 0 h))
-      (le? (t .start) (length (t .log)))
+  pub undone-first : RedoRoom e ss → logState (undoneAll e ss) ≡ withLog (logState e) (ran .log)
+  undone-first q =
+      let u = undo-exact q in state-alike (u .links) (u .points) (u .start)
 
   -- so the next run goes as it would have gone at first: the same answer, the same table, the same live log
-  pub next-run : (s : List ℕ) → Same (runOf t s) (runOf (undoneBy (runAll t ss .last) (runAll t ss .done)) s)
-  next-run s =
-      let a : Alike (t .start) (t .log) (runAll t ss .last .log) = (
-        ⊎-elim (λ h. sym (all-back h .same-length)) (λ h. rw (all-beyond t ss h)) (le? (t .start) (length (t .log))),
-        sym (undo-exact .log),
-      ) in
-      rw undone-first (same-run t (runAll t ss .last .log) s a)
-
--- ---- undo of any log
-
--- if undo of n is not refused, undo of fewer is not
-pub undo-early : (t : State) (m n : ℕ) → m ≤ n → undoOf t n .answer .refusal ≡ 0 → undoOf t m .answer .refusal ≡ 0
-undo-early t m n l h =
-    let sh = shapeOf (t .links) in
-    let e = undo-entered t n h in
-    let s : n ≡ m + (n - m) = omega arith in
-    let z = subst (λ (u : Undid). u .answer .refusal ≡ 0) (undo-in t n e
-    ∙ ap (λ j. undoFrom j sh (t .log) (t .start) 0 (t .links) (t .points)) s) h in
-    subst (λ (u : Undid). u .answer .refusal ≡ 0) (sym (undo-in t m e))
-    (undo-fewer sh (t .log) (n - m) m (t .start) 0 (t .links) (t .points) z)
-
--- a sound table stays sound when it is undone, whatever the log holds
-pub undo-sound : (t : State) (n : ℕ) → checkOf (t .links) (t .points) .refusal ≡ 0
-    → checkOf (undoOf t n .links) (undoOf t n .points) .refusal ≡ 0
-undo-sound t n s = split (entry t .refusal) 0 (λ h. rw (good-checked (undo-kept t n h .0))) (λ d. rw (undo-out t n d) s)
-
--- UNDO IN TWO PARTS: the first m of n, if that is not refused, and then the others, is undo of n
-pub undo-parts : (t : State) (m n : ℕ) → m ≤ n → undoOf t m .answer .refusal ≡ 0
-    → undoOf t n ≡ counted m (undoOf (undoneBy t m) (n - m))
-undo-parts t m n l h =
-    let sh = shapeOf (t .links) in
-    let e = undo-entered t m h in
-    let g = undo-kept t m e in
-    let i = undo-in t m e in
-    let w = good-entry (undoneBy t m) (g .0) (g .1) in
-    let z = subst (λ (u : Undid). u .answer .refusal ≡ 0) i h in
-    let s : n ≡ m + (n - m) = omega arith in
-    let c : undoOf t m .answer .undone ≡ m + 0 = ap (λ (u : Undid). u .answer .undone) i
-    ∙ undo-full sh (t .log) m (t .start) 0 (t .links) (t .points) z ∙ omega arith in
-    let two : undoOf (undoneBy t m) (n - m)
-    ≡ undoFrom (n - m) sh (t .log) (undoOf t m .answer .start) 0 (undoOf t m .links) (undoOf t m .points) =
-    undo-in (undoneBy t m) (n - m) (rw w) ∙ rw (← g .0 .shape) in
-    undo-in t n e ∙ ap (λ j. undoFrom j sh (t .log) (t .start) 0 (t .links) (t .points)) s
-    ∙ undo-add sh (t .log) (n - m) m (t .start) 0 (t .links) (t .points) z
-    ∙ ap (onward sh (t .log) (n - m)) (sym i)
-    ∙ ap (λ j. undoFrom (n - m) sh (t .log) (undoOf t m .answer .start) j (undoOf t m .links) (undoOf t m .points)) c
-    ∙ undo-counted sh (t .log) m (n - m) (undoOf t m .answer .start) 0 (undoOf t m .links) (undoOf t m .points)
-    ∙ sym (ap (counted m) two)
-
--- so what was run can be undone in any two parts: the second ends where undo of all does
-pub undone-apart : (t : State) (ss : List (List ℕ)) → checkOf (t .links) (t .points) .refusal ≡ 0
-    → t .start ≤ length (t .log) → (m : ℕ) → m ≤ runAll t ss .done
-    → counted m (undoOf (undoneBy (runAll t ss .last) m) (runAll t ss .done - m))
-    ≡ undid 0 (runAll t ss .done) (t .start) (t .links) (t .points)
-undone-apart t ss sound h m l =
-    let e = all-undone t ss sound h in
-    let z = undo-early (runAll t ss .last) m (runAll t ss .done) l (ap (λ (u : Undid). u .answer .refusal) e) in
-    sym (undo-parts (runAll t ss .last) m (runAll t ss .done) l z) ∙ e
+  pub next-run : RedoRoom e ss → (s : List ℕ) → Same (runOf (logState e) s) (runOf (logState (undoneAll e ss)) s)
+  next-run q s =
+      let r = edited e ss in
+      let l : length (e .log) ≡ length (ran .log) = ⊎-elim
+      (λ h. sym (ap (λ (t : State). length (t .log)) (r .state) ∙ gone-length (all-gone (logState e) ss sound h)))
+      (λ h. sym (ap (λ (t : State). length (t .log)) (r .state) ∙ rw (all-beyond (logState e) ss h)))
+      (le? (e .session .log) (length (e .log))) in
+      rw (undone-first q) (same-run (logState e) (ran .log) s (l, sym log-kept))

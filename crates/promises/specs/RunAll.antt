@@ -1,7 +1,7 @@
 -- Scripts run one after the other, each on what the one before left.
 use Prim.Native.Nat.{ℕ, _+_}
 use mathlib.Core.List.{List, [], _∷_}
-use Rattle.runs.specs.Run.{State, state, Ran, runOf, undoOf}
+use Rattle.runs.specs.Run.{State, state, Ran, runOf}
 
 -- the state that a run leaves
 abbrev pub leftBy : Ran → State
@@ -19,7 +19,3 @@ runAll t (s ∷ ss) = record {
   done = runOf t s .answer .done + runAll (leftBy (runOf t s)) ss .done;
   last = runAll (leftBy (runOf t s)) ss .last;
 }
-
--- the state that undo by n leaves: it changes no byte of the log
-abbrev pub undoneBy : State → ℕ → State
-undoneBy t n = state (undoOf t n .links) (undoOf t n .points) (t .log) (undoOf t n .answer .start)

@@ -1,47 +1,63 @@
--- What a run logs is in shortest form: a live log that was shortest stays so (document 02, job 1, "writing keeps the
--- shortest").
-use mathlib.Core.Path.{_≡_, refl}
+-- What is logged is in shortest form: a live log that was shortest stays so (document 02, job 1, "writing keeps the
+-- shortest"), and so does the redo log under undo, and the log under redo.
+use mathlib.Core.Path.{_≡_}
 use mathlib.Core.Logic.{⊎-elim}
 use mathlib.Core.Bool.{true}
-use mathlib.Core.List.{List, []}
-use Prim.Native.Nat.{ℕ, _≤_, _<_}
-use native.Mathlib.Omega.{arith}
+use mathlib.Core.List.{List, _++_, append-assoc}
+use Prim.Native.Nat.{ℕ}
 use lib.IntN.{ℤ}
 use lib.ListN.{length, drop}
-use Rattle.laws.specs.Bools.{le?}
+use Rattle.laws.specs.Bools.{le?, split}
 use Rattle.numbers.specs.Padded.{shortest}
-use Rattle.codec.specs.Ranges.{Within}
+use Rattle.script.specs.Operator.{operatorBytes}
 use Rattle.script.specs.Scripts.{operator-shortest}
 use Rattle.layout.specs.declared.shape.Shape.{Shape}
-use Rattle.euler.specs.Exec.{limits}
 use Rattle.table.specs.Check.{checkOf}
 use Rattle.sound_tables.specs.Accepted.{accepted}
+use Rattle.sound_operators.specs.Theorems.{all-hold}
+use Rattle.euler.specs.Exec.{linksAfter, inverse}
 use Rattle.runs.specs.Run.{State}
+use Rattle.runs.specs.Move.{moveOf, moveEntry}
+use Rattle.runs.specs.Clauses.{entry-passed, move-passed, move-out}
 use Rattle.promises.specs.RunAll.{runAll}
+use Rattle.promises.specs.Inverses.{inverse-eight}
 use Rattle.promises.specs.Reading.{range-writable}
-use Rattle.promises.specs.Leads.{Leads, none, first}
-use Rattle.promises.specs.Checked.{checked-good, good-within}
-use Rattle.promises.specs.WayBack.{back-none, back-all}
-use Rattle.promises.specs.Promises.{all-beyond}
+use Rattle.promises.specs.Checked.{good-within}
+use Rattle.promises.specs.Trail.{Trail, none, more, Gone, gone-live}
+use Rattle.promises.specs.Moves.{movedTo, gone-after}
+use Rattle.promises.specs.Promises.{all-beyond, all-gone}
 
 -- the live part of a log
 abbrev pub live : State → List ℕ
 live t = drop (t .start) (t .log)
 
--- written operators in front of shortest bytes
-leads-shortest : {sh : Shape} {x₀ : List ℕ} {p₀ : List ℤ} {q₀ : List ℕ} {n : ℕ} {x : List ℕ} {p : List ℤ} {q : List ℕ}
-    → Within (limits sh) → Leads sh x₀ p₀ q₀ n x p q → shortest q₀ ≡ true → shortest q ≡ true
-leads-shortest v (none ex ep eq) e = rw eq e
-leads-shortest {sh} {x} v (first o rest eq len acc more) e =
-    rw eq (operator-shortest o (range-writable v o len (accepted sh x o acc)) rest (leads-shortest v more e))
+-- written inverses in front of shortest bytes
+trail-shortest : {sh : Shape} {x₀ : List ℕ} {p₀ : List ℤ} {n : ℕ} {w q x : List ℕ} {p : List ℤ}
+    → Trail sh x₀ p₀ n w q x p → (b : List ℕ) → shortest b ≡ true → shortest (q ++ b) ≡ true
+trail-shortest (none ew eq ex ep) b e = rw eq e
+trail-shortest {sh} (more o v r y k t g len acc ew eq ex ep) b e =
+    let i = inverse sh y k o in
+    let a = accepted sh (linksAfter sh y o) i (all-hold sh y k o g len acc .1 .accepted) in
+    rw (eq, append-assoc (operatorBytes i) r b)
+    (operator-shortest i (range-writable (good-within g) i (inverse-eight sh y k o) a) (r ++ b) (trail-shortest t b e))
+
+-- what was done keeps the live log shortest
+gone-shortest : {sh : Shape} {t₀ t : State} {n : ℕ} {w : List ℕ} → Gone sh t₀ n w t → shortest (live t₀) ≡ true
+    → shortest (live t) ≡ true
+gone-shortest {t₀} g e = rw (gone-live g) (trail-shortest (g .trail) (live t₀) e)
 
 -- WHAT RUNS LOG IS SHORTEST: of a table that passes the check, any list of scripts, refused runs included
 pub log-shortest : (t : State) (ss : List (List ℕ)) → checkOf (t .links) (t .points) .refusal ≡ 0
     → shortest (live t) ≡ true → shortest (live (runAll t ss .last)) ≡ true
 log-shortest t ss sound e =
-    ⊎-elim
-    (λ h.
-    let b = back-all t t ss (back-none t (checked-good (t .links) (t .points) sound) h) in
-    leads-shortest (good-within (b .good)) (b .leads) e)
-    (λ h. rw (all-beyond t ss h) e)
+    ⊎-elim (λ h. gone-shortest (all-gone t ss sound h) e) (λ h. rw (all-beyond t ss h) e)
     (le? (t .start) (length (t .log)))
+
+-- AND SO IS WHAT A MOVE WRITES: undo into the redo log, redo into the log
+pub move-shortest : (source : List ℕ) (from : ℕ) (t : State) (n : ℕ) → checkOf (t .links) (t .points) .refusal ≡ 0
+    → shortest (live t) ≡ true → shortest (live (movedTo (moveOf source from t n))) ≡ true
+move-shortest source from t n sound e = split (moveEntry source from t .refusal) 0
+    (λ h.
+    let p = move-passed source from t h in
+    gone-shortest (gone-after source from t n sound (p .0) (entry-passed t (p .1) .0)) e)
+    (λ d. rw (move-out source from t n d) e)

@@ -1,21 +1,19 @@
--- The clauses of a run and of undo as equations.
-use mathlib.Core.Path.{_≡_, refl}
+-- The clauses of a run and of a move as equations.
+use mathlib.Core.Path.{_≡_, refl, ap, _∙_}
 use mathlib.Core.Logic.{_≢_, ⊎-elim}
 use mathlib.Core.Bool.{Bool, true, false}
 use mathlib.Core.List.{List}
 use Prim.Native.Nat.{ℕ, suc, _+_, _≤_, _<_}
 use native.Mathlib.Omega.{arith}
 use lib.Dec.{eqb, ltb}
-use lib.IntN.{ℤ}
 use lib.ListN.{length}
 use borrow.Author.Tests.{le-leb, lt-leb}
 use Rattle.laws.specs.Bools.{pick, le?, eqb-same, eqb-other}
 use Rattle.layout.specs.declared.shape.Shape.{Shape}
 use Rattle.layout.specs.Layout.{shapeOf}
-use Rattle.euler.specs.Exec.{linksAfter, pointsAfter}
 use Rattle.table.specs.Check.{checkOf}
-use Rattle.runs.specs.Run.{State, readAt, refusalAt, runRefusal, stepped, ran, runFrom, notRun, entry, runOf}
-use Rattle.runs.specs.Run.{undid, undoFrom, notUndone, undoOf}
+use Rattle.runs.specs.Run.{State, readAt, runRefusal, stepped, ran, runFrom, notRun, entry, runOf}
+use Rattle.runs.specs.Move.{movedBy, notPart, partOf, notMoved, moveOf, moveEntry}
 
 -- what holds of each value where its test says so holds of the one taken
 pub pick-by : {X : Type 0} (P : X → Type 0) (b : Bool) (u w : X) → (b ≡ true → P u) → (b ≡ false → P w) → P (pick b u w)
@@ -37,24 +35,6 @@ pub run-some : (n : ℕ) (sh : Shape) (s : List ℕ) (at done : ℕ) (t : State)
 unfolding runFrom
 run-some n sh s at done t = refl
 
--- undo of no operators
-pub undo-none : (sh : Shape) (log : List ℕ) (at k : ℕ) (x : List ℕ) (p : List ℤ) → undoFrom 0 sh log at k x p
-    ≡ undid 0 k at x p
-unfolding undoFrom
-undo-none sh log at k x p = refl
-
--- undo of one more
-pub undo-some : (n : ℕ) (sh : Shape) (log : List ℕ) (at k : ℕ) (x : List ℕ) (p : List ℤ)
-    → undoFrom (suc n) sh log at k x p
-    ≡ pick (ltb at (length log))
-    (pick (eqb (refusalAt sh x log at) 0)
-    (undoFrom n sh log (readAt sh log at .next) (k + 1) (linksAfter sh x (readAt sh log at .op))
-    (pointsAfter sh x p (readAt sh log at .op)))
-    (undid (refusalAt sh x log at) k at x p))
-    (undid 11 k at x p)
-unfolding undoFrom
-undo-some n sh log at k x p = refl
-
 -- ---- who is let in
 
 -- a run that is let in
@@ -67,17 +47,6 @@ run-in t s h = rw (eqb-same h)
 pub run-out : (t : State) (s : List ℕ) → entry t .refusal ≢ 0 → runOf t s ≡ notRun (entry t .refusal) (entry t .rule) t
 unfolding runOf
 run-out t s h = rw (eqb-other h)
-
--- undo that is let in
-pub undo-in : (t : State) (n : ℕ) → entry t .refusal ≡ 0
-    → undoOf t n ≡ undoFrom n (shapeOf (t .links)) (t .log) (t .start) 0 (t .links) (t .points)
-unfolding undoOf
-undo-in t n h = rw (eqb-same h)
-
--- and one that is not
-pub undo-out : (t : State) (n : ℕ) → entry t .refusal ≢ 0 → undoOf t n ≡ notUndone (entry t .refusal) (entry t .rule) t
-unfolding undoOf
-undo-out t n h = rw (eqb-other h)
 
 -- a start beyond the log is refused with 1
 pub entry-beyond : (t : State) → length (t .log) < t .start → entry t ≡ record { refusal = 1; rule = 0 }
@@ -96,3 +65,65 @@ pub entry-passed : (t : State) → entry t .refusal ≡ 0 → (t .start ≤ leng
 entry-passed t h =
     ⊎-elim (λ l. (l, entry-checked t l h)) (λ l. absurd (let z : _≡_ {A = ℕ} 1 0 = rw (entry-beyond t l) at h in
     omega arith)) (le? (t .start) (length (t .log)))
+
+-- ---- moves
+
+-- a part of a script is run where it is let in
+part-in : (t : State) (s : List ℕ) (from n : ℕ) → entry t .refusal ≡ 0
+    → partOf t s from n ≡ runFrom n (shapeOf (t .links)) s from 0 t
+unfolding partOf
+part-in t s from n h = rw (eqb-same h)
+
+-- and not where it is not
+part-out : (t : State) (s : List ℕ) (from n : ℕ) → entry t .refusal ≢ 0
+    → partOf t s from n ≡ notPart (entry t .refusal) (entry t .rule) from t
+unfolding partOf
+part-out t s from n h = rw (eqb-other h)
+
+-- the whole of it is a run
+pub part-whole : (t : State) (s : List ℕ) → partOf t s 0 (length s) ≡ runOf t s
+unfolding partOf runOf
+part-whole t s = refl
+
+module _ (source : List ℕ) (from : ℕ) (t : State) where
+  -- a source start beyond the source is refused with 1
+  pub move-beyond : length source < from → moveEntry source from t ≡ record { refusal = 1; rule = 0 }
+  unfolding moveEntry
+  move-beyond h = rw (lt-leb from (length source) h)
+
+  pub moved-beyond : (n : ℕ) → length source < from → moveOf source from t n ≡ notMoved 1 0 from t
+  unfolding moveOf
+  moved-beyond n h = rw (lt-leb from (length source) h)
+
+  -- one that is not leaves it to the destination's start and the check
+  pub move-within : from ≤ length source → moveEntry source from t ≡ entry t
+  unfolding moveEntry
+  move-within h = rw (le-leb from (length source) h)
+
+  pub moved-within : (n : ℕ) → from ≤ length source → moveOf source from t n ≡ movedBy n (partOf t source from n)
+  unfolding moveOf
+  moved-within n h = rw (le-leb from (length source) h)
+
+  -- what is let in has its start within the source, and would be let in to a run
+  pub move-passed : moveEntry source from t .refusal ≡ 0 → (from ≤ length source) × (entry t .refusal ≡ 0)
+  move-passed h =
+      ⊎-elim (λ l. (l, rw (move-within l) at h)) (λ l. absurd (let z : _≡_ {A = ℕ} 1 0 = rw (move-beyond l) at h in
+      omega arith)) (le? from (length source))
+
+  -- a move that is let in
+  pub move-in : (n : ℕ) → moveEntry source from t .refusal ≡ 0
+      → moveOf source from t n ≡ movedBy n (runFrom n (shapeOf (t .links)) source from 0 t)
+  move-in n h =
+      let p = move-passed h in moved-within n (p .0) ∙ ap (movedBy n) (part-in t source from n (p .1))
+
+  -- and one that is not
+  pub move-out : (n : ℕ) → moveEntry source from t .refusal ≢ 0
+      → moveOf source from t n ≡ notMoved (moveEntry source from t .refusal) (moveEntry source from t .rule) from t
+  move-out n d =
+      ⊎-elim
+      (λ l.
+      let e = move-within l in
+      let d′ : entry t .refusal ≢ 0 = rw e at d in
+      moved-within n l ∙ ap (movedBy n) (part-out t source from n d′) ∙ rw (e, eqb-other d′))
+      (λ l. moved-beyond n l ∙ rw (move-beyond l))
+      (le? from (length source))

@@ -1,5 +1,5 @@
--- Running a script and undoing (document 01, "Scripts and the log"). An operator is read (3, 4, 5) and admitted (6, 7,
--- 8); a run also needs room for the inverse in front of the log's start (9); undo needs a log that has not ended (11).
+-- Running a script (document 01, "Scripts and the log"). An operator is read (3, 4, 5) and admitted (6, 7, 8), and
+-- there must be room for its inverse in front of the log's start (9). Undo and redo are runs of a log: `Move`.
 use Prim.Native.Nat.{ℕ, zero, suc, _+_, _-_}
 use mathlib.Core.List.{List}
 use lib.Dec.{eqb, leb, ltb}
@@ -15,7 +15,6 @@ use Rattle.euler.specs.Exec.{limits, admitOf, linksAfter, pointsAfter, inverse}
 use Rattle.table.specs.declared.check.CheckAnswer.{CheckAnswer}
 use Rattle.table.specs.Check.{checkOf}
 use Rattle.runs.specs.declared.answers.RunAnswer.{RunAnswer}
-use Rattle.runs.specs.declared.answers.UndoAnswer.{UndoAnswer}
 
 -- ---- one operator
 
@@ -146,40 +145,3 @@ unfoldable pub runOf : State → List ℕ → Ran
 runOf t s =
     pick (eqb (entry t .refusal) 0) (runFrom (length s) (shapeOf (t .links)) s 0 0 t)
     (notRun (entry t .refusal) (entry t .rule) t)
-
--- ---- undo
-
--- what undo leaves: its answer and the table; it changes no byte of the log
-pub record Undid : Type 0 where
-  pub answer : UndoAnswer
-  pub links : List ℕ
-  pub points : List ℤ
-
-abbrev pub restores : UndoAnswer → List ℕ → List ℤ → Undid
-restores a x p = record { answer = a; links = x; points = p }
-
--- stopped with a refusal, 0 for none, after `undone` operators, the log's live part now from `start` on
-abbrev pub undid : ℕ → ℕ → ℕ → List ℕ → List ℤ → Undid
-undid refusal undone start x p = restores (record { refusal = refusal; rule = 0; undone = undone; start = start }) x p
-
--- n operators of the log from `at` on are due, `undone` are undone
-unfoldable pub undoFrom : ℕ → Shape → List ℕ → ℕ → ℕ → List ℕ → List ℤ → Undid
-undoFrom zero sh log at undone x p = undid 0 undone at x p
-undoFrom (suc n) sh log at undone x p =
-    pick (ltb at (length log))
-    (pick (eqb (refusalAt sh x log at) 0)
-    (undoFrom n sh log (readAt sh log at .next) (undone + 1) (linksAfter sh x (readAt sh log at .op))
-    (pointsAfter sh x p (readAt sh log at .op)))
-    (undid (refusalAt sh x log at) undone at x p))
-    (undid 11 undone at x p)
-
--- refused before the first operator
-abbrev pub notUndone : ℕ → ℕ → State → Undid
-notUndone refusal rule t =
-    restores (record { refusal = refusal; rule = rule; undone = 0; start = t .start }) (t .links) (t .points)
-
--- the first n operators of the live log, run unlogged
-unfoldable pub undoOf : State → ℕ → Undid
-undoOf t n =
-    pick (eqb (entry t .refusal) 0) (undoFrom n (shapeOf (t .links)) (t .log) (t .start) 0 (t .links) (t .points))
-    (notUndone (entry t .refusal) (entry t .rule) t)

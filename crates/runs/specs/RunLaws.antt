@@ -1,5 +1,5 @@
--- The ways through an operator carried out, a step, a run and an undo, one law each, over plain variables.
-use mathlib.Core.Path.{_≡_, refl, sym, ap, _∙_, subst}
+-- The ways through an operator carried out, a step and a run, one law each, over plain variables.
+use mathlib.Core.Path.{_≡_, refl, sym, ap, _∙_}
 use mathlib.Core.Logic.{_≢_, ⊎-elim}
 use mathlib.Core.List.{List}
 use Prim.Native.Nat.{ℕ, zero, suc, _+_, _-_, _≤_, _<_}
@@ -11,26 +11,21 @@ use borrow.Author.Tests.{lt-ltb, le-ltb, le-leb, eq-eqb, ne-eqb}
 use Rattle.laws.specs.Bools.{pick, same?, split, eqb-same, eqb-other}
 use Rattle.script.specs.declared.Operator.{Operator}
 use Rattle.script.specs.declared.ReadAnswer.{ReadAnswer}
-use Rattle.script.specs.RoundTrip.{read-next}
 use Rattle.layout.specs.declared.shape.Shape.{Shape}
 use Rattle.layout.specs.Layout.{shapeOf}
-use Rattle.euler.specs.Exec.{limits, admitOf}
+use Rattle.euler.specs.Exec.{admitOf}
 use Rattle.layout.specs.Small.{Small}
 use Rattle.table.specs.declared.check.CheckAnswer.{CheckAnswer}
 use Rattle.table.specs.Check.{checkOf}
 use Rattle.table.specs.CheckLaws.{checked-fits}
 use Rattle.table.specs.SizesLaws.{fits-small}
-use Rattle.runs.specs.Clauses.{run-in, run-out, undo-in, undo-out, entry-beyond, entry-passed}
+use Rattle.runs.specs.Clauses.{entry-beyond, entry-passed}
 use Rattle.runs.specs.Run.{State, state, readAt, admitRead, stepped}
 use Rattle.runs.specs.Run.{carryRefusal, carriedIs, carryOf, runRefusal, Stepped, stepIs, stepOf}
-use Rattle.runs.specs.Run.{Ran, ran, runFrom, notRun, entry, runOf, Undid, undid, undoFrom, notUndone, undoOf}
+use Rattle.runs.specs.Run.{Ran, ran, runFrom, entry}
 
--- what was read is refused, or its operator is
+-- what was read is admitted where its operator is
 module _ (sh : Shape) (x : List ℕ) (r : ReadAnswer) where
-  pub read-refused : r .refusal ≢ 0 → r .refusal ≡ admitRead sh x r
-  unfolding admitRead
-  read-refused z = rw (ne-eqb (r .refusal) 0 z)
-
   pub read-admitted : r .refusal ≡ 0 → (a : ℕ) → a ≡ admitOf sh x (r .op) → a ≡ admitRead sh x r
   unfolding admitRead
   read-admitted z a e = rw (eq-eqb (r .refusal) 0 z) e
@@ -72,13 +67,6 @@ module _ (sh : Shape) (t : State) (s : List ℕ) (at : ℕ) where
     step-some : q .refusal ≢ 0 → runRefusal sh t s at ≢ 0
     step-some z r = z (ap (λ u. u .refusal) (e ∙ step-taken r))
 
-    -- it has then gone on in the script
-    pub step-next : q .refusal ≡ 0 → (at < q .next) × (q .next ≤ length s)
-    step-next z =
-        let r = step-zero z in
-        let g = read-next (limits sh) s at (run-read r) in
-        subst (λ n. (at < n) × (n ≤ length s)) (sym (ap (λ u. u .next) (e ∙ step-taken r))) g
-
 -- past the script's end nothing is done
 pub run-ended : (sh : Shape) (s : List ℕ) (n at done : ℕ) (t : State) → length s ≤ at → runFrom n sh s at done t
     ≡ ran 0 done at t
@@ -86,20 +74,15 @@ unfolding runFrom
 run-ended sh s zero at done t h = refl
 run-ended sh s (suc n) at done t h = rw (le-ltb at (length s) h)
 
--- as it begins, all is left
-pub run-begins : (sh : Shape) (s : List ℕ) (t : State) → runFrom (length s - 0) sh s 0 0 t
-    ≡ runFrom (length s) sh s 0 0 t
-run-begins sh s t = let e : length s - 0 ≡ length s = omega arith in ap (λ n. runFrom n sh s 0 0 t) e
-
-pub undo-begins : (sh : Shape) (log : List ℕ) (n at : ℕ) (x : List ℕ) (p : List ℤ) → undoFrom (n - 0) sh log at 0 x p
-    ≡ undoFrom n sh log at 0 x p
-undo-begins sh log n at x p = let e : n - 0 ≡ n = omega arith in ap (λ n. undoFrom n sh log at 0 x p) e
-
--- a run: what is left of it is the whole; as it stops at a refusal, goes on, ends
+-- a run: what is left of it is the whole; as it ends with the script or with what is due, stops at a refusal, goes on
 module _ (sh : Shape) (s : List ℕ) (n at done : ℕ) (t : State) (whole : Ran) (rest : runFrom n sh s at done t
     ≡ whole) where
   pub run-end : length s ≤ at → ran 0 done at t ≡ whole
   run-end h = sym (run-ended sh s n at done t h) ∙ rest
+
+  pub run-over : n ≤ 0 → ran 0 done at t ≡ whole
+  unfolding runFrom
+  run-over h = let z : n ≡ 0 = omega (arith, h) in rw z at rest
 
   module _ (h : at < length s) (m : 0 < n) (q : Stepped) (e : q ≡ stepOf sh t s at) where
     turn : pick (eqb (runRefusal sh t s at) 0) (runFrom (n - 1) sh s (readAt sh s at .next) (done + 1)
@@ -117,17 +100,6 @@ module _ (sh : Shape) (s : List ℕ) (n at done : ℕ) (t : State) (whole : Ran)
         let r = step-zero sh t s at q e z in
         rw (ek, e ∙ step-taken sh t s at r) (rw (eq-eqb (runRefusal sh t s at) 0 r) at turn)
 
--- an undo: none is due, the log has ended, a refusal, one undone
-module _ (sh : Shape) (log : List ℕ) (n at k : ℕ) (x : List ℕ) (p : List ℤ) (whole : Undid)
-    (rest : undoFrom n sh log at k x p ≡ whole) where
-  pub undo-end : n ≤ 0 → undid 0 k at x p ≡ whole
-  unfolding undoFrom
-  undo-end h = let z : n ≡ 0 = omega (arith, h) in rw z at rest
-
-  pub undo-past : 0 < n → length log ≤ at → undid 11 k at x p ≡ whole
-  unfolding undoFrom
-  undo-past m h = let e : n ≡ suc (n - 1) = omega (arith, m) in rw (e, le-ltb at (length log) h) at rest
-
 -- the way in: the start is beyond the log, or the check answers
 module _ (x : List ℕ) (p : List ℤ) (log : List ℕ) (start : ℕ) where
   -- the state as the code holds it
@@ -142,14 +114,6 @@ module _ (x : List ℕ) (p : List ℤ) (log : List ℕ) (start : ℕ) where
   enter-checked h a e = rw (le-leb start (length log) h) e
 
   module _ (a : CheckAnswer) (e : a ≡ entry (state x p log start)) where
-    pub run-refused : (s : List ℕ) → a .refusal ≢ 0 → notRun (a .refusal) (a .rule) (state x p log start)
-        ≡ runOf (state x p log start) s
-    run-refused s z = rw e (sym (run-out held s (λ h. z (ap (λ c. c .refusal) e ∙ h))))
-
-    pub undo-refused : (n : ℕ) → a .refusal ≢ 0 → notUndone (a .refusal) (a .rule) (state x p log start)
-        ≡ undoOf (state x p log start) n
-    undo-refused n z = rw e (sym (undo-out held n (λ h. z (ap (λ c. c .refusal) e ∙ h))))
-
     module _ (z : a .refusal ≡ 0) (sh : Shape) (h : sh ≡ shapeOf x) where
       -- it is let in
       let-in : entry (state x p log start) .refusal ≡ 0
@@ -157,10 +121,3 @@ module _ (x : List ℕ) (p : List ℤ) (log : List ℕ) (start : ℕ) where
 
       pub entered-small : Small sh
       entered-small = rw h (fits-small x p (checked-fits x p (entry-passed held let-in .1)))
-
-      pub run-entered : (s : List ℕ) (r : Ran) → r ≡ runFrom (length s) sh s 0 0 (state x p log start)
-          → r ≡ runOf (state x p log start) s
-      run-entered s r g = rw h at g ∙ sym (run-in held s let-in)
-
-      pub undo-entered : (n : ℕ) (r : Undid) → r ≡ undoFrom n sh log start 0 x p → r ≡ undoOf (state x p log start) n
-      undo-entered n r g = rw h at g ∙ sym (undo-in held n let-in)

@@ -1,18 +1,15 @@
 -- What a run and an undo stand on from one operator to the next: the table is good, and the numbers of loops beside it
 -- are right. Both begin with the check and the count, and each operator that is carried out keeps them.
 use mathlib.Core.Path.{_≡_, sym, _∙_}
-use mathlib.Core.Logic.{_≢_}
 use mathlib.Core.List.{List}
 use Prim.Native.Nat.{ℕ}
-use lib.Dec.{eqb}
 use lib.IntN.{ℤ}
 use lib.ListN.{length}
-use Rattle.laws.specs.Bools.{pick, eqb-same, eqb-other}
 use Rattle.bounds.specs.Bounds.{itemPlaces}
 use Rattle.script.specs.declared.Operator.{Operator}
 use Rattle.layout.specs.declared.shape.Shape.{Shape}
 use Rattle.layout.specs.Small.{Small}
-use Rattle.euler.specs.Exec.{Table, linksAfter, pointsAfter}
+use Rattle.euler.specs.Exec.{linksAfter, pointsAfter}
 use Rattle.euler_counts.specs.Counts.{Counted, countsAfter}
 use Rattle.sound_counts.specs.Kept.{counted-after, counted-length}
 use Rattle.sound_tables.specs.Good.{Good}
@@ -58,23 +55,3 @@ pub standing-kept : {sh : Shape} {x : List ℕ} {p : List ℤ} {c : List ℕ} �
     → (y : List ℕ) → y ≡ linksAfter sh x o → (q : List ℤ) → q ≡ pointsAfter sh x p o
     → (d : List ℕ) → d ≡ countsAfter sh x c o → Standing sh y q d
 standing-kept a s at r er z o eo y ey q eq d ed = rw (ey, eq, ed, eo) (standing-after a s at (sym er ∙ z))
-
--- ---- one operator undone
-
--- the table after the operator at a place of the log, or as it is where that is refused
-unfoldable pub backOf : Shape → List ℕ → List ℤ → List ℕ → ℕ → Table
-backOf sh x p log at =
-    pick (eqb (refusalAt sh x log at) 0)
-    (record { links = linksAfter sh x (readAt sh log at .op); points = pointsAfter sh x p (readAt sh log at .op) })
-    (record { links = x; points = p })
-
-module _ (sh : Shape) (x : List ℕ) (p : List ℤ) (log : List ℕ) (at r : ℕ) (er : r ≡ refusalAt sh x log at) where
-  pub back-refused : r ≢ 0 → _≡_ {A = Table} (record { links = x; points = p }) (backOf sh x p log at)
-  unfolding backOf
-  back-refused z = rw (← er, eqb-other z)
-
-  pub back-done : r ≡ 0 → (o : Operator) → o ≡ readAt sh log at .op → (y : List ℕ) → y ≡ linksAfter sh x o
-      → (q : List ℤ) → q ≡ pointsAfter sh x p o
-      → record { links = y; points = q } ≡ backOf sh x p log at
-  unfolding backOf
-  back-done z o eo y ey q eq = rw (← er, eqb-same z, ← eo, ey, eq)

@@ -1,3 +1,2 @@
-// One operator of a run and one of an undo: read, admitted, carried out.
-pub mod back; // undo
-pub mod steps; // run
+// One operator of a script or a log: read, admitted, carried out, its inverse logged.
+pub mod steps;

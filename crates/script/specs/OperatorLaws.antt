@@ -20,15 +20,7 @@ use Rattle.codec.specs.WriteLaws.{sets-append}
 use Rattle.codec.specs.Ranges.{eight}
 use Rattle.codec.specs.BeforeLaws.{before-turn, pattern-filled, operands-bound}
 
--- an operator takes a byte at least
-pub operator-some : (op : Operator) → 1 ≤ length (operatorBytes op)
-unfolding operatorBytes
-operator-some op =
-    let e = length-append (groups (op .code)) (operandsBytes (pattern (op .code) .kinds) (numbersOf op)) in
-    let g = groups-size (op .code) in
-    omega arith
-
--- and at most 27
+-- an operator takes at most 27 bytes
 pub operator-bound : (op : Operator) → length (operatorBytes op) ≤ 27
 unfolding operatorBytes
 operator-bound op =

@@ -138,10 +138,10 @@ module _ (s f l e v : ℕ) where
   }
 
 -- WHAT IS CLEARED IS SOUND: whatever was handed in, a clearing that answers 0 leaves a table that passes the check
-pub clear-valid : (x : List ℕ) (p : List ℤ) (log s f l e v : ℕ) → clearOf x p log s f l e v .answer .refusal ≡ 0
-    → Valid (clearOf x p log s f l e v .links) (clearOf x p log s f l e v .points)
+pub clear-valid : (x : List ℕ) (p : List ℤ) (s f l e v : ℕ) → clearOf x p s f l e v .answer .refusal ≡ 0
+    → Valid (clearOf x p s f l e v .links) (clearOf x p s f l e v .points)
 unfolding clearOf
-clear-valid x p log s f l e v h =
+clear-valid x p s f l e v h =
     ⊎-elim
     (λ t. rw t (good-valid (emptyLinks s f l e v) (emptyPoints v) (empty-good s f l e v (sizes-are _ _ s f l e v t))))
     (λ t. let z : _≡_ {A = ℕ} 1 0 = rw t at h in absurd (omega arith))

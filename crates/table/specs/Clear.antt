@@ -28,11 +28,10 @@ pub record Cleared : Type 0 where
   pub links : List ℕ
   pub points : List ℤ
 
-abbrev pub cleared : ℕ → ℕ → List ℕ → List ℤ → Cleared
-cleared refusal start x p = record { answer = record { refusal = refusal; start = start }; links = x; points = p }
+abbrev pub cleared : ℕ → List ℕ → List ℤ → Cleared
+cleared refusal x p = record { answer = record { refusal = refusal }; links = x; points = p }
 
--- an empty table and a log that starts at its end; or refusal 1, and nothing is changed
-unfoldable pub clearOf : List ℕ → List ℤ → ℕ → ℕ → ℕ → ℕ → ℕ → ℕ → Cleared
-clearOf x p log s f l e v =
-    pick (sizesFit (length x) (length p) s f l e v) (cleared 0 log (emptyLinks s f l e v) (emptyPoints v))
-    (cleared 1 log x p)
+-- an empty table; or refusal 1, and nothing is changed
+unfoldable pub clearOf : List ℕ → List ℤ → ℕ → ℕ → ℕ → ℕ → ℕ → Cleared
+clearOf x p s f l e v =
+    pick (sizesFit (length x) (length p) s f l e v) (cleared 0 (emptyLinks s f l e v) (emptyPoints v)) (cleared 1 x p)

@@ -48,15 +48,15 @@ capacities-first s f l e v =
     let n : linksLength s f l e v ≡ suc (suc (suc (suc (suc (linksLength s f l e v - head))))) = omega arith in
     ap (λ k. withCapacities (replicate k 0) s f l e v) n
 
-module _ (x : List ℕ) (p : List ℤ) (log s f l e v : ℕ) (b : Bool)
+module _ (x : List ℕ) (p : List ℤ) (s f l e v : ℕ) (b : Bool)
     (h : b ≡ sizesFit (length x) (length p) s f l e v) where
-  pub clear-refused : not b ≡ true → cleared 1 log x p ≡ clearOf x p log s f l e v
+  pub clear-refused : not b ≡ true → cleared 1 x p ≡ clearOf x p s f l e v
   unfolding clearOf
   clear-refused n = rw (sym h ∙ not-true b n)
 
   pub clear-done : not b ≡ false → (x1 x2 : List ℕ) (q : List ℤ) → x1 ≡ replicate (length x) 0
       → x2 ≡ withCapacities x1 s f l e v
-      → q ≡ replicate (length p) (pos 0) → cleared 0 log x2 q ≡ clearOf x p log s f l e v
+      → q ≡ replicate (length p) (pos 0) → cleared 0 x2 q ≡ clearOf x p s f l e v
   unfolding clearOf
   clear-done n x1 x2 q e1 e2 eq =
       let z = sizes-are _ _ _ _ _ _ _ (sym h ∙ not-false b n) in

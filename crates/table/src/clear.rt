@@ -10,7 +10,6 @@ use layout::cells::put;
 #[repr(C)]
 pub struct ClearAnswer {
     pub refusal: u8,
-    pub start: usize,
 }
 
 fn zero_words(links: &mut [u16])
@@ -44,22 +43,19 @@ fn put_capacities(links: &mut [u16], s: usize, f: usize, l: usize, e: usize, v: 
     put(links, 4, v);
 }
 
-// The table of these capacities with nothing in use, and a log that starts at its end; of the log only its length is
-// handed in, so no byte of it can change. Refusal 1 for a capacity that is not 1 to 4,096 or a slice that is not as
-// long as they say: nothing is written. What start a refusal answers is left free by document 01: it is the log's
-// length here too.
+// The table of these capacities with nothing in use. Refusal 1 for a capacity that is not 1 to 4,096 or a slice that is
+// not as long as they say: nothing is written.
 pub fn clear(
     links: &mut [u16],
     points: &mut [i32],
-    log: usize,
     s: u16,
     f: u16,
     l: u16,
     e: u16,
     v: u16,
 ) -> ClearAnswer
-    ensures { λ r. ⌜ cleared (r .refusal) (r .start) (now (links .exit)) (now (points .exit))
-        ≡ clearOf (now (links .entry)) (now (points .entry)) log s f l e v ⌝ }
+    ensures { λ r. ⌜ cleared (r .refusal) (now (links .exit)) (now (points .exit))
+        ≡ clearOf (now (links .entry)) (now (points .entry)) s f l e v ⌝ }
 {
     let cs = s as usize;
     let cf = f as usize;
@@ -67,16 +63,10 @@ pub fn clear(
     let ce = e as usize;
     let cv = v as usize;
     if !sizes_fit(links.len(), points.len(), cs, cf, cl, ce, cv) {
-        return ClearAnswer {
-            refusal: 1,
-            start: log,
-        };
+        return ClearAnswer { refusal: 1 };
     }
     zero_words(links);
     put_capacities(links, cs, cf, cl, ce, cv);
     zero_points(points);
-    ClearAnswer {
-        refusal: 0,
-        start: log,
-    }
+    ClearAnswer { refusal: 0 }
 }

@@ -16,18 +16,18 @@ use Rattle.report.specs.Text.{textOf, tooLong}
 use Rattle.zoghvari.specs.Program.{empty, reportOf, programOf}
 
 -- clearing the program's memory is not refused
-cleared-is : clearOf (replicate 965 0) (replicate 192 (pos 0)) 40960 64 64 64 64 64
-    ≡ cleared 0 40960 (emptyLinks 64 64 64 64 64) (emptyPoints 64)
+cleared-is : clearOf (replicate 965 0) (replicate 192 (pos 0)) 64 64 64 64 64
+    ≡ cleared 0 (emptyLinks 64 64 64 64 64) (emptyPoints 64)
 unfolding clearOf sizesFit
 cleared-is = refl
 
 -- it makes the empty table
-pub cleared-empty : (refusal start : ℕ) (x : List ℕ) (p : List ℤ)
-    → cleared refusal start x p ≡ clearOf (replicate 965 0) (replicate 192 (pos 0)) 40960 64 64 64 64 64
-    → state x p (replicate 40960 0) start ≡ empty
+pub cleared-empty : (refusal : ℕ) (x : List ℕ) (p : List ℤ)
+    → cleared refusal x p ≡ clearOf (replicate 965 0) (replicate 192 (pos 0)) 64 64 64 64 64
+    → state x p (replicate 40960 0) 40960 ≡ empty
 unfolding empty
-cleared-empty refusal start x p e =
-    ap (λ (c : Cleared). state (c .links) (c .points) (replicate 40960 0) (c .answer .start)) (e ∙ cleared-is)
+cleared-empty refusal x p e =
+    ap (λ (c : Cleared). state (c .links) (c .points) (replicate 40960 0) 40960) (e ∙ cleared-is)
 
 -- the text of its run
 pub reported : (s : List ℕ) (t : State) (r : Ran) (c : CountAnswer) (x y : List ℕ) (n : ℕ) → t ≡ empty → r ≡ runOf t s

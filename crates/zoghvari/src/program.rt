@@ -29,8 +29,8 @@ fn report_run(script: &[u8], out: &mut [u8; 256]) -> usize
     let mut links = [0u16; WORDS];
     let mut points = [0i32; COORDINATES];
     let mut log = [0u8; LOG];
-    let cleared = clear(&mut links, &mut points, LOG, 64, 64, 64, 64, 64);
-    let ran = run(&mut links, &mut points, &mut log, cleared.start, script);
+    clear(&mut links, &mut points, 64, 64, 64, 64, 64);
+    let ran = run(&mut links, &mut points, &mut log, LOG, script);
     let counts = count(&links, &points);
     text(out, ran.refusal, ran.done, ran.used, counts)
 }

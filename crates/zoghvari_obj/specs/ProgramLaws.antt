@@ -24,7 +24,8 @@ use Rattle.sound_tables.specs.ClearSound.{clear-valid}
 use Rattle.runs.specs.Run.{state, Ran, runOf}
 use Rattle.promises.specs.Checked.{good-checked}
 use Rattle.promises.specs.OtherLog.{withLog, Alike, Same, same-run}
-use Rattle.promises.specs.WayBack.{back-none, back-run}
+use Rattle.promises.specs.Trail.{gone-none}
+use Rattle.promises.specs.Edits.{gone-run}
 use Rattle.takedown.specs.Swift.{seek}
 use Rattle.takedown_search.specs.declared.seek.Sought.the-variants.{Solid}
 use Rattle.takedown_search.specs.Sought.{passing, lastOf}
@@ -61,8 +62,8 @@ empty-log log h =
 -- memory of the program's lengths, whatever it holds
 module _ (x0 : List ℕ) (p0 : List ℤ) (words : 15365 ≡ length x0) (coordinates : 3072 ≡ length p0) where
   -- is cleared, and that is not refused
-  cleared-is : clearOf x0 p0 655360 1024 1024 1024 1024 1024
-      ≡ cleared 0 655360 (emptyLinks 1024 1024 1024 1024 1024) (emptyPoints 1024)
+  cleared-is : clearOf x0 p0 1024 1024 1024 1024 1024
+      ≡ cleared 0 (emptyLinks 1024 1024 1024 1024 1024) (emptyPoints 1024)
   unfolding clearOf sizesFit
   cleared-is = rw (← words, ← coordinates)
 
@@ -70,17 +71,17 @@ module _ (x0 : List ℕ) (p0 : List ℤ) (words : 15365 ≡ length x0) (coordina
   empty-good : Good ownShape (empty .links) (empty .points)
   unfolding empty
   empty-good =
-      let v = clear-valid x0 p0 655360 1024 1024 1024 1024 1024 (ap (λ (c : Cleared). c .answer .refusal) cleared-is) in
+      let v = clear-valid x0 p0 1024 1024 1024 1024 1024 (ap (λ (c : Cleared). c .answer .refusal) cleared-is) in
       valid-good (empty .links) (empty .points) (subst (λ (c : Cleared). Valid (c .links) (c .points)) cleared-is v)
 
   -- a script run on it with any log
-  module _ (refusal start : ℕ) (x : List ℕ) (p : List ℤ) (log s : List ℕ) (r : Ran)
-      (e : cleared refusal start x p ≡ clearOf x0 p0 655360 1024 1024 1024 1024 1024)
-      (f : r ≡ runOf (state x p log start) s) (bytes : 655360 ≡ length log) where
+  module _ (refusal : ℕ) (x : List ℕ) (p : List ℤ) (log s : List ℕ) (r : Ran)
+      (e : cleared refusal x p ≡ clearOf x0 p0 1024 1024 1024 1024 1024)
+      (f : r ≡ runOf (state x p log 655360) s) (bytes : 655360 ≡ length log) where
     -- runs as with an empty one
-    began : state x p log start ≡ withLog empty log
+    began : state x p log 655360 ≡ withLog empty log
     unfolding empty
-    began = ap (λ (c : Cleared). state (c .links) (c .points) log (c .answer .start)) (e ∙ cleared-is)
+    began = ap (λ (c : Cleared). state (c .links) (c .points) log 655360) (e ∙ cleared-is)
 
     ran-same : Same (runOf empty s) r
     ran-same = rw (f, began) (same-run empty log s (empty-log log bytes))
@@ -89,7 +90,7 @@ module _ (x0 : List ℕ) (p0 : List ℤ) (words : 15365 ≡ length x0) (coordina
     pub run-good : Good ownShape (r .links) (r .points)
     run-good =
         let h : empty .start ≤ length (empty .log) = omega (arith, empty-start .1) in
-        let g = back-run empty empty s (back-none empty empty-good h) .good in
+        let g = gone-run empty s (gone-none empty empty-good h) .good in
         rw (← ran-same .links, ← ran-same .points) g
 
     -- and what is printed of it is what the line on its refusal or the table says

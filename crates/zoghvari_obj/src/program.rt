@@ -63,17 +63,16 @@ fn put_run(script: &[u8], out: &mut [u8; ROOM]) -> usize
     let mut links = [0u16; WORDS];
     let mut points = [0i32; COORDINATES];
     let mut log = [0u8; LOG];
-    let cleared = clear(
+    clear(
         &mut links,
         &mut points,
-        LOG,
         CAPACITY,
         CAPACITY,
         CAPACITY,
         CAPACITY,
         CAPACITY,
     );
-    let ran = run(&mut links, &mut points, &mut log, cleared.start, script);
+    let ran = run(&mut links, &mut points, &mut log, LOG, script);
     if ran.refusal != 0 {
         return put_refusal(out, ran.refusal);
     }

@@ -1,19 +1,14 @@
-use Rattle.runs.specs.RunLaws.{run-refused, entered-small, run-entered}
-use Rattle.promises.specs.Checked.{entered-start, entered-good}
-use native.Mathlib.Omega.{arith}
+use mathlib.Core.Path.{_∙_}
+use Rattle.runs.specs.Clauses.{part-whole}
 use borrow.Author.Needs.{needs}
 use Rattle.runs_run.proofs.run.Statement.{statement}
 use Rattle.runs_run.proofs.run.Tie as tie
 use Rattle.runs_run.proofs.run.Reads as reads
 use Rattle.runs_run.proofs.run.Lts as lts
-use Rattle.euler_counts.proofs.counts.fill_counts.Reads as fill-counts-reads
-use Rattle.layout.proofs.shape.shape_of.Reads as shape-of-reads
-use Rattle.runs.proofs.enter.enter.Reads as enter-reads
-use Rattle.runs.proofs.enter.ranges_of.Reads as ranges-of-reads
-use Rattle.runs_run.proofs.run_all.Reads as run-all-reads
+use Rattle.runs_run.proofs.run_part.Reads as run-part-reads
 
-enter-requires : tie.Need-enter-requires
-enter-requires c κs = search needs
+run-part-requires : tie.Need-run-part-requires
+run-part-requires c κs = search needs
 
 same-length : tie.Need-same-length
 same-length c = search needs
@@ -25,73 +20,7 @@ same-length-3 : tie.Need-same-length-3
 same-length-3 c = search needs
 
 returns : tie.Need-returns
-returns c = run-refused _ _ _ _ _ (c .before .before .enter .ensures) _ (λ z. omega (arith, z, c .if1 .taken))
-
-shape-of-requires : tie.Need-shape-of-requires
-shape-of-requires c κs = search needs
-
-ranges-of-requires : tie.Need-ranges-of-requires
-ranges-of-requires c κs =
-    entered-small _ _ _ _ _ (c .before .before .before .before .enter .ensures)
-    (omega (arith, c .before .before .if1 .left)) _ (c .shape-of .ensures)
-
-fill-counts-requires : tie.Need-fill-counts-requires
-fill-counts-requires c κs =
-    entered-small _ _ _ _ _ (c .before .before .before .before .before .before .before .enter .ensures)
-    (omega (arith, c .before .before .before .before .before .if1 .left)) _
-    (c .before .before .before .shape-of .ensures)
-
-run-all-requires : tie.Need-run-all-requires
-run-all-requires c κs =
-    let e = c .before .before .before .before .before .before .before .before .before .before .before .before
-    .before .enter .ensures in
-    let z = c .before .before .before .before .before .before .before .before .before .before .before .if1 .left in
-    let h = c .before .before .before .before .before .before .before .before .before .shape-of .ensures in
-    let f = c .before .before .before .before .before .fill-counts .ensures in (
-      record { good = entered-good _ _ _ _ _ e (omega (arith, z)) _ h; size = f .1; counted = f .0 },
-      (
-        c .before .before .before .before .before .before .before .before .ranges-of .ensures,
-        entered-start _ _ _ _ _ e (omega (arith, z)) _ h,
-      ),
-    )
-
-same-length-4 : tie.Need-same-length-4
-same-length-4 c = search needs
-
-same-length-5 : tie.Need-same-length-5
-same-length-5 c = search needs
-
-same-length-6 : tie.Need-same-length-6
-same-length-6 c = search needs
-
-returns-2 : tie.Need-returns-2
-returns-2 c =
-    run-entered _ _ _ _ _
-    (c .before .before .before .before .before .before .before .before .before .before .before .before .before
-    .before .before .before .before .before .before .enter .ensures)
-    (omega (
-      arith,
-      c .before .before .before .before .before .before .before .before .before .before .before .before .before
-          .before .before .before .before .if1 .left,
-    )) _
-    (c .before .before .before .before .before .before .before .before .before .before .before .before .before
-    .before .before .shape-of .ensures) _ _
-    (c .before .before .before .before .before .run-all .ensures)
+returns c = c .before .before .before .before .before .run-part .ensures ∙ part-whole _ _
 
 pub run-spec : {M : Type 1} → statement M
-run-spec =
-    tie.close
-    (tie.spec
-    enter-requires
-    same-length
-    same-length-2
-    same-length-3
-    returns
-    shape-of-requires
-    ranges-of-requires
-    fill-counts-requires
-    run-all-requires
-    same-length-4
-    same-length-5
-    same-length-6
-    returns-2)
+run-spec = tie.close (tie.spec run-part-requires same-length same-length-2 same-length-3 returns)

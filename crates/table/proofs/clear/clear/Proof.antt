@@ -13,7 +13,7 @@ sizes-fit-requires : tie.Need-sizes-fit-requires
 sizes-fit-requires c κs = search needs
 
 returns : tie.Need-returns
-returns c = clear-refused _ _ _ _ _ _ _ _ _ (c .before .sizes-fit .ensures) (c .if1 .taken)
+returns c = clear-refused _ _ _ _ _ _ _ _ (c .before .sizes-fit .ensures) (c .if1 .taken)
 
 zero-words-requires : tie.Need-zero-words-requires
 zero-words-requires c κs = search needs
@@ -32,7 +32,7 @@ same-length-2 c = search needs
 
 returns-2 : tie.Need-returns-2
 returns-2 c =
-    clear-done _ _ _ _ _ _ _ _ _
+    clear-done _ _ _ _ _ _ _ _
     (c .before .before .before .before .before .before .before .before .before .before .before
     .before .sizes-fit .ensures)
     (c .before .before .before .before .before .before .before .before .before .before .before .if1 .left) _ _ _

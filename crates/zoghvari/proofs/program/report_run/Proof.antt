@@ -38,7 +38,7 @@ text-requires c κs = search needs
 
 returns : tie.Need-returns
 returns c = (
-  reported _ _ _ _ _ _ _ (cleared-empty _ _ _ _
+  reported _ _ _ _ _ _ _ (cleared-empty _ _ _
       (c .before .before .before .before .before .before .before .before .before .before .before .before .before
       .before .clear .ensures)) (c .before .before .before .before .before .before .before .before .run .ensures)
       (c .before .before .count .ensures) (c .text .ensures .0),

@@ -30,7 +30,7 @@ put-refusal-requires c κs = search needs
 
 returns : tie.Need-returns
 returns c = (
-  run-refused _ _ (search needs) (search needs) _ _ _ _ _ _ _
+  run-refused _ _ (search needs) (search needs) _ _ _ _ _ _
       (c .before .before .before .before .before .before .before .before .before .before .before .before .before .clear
       .ensures) (c .before .before .before .before .before .before .before .run .ensures) (search needs)
       _ _ _ (omega arith) (c .put-refusal .ensures .0),
@@ -45,14 +45,14 @@ slice-aggregate-put-part-2 c = search needs
 
 put-part-requires : tie.Need-put-part-requires
 put-part-requires c κs =
-    run-good _ _ (search needs) (search needs) _ _ _ _ _ _ _
+    run-good _ _ (search needs) (search needs) _ _ _ _ _ _
     (c .before .before .before .before .before .before .before .before .before .before .before .before .before
     .before .clear .ensures) (c .before .before .before .before .before .before .before .before .run .ensures)
     (search needs)
 
 returns-2 : tie.Need-returns-2
 returns-2 c = (
-  run-done _ _ (search needs) (search needs) _ _ _ _ _ _ _
+  run-done _ _ (search needs) (search needs) _ _ _ _ _ _
       (c .before .before .before .before .before .before .before .before .before .before .before .before .before .before
       .before .clear .ensures) (c .before .before .before .before .before .before .before .before .before .run .ensures)
       (search needs)
