@@ -2,15 +2,18 @@
 
 #include "zoghvari.h"
 
-enum { CLEAR = 1, CHECK, COUNT, READ, WRITE, RUN, UNDO, TAKEDOWN, OBJ };
+enum { CLEAR = 1, CHECK, COUNT, READ, WRITE, RUN, UNDO, TAKEDOWN, OBJ, REDO };
+
+/* A session is lent as the frame has it: two numbers of u64. */
+_Static_assert(sizeof(ZoghvariSession) == 16, "a session is two numbers of u64");
 
 static uint32_t answer_clear(const Frame *f, uint64_t *out) {
     const uint64_t *a = f->numbers.data;
-    ZoghvariCleared r = zoghvari_clear(f->links.data, f->links.n, f->points.data, f->points.n, f->log.n, (uint16_t)a[0],
-                                       (uint16_t)a[1], (uint16_t)a[2], (uint16_t)a[3], (uint16_t)a[4]);
+    ZoghvariCleared r = zoghvari_clear(f->links.data, f->links.n, f->points.data, f->points.n, f->log.n, f->redo.n,
+                                       f->session.data, (uint16_t)a[0], (uint16_t)a[1], (uint16_t)a[2],
+                                       (uint16_t)a[3], (uint16_t)a[4]);
     out[0] = r.refusal;
-    out[1] = r.start;
-    return 2;
+    return 1;
 }
 
 static uint32_t answer_check(const Frame *f, uint64_t *out) {
@@ -51,9 +54,8 @@ static uint32_t answer_write(const Frame *f, uint64_t *out) {
 }
 
 static uint32_t answer_run(const Frame *f, uint64_t *out) {
-    const uint64_t *a = f->numbers.data;
-    ZoghvariRan r = zoghvari_run(f->links.data, f->links.n, f->points.data, f->points.n, f->log.data, f->log.n, a[0],
-                                 f->script.data, f->script.n);
+    ZoghvariRan r = zoghvari_run(f->links.data, f->links.n, f->points.data, f->points.n, f->log.data, f->log.n,
+                                 f->redo.n, f->session.data, f->script.data, f->script.n);
     const uint64_t all[5] = {r.refusal, r.rule, r.done, r.used, r.start};
     for (int i = 0; i < 5; i++) out[i] = all[i];
     return 5;
@@ -62,16 +64,24 @@ static uint32_t answer_run(const Frame *f, uint64_t *out) {
 static uint32_t answer_undo(const Frame *f, uint64_t *out) {
     const uint64_t *a = f->numbers.data;
     ZoghvariUndone r = zoghvari_undo(f->links.data, f->links.n, f->points.data, f->points.n, f->log.data, f->log.n,
-                                     a[0], a[1]);
+                                     f->redo.data, f->redo.n, f->session.data, a[0]);
     const uint64_t all[4] = {r.refusal, r.rule, r.undone, r.start};
     for (int i = 0; i < 4; i++) out[i] = all[i];
     return 4;
 }
 
-static uint32_t answer_takedown(const Frame *f, uint64_t *out) {
+static uint32_t answer_redo(const Frame *f, uint64_t *out) {
     const uint64_t *a = f->numbers.data;
+    ZoghvariRedone r = zoghvari_redo(f->links.data, f->links.n, f->points.data, f->points.n, f->log.data, f->log.n,
+                                     f->redo.data, f->redo.n, f->session.data, a[0]);
+    const uint64_t all[3] = {r.refusal, r.rule, r.done};
+    for (int i = 0; i < 3; i++) out[i] = all[i];
+    return 3;
+}
+
+static uint32_t answer_takedown(const Frame *f, uint64_t *out) {
     ZoghvariInverted r = zoghvari_invert(f->links.data, f->links.n, f->points.data, f->points.n, f->log.data, f->log.n,
-                                         a[0]);
+                                         f->redo.n, f->session.data);
     const uint64_t all[4] = {r.refusal, r.rule, r.done, r.start};
     for (int i = 0; i < 4; i++) out[i] = all[i];
     return 4;
@@ -89,15 +99,19 @@ static uint32_t answer_obj(const Frame *f, uint64_t *out) {
 
 typedef struct {
     uint32_t numbers; /* how many numbers the case has to hold */
+    uint32_t session; /* and its session: 2 where the call is lent one */
     uint32_t (*answer)(const Frame *f, uint64_t *out);
 } Kind;
 
-static const Kind KINDS[] = {[CLEAR] = {5, answer_clear}, [CHECK] = {0, answer_check}, [COUNT] = {0, answer_count},
-                             [READ] = {1, answer_read},   [WRITE] = {11, answer_write}, [RUN] = {1, answer_run},
-                             [UNDO] = {2, answer_undo},   [TAKEDOWN] = {1, answer_takedown}, [OBJ] = {1, answer_obj}};
+static const Kind KINDS[] = {[CLEAR] = {5, 2, answer_clear}, [CHECK] = {0, 0, answer_check},
+                             [COUNT] = {0, 0, answer_count}, [READ] = {1, 0, answer_read},
+                             [WRITE] = {11, 0, answer_write}, [RUN] = {0, 2, answer_run},
+                             [UNDO] = {1, 2, answer_undo},   [TAKEDOWN] = {0, 2, answer_takedown},
+                             [OBJ] = {1, 0, answer_obj},     [REDO] = {1, 2, answer_redo}};
 
 uint32_t call(const Frame *f, uint64_t *out) {
-    if (f->kind < CLEAR || f->kind > OBJ) fail("a kind that the kernel does not have");
+    if (f->kind < CLEAR || f->kind > REDO) fail("a kind that the kernel does not have");
     if (f->numbers.n < KINDS[f->kind].numbers) fail("a case with too few numbers");
+    if (f->session.n < KINDS[f->kind].session) fail("a case without its session");
     return KINDS[f->kind].answer(f, out);
 }

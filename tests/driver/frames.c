@@ -46,6 +46,8 @@ int read_frame(Frame *f) {
     f->points = read_block(4);
     f->log = read_block(1);
     f->script = read_block(1);
+    f->redo = read_block(1);
+    f->session = read_block(8);
     return 1;
 }
 
@@ -58,10 +60,12 @@ void write_frame(Frame *f, uint64_t *numbers, uint32_t n) {
     write_block(f->points, 4);
     write_block(f->log, 1);
     write_block(f->script, 1);
+    write_block(f->redo, 1);
+    write_block(f->session, 8);
     fflush(stdout);
 }
 
 void free_frame(Frame *f) {
-    Block blocks[5] = {f->numbers, f->links, f->points, f->log, f->script};
-    for (int i = 0; i < 5; i++) munmap(blocks[i].memory, blocks[i].pages);
+    Block blocks[7] = {f->numbers, f->links, f->points, f->log, f->script, f->redo, f->session};
+    for (int i = 0; i < 7; i++) munmap(blocks[i].memory, blocks[i].pages);
 }

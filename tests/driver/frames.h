@@ -14,7 +14,7 @@ typedef struct {
 
 typedef struct {
     uint8_t kind;
-    Block numbers, links, points, log, script;
+    Block numbers, links, points, log, script, redo, session;
 } Frame;
 
 /* Ends the driver with a line that says why. */

@@ -12,7 +12,8 @@ enum { LINKS = ZOGHVARI_LINKS_LENGTH(1, 2, 2, 2, 2), POINTS = ZOGHVARI_POINTS_LE
 
 static uint16_t links[LINKS];
 static int32_t points[POINTS];
-static uint8_t log_bytes[LOG];
+static uint8_t log_bytes[LOG], redo_bytes[LOG];
+static ZoghvariSession session;
 static const uint8_t solid[] = {1, 1, 1, 1, 1, 0, 0, 0}; /* mvsf 1 1 1 1 0 0 0 */
 static int wrong;
 
@@ -28,15 +29,30 @@ static void ran(const char *what, ZoghvariRan r, unsigned refusal, size_t done, 
     equal(what, r.start, start);
 }
 
+/* The session is there before a call, and is this behind it. */
+static void start_at(size_t log, size_t redo) {
+    session.log = log;
+    session.redo = redo;
+}
+static void left(const char *what, size_t log, size_t redo) {
+    equal(what, session.log, log);
+    equal(what, session.redo, redo);
+}
+
+/* Each is refused with 1, and leaves the session. */
 static void no_table(void) {
-    equal("clear without links", zoghvari_clear(NULL, 0, points, POINTS, LOG, 1, 2, 2, 2, 2).refusal, 1);
-    equal("clear without points", zoghvari_clear(links, LINKS, NULL, 0, LOG, 1, 2, 2, 2, 2).refusal, 1);
+    ZoghvariSession *s = &session;
+    start_at(0, 0);
+    equal("clear without links", zoghvari_clear(NULL, 0, points, POINTS, LOG, 7, s, 1, 2, 2, 2, 2).refusal, 1);
+    equal("clear without points", zoghvari_clear(links, LINKS, NULL, 0, LOG, 7, s, 1, 2, 2, 2, 2).refusal, 1);
     equal("check", zoghvari_check(NULL, 0, NULL, 0).refusal, 1);
     equal("count", zoghvari_count(NULL, 0, NULL, 0).refusal, 1);
-    ran("run", zoghvari_run(NULL, 0, NULL, 0, NULL, 0, 0, solid, sizeof solid), 1, 0, 0);
-    equal("undo", zoghvari_undo(NULL, 0, NULL, 0, NULL, 0, 0, 1).refusal, 1);
-    equal("invert", zoghvari_invert(NULL, 0, NULL, 0, NULL, 0, 0).refusal, 1);
+    ran("run", zoghvari_run(NULL, 0, NULL, 0, NULL, 0, 7, s, solid, sizeof solid), 1, 0, 0);
+    equal("undo", zoghvari_undo(NULL, 0, NULL, 0, NULL, 0, NULL, 0, s, 1).refusal, 1);
+    equal("redo", zoghvari_redo(NULL, 0, NULL, 0, NULL, 0, NULL, 0, s, 1).refusal, 1);
+    equal("invert", zoghvari_invert(NULL, 0, NULL, 0, NULL, 0, 7, s).refusal, 1);
     equal("obj", zoghvari_obj(NULL, 0, NULL, 0, 1, NULL, 0).refusal, 1);
+    left("the session behind refusals", 0, 0);
 }
 
 static void no_bytes(void) {
@@ -47,16 +63,43 @@ static void no_bytes(void) {
 
 /* A table is there; log and script are not. */
 static void no_log(void) {
-    equal("clear", zoghvari_clear(links, LINKS, points, POINTS, LOG, 1, 2, 2, 2, 2).start, LOG);
-    ran("run of nothing", zoghvari_run(links, LINKS, points, POINTS, NULL, 0, 0, NULL, 0), 0, 0, 0);
-    ran("run without a log", zoghvari_run(links, LINKS, points, POINTS, NULL, 0, 0, solid, sizeof solid), 9, 0, 0);
-    equal("invert of an empty table", zoghvari_invert(links, LINKS, points, POINTS, NULL, 0, 0).refusal, 0);
-    ran("run", zoghvari_run(links, LINKS, points, POINTS, log_bytes, LOG, LOG, solid, sizeof solid), 0, 1, LOG - 2);
-    ran("run of no script", zoghvari_run(links, LINKS, points, POINTS, log_bytes, LOG, 62, NULL, 0), 0, 0, 62);
-    equal("undo of none", zoghvari_undo(links, LINKS, points, POINTS, NULL, 0, 0, 0).refusal, 0);
-    equal("undo of one", zoghvari_undo(links, LINKS, points, POINTS, NULL, 0, 0, 1).refusal, 11);
-    equal("invert without a log", zoghvari_invert(links, LINKS, points, POINTS, NULL, 0, 0).refusal, 9);
+    ZoghvariSession *s = &session;
+    start_at(99, 99); /* clearing does not look */
+    equal("clear", zoghvari_clear(links, LINKS, points, POINTS, LOG, 7, s, 1, 2, 2, 2, 2).refusal, 0);
+    left("the session behind clearing", LOG, 7);
+    start_at(0, 0);
+    ran("run of nothing", zoghvari_run(links, LINKS, points, POINTS, NULL, 0, 0, s, NULL, 0), 0, 0, 0);
+    ran("run without a log", zoghvari_run(links, LINKS, points, POINTS, NULL, 0, 0, s, solid, sizeof solid), 9, 0, 0);
+    equal("invert of an empty table", zoghvari_invert(links, LINKS, points, POINTS, NULL, 0, 0, s).refusal, 0);
+    start_at(LOG, 0);
+    ran("run", zoghvari_run(links, LINKS, points, POINTS, log_bytes, LOG, 0, s, solid, sizeof solid), 0, 1, LOG - 2);
+    ran("run of no script", zoghvari_run(links, LINKS, points, POINTS, log_bytes, LOG, 0, s, NULL, 0), 0, 0, LOG - 2);
+    start_at(0, 0);
+    equal("undo of none", zoghvari_undo(links, LINKS, points, POINTS, NULL, 0, NULL, 0, s, 0).refusal, 0);
+    equal("undo of one", zoghvari_undo(links, LINKS, points, POINTS, NULL, 0, NULL, 0, s, 1).refusal, 11);
+    equal("redo of none", zoghvari_redo(links, LINKS, points, POINTS, NULL, 0, NULL, 0, s, 0).refusal, 0);
+    equal("redo of one", zoghvari_redo(links, LINKS, points, POINTS, NULL, 0, NULL, 0, s, 1).refusal, 11);
+    equal("invert without a log", zoghvari_invert(links, LINKS, points, POINTS, NULL, 0, 0, s).refusal, 9);
     equal("the solid stands", zoghvari_count(links, LINKS, points, POINTS).solids, 1);
+}
+
+/* The log is there and its live part is the inverse of the table's only operator: no redo log, then one, and no log for
+ * the way back. */
+static void no_redo_log(void) {
+    ZoghvariSession *s = &session;
+    start_at(LOG - 2, 0);
+    equal("no redo log", zoghvari_undo(links, LINKS, points, POINTS, log_bytes, LOG, NULL, 0, s, 1).refusal, 9);
+    left("the session behind it", LOG - 2, 0);
+    start_at(LOG - 2, LOG);
+    equal("undo", zoghvari_undo(links, LINKS, points, POINTS, log_bytes, LOG, redo_bytes, LOG, s, 1).undone, 1);
+    left("the session behind undo", LOG, LOG - sizeof solid);
+    equal("the redo log", memcmp(redo_bytes + session.redo, solid, sizeof solid) == 0, 1);
+    start_at(0, LOG - sizeof solid);
+    equal("redo without a log", zoghvari_redo(links, LINKS, points, POINTS, NULL, 0, redo_bytes, LOG, s, 1).refusal, 9);
+    left("the session behind it", 0, LOG - sizeof solid);
+    start_at(LOG, LOG - sizeof solid);
+    equal("redo", zoghvari_redo(links, LINKS, points, POINTS, log_bytes, LOG, redo_bytes, LOG, s, 1).done, 1);
+    left("the session behind redo", LOG - 2, LOG);
 }
 
 /* A triangle, which has a text, and no buffer for it: the length is told. */
@@ -67,11 +110,12 @@ static void no_buffer(void) {
     const uint8_t sides[] = {3, 1, 0, 1, 2, 0, 2, 0, 0,  /* mev 1 0 1 2 0 1 0 0 */
                              3, 1, 2, 2, 3, 0, 2, 2, 0,  /* mev 1 2 2 3 0 1 1 0 */
                              5, 1, 1, 4, 3, 2, 2, 0};    /* mef 1 1 4 3 2 2 0 */
-    equal("clear", zoghvari_clear(words, WORDS, numbers, NUMBERS, LOG, 1, 2, 2, 3, 3).start, LOG);
+    ZoghvariSession *s = &session;
+    equal("clear", zoghvari_clear(words, WORDS, numbers, NUMBERS, LOG, 0, s, 1, 2, 2, 3, 3).refusal, 0);
     equal("obj of a free solid", zoghvari_obj(words, WORDS, numbers, NUMBERS, 1, NULL, 0).refusal, 6);
-    ran("solid", zoghvari_run(words, WORDS, numbers, NUMBERS, log_bytes, LOG, LOG, solid, sizeof solid), 0, 1, LOG - 2);
+    ran("solid", zoghvari_run(words, WORDS, numbers, NUMBERS, log_bytes, LOG, 0, s, solid, sizeof solid), 0, 1, 62);
     equal("obj of a lone loop", zoghvari_obj(words, WORDS, numbers, NUMBERS, 1, NULL, 0).refusal, 12);
-    ran("sides", zoghvari_run(words, WORDS, numbers, NUMBERS, log_bytes, LOG, 62, sides, sizeof sides), 0, 3, 56);
+    ran("sides", zoghvari_run(words, WORDS, numbers, NUMBERS, log_bytes, LOG, 0, s, sides, sizeof sides), 0, 3, 56);
     equal("obj of no solid", zoghvari_obj(words, WORDS, numbers, NUMBERS, 0, NULL, 0).refusal, 5);
     ZoghvariText asked = zoghvari_obj(words, WORDS, numbers, NUMBERS, 1, NULL, 0);
     equal("obj without a buffer", asked.refusal, 13);
@@ -94,6 +138,7 @@ int main(void) {
     no_table();
     no_bytes();
     no_log();
+    no_redo_log();
     no_buffer();
     macros();
     return wrong;

@@ -21,7 +21,7 @@ import library
 import pocket
 import viewing
 from geometry import flat, six_volumes
-from kernel import program, run
+from kernel import Session, program, run
 from layout import cleared_table
 from rules import check
 from generate import table_of
@@ -39,13 +39,23 @@ def digests(text):
     return dict(re.findall(r"^(\w+) +([0-9a-f]{16})$", text, re.MULTILINE))
 
 
+def run_fresh(capacities, script):
+    """What the model makes of a script on an empty table: the run's answer, and the table."""
+    table, log = cleared_table(capacities), bytearray(19 * len(script))
+    return run(table.links, table.points, log, b"", Session(len(log)), script), table
+
+
 def edit_example(tally, folder, kernel):
     edit = library.compile_c(["examples/edit.c"], os.path.join(folder, "edit"), kernel)
     wanted = read("examples/edit.expected")
     tally.equal("examples/edit.c", output_of([edit]), (0, wanted))
     told = digests(wanted)
-    tally.equal("before the edits and after the undo", told["before"], told["undone"])
-    tally.holds("the edits change something", told["before"] != told["edited"])
+    tally.equal("before the edits and where undo and redo end between", told["before"], told["undone"])
+    tally.equal("behind the edits and behind their redo", told["edited"], told["redone"])
+    first = script_bytes([operator("mvsf", 1, 1, 1, 1, 0, 0, 0), operator("mev", 1, 0, 1, 2, 0, 1000, 0, 0)])
+    ran, table = run_fresh([8] * 5, first)
+    tally.equal("two operators too far, by the model", (ran.refusal, told["too_far"]), (0, digest_of(table)))
+    tally.equal("edits, triangle and what was too far differ", len(set(told.values())), 3)
 
 
 def rebuild_example(tally, folder, kernel):
@@ -63,8 +73,7 @@ def rebuild_example(tally, folder, kernel):
     tally.equal("the digest of nothing", told["emptied"], digest_of(cleared_table(CAPACITIES)))
     words = [line.split() for line in re.findall(r"^  (.*)$", wanted, re.MULTILINE)]
     script = script_bytes([operator(name, *map(int, operands)) for name, *operands in words])
-    table, log = cleared_table(CAPACITIES), bytearray(19 * len(words))
-    ran = run(table.links, table.points, log, len(log), script)
+    ran, table = run_fresh(CAPACITIES, script)
     tally.equal("the script in words, run by the model: refusal", ran.refusal, 0)
     tally.equal("the script in words, run by the model: table", (table.links, table.points), (part.links, part.points))
     last = f"rebuild: refusal 0 done {len(words)} used {len(script)} of {len(script)}\n"

@@ -6,8 +6,8 @@ Tables, scripts and logs come from generate.py; here they are put together, and 
 import wire
 from boundary import Boundary
 from generate import (EVEN, bend, bent_structure, damage_lengths, damaged_bytes, damaged_table, pools_of, propose, random_log,
-                      random_operator, random_operators, random_script, random_table, valid_operator)
-from kernel import run
+                      random_operator, random_operators, random_redo, random_script, random_table, valid_operator)
+from kernel import Session, run
 from layout import cleared_table
 from operators import plan
 from padding import half_padded, padded_log
@@ -21,8 +21,14 @@ TOO_MANY = (1_000, 1 << 32, (1 << 64) - 1)
 
 def random_case(rng):
     kind = rng.choice((wire.CLEAR, wire.CHECK, wire.COUNT, wire.READ, wire.WRITE,
-                       wire.RUN, wire.RUN, wire.RUN, wire.UNDO, wire.UNDO, wire.TAKEDOWN, wire.OBJ))
+                       wire.RUN, wire.RUN, wire.RUN, wire.UNDO, wire.UNDO, wire.REDO, wire.TAKEDOWN, wire.OBJ))
     return CASES[kind](rng)
+
+
+def lent_case(rng, kind, numbers, links, points, log, start, script=b""):
+    """A case with a redo log beside the log, and so a session."""
+    redo, redo_start = random_redo(rng)
+    return wire.case(kind, numbers, links, points, log, script, redo, (start, redo_start))
 
 
 def any_bytes(rng, length, highest=255):
@@ -32,14 +38,14 @@ def any_bytes(rng, length, highest=255):
 # Clearing, checking, counting, reading, writing
 
 def clear_case(rng):
-    table, (log, _) = random_table(rng), random_log(rng)
+    table, (log, start) = random_table(rng), random_log(rng)
     links, points, numbers = list(table.links), list(table.points), list(table.capacities)
     dice = rng.random()
     if dice < 0.2:
         numbers[rng.randrange(5)] = rng.choice((0, 1, 2, 4_096, 4_097, 65_535, 65_536))
     elif dice < 0.4:
         damage_lengths(rng, links, points)
-    return wire.case(wire.CLEAR, numbers, links, points, log)
+    return lent_case(rng, wire.CLEAR, numbers, links, points, log, start)
 
 
 def table_case(kind):
@@ -95,7 +101,7 @@ def operator_case(rng):
     elif dice < 0.66:
         # Items as they have to be, and the condition left to chance: it is what has to accept or refuse.
         script = operator_bytes(propose(rng, b, pools_of(b), code))
-    return wire.case(wire.RUN, (start,), table.links, table.points, log, half_padded(rng, script))
+    return lent_case(rng, wire.RUN, (), table.links, table.points, log, start, half_padded(rng, script))
 
 
 def roomy_log(rng):
@@ -144,7 +150,7 @@ def run_case(rng):
     if dice < 0.06:
         script = any_bytes(rng, rng.choice((1, 3, 10, 40)), rng.choice((13, 255)))
     links, points = (table.links, table.points) if dice < 0.8 else lent_table(rng)
-    return wire.case(wire.RUN, (start,), links, points, log, half_padded(rng, script))
+    return lent_case(rng, wire.RUN, (), links, points, log, start, half_padded(rng, script))
 
 
 def undo_case(rng):
@@ -161,13 +167,23 @@ def undo_case(rng):
     if rng.random() < 0.2:
         links, points = lent_table(rng)
     wanted = rng.choice((live,) * 4 + (max(0, live - 1), live + 1, live + 2) + TOO_MANY)
-    return wire.case(wire.UNDO, (start, wanted), links, points, log)
+    return lent_case(rng, wire.UNDO, (wanted,), links, points, log, start)
+
+
+def exchanged(frame):
+    """An undo's case or answer as that of a redo with the logs exchanged; redo answers no start."""
+    return frame._replace(kind=wire.REDO, numbers=frame.numbers[:3], log=frame.redo, redo=frame.log,
+                          session=frame.session[::-1])
+
+
+def redo_case(rng):
+    return exchanged(undo_case(rng))
 
 
 def log_of_run(rng, table):
     log, start = random_log(rng)
     links, points, log = list(table.links), list(table.points), bytearray(log)
-    done = run(links, points, log, start, random_script(rng, table))
+    done = run(links, points, log, b"", Session(start), random_script(rng, table))
     return links, points, log, done.start, done.done
 
 
@@ -176,6 +192,15 @@ def log_of_stranger(rng, table):
     operators = random_operators(rng, Boundary(table), rng.choice((1, 2, 4, 8)))
     front, behind = any_bytes(rng, rng.choice((0, 1, 30))), any_bytes(rng, rng.choice((0, 0, 0, 1, 7)))
     return table.links, table.points, front + script_bytes(operators) + behind, len(front), len(operators)
+
+
+def strange_script(rng, table):
+    """Operators that the table accepts, makers among them; often with one behind that need not be accepted."""
+    b, dice = Boundary(table), rng.random()
+    operators = random_operators(rng, b, rng.choice((0, 1, 2, 4, 8)))
+    if dice < 0.7:
+        operators.append(bend(rng, b, operators[-1]) if operators and dice < 0.2 else random_operator(rng, b))
+    return script_bytes(operators)
 
 
 def log_of_script(rng, table):
@@ -192,7 +217,7 @@ def log_of_bytes(rng, table):
 
 CASES = {wire.CLEAR: clear_case, wire.CHECK: table_case(wire.CHECK), wire.COUNT: table_case(wire.COUNT),
          wire.READ: read_case, wire.WRITE: write_case, wire.RUN: run_case, wire.UNDO: undo_case,
-         wire.TAKEDOWN: takedown_case, wire.OBJ: obj_case}
+         wire.REDO: redo_case, wire.TAKEDOWN: takedown_case, wire.OBJ: obj_case}
 
 
 # The program

@@ -4,21 +4,23 @@
 
 MODE  entries    COUNT cases each of clearing, checking, counting, reading and writing
       operators  COUNT scripts of one operator on sound tables
-      runs       COUNT runs and undos of whole scripts on any tables, logs and starts
+      runs       COUNT runs, undos and redos of whole scripts on any tables, logs and starts
       promise    COUNT lists of scripts, run one after the other and undone together
-      padded     COUNT runs and undos of padded scripts and logs, and the same in their shortest form
+      padded     COUNT runs, undos and redos of padded scripts and logs, and the same in their shortest form
       numbers    COUNT operators read, padded, besides every form of every number below 2^14, every script of two bytes
                  and a net of three
       takedown   COUNT tables taken down and built again by what was logged, besides every table of two edges at most,
                  from 10,000 on of three
       obj        COUNT solids written as OBJ text and read again, besides every small table, each coordinate, and parts
                  as large as a table can hold
-      kef        COUNT scripts of one kef on loops of 3 half-edges up to some thousand, and of one; each undone; besides
-                 some on loops of 4,000 and of all that a table can hold
+      kef        COUNT scripts of one kef on loops of 3 half-edges up to some thousand, and of one; each undone and
+                 redone; besides some on loops of 4,000 and of all that a table can hold
+      redo       COUNT histories of 1 to 12 calls on one session, with strange logs and starts; half as many undos and
+                 redos taken back; half as many lists of scripts undone with just the room for it, or a byte less
       all        every mode, with a count of its own (the default)
 
-Every answer and every byte of links, points, log and script afterwards must be equal; a crash or a hang is a failure. Prints
-count, seed and what was met, and 'N passed, M failed' as its last line.
+Every answer and every byte of links, points, both logs, script and session afterwards must be equal; a crash or a hang
+is a failure. Prints count, seed and what was met, and 'N passed, M failed' as its last line.
 """
 
 import sys
@@ -28,14 +30,17 @@ import time
 import wire
 from cases import CASES, operator_case
 from generate import seeded
+from histories import tell_histories
 from kef_cases import kef_case, long_cases
 from kef_met import WANTED_CASES, case_situations as kef_case_situations
 from library import ask, build_driver, library_given
 from met import Met
-from padded_cases import listed_cases, padded_read_case, padded_run_case, padded_undo_case
+from padded_cases import listed_cases, padded_read_case, padded_redo_case, padded_run_case, padded_undo_case
 from padded_met import number_situations, wanted_numbers, wanted_padded
 from padded_promise import keep_promise as keep_padded_promise
-from promise import tell
+from promise import WANTED as WANTED_ROOMS, a_byte_less, just_enough, more, tell
+from redo_met import WANTED as WANTED_HISTORIES
+from redo_promise import WANTED as WANTED_TRIPS, keep_exchange, keep_promise as keep_trips, trip_case
 from rules import check
 from takedown_cases import LISTED, LISTED_TOO, listed_trials, takedown_trial
 from takedown_met import WANTED, case_situations
@@ -50,8 +55,12 @@ ENTRIES = (wire.CLEAR, wire.CHECK, wire.COUNT, wire.READ, wire.WRITE)
 PORTION = 1_000
 # From the first count on a comparison has to have met every code and refusal that it can meet, from the second on every rule.
 ENOUGH, PLENTY = 2_000, 10_000
+# Where runs, undos and redos share a comparison, more are needed for each of them to meet everything.
+ENOUGH_OF_THREE = 4_000
 # Of kefs fewer are enough: each is made for what it has to meet.
 KEFS_ENOUGH = 500
+# So often histories have to be refused by each number, and half as often to meet each situation.
+OFTEN = 8
 
 
 def compare(driver, tally, met, cases):
@@ -86,30 +95,32 @@ def operators(driver, tally, met, rng, count):
 
 def runs(driver, tally, met, rng, count):
     for size in portions(count):
-        compare(driver, tally, met, [CASES[rng.choice((wire.RUN, wire.UNDO))](rng) for _ in range(size)])
-    if count >= ENOUGH:
-        met.want_codes(tally, {"run": range(10), "undo": list(range(9)) + [11]})
-        met.want_situations(tally, wanted_padded("run") + wanted_padded("undo"))
+        kinds = [rng.choice((wire.RUN, wire.UNDO, wire.REDO)) for _ in range(size)]
+        compare(driver, tally, met, [CASES[kind](rng) for kind in kinds])
+    if count >= ENOUGH_OF_THREE:
+        met.want_codes(tally, {"run": range(10), "undo": (*range(10), 11), "redo": (*range(10), 11)})
+        met.want_situations(tally, wanted_padded("run") + wanted_padded("undo") + wanted_padded("redo"))
     # Few damaged tables come as far as rule 6, so a short comparison need not meet it.
-    for kind in ("run", "undo") if count >= PLENTY else ():
+    for kind in ("run", "undo", "redo") if count >= PLENTY else ():
         met.want_rules(tally, kind)
 
 
 def promise(driver, tally, met, rng, count):
     for size in portions(count):
-        tell(driver, tally, met, rng, size)
+        tell(driver, tally, met, rng, size, (just_enough, more))
     if count >= ENOUGH:
         met.want_codes(tally, {"run": [0, 1] + list(range(3, 10)), "undo": [0, 1]})
+        met.want_situations(tally, ["promised, all undone by just the room for it"])
 
 
 def padded(driver, tally, met, rng, count):
     """Padded cases against the model, and then the kernel's answers to them against those to their shortest forms."""
     for size in portions(count):
-        cases = [rng.choice((padded_run_case, padded_undo_case))(rng) for _ in range(size)]
+        cases = [rng.choice((padded_run_case, padded_undo_case, padded_redo_case))(rng) for _ in range(size)]
         compare(driver, tally, met, cases)
         keep_padded_promise(lambda asked: ask(driver, asked), tally, cases)
-    if count >= ENOUGH:
-        met.want_situations(tally, wanted_numbers("run") + wanted_numbers("undo"))
+    if count >= ENOUGH_OF_THREE:
+        met.want_situations(tally, wanted_numbers("run") + wanted_numbers("undo") + wanted_numbers("redo"))
 
 
 def numbers(driver, tally, met, rng, count):
@@ -171,6 +182,29 @@ def compare_texts(driver, tally, met, cases):
                 keep_text_promise(tally, case, answer)
 
 
+def redo(driver, tally, met, rng, count):
+    """Histories; half as many trips there and back; as many undos with just the room in the redo log, or a byte less."""
+    for size in portions(count):
+        tell_histories(driver, tally, met, rng, size)
+    for size in portions(count // 2):
+        compare_trips(driver, tally, met, [trip_case(rng) for _ in range(size)])
+        tell(driver, tally, met, rng, size, (just_enough, a_byte_less))
+    if count >= ENOUGH_OF_THREE:
+        met.want_answers(tally, {"undo": (*range(10), 11), "redo": (*range(10), 11)}, OFTEN)
+        met.want_situations(tally, WANTED_HISTORIES, OFTEN // 2)
+        met.want_situations(tally, WANTED_TRIPS + WANTED_ROOMS)
+
+
+def compare_trips(driver, tally, met, cases):
+    """The answers to undos and redos, the way back of each, and undos against redos with the logs exchanged."""
+    def asked(cases):
+        return ask(driver, cases)
+
+    compare(driver, tally, met, cases)
+    keep_trips(asked, tally, met, cases)
+    keep_exchange(asked, tally, [case for case in cases if case.kind == wire.UNDO])
+
+
 def kef(driver, tally, met, rng, count):
     """Small tables first, so that a slip shows on one that can be read."""
     for size in portions(count):
@@ -182,7 +216,7 @@ def kef(driver, tally, met, rng, count):
 
 
 def compare_kefs(driver, tally, met, cases):
-    """The answers to the cases, and then their undo, which is handed what the kernel has left."""
+    """The answers to the cases, and then their undo and redo, which are handed what the kernel has left."""
     carried = []
     for case, answer in zip(cases, ask(driver, cases)):
         wanted = wire.answer_case(case)
@@ -192,18 +226,32 @@ def compare_kefs(driver, tally, met, cases):
             met.add(case, answer)
             met.situations.update(kef_case_situations(case, answer))
             carried += [(case, answer)] if answer.numbers[0] == 0 else []
-    undos = [wire.case(wire.UNDO, (left.numbers[4], 1), left.links, left.points, left.log) for _, left in carried]
-    for (case, _), undo, answer in zip(carried, undos, ask(driver, undos)):
-        if tally.equal(f"undo of a kef: {case}", answer, wire.answer_case(undo)):
-            met.add(undo, answer)
-            tally.equal(f"back to the byte: {case}", (answer.links, answer.points, answer.numbers),
-                        (case.links, case.points, (0, 0, 1) + case.numbers))
+    undone = asked_of_each(driver, tally, met, wire.UNDO, carried)
+    for case, answer in undone:
+        tally.equal(f"back to the byte: {case}", (answer.links, answer.points, answer.numbers),
+                    (case.links, case.points, (0, 0, 1, case.session[0])))
+    done = dict((id(case), answer) for case, answer in carried)
+    for case, answer in asked_of_each(driver, tally, met, wire.REDO, undone):
+        left = done[id(case)]
+        tally.equal(f"and forward again: {case}", answer,
+                    left._replace(kind=wire.REDO, numbers=(0, 0, 1), redo=answer.redo))
+
+
+def asked_of_each(driver, tally, met, kind, carried):
+    """One operator undone or redone behind each answer, of pairs of a case and what the kernel has left of it."""
+    cases = [left._replace(kind=kind, numbers=(1,)) for _, left in carried]
+    good = []
+    for (case, _), asked, answer in zip(carried, cases, ask(driver, cases)):
+        if tally.equal(f"{wire.KIND_NAMES[kind]} of a kef: {case}", answer, wire.answer_case(asked)):
+            met.add(asked, answer)
+            good.append((case, answer))
+    return good
 
 
 # Name, comparison, and the count with which the gate runs it.
-MODES = {"entries": (entries, 500), "operators": (operators, 3_000), "runs": (runs, 3_000), "promise": (promise, 2_000),
-         "padded": (padded, 3_000), "numbers": (numbers, 2_000), "takedown": (takedown, 5_000),
-         "obj": (obj, 5_000), "kef": (kef, 500)}
+MODES = {"entries": (entries, 500), "operators": (operators, 3_000), "runs": (runs, 4_500), "promise": (promise, 2_000),
+         "padded": (padded, 4_500), "numbers": (numbers, 2_000), "takedown": (takedown, 5_000),
+         "obj": (obj, 5_000), "kef": (kef, 500), "redo": (redo, 4_000)}
 
 
 def run_mode(driver, name, count, seed):

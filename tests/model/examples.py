@@ -1,7 +1,7 @@
 """Hand-made cases with concrete words: the examples of document 01, and corner cases of the rules and of scripts."""
 
-from kernel import program, run, undo
-from layout import Table, clear, cleared_table, links_length
+from kernel import Session, clear, program, redo, run, undo
+from layout import Table, cleared_table, links_length
 from rules import RULES, check, count
 from script import (NO_OPERATOR, Operator, fold_coordinate, number_bytes, operator, read_number,
                     read_operator, script_bytes, write_operator)
@@ -19,28 +19,30 @@ WORDS_D = [1, 2, 2, 2, 2] + [1] + [1, 1] + [1, 2] + [1, 2, 0] + [2, 1, 0] \
 
 
 class Desk:
-    """A table with a log, on which scripts are run one after the other."""
+    """A table with a log and a redo log, and the session of calls made one after the other."""
 
-    def __init__(self, capacities, log=200):
+    def __init__(self, capacities, log=200, redo=200):
         table = cleared_table(capacities)
         self.links, self.points = table.links, table.points
-        self.log, self.start = bytearray(b"\xEE" * log), log
+        self.log, self.redo_log, self.session = bytearray(b"\xEE" * log), bytearray(b"\xEE" * redo), Session(log, redo)
+
+    def lent(self):
+        return self.links, self.points, self.log, self.redo_log, self.session
 
     def run(self, script):
-        answer = run(self.links, self.points, self.log, self.start, script)
-        self.start = answer.start
-        return answer
+        return run(*self.lent(), script)
 
     def undo(self, wanted):
-        answer = undo(self.links, self.points, self.log, self.start, wanted)
-        self.start = answer.start
-        return answer
+        return undo(*self.lent(), wanted)
+
+    def redo(self, wanted):
+        return redo(*self.lent(), wanted)
 
     def state(self):
         return list(self.links), list(self.points)
 
     def live(self):
-        return bytes(self.log[self.start:])
+        return bytes(self.log[self.session.log:])
 
 
 def examples_a_to_d(tally):
@@ -102,7 +104,9 @@ def example_h(tally, capacity, wanted, place):
     links = [9] * links_length(capacities)
     points = [9] * (3 * capacities[4])
     before = list(links), list(points)
-    tally.equal(f"example h {capacities}", clear(capacities, links, points, b"xyz"), (wanted, 0 if wanted else 3))
+    session = Session(7, 9)
+    tally.equal(f"example h {capacities}", clear(capacities, links, points, b"xyz", b"st", session), (wanted,))
+    tally.equal(f"example h starts {capacities}", session, Session(7, 9) if wanted else Session(3, 2))
     if wanted == 0:
         before = capacities + [0] * (len(links) - 5), [0] * len(points)
     tally.equal(f"example h words {capacities}", (links, points), before)
@@ -142,9 +146,14 @@ def each_rule_alone(tally):
         holding = [number for number, holds in enumerate(RULES, 1) if holds(table)]
         tally.equal(f"only rule {rule} broken", holding, [n for n in range(1, 7) if n != rule])
         log = bytearray(b"\x02\x01")
-        tally.equal(f"run on breaker {rule}", run(links, points, log, 1, b"\x02\x01"), (2, rule, 0, 0, 1))
-        tally.equal(f"undo on breaker {rule}", undo(links, points, log, 0, 1), (2, rule, 0, 0))
-        tally.equal(f"1 before 2 ({rule})", run(links, points, log, 3, b""), (1, 0, 0, 0, 3))
+        lent = links, points, log, bytearray(b"\x02\x01")
+        tally.equal(f"run on breaker {rule}", run(*lent, Session(1), b"\x02\x01"), (2, rule, 0, 0, 1))
+        tally.equal(f"undo on breaker {rule}", undo(*lent, Session(0), 1), (2, rule, 0, 0))
+        tally.equal(f"redo on breaker {rule}", redo(*lent, Session(0), 1), (2, rule, 0))
+        tally.equal(f"1 before 2 ({rule})", run(*lent, Session(3), b""), (1, 0, 0, 0, 3))
+        for session in (Session(3, 0), Session(0, 3)):
+            tally.equal(f"1 before 2 in undo ({rule})", undo(*lent, session, 1), (1, 0, 0, session.log))
+            tally.equal(f"1 before 2 in redo ({rule})", redo(*lent, session, 1), (1, 0, 0))
 
 
 # Edits to the words of example d (places in links, new words) and the rule they break.
@@ -205,10 +214,12 @@ def lengths(tally):
                              ("points short", WORDS_B, points[:-1]), ("points long", WORDS_B, points + [0]),
                              ("capacity 0", [0] + WORDS_B[1:], points)):
         tally.equal(f"lengths: {name}", check(list(links), list(pts)), (1, 0))
-        tally.equal(f"lengths in undo: {name}", undo(list(links), list(pts), b"", 0, 0), (1, 0, 0, 0))
-    tally.equal("start at the log's end", run(list(WORDS_B), points, bytearray(3), 3, b""), (0, 0, 0, 0, 3))
-    tally.equal("start beyond the log", run(list(WORDS_B), points, bytearray(3), 4, b""), (1, 0, 0, 0, 4))
-    tally.equal("undo start beyond the log", undo(list(WORDS_B), points, b"abc", 4, 0), (1, 0, 0, 4))
+        tally.equal(f"lengths in undo: {name}", undo(list(links), list(pts), b"", b"", Session(0), 0), (1, 0, 0, 0))
+        tally.equal(f"lengths in redo: {name}", redo(list(links), list(pts), b"", b"", Session(0), 0), (1, 0, 0))
+    lent = list(WORDS_B), points, bytearray(3), bytearray(5)
+    tally.equal("start at the log's end", run(*lent, Session(3), b""), (0, 0, 0, 0, 3))
+    tally.equal("start beyond the log", run(*lent, Session(4), b""), (1, 0, 0, 0, 4))
+    tally.equal("undo start beyond the log", undo(*lent, Session(4), 0), (1, 0, 0, 4))
 
 
 # Scripts

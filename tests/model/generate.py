@@ -379,5 +379,18 @@ def random_log(rng):
     """A log of any bytes and a start, sometimes beyond it."""
     log = bytes(rng.randrange(256) for _ in range(rng.choice((0, 2, 5, 20, 60, 100, 300, 300))))
     if rng.random() < 0.05:
-        return log, rng.choice((len(log) + 1, len(log) + 2, len(log) + 1_000, 1 << 32, 1 << 63, (1 << 64) - 1))
+        return log, beyond(rng, log)
     return log, len(log) if rng.random() < 0.75 else rng.randint(0, len(log))
+
+
+def random_redo(rng):
+    """A redo log of any bytes and a start, most often with room for what undo writes; sometimes beyond it."""
+    if rng.random() < 0.3:
+        return random_log(rng)
+    log = rng.randbytes(rng.choice((310, 320, 400)))
+    return log, rng.choice((len(log), len(log), 305))
+
+
+def beyond(rng, log):
+    """A start beyond a log, up to the largest number a caller can hand in."""
+    return rng.choice((len(log) + 1, len(log) + 2, len(log) + 1_000, 1 << 32, 1 << 63, (1 << 64) - 1))

@@ -135,8 +135,11 @@ def case_of(rng, net, faces, edges, log_for):
     most = [max(used) + spare for used in (b.solids, b.face_solid, b.loop_face, b.points)]
     # A table at its largest has no number to spare.
     b.capacities = tuple(min(capacity, CAPACITY_LIMIT) for capacity in (*most[:3], edges, most[3]))
-    table, (log, start) = table_of(b), log_for(rng, b, op)
-    return wire.case(wire.RUN, (start,), table.links, table.points, log, operator_bytes(op))
+    table, (log, start), script = table_of(b), log_for(rng, b, op), operator_bytes(op)
+    # Undo writes the kef itself into the redo log: just the room for it, or more. To a run its start does not matter.
+    redo = rng.randbytes(len(script) + rng.choice((0, 0, 5)))
+    session = (start, rng.choice((0, len(redo), len(redo) + 1)))
+    return wire.case(wire.RUN, (), table.links, table.points, log, script, redo, session)
 
 
 def any_log(rng, b, op):

@@ -13,7 +13,7 @@ from collections import Counter, namedtuple
 from boundary import Boundary
 from generate import random_table, renumbered
 from kef_met import RESTS, WANTED_KEFS, kef_situations
-from kernel import run
+from kernel import Session, run
 from layout import Table, mate
 from operators import plan
 from rules import check
@@ -132,7 +132,8 @@ def some_kefs(rng, count):
 def left_by_kef(table, k):
     """The model's own kef: its answer, and the table that it leaves."""
     links, points = list(table.links), list(table.points)
-    answer = run(links, points, bytearray(LONGEST_OPERATOR), LONGEST_OPERATOR, operator_bytes(operator("kef", k)))
+    answer = run(links, points, bytearray(LONGEST_OPERATOR), b"", Session(LONGEST_OPERATOR),
+                 operator_bytes(operator("kef", k)))
     return answer[:3], Table(links, points)
 
 

@@ -57,15 +57,15 @@ def lengths_allowed(links, points):
     return len(links) == links_length(capacities) and len(points) == points_length(capacities)
 
 
-def clear(capacities, links, points, log):
-    """Clearing; answers (refusal, start). A refused clearing leaves its start free: 0 here."""
+def clear_words(capacities, links, points):
+    """What clearing does to links and points; answers its refusal."""
     if not capacities_allowed(capacities):
-        return 1, 0
+        return 1
     if len(links) != links_length(capacities) or len(points) != points_length(capacities):
-        return 1, 0
+        return 1
     links[:] = list(capacities) + [0] * (len(links) - 5)
     points[:] = [0] * len(points)
-    return 0, len(log)
+    return 0
 
 
 class Table:
@@ -117,6 +117,6 @@ class Table:
 def cleared_table(capacities):
     """A fresh cleared table of these capacities, in memory of its own."""
     links, points = [0] * links_length(capacities), [0] * points_length(capacities)
-    refusal, _ = clear(capacities, links, points, b"")
+    refusal = clear_words(capacities, links, points)
     assert refusal == 0
     return Table(links, points)

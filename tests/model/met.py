@@ -16,7 +16,7 @@ class Met:
         self.answers, self.codes, self.rules, self.situations = Counter(), Counter(), Counter(), Counter()
 
     def add(self, case, answer):
-        """Counts an answer, and for run and undo each operator carried out and the one refused."""
+        """Counts an answer, and for run, undo and redo each operator carried out and the one refused."""
         kind, refusal = wire.KIND_NAMES[case.kind], answer.numbers[0]
         self.answers[kind, refusal] += 1
         if refusal == 2:
@@ -24,7 +24,9 @@ class Met:
         if case.kind == wire.RUN and refusal not in (1, 2):
             self.add_operators(case.script, 0, answer.numbers[2], refusal)
         if case.kind == wire.UNDO and refusal not in (1, 2):
-            self.add_operators(case.log, case.numbers[0], answer.numbers[2], refusal)
+            self.add_operators(case.log, case.session[0], answer.numbers[2], refusal)
+        if case.kind == wire.REDO and refusal not in (1, 2):
+            self.add_operators(case.redo, case.session[1], answer.numbers[2], refusal)
 
     def add_operators(self, data, place, done, refusal):
         for _ in range(done):
@@ -40,7 +42,7 @@ class Met:
         """A line for each entry point, each code and the rules."""
         for kind in wire.KIND_NAMES.values():
             self.line(f"answers of {kind}", {refusal: n for (of, refusal), n in self.answers.items() if of == kind})
-        for kind in ("check", "count", "run", "undo", "takedown", "obj"):
+        for kind in ("check", "count", "run", "undo", "redo", "takedown", "obj"):
             self.line(f"rules named by {kind}", {rule: n for (of, rule), n in self.rules.items() if of == kind})
         for code in sorted({code for code, _ in self.codes}):
             self.line(NAMES.get(code, "no code"), {refusal: n for (of, refusal), n in self.codes.items() if of == code})
@@ -54,9 +56,9 @@ class Met:
     def want_rules(self, tally, kind):
         tally.equal(f"rules named by {kind}", sorted(rule for of, rule in self.rules if of == kind), [1, 2, 3, 4, 5, 6])
 
-    def want_situations(self, tally, names):
+    def want_situations(self, tally, names, least=1):
         for name in names:
-            tally.holds(f"met: {name}", self.situations[name] > 0)
+            tally.holds(f"met: {name}, at least {least}", self.situations[name] >= least)
 
     def want_conditions(self, tally):
         """Each operator that has a condition refused by it."""
@@ -70,7 +72,7 @@ class Met:
             tally.holds(f"met: {name} accepted", self.codes[code, 0] > 0)
         self.want_answers(tally, refusals)
 
-    def want_answers(self, tally, refusals):
+    def want_answers(self, tally, refusals, least=1):
         for kind, numbers in refusals.items():
             for number in numbers:
-                tally.holds(f"met: {kind} answers {number}", self.answers[kind, number] > 0)
+                tally.holds(f"met: {kind} answers {number}, at least {least}", self.answers[kind, number] >= least)

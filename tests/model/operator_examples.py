@@ -154,11 +154,11 @@ def refusals(tally):
         desk = Desk(WIDE)
         setup = desk.run(script_bytes([MVSF] + before))
         tally.equal(f"{name}: before", setup[:3], (0, 0, 1 + len(before)))
-        words, log, start = desk.state(), bytes(desk.log), desk.start
+        words, log, start = desk.state(), bytes(desk.log), desk.session.log
         answer = desk.run(script_bytes([op]))
         tally.equal(name, answer[:3], (wanted, 0, 1 if wanted == 0 else 0))
         if wanted != 0:
-            tally.equal(f"{name}: unchanged", (desk.state(), bytes(desk.log), desk.start), (words, log, start))
+            tally.equal(f"{name}: unchanged", (desk.state(), bytes(desk.log), desk.session.log), (words, log, start))
         else:
             tally.equal(f"{name}: sound", check(desk.links, desk.points), (0, 0))
 
@@ -198,7 +198,7 @@ def log_bounds(tally):
     """9 exactly when the inverse does not fit, after 8, and no byte is written."""
     for room, wanted in ((0, 9), (1, 9), (2, 0)):
         desk = Desk(SMALL, 5)
-        desk.start = room
+        desk.session.log = room
         tally.equal(f"mvsf with room {room}", desk.run(B)[0], wanted)
         tally.equal(f"log with room {room}", bytes(desk.log), b"\xEE" * 5 if wanted else b"\x02\x01\xEE\xEE\xEE")
         tally.equal(f"table with room {room}", desk.state()[0][5], 0 if wanted else 1)
@@ -209,11 +209,11 @@ def log_bounds(tally):
     tally.equal("undo 5 of 2", desk.undo(5), (11, 0, 2, 4))
     tally.equal("undo 0 at the end", desk.undo(0), (0, 0, 0, 4))
     desk.log = bytearray.fromhex("0401 02")
-    desk.start = 3
+    desk.session.log = 3
     tally.equal("log ended", desk.undo(1), (11, 0, 0, 3))
-    desk.start = 2
+    desk.session.log = 2
     tally.equal("log cut off", desk.undo(1), (3, 0, 0, 2))
-    desk.start = 0
+    desk.session.log = 0
     tally.equal("log of another table", desk.undo(1), (6, 0, 0, 0))
 
 

@@ -1,9 +1,9 @@
-"""Wire cases about numbers: runs and undos of padded scripts and logs, each form of small numbers, short scripts."""
+"""Wire cases about numbers: runs, undos, redos of padded scripts and logs, each form of small numbers, short scripts."""
 
 import itertools
 
 import wire
-from cases import any_bytes, read_case, run_case, undo_case
+from cases import any_bytes, exchanged, read_case, run_case, undo_case
 from generate import damaged_bytes
 from padding import all_padded, padded, padded_log
 from script import PATTERNS, number_bytes, number_forms, operands_of
@@ -16,7 +16,7 @@ NET = (0, 1, 2, 4, 6, 9, 12, 13, 14, 63, 64, 65, 126, 127, 128, 129, 130, 132, 1
 EDGES = (0, 1, 4, 13, 14, 127, 128, 129, 132, 141, 142, 255)
 
 
-# Runs and undos
+# Runs, undos and redos
 
 def padded_run_case(rng):
     """A run, padded more often than other cases of runs are, and damaged behind the padding too."""
@@ -31,12 +31,17 @@ def padded_run_case(rng):
 def padded_undo_case(rng):
     """The same of a log's live part."""
     case, dice = undo_case(rng), rng.random()
-    start = case.numbers[0]
+    start = case.session[0]
     if dice < 0.5:
         case = case._replace(log=padded_log(rng, case.log, start))
     if dice > 0.3 and case.log[start:]:
         case = case._replace(log=case.log[:start] + any_damage(rng, case.log[start:]))
     return case
+
+
+def padded_redo_case(rng):
+    """And of a redo log's."""
+    return exchanged(padded_undo_case(rng))
 
 
 def any_damage(rng, data):

@@ -93,7 +93,7 @@ def padded_runs(tally):
     for name, script, plain, words in (("b", PADDED_B, B, WORDS_B), ("c", PADDED_C, C, WORDS_C),
                                        ("d", PADDED_D, D, WORDS_D)):
         tally.equal(f"padded {name} shortened", shorten(script), plain)
-        start = desk.start
+        start = desk.session.log
         tally.equal(f"padded {name} run", desk.run(script), (0, 0, 1, len(script), start - 2))
         tally.equal(f"padded {name} words", desk.state()[0], words)
     tally.equal("padded bytes taken", (len(PADDED_B), len(PADDED_C), len(PADDED_D)), (24, 18, 19))
@@ -110,7 +110,7 @@ def padded_undos(tally):
     """A log that a stranger has padded is undone as well."""
     desk = Desk(SMALL)
     desk.run(B + C + D)
-    desk.log, desk.start = bytearray(data_of("EEEE 8600 848000 848000 8100 02 818000")), 2
+    desk.log, desk.session.log = bytearray(data_of("EEEE 8600 848000 848000 8100 02 818000")), 2
     before = bytes(desk.log)
     tally.equal("padded undo 1", desk.undo(1), (0, 0, 1, 7))
     tally.equal("padded undo 1 words", desk.state()[0], WORDS_C)
@@ -118,7 +118,7 @@ def padded_undos(tally):
     tally.equal("padded undo words", desk.state(), ([1, 2, 2, 2, 2] + [0] * 29, [0] * 6))
     tally.equal("padded log is only read", bytes(desk.log), before)
     for text, wanted in (("828000 81", 3), ("8200 81808000", 3), ("8E00", 4), ("8200 8000", 5), ("8200 8100", 6)):
-        desk.log, desk.start = bytearray(data_of(text)), 0
+        desk.log, desk.session.log = bytearray(data_of(text)), 0
         tally.equal(f"padded undo of {text}", desk.undo(1), (wanted, 0, 0, 0))
 
 

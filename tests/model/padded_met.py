@@ -33,13 +33,15 @@ def bytes_taken(case, answer):
     if case.kind == wire.RUN:
         return case.script, 0, answer.numbers[3]
     if case.kind == wire.UNDO:
-        return case.log, case.numbers[0], answer.numbers[3]
+        return case.log, case.session[0], answer.session[0]
+    if case.kind == wire.REDO:
+        return case.redo, case.session[1], answer.session[1]
     return case.script, case.numbers[0], case.numbers[0] + answer.numbers[1]
 
 
 def number_situations(case, answer):
     """What is special about the numbers of a case that reads any, by the answer that it has to get."""
-    if case.kind not in (wire.READ, wire.RUN, wire.UNDO):
+    if case.kind not in (wire.READ, wire.RUN, wire.UNDO, wire.REDO):
         return
     kind, refusal = wire.KIND_NAMES[case.kind], answer.numbers[0]
     data, first, end = bytes_taken(case, answer)
@@ -59,7 +61,7 @@ def number_situations(case, answer):
         yield from [f"{kind}: 3, not even its shortened form is shortest"] * (not shortest(shorten(data)))
 
 
-REFUSALS = {"read": (0, 3, 4, 5), "run": range(10), "undo": (0, 1, 2, 3, 4, 5, 6, 7, 8, 11)}
+REFUSALS = {"read": (0, 3, 4, 5), "run": range(10), "undo": (*range(10), 11), "redo": (*range(10), 11)}
 REASONS = ("cut off before it", "cut off after a group", "cut off after two groups", "too long",
            "not even its shortened form is shortest")
 

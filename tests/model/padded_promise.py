@@ -1,4 +1,4 @@
-"""The promise about padded numbers: a padded script, or log, does what its shortest form does, bytes taken aside.
+"""The promise about padded numbers: a padded script or log does what its shortest form does, bytes taken aside.
 
 It is asked of any bytes whatever, refused ones too, of the model and of the compiled kernel alike.
 """
@@ -7,12 +7,17 @@ import wire
 from script import shorten
 
 
+# What is only read: the script of a run, the log of an undo, the redo log of a redo.
+READ_ONLY = {wire.RUN: "script", wire.UNDO: "log", wire.REDO: "redo"}
+
+
 def shortened(case):
-    """The case of a run with its script shortened, or of an undo with its log's live part."""
+    """The case of a run with its script shortened, or of an undo or redo with the live part that it reads."""
     if case.kind == wire.RUN:
         return case._replace(script=shorten(case.script))
-    start = case.numbers[0]
-    return case._replace(log=case.log[:start] + shorten(case.log[start:]))
+    name, start = READ_ONLY[case.kind], case.session[case.kind == wire.REDO]
+    data = getattr(case, name)
+    return case._replace(**{name: data[:start] + shorten(data[start:])})
 
 
 def promised(case, answer):
@@ -22,10 +27,12 @@ def promised(case, answer):
         refusal, rule, done, used, start = answer.numbers
         numbers = (refusal, rule, done, len(shorten(case.script[:used])), start)
         return answer._replace(numbers=numbers, script=short.script)
-    refusal, rule, undone, start = answer.numbers
-    first = case.numbers[0]
-    numbers = (refusal, rule, undone, first + len(shorten(case.log[first:start])))
-    return answer._replace(numbers=numbers, log=short.log)
+    if case.kind == wire.REDO:
+        first, (log, end) = case.session[1], answer.session
+        return answer._replace(redo=short.redo, session=(log, first + len(shorten(case.redo[first:end]))))
+    first, (end, redo) = case.session[0], answer.session
+    start = first + len(shorten(case.log[first:end]))
+    return answer._replace(numbers=answer.numbers[:3] + (start,), log=short.log, session=(start, redo))
 
 
 def keep_promise(answers_of, tally, cases):
@@ -35,8 +42,8 @@ def keep_promise(answers_of, tally, cases):
         name = f"padded {wire.KIND_NAMES[case.kind]}: {case}"
         if not tally.holds(f"answered, {name}", answer is not None):
             continue
-        # By it the log of an undo and the script of a run are compared, which the promise itself puts aside.
-        read_only = "script" if case.kind == wire.RUN else "log"
+        # By it the bytes are compared that the promise itself puts aside.
+        read_only = READ_ONLY[case.kind]
         tally.equal(f"only read, {name}", getattr(answer, read_only), getattr(case, read_only))
         if tally.equal(f"as its shortest form, {name}", short, promised(case, answer)):
             kept.append((case, answer))

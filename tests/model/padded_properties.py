@@ -6,7 +6,7 @@ from collections import Counter, defaultdict
 import wire
 from cases import any_bytes
 from met import Met
-from padded_cases import padded_run_case, padded_undo_case
+from padded_cases import padded_redo_case, padded_run_case, padded_undo_case
 from padded_met import is_padded, number_situations, wanted_numbers
 from padded_promise import keep_promise
 from padding import MOST_READ
@@ -104,4 +104,4 @@ def all_forms(tally, _rng, _scale):
 
 
 PADDED_PROPERTIES = (padded_promise("run", padded_run_case), padded_promise("undo", padded_undo_case),
-                     shortest_forms, all_forms)
+                     padded_promise("redo", padded_redo_case), shortest_forms, all_forms)

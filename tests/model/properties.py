@@ -6,7 +6,7 @@ import cases
 import generate
 import wire
 from boundary import Boundary
-from kernel import run, undo
+from kernel import Session, run, undo
 from layout import Table, edge_of, mate, way_of
 from operators import carry_out, plan
 from rules import RULES, check, count
@@ -38,7 +38,7 @@ def step(tally, rng, table, op, met):
     links, points = words_of(table)
     log = bytearray(rng.randrange(256) for _ in range(ROOM + 3))
     log_before = bytes(log)
-    answer = run(links, points, log, ROOM, operator_bytes(op))
+    answer = run(links, points, log, b"", Session(ROOM), operator_bytes(op))
     met[PATTERNS[op.code][0], answer.refusal] += 1
     name = f"{describe(op)} on {table.links} {table.points}"
     if answer.refusal != 0:
@@ -62,8 +62,11 @@ def accepted_step(tally, name, before, op, after, log, log_before, answer):
     links, points = words_of(after)
     body = Boundary(Table(links, points))
     tally.equal(f"inverse of the inverse: {name}", plan(body, inverse)[:2], (0, op))
-    undone = undo(links, points, log, answer.start, 1)
+    room = len(operator_bytes(op))
+    redo = bytearray(room)
+    undone = undo(links, points, log, redo, Session(answer.start, room), 1)
     tally.equal(f"undo: {name}", undone, (0, 0, 1, ROOM))
+    tally.equal(f"undo writes the operator: {name}", bytes(redo), operator_bytes(op))
     tally.equal(f"undo restores: {name}", (links, points), words_of(before))
     tally.equal(f"only what the text names: {name}", stray_changes(before, after, op), set())
 
@@ -235,14 +238,16 @@ def scripts_and_undo(tally, rng, scale):
     for _ in range(int(250 * scale)):
         table, (log, start) = generate.random_table(rng), generate.random_log(rng)
         links, points = words_of(table)
-        live, log, here, done = log[start:], bytearray(log), start, 0
+        live, log, session, done, redo = log[start:], bytearray(log), Session(start), 0, bytearray()
         for _ in range(rng.randint(1, 4)):
             b = Boundary(Table(links, points))
             script = generate.random_script(rng, Table(links, points))
-            answer = run(links, points, log, here, script)
+            here, answer = session.log, run(links, points, log, redo, session, script)
             one_run(tally, b, script, here, answer, Table(links, points))
-            here, done = answer.start, done + answer.done
-        undone = undo(links, points, log, here, done)
+            done, redo = done + answer.done, redo + bytearray(len(shorten(script[:answer.used])))
+        # Just the room that is needed: undo writes the operators that were done, in shortest form.
+        session.redo = len(redo)
+        undone = undo(links, points, log, redo, session, done)
         tally.equal("undone to the byte", (links, points), words_of(table))
         if start <= len(log):
             tally.equal("undo's answer", undone, (0, 0, done, start))
@@ -325,7 +330,7 @@ def wire_frames(tally, rng, scale):
         answer = wire.answer_case(back)
         met[case.kind] += 1
         tally.equal("answer encoded and decoded", wire.decode_stream(wire.encode_case(answer) * 2), [answer, answer])
-        if answer.numbers[0] != 0 and case.kind not in (wire.RUN, wire.UNDO):
+        if answer.numbers[0] != 0 and case.kind not in (wire.RUN, wire.UNDO, wire.REDO):
             tally.equal("a refused call leaves everything", answer[2:], back[2:])
     for kind, name in wire.KIND_NAMES.items():
         tally.holds(f"wire met: {name}", met[kind] > 0)

@@ -13,7 +13,7 @@ import subprocess
 
 import wire
 from boundary import Boundary
-from cases import operator_for
+from cases import exchanged, operator_for
 from generate import grown, pools_of, renumbered
 from layout import CAPACITY_LIMIT, links_length, points_length
 from library import ask
@@ -50,7 +50,7 @@ def stack_cases(rng, killed, capacities=None):
     """One kef alone, and one behind another operator."""
     table, k = long_kef(rng, killed, 3, capacities)
     room = 2 * LONGEST_OPERATOR
-    return [wire.case(wire.RUN, (room,), table.links, table.points, bytes(room), front + kef_bytes(k))
+    return [wire.case(wire.RUN, (), table.links, table.points, bytes(room), front + kef_bytes(k), session=(room, 0))
             for front in (b"", first_solid(table))]
 
 
@@ -94,8 +94,8 @@ def compare_memory(tally, archive):
 # All calls
 
 def one_of_each(rng):
-    """For each code a run of one accepted operator, and an undo of one, on tables of the largest capacities."""
-    runs, undos, left = [], [], set(PATTERNS)
+    """For each code a run of one accepted operator, an undo and a redo, on tables of the largest capacities."""
+    runs, undos, left, room = [], [], set(PATTERNS), bytes(LONGEST_OPERATOR)
     while left:
         table = renumbered(rng, grown(rng, (12,) * 5, 40), LARGEST)
         b = Boundary(table)
@@ -104,10 +104,10 @@ def one_of_each(rng):
             if op.code != code:
                 continue
             script, lent = operator_bytes(op), (table.links, table.points)
-            runs.append(wire.case(wire.RUN, (LONGEST_OPERATOR,), *lent, bytes(LONGEST_OPERATOR), script))
-            undos.append(wire.case(wire.UNDO, (0, 1), *lent, script))
+            runs.append(wire.case(wire.RUN, (), *lent, room, script, session=(len(room), 0)))
+            undos.append(wire.case(wire.UNDO, (1,), *lent, script, redo=room, session=(0, len(room))))
             left.remove(code)
-    return runs + undos
+    return runs + undos + list(map(exchanged, undos))
 
 
 def large_calls(rng):
@@ -116,9 +116,9 @@ def large_calls(rng):
     table = renumbered(rng, grown(rng, (12,) * 5, 40), LARGEST)
     lent, need = (table.links, table.points), bytes_needed(table.links, table.points)
     return operators + texts + [
-        wire.case(wire.CLEAR, LARGEST, [0] * links_length(LARGEST), [0] * points_length(LARGEST)),
+        wire.case(wire.CLEAR, LARGEST, [0] * links_length(LARGEST), [0] * points_length(LARGEST), session=(0, 0)),
         wire.case(wire.CHECK, (), *lent), wire.case(wire.COUNT, (), *lent),
-        wire.case(wire.TAKEDOWN, (need,), *lent, bytes(need)),
+        wire.case(wire.TAKEDOWN, (), *lent, bytes(need), session=(need, 0)),
         wire.case(wire.READ, (0,), script=operators[0].script),
         wire.case(wire.WRITE, (2, 1, 1) + (0,) * 8, script=bytes(LONGEST_OPERATOR))]
 

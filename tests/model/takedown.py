@@ -7,7 +7,7 @@ is always looked for in the table that the operator before has left. Of how oper
 from collections import namedtuple
 
 from boundary import Boundary, write_back
-from kernel import entry_refusal
+from kernel import entry_refusal, put_in_front
 from layout import Table, half_of, mate
 from operators import plan
 from rules import count
@@ -21,21 +21,18 @@ SPARED = ("face", "loop", "edge")
 TakeDownAnswer = namedtuple("TakeDownAnswer", "refusal rule done start")
 
 
-def take_down(links, points, log, start):
-    """Takes a table down; links, points and log (a bytearray) are changed in place, by a refusal none of them."""
-    refusal, rule = take_down_refusal(links, points, log, start)
+def take_down(links, points, log, redo, session):
+    """Takes a table down; links, points, log (a bytearray) and session change in place, by a refusal none of them."""
+    refusal, rule = take_down_refusal(links, points, log, session.log)
     if refusal != 0:
-        return TakeDownAnswer(refusal, rule, 0, start)
+        return TakeDownAnswer(refusal, rule, 0, session.log)
     body, done = Boundary(Table(links, points)), 0
     for op in steps(body):
-        entry = operator_bytes(carry_out_step(body, op))
-        start -= len(entry)
-        # A slice below the log's front would be put elsewhere without a word.
-        assert start >= 0, "the bytes asked for are not enough"
-        log[start:start + len(entry)] = entry
+        session.log = put_in_front(log, session.log, operator_bytes(carry_out_step(body, op)))
         done += 1
     write_back(body, links, points)
-    return TakeDownAnswer(0, 0, done, start)
+    session.empty_redo(redo, done)
+    return TakeDownAnswer(0, 0, done, session.log)
 
 
 def carry_out_step(body, op):
@@ -51,7 +48,7 @@ def carry_out_step(body, op):
 
 def take_down_refusal(links, points, log, start):
     """By "Order: 1, 2; take-down then 10, 9."; answers (refusal, rule)."""
-    refusal, rule = entry_refusal(links, points, log, start)
+    refusal, rule = entry_refusal(links, points, (log, start))
     if refusal != 0:
         return refusal, rule
     if not has_spares(Boundary(Table(links, points))):

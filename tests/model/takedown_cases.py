@@ -3,15 +3,12 @@
 from collections import namedtuple
 
 import wire
-from generate import damaged_table, random_log
+from generate import beyond, damaged_table, random_log, random_redo
 from takedown import bytes_needed
 from takedown_tables import every_body, spared_table, table_with
 
 # Places among the capacities: faces, loops, edges, of each of which a number has to be free.
 SPARED_PLACES = (1, 2, 3)
-# Starts beyond a log, by its length.
-BEYOND = (lambda length: length + 1, lambda length: length + 1_000, lambda length: 1 << 32,
-          lambda length: (1 << 64) - 1)
 # Edges and lone loops of the tables that are listed; three edges by themselves make ten thousand.
 LISTED, LISTED_TOO = ((0, 0), (0, 1), (1, 0), (1, 1), (2, 0), (2, 1)), ((3, 0),)
 
@@ -26,8 +23,14 @@ def takedown_trial(rng):
     table = spared_table(rng, lacking=rng.choice(SPARED_PLACES) if dice < 0.18 else None)
     log, start = log_for(rng, table)
     if dice > 0.98:
-        start = rng.choice(BEYOND)(len(log))
-    return Trial(wire.case(wire.TAKEDOWN, (start,), table.links, table.points, log), True)
+        start = beyond(rng, log)
+    return Trial(case_with(rng, table.links, table.points, log, start), True)
+
+
+def case_with(rng, links, points, log, start):
+    """The redo log is only emptied, wherever it starts."""
+    redo, redo_start = random_redo(rng)
+    return wire.case(wire.TAKEDOWN, (), links, points, log, b"", redo, (start, redo_start))
 
 
 def takedown_case(rng):
@@ -39,7 +42,7 @@ def listed_trials(sizes):
     trials = []
     for table in [table_with(body, (0, 1, 1, 1, 0)) for size in sizes for body in every_body(*size)]:
         need = bytes_needed(table.links, table.points)
-        case = wire.case(wire.TAKEDOWN, (need,), table.links, table.points, b"\xEE" * need)
+        case = wire.case(wire.TAKEDOWN, (), table.links, table.points, b"\xEE" * need, b"", b"\xEE" * 5, (need, 2))
         trials.append(Trial(case, True))
     return trials
 
@@ -48,8 +51,8 @@ def damaged_case(rng):
     """A table that is most often not sound, now and then with a start beyond the log: 1 comes before 2."""
     (links, points), (log, start) = damaged_table(rng), random_log(rng)
     if rng.random() < 0.25:
-        start = rng.choice(BEYOND)(len(log))
-    return wire.case(wire.TAKEDOWN, (start,), links, points, log)
+        start = beyond(rng, log)
+    return case_with(rng, links, points, log, start)
 
 
 def log_for(rng, table):

@@ -2,7 +2,7 @@
 
 from boundary import Boundary
 from examples import B, BREAKERS, SMALL, WORDS_B, Desk
-from kernel import run
+from kernel import Session, run
 from layout import Table, cleared_table
 from rules import check, count
 from script import describe, operator, script_bytes
@@ -30,7 +30,8 @@ def example_e(tally):
     desk = Desk(SMALL)
     tally.equal("example e, L = 2: made", (desk.run(B)[:3], desk.run(HANDLE)[:3]), ((0, 0, 1), (0, 0, 2)))
     before, log = desk.state(), bytes(desk.log)
-    tally.equal("example e, L = 2: take-down", take_down(desk.links, desk.points, desk.log, 190), (10, 0, 0, 190))
+    taken = take_down(desk.links, desk.points, desk.log, b"", Session(190))
+    tally.equal("example e, L = 2: take-down", taken, (10, 0, 0, 190))
     tally.equal("example e, L = 2: nothing changes", (desk.state(), bytes(desk.log)), (before, log))
     wider = (1, 2, 3, 2, 2)
     desk = Desk(wider)
@@ -39,12 +40,13 @@ def example_e(tally):
     tally.equal("example e, L = 3: counts", count(*before), (0, 0, 1, 1, 2, 1, 1, 1, 1))
     tally.equal("example e, L = 3: at most", most_operators(*before), 6)
     tally.equal("example e, L = 3: operators", operators_of(Table(*before)), ["mfkrh 2 2 0", "kef 2", "kvsf 1"])
-    tally.equal("example e, L = 3: take-down", take_down(desk.links, desk.points, log, 114), (0, 0, 3, 95))
+    taken = take_down(desk.links, desk.points, log, b"", Session(114))
+    tally.equal("example e, L = 3: take-down", taken, (0, 0, 3, 95))
     tally.equal("example e, L = 3: empty", desk.state(), ([1, 2, 3, 2, 2] + [0] * 32, [0] * 6))
     logged = bytes.fromhex("0101010101000000" "0501000001020200" "090102")
     tally.equal("example e, L = 3: log", bytes(log), b"\xEE" * 95 + logged + b"\xEE" * 6)
     again, inverses = cleared_table(wider), bytearray(8)
-    built = run(again.links, again.points, inverses, 8, logged)
+    built = run(again.links, again.points, inverses, b"", Session(8), logged)
     tally.equal("example e, L = 3: built again", built, (0, 0, 3, 19, 0))
     tally.equal("example e, L = 3: the same words", (again.links, again.points), before)
     tally.equal("example e, L = 3: its inverses", bytes(inverses), bytes.fromhex("0A020200" "0602" "0201"))
@@ -91,7 +93,8 @@ def steps_in_order(tally):
     desk = Desk((2, 3, 3, 2, 2))
     desk.run(script_bytes([operator("mvsf", 2, 1, 1, 1, 0, 0, 0), operator("mvsf", 1, 2, 2, 2, 7, 0, 0)]))
     tally.equal("solids by number, not by face", operators_of(Table(*desk.state())), ["kvsf 1", "kvsf 2"])
-    tally.equal("two solids: take-down", take_down(desk.links, desk.points, desk.log, 190), (0, 0, 2, 174))
+    taken = take_down(desk.links, desk.points, desk.log, b"", Session(190))
+    tally.equal("two solids: take-down", taken, (0, 0, 2, 174))
     tally.equal("two solids: log", bytes(desk.log[174:190]), bytes.fromhex("0102010101000000" "01010202020E0000"))
 
 
@@ -100,7 +103,7 @@ def steps_in_order(tally):
 def refused(tally, name, links, points, log, start, wanted):
     """The refusal and its rule, done 0, the start as it was, and no byte changed."""
     links, points, changed = list(links), list(points), bytearray(log)
-    tally.equal(name, take_down(links, points, changed, start), wanted + (0, start))
+    tally.equal(name, take_down(links, points, changed, b"", Session(start)), wanted + (0, start))
     return links, points, bytes(changed)
 
 
@@ -130,10 +133,11 @@ def sizes(tally):
                 left = refused(tally, name, *words, log, start, (refusal, 0))
                 tally.equal(f"{name}: nothing changes", left, words + (log,))
             else:
-                answer = take_down(list(words[0]), list(words[1]), bytearray(log), start)
+                answer = take_down(list(words[0]), list(words[1]), bytearray(log), b"", Session(start))
                 tally.equal(name, answer[:3], (0, 0, 3))
     empty = cleared_table((1,) * 5)
-    tally.equal("an empty table needs no log", take_down(empty.links, empty.points, bytearray(), 0), (0, 0, 0, 0))
+    taken = take_down(empty.links, empty.points, bytearray(), b"", Session(0))
+    tally.equal("an empty table needs no log", taken, (0, 0, 0, 0))
 
 
 TAKEDOWN_EXAMPLES = (example_e, steps_in_order, refusals, sizes)

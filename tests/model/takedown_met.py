@@ -37,7 +37,7 @@ def case_situations(case, answer):
         yield "1 before 2"
     if refusal in (1, 2):
         return
-    spare_room = case.numbers[0] - bytes_needed(case.links, case.points)
+    spare_room = case.session[0] - bytes_needed(case.links, case.points)
     if spare_room in (0, -1):
         yield f"{refusal} with {'just the room asked for' if spare_room == 0 else 'a byte less'}"
     if refusal == 10:

@@ -62,7 +62,7 @@ def keep_promise(asked, tally, met, taken):
 
 def rebuild(tally, met, case, answer):
     """Tests what the answer of a take-down shows; answers the run of what it logged, and what that run has to give."""
-    name, (start,), (_, _, done, down) = f"take-down: {case}", case.numbers, answer.numbers
+    name, start, (_, _, done, down) = f"take-down: {case}", case.session[0], answer.numbers
     capacities, script = case.links[:5], answer.log[down:start]
     empty, walk = cleared_table(capacities), walk_back(capacities, script)
     met.situations.update(walk.situations)
@@ -72,5 +72,6 @@ def rebuild(tally, met, case, answer):
     tally.equal(f"h joins: {name}", walk.joins, count(case.links, case.points)[-1])
     # "another log, long enough for every inverse": here just long enough.
     room = len(walk.log)
-    return (wire.case(wire.RUN, (room,), empty.links, empty.points, b"\xEE" * room, script),
-            wire.case(wire.RUN, (0, 0, done, len(script), 0), case.links, case.points, walk.log, script))
+    return (wire.case(wire.RUN, (), empty.links, empty.points, b"\xEE" * room, script, session=(room, 0)),
+            wire.case(wire.RUN, (0, 0, done, len(script), 0), case.links, case.points, walk.log, script,
+                      session=(0, 0)))

@@ -25,7 +25,7 @@ def take_down(tally, met, trials):
         if answer.numbers[0] == 0:
             taken.append((case, answer))
         else:
-            left, before = (answer.numbers[2:], answer[2:]), ((0, case.numbers[0]), case[2:])
+            left, before = (answer.numbers[2:], answer[2:]), ((0, case.session[0]), case[2:])
             tally.equal(f"refused changes nothing: {case}", left, before)
     keep_promise(answers_of, tally, met, taken)
     return taken

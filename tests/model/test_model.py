@@ -15,6 +15,8 @@ from operator_examples import OPERATOR_EXAMPLES
 from padded_examples import PADDED_EXAMPLES
 from padded_properties import PADDED_PROPERTIES
 from properties import PROPERTIES
+from redo_examples import REDO_EXAMPLES
+from redo_properties import REDO_PROPERTIES
 from takedown_examples import TAKEDOWN_EXAMPLES
 from takedown_properties import TAKEDOWN_PROPERTIES
 from tally import Tally
@@ -26,11 +28,12 @@ def main(arguments):
     scale = float(arguments[0]) if arguments else 1.0
     seed = int(arguments[1]) if len(arguments) > 1 else 1
     tally = Tally()
-    for example in EXAMPLES + OPERATOR_EXAMPLES + PADDED_EXAMPLES + TAKEDOWN_EXAMPLES + WAVEFRONT_EXAMPLES:
+    for example in (EXAMPLES + OPERATOR_EXAMPLES + PADDED_EXAMPLES + TAKEDOWN_EXAMPLES + WAVEFRONT_EXAMPLES
+                    + REDO_EXAMPLES):
         example(tally)
     print(f"examples: {tally.passed} checks")
     properties = (PROPERTIES + EXHAUSTIVE + TAKEDOWN_PROPERTIES + PADDED_PROPERTIES + WAVEFRONT_PROPERTIES
-                  + KEF_PROPERTIES)
+                  + KEF_PROPERTIES + REDO_PROPERTIES)
     for number, prop in enumerate(properties):
         before, began = tally.passed, time.process_time()
         # A seed of its own, so that one property's cases do not hang on another's.

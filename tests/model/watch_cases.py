@@ -1,4 +1,4 @@
-"""Cases for watching kef: each an accepted kef, by a run or by an undo, on random tables and on loops of any length.
+"""Cases for watching kef: each an accepted kef, by a run, an undo or a redo, on random tables and loops of any length.
 
 kef has four situations, by what is left of k's loop without k and of the mate's loop without the mate.
 """
@@ -7,6 +7,7 @@ from collections import Counter, namedtuple
 
 import wire
 from boundary import Boundary
+from cases import exchanged
 from generate import random_table, renumbered
 from kef_cases import Faces, body_with, dealt
 from kef_met import RESTS
@@ -28,17 +29,28 @@ def kef_bytes(k):
 
 def run_case(rng, table, k):
     log = rng.randbytes(LONGEST_OPERATOR + rng.randint(0, 5))
-    return wire.case(wire.RUN, (rng.randint(LONGEST_OPERATOR, len(log)),), table.links, table.points, log, kef_bytes(k))
+    session = (rng.randint(LONGEST_OPERATOR, len(log)), 0)
+    return wire.case(wire.RUN, (), table.links, table.points, log, kef_bytes(k), session=session)
 
 
 def undo_case(rng, table, k):
     """The kef stands in the log, as the inverse of a mef does."""
     front, back = rng.randbytes(rng.randint(0, 3)), rng.randbytes(rng.randint(0, 3))
-    return wire.case(wire.UNDO, (len(front), 1), table.links, table.points, front + kef_bytes(k) + back)
+    redo = rng.randbytes(LONGEST_OPERATOR + rng.randint(0, 3))
+    return wire.case(wire.UNDO, (1,), table.links, table.points, front + kef_bytes(k) + back, b"", redo,
+                     (len(front), LONGEST_OPERATOR))
+
+
+def redo_case(rng, table, k):
+    """The kef stands in the redo log, as one that was undone does."""
+    return exchanged(undo_case(rng, table, k))
+
+
+CALLS = (run_case, undo_case, redo_case)
 
 
 def kef_on(rng, table, k, situation):
-    return Kef(rng.choice((run_case, undo_case))(rng, table, k), k, situation)
+    return Kef(rng.choice(CALLS)(rng, table, k), k, situation)
 
 
 # Random tables
@@ -87,5 +99,5 @@ def long_kefs(rng):
         for killed, kept in ((length, length), (length, 3), (length, 1), (1, length)):
             table, k = long_kef(rng, killed, kept)
             situation = RESTS[killed > 1, kept > 1]
-            kefs += [Kef(make(rng, table, k), k, situation) for make in (run_case, undo_case)]
+            kefs += [Kef(make(rng, table, k), k, situation) for make in CALLS]
     return kefs

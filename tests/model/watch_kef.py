@@ -30,7 +30,7 @@ from tally import Tally
 from watch_cases import long_kefs, random_kefs
 
 # How many numbers the usual answer has; behind them come whether stores are watched, and the stores, by four numbers.
-USUAL = {wire.RUN: 5, wire.UNDO: 4}
+USUAL = {wire.RUN: 5, wire.UNDO: 4, wire.REDO: 3}
 OTHERS = 100
 
 Store = namedtuple("Store", "moment place before after")

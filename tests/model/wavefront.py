@@ -8,7 +8,7 @@ import re
 from collections import namedtuple
 
 from boundary import Boundary, from_half
-from kernel import run
+from kernel import Session, run
 from layout import Table, cleared_table
 from rules import check
 
@@ -137,7 +137,7 @@ def obj_program(data):
     if len(data) > PROGRAM_INPUT:
         return b"# input too long\n"
     table, log = cleared_table((PROGRAM_CAPACITY,) * 5), bytearray(PROGRAM_LOG)
-    refusal = run(table.links, table.points, log, len(log), data).refusal
+    refusal = run(table.links, table.points, log, b"", Session(len(log)), data).refusal
     if refusal == 0:
         # A vertex takes 26 bytes at most, a face 2 and a side of it 5: so no text of such a table is longer.
         out = bytearray((26 + 2 + 2 * 5) * PROGRAM_CAPACITY)
