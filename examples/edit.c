@@ -1,9 +1,12 @@
-/* Edits and undo: several scripts run on one table, refused ones among them, then undone together.
+/* Edits, undo and redo: several scripts run on one table, refused ones among them, then undone together, two operators
+ * too far, and done again.
  *
  *     cc -I include -o edit examples/edit.c target/staticlib/libkernel.a && ./edit
  *
- * The digests before the first edit and after the undo are equal: every byte of links and points is back. */
+ * The redo of the two that were too many gives the digest from before the first edit, and the redo of the edits the
+ * digest from behind the last: every byte of links and points is back each time. So are the session and the log. */
 #include <stdio.h>
+#include <string.h>
 
 #include "digest.h"
 #include "zoghvari.h"
@@ -13,7 +16,8 @@ enum { LINKS = ZOGHVARI_LINKS_LENGTH(N, N, N, N, N), POINTS = ZOGHVARI_POINTS_LE
 
 static uint16_t links[LINKS];
 static int32_t points[POINTS];
-static uint8_t log_bytes[LOG];
+static uint8_t log_bytes[LOG], redo_bytes[LOG]; /* in either of them 19 bytes for each operator are enough */
+static ZoghvariSession session;
 
 typedef struct {
     const char *what;
@@ -56,14 +60,23 @@ static size_t script_of(const Edit *edit, uint8_t *script) {
     return length;
 }
 
-/* Runs an edit's script, moves the log's start, and answers how many operators were done. */
-static size_t run(const Edit *edit, size_t *start) {
+/* Runs an edit's script and answers how many operators were done. */
+static size_t run(const Edit *edit) {
     uint8_t script[SCRIPT + 1];
     size_t length = script_of(edit, script);
-    ZoghvariRan r = zoghvari_run(links, LINKS, points, POINTS, log_bytes, LOG, *start, script, length);
+    ZoghvariRan r = zoghvari_run(links, LINKS, points, POINTS, log_bytes, LOG, LOG, &session, script, length);
     printf("%s: refusal %u done %zu used %zu of %zu\n", edit->what, r.refusal, r.done, r.used, length);
-    *start = r.start;
     return r.done;
+}
+
+static void undo(size_t n) {
+    ZoghvariUndone u = zoghvari_undo(links, LINKS, points, POINTS, log_bytes, LOG, redo_bytes, LOG, &session, n);
+    printf("undo %zu: refusal %u undone %zu\n", n, u.refusal, u.undone);
+}
+
+static void redo(size_t n) {
+    ZoghvariRedone r = zoghvari_redo(links, LINKS, points, POINTS, log_bytes, LOG, redo_bytes, LOG, &session, n);
+    printf("redo %zu: refusal %u done %zu\n", n, r.refusal, r.done);
 }
 
 /* Tells the table's digest under a name, and answers it. */
@@ -73,14 +86,28 @@ static uint64_t tell(const char *name) {
     return d;
 }
 
+/* Undoes the edits and two operators of the triangle with them, and goes forward again, first to where the edits began.
+ * Answers whether the table was there what it was, and whether in the end all is back. */
+static int too_far(size_t edited, uint64_t before, uint64_t behind) {
+    static uint8_t held_log[LOG];
+    const ZoghvariSession held = session;
+    memcpy(held_log, log_bytes, LOG);
+    undo(edited + 2);
+    tell("too_far");
+    redo(2);
+    int ok = tell("undone") == before;
+    redo(edited);
+    ok &= tell("redone") == behind;
+    return ok && session.log == held.log && session.redo == held.redo && !memcmp(log_bytes, held_log, LOG);
+}
+
 int main(void) {
-    ZoghvariCleared c = zoghvari_clear(links, LINKS, points, POINTS, LOG, N, N, N, N, N);
-    size_t start = c.start, done = 0;
-    run(&triangle, &start);
+    size_t done = 0;
+    zoghvari_clear(links, LINKS, points, POINTS, LOG, LOG, &session, N, N, N, N, N);
+    run(&triangle);
     uint64_t before = tell("before");
-    for (size_t i = 0; i < sizeof edits / sizeof *edits; i++) done += run(&edits[i], &start);
-    tell("edited");
-    ZoghvariUndone u = zoghvari_undo(links, LINKS, points, POINTS, log_bytes, LOG, start, done);
-    printf("undo %zu: refusal %u undone %zu\n", done, u.refusal, u.undone);
-    return tell("undone") == before && u.refusal == 0 ? 0 : 1;
+    for (size_t i = 0; i < sizeof edits / sizeof *edits; i++) done += run(&edits[i]);
+    int ok = too_far(done, before, tell("edited"));
+    redo(1); /* all that was undone is done again: the redo log has ended */
+    return ok ? 0 : 1;
 }

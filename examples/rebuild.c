@@ -16,7 +16,7 @@ static const char *const names[] = {"",     "mvsf", "kvsf",  "mev",   "kev",  "m
                                     "kemr", "mekr", "kfmrh", "mfkrh", "semv", "jekv", "rmov"};
 
 static void clear(Table *t) {
-    t->start = zoghvari_clear(t->links, LINKS, t->points, POINTS, LOG, N, N, N, N, N).start;
+    zoghvari_clear(t->links, LINKS, t->points, POINTS, LOG, REDO, &t->session, N, N, N, N, N);
 }
 
 /* Tells the table's digest under a name, and answers it. */
@@ -28,9 +28,8 @@ static uint64_t tell(const char *name, const Table *t) {
 
 /* Runs a script on a table and tells how far it came. */
 static ZoghvariRan run(Table *t, const char *what, const uint8_t *script, size_t length) {
-    ZoghvariRan r = zoghvari_run(t->links, LINKS, t->points, POINTS, t->log, LOG, t->start, script, length);
+    ZoghvariRan r = zoghvari_run(t->links, LINKS, t->points, POINTS, t->log, LOG, REDO, &t->session, script, length);
     printf("%s: refusal %u done %zu used %zu of %zu\n", what, r.refusal, r.done, r.used, length);
-    t->start = r.start;
     return r;
 }
 
@@ -38,7 +37,7 @@ static ZoghvariRan run(Table *t, const char *what, const uint8_t *script, size_t
 static ZoghvariInverted take_down(Table *t) {
     ZoghvariCounted c = zoghvari_count(t->links, LINKS, t->points, POINTS);
     size_t most = c.vertices + 2 * c.faces + 2 * c.rings + 3 * c.holes - 2 * c.solids;
-    ZoghvariInverted i = zoghvari_invert(t->links, LINKS, t->points, POINTS, t->log, LOG, t->start);
+    ZoghvariInverted i = zoghvari_invert(t->links, LINKS, t->points, POINTS, t->log, LOG, REDO, &t->session);
     printf("take-down: refusal %u done %zu of at most %zu\n", i.refusal, i.done, most);
     return i;
 }
@@ -73,7 +72,7 @@ static int rebuild(Table *part, Table *other) {
     if (i.refusal || !same(part, other)) return 0;
     /* Only these bytes go over to the other table. A shop would keep them in a file, with the capacities. */
     const uint8_t *script = part->log + i.start;
-    size_t length = first.start - i.start;
+    size_t length = first.session.log - i.start;
     if (tell_script(script, length) != i.done) return 0;
     ZoghvariRan r = run(other, "rebuild", script, length);
     if (r.refusal || r.done != i.done || r.used != length) return 0;

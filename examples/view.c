@@ -48,9 +48,7 @@ static void nearest(const Table *t, unsigned l, unsigned l2, unsigned *h, unsign
 }
 
 static ZoghvariRan run(Table *t, const uint8_t *script, size_t length) {
-    ZoghvariRan r = zoghvari_run(t->links, LINKS, t->points, POINTS, t->log, LOG, t->start, script, length);
-    t->start = r.start;
-    return r;
+    return zoghvari_run(t->links, LINKS, t->points, POINTS, t->log, LOG, REDO, &t->session, script, length);
 }
 
 /* Ring l2 joined to the outer loop of its face: mekr l h1 l2 h2 e w. Answers whether it was. */
@@ -91,7 +89,7 @@ int main(void) {
     static Table part, copy;
     static uint8_t script[SCRIPT + 1]; /* one byte more than may be there shows that there are too many */
     size_t length = fread(script, 1, sizeof script, stdin), solid = 1;
-    part.start = zoghvari_clear(part.links, LINKS, part.points, POINTS, LOG, N, N, N, N, N).start;
+    zoghvari_clear(part.links, LINKS, part.points, POINTS, LOG, REDO, &part.session, N, N, N, N, N);
     if (length > SCRIPT) {
         printf("# input too long\n");
         return 1;

@@ -2,8 +2,9 @@
  * Every function takes any bytes whatever: it checks for itself and answers a refusal instead of asking for good input.
  *
  * A slice is a pointer and a count of elements; the pointer may be null where the count is 0. The slices of one call
- * must not overlap: each function is proved for slices that share no byte; on others it may go wrong without telling.
- * So a script that lies in a log is copied out before it is run with that log. */
+ * and the session must not overlap: each function is proved for memory that shares no byte; on other it may go wrong
+ * without telling. So the log and the redo log are two buffers, and a script that lies in a log is copied out before it
+ * is run with that log. A session pointer is never null. */
 #ifndef ZOGHVARI_H
 #define ZOGHVARI_H
 
@@ -33,9 +34,16 @@ typedef struct {
     int32_t args[8];
 } ZoghvariOperator;
 
+/* What you keep between calls, one for each table: where the live parts of its two logs start. Both logs fill from
+ * their ends downward. The calls that are lent it change it as they say; your part is to hand in what the last one
+ * left. */
+typedef struct {
+    size_t log;  /* from there on the log is a script that takes back what was done, the last operator first */
+    size_t redo; /* from there on the redo log is a script that does again what was undone, the last undone first */
+} ZoghvariSession;
+
 typedef struct {
     uint8_t refusal; /* 0 or 1 */
-    size_t start;    /* where the empty log starts: at its end */
 } ZoghvariCleared;
 
 typedef struct {
@@ -64,21 +72,27 @@ typedef struct {
     uint8_t refusal;    /* 0 to 9 */
     uint8_t rule;       /* with 2: the lowest broken rule, 1 to 6 */
     size_t done, used;  /* operators carried out, and the script bytes they took; 0 with 1 and 2 */
-    size_t start;       /* where the log's live part starts now; with 1 and 2 the start handed in */
+    size_t start;       /* where the log's live part starts now, which is the session's `log` */
 } ZoghvariRan;
 
 typedef struct {
-    uint8_t refusal; /* 0 to 8, or 11: the log ended before n operators */
+    uint8_t refusal; /* 0 to 9, or 11: the log ended before n operators */
     uint8_t rule;    /* with 2: the lowest broken rule, 1 to 6 */
     size_t undone;   /* operators undone; 0 with 1 and 2 */
-    size_t start;    /* where the log's live part starts now; with 1 and 2 the start handed in */
+    size_t start;    /* where the log's live part starts now, which is the session's `log` */
 } ZoghvariUndone;
+
+typedef struct {
+    uint8_t refusal; /* 0 to 9, or 11: the redo log ended before n operators */
+    uint8_t rule;    /* with 2: the lowest broken rule, 1 to 6 */
+    size_t done;     /* operators done again; 0 with 1 and 2 */
+} ZoghvariRedone;
 
 typedef struct {
     uint8_t refusal; /* 0, 1, 2, 9 or 10 */
     uint8_t rule;    /* with 2: the lowest broken rule, 1 to 6 */
     size_t done;     /* operators carried out, as many as the logged script holds; 0 with a refusal */
-    size_t start;    /* where the script in the log, and so the live part, starts; with a refusal the start handed in */
+    size_t start;    /* where the script in the log, and so the live part, starts: the session's `log` */
 } ZoghvariInverted;
 
 typedef struct {
@@ -88,10 +102,12 @@ typedef struct {
 } ZoghvariText;
 
 /* Makes an empty table of the capacities s, f, l, e, v (solids, faces, loops, edges, vertices), each 1 to 4,096.
- * links has ZOGHVARI_LINKS_LENGTH(s, f, l, e, v) words, points ZOGHVARI_POINTS_LENGTH(v) numbers; of the log only its
- * length is told. */
+ * links has ZOGHVARI_LINKS_LENGTH(s, f, l, e, v) words, points ZOGHVARI_POINTS_LENGTH(v) numbers. Of the two logs only
+ * the lengths are told: their bytes stay, and both are empty afterwards, the session being {log_n, redo_n}. What the
+ * session holds before is not looked at. Refusal 1 leaves it, and every word of links and points. */
 ZoghvariCleared zoghvari_clear(uint16_t *links, size_t links_n, int32_t *points, size_t points_n, size_t log_n,
-                               uint16_t s, uint16_t f, uint16_t l, uint16_t e, uint16_t v);
+                               size_t redo_n, ZoghvariSession *session, uint16_t s, uint16_t f, uint16_t l, uint16_t e,
+                               uint16_t v);
 
 /* Whether the table is sound, and the lowest rule that it breaks. */
 ZoghvariChecked zoghvari_check(const uint16_t *links, size_t links_n, const int32_t *points, size_t points_n);
@@ -110,29 +126,48 @@ ZoghvariRead zoghvari_read(const uint8_t *script, size_t script_n, size_t at);
 ZoghvariWritten zoghvari_write(ZoghvariOperator op, uint8_t *out, size_t out_n);
 
 /* Carries out a script, operator by operator, up to its end or the first refusal; what was done before that stands.
- * Each operator's inverse is put into the log just before `start`, which moves down; no other log byte changes.
- * The script's numbers may come in any form, as in zoghvari_read: of what is answered and left only `used` differs by
- * it. What is logged is in fewest groups.
- * Refusals: 1 and 2 of the table and the start, 3 to 8 of the operator at script[used], 9 where the log has no room for
- * its inverse. */
+ * Each operator's inverse is put into the log just below the session's `log`, which moves down; no other log byte
+ * changes. The script's numbers may come in any form, as in zoghvari_read: of what is answered and left only `used`
+ * differs by it. What is logged is in fewest groups.
+ * Once an operator is done, what was undone before cannot be done again: the redo log is emptied, the session's `redo`
+ * being redo_n then, and its bytes stay. Where none is done `redo` stays. A run does not look at it, and so refuses
+ * none.
+ * Refusals: 1 and 2 of the table and the session's `log`, 3 to 8 of the operator at script[used], 9 where the log has
+ * no room for its inverse. 1 and 2 leave the session. */
 ZoghvariRan zoghvari_run(uint16_t *links, size_t links_n, int32_t *points, size_t points_n, uint8_t *log, size_t log_n,
-                         size_t start, const uint8_t *script, size_t script_n);
+                         size_t redo_n, ZoghvariSession *session, const uint8_t *script, size_t script_n);
 
-/* Takes back n operators: carries out the first n of the live log, unlogged, and moves the start up behind them. The
- * log is only read, and its numbers may come in any form too. Handed what the last run left and the sum of the done
- * counts, it gives back every byte of links and points. */
+/* Takes back n operators: carries out the first n of the live log and moves the session's `log` up behind them. The log
+ * is only read, and its numbers may come in any form too. For each of them the inverse, in fewest groups, is put into
+ * the redo log just below the session's `redo`, which moves down; no other byte of the redo log changes.
+ * Handed what the last run left and the sum of the done counts, it gives back every byte of links and points, where the
+ * redo log has room for what is undone: as many bytes as the sum of the runs' `used` are enough, and so are 19 for each
+ * operator. Lend a redo log as long as the log, and not the same memory. With one of no bytes nothing can be undone.
+ * Refusals: 1 of the table and of either start, 2, then of each operator 11 where the log has ended, 3 to 8 where it
+ * does not fit the table, 9 where the redo log has no room for its inverse. What was undone before that stands, and the
+ * operator refused has changed nothing. 1 and 2 leave the session. */
 ZoghvariUndone zoghvari_undo(uint16_t *links, size_t links_n, int32_t *points, size_t points_n, const uint8_t *log,
-                             size_t log_n, size_t start, size_t n);
+                             size_t log_n, uint8_t *redo, size_t redo_n, ZoghvariSession *session, size_t n);
+
+/* Does again n operators that were undone, the last undone first: undo with the two logs exchanged. It carries out the
+ * first n of the live redo log and moves the session's `redo` up behind them; each one's inverse is put into the log
+ * just below the session's `log`, as in a run. The redo log is only read.
+ * Undo and then redo by the number undone leave links, points, the session and the live log as they were, to the byte,
+ * where no other call comes between and the log is in fewest groups, as what runs have logged always is.
+ * Refusals as undo's: 11 where the redo log has ended, 9 where the log has no room. */
+ZoghvariRedone zoghvari_redo(uint16_t *links, size_t links_n, int32_t *points, size_t points_n, uint8_t *log,
+                             size_t log_n, const uint8_t *redo, size_t redo_n, ZoghvariSession *session, size_t n);
 
 /* Takes a sound table down to nothing; links and points are then as clearing leaves them. Each operator's inverse is
- * put into the log just before `start`, which moves down; no other log byte changes. The bytes from the start answered
- * up to the one handed in are a script of `done` operators: run from a cleared table of the same capacities, it builds
- * the table again, every byte of links and points.
- * Refusals, in this order: 1 and 2 of the table and the start, 10 unless a face, a loop and an edge number are free, 9
- * where fewer than 19 (v + 2f + 2r + 3h - 2s) bytes lie in front of the start, by the numbers that zoghvari_count
- * answers. There is no half-way: a refusal changes no byte. */
+ * put into the log just below the session's `log`, which moves down; no other log byte changes. The bytes from the
+ * start answered up to the one before are a script of `done` operators: run from a cleared table of the same
+ * capacities, it builds the table again, every byte of links and points. Where it does an operator it empties the redo
+ * log, as a run; on an empty table it does none. It does not look at the session's `redo`.
+ * Refusals, in this order: 1 and 2 of the table and the session's `log`, 10 unless a face, a loop and an edge number
+ * are free, 9 where fewer than 19 (v + 2f + 2r + 3h - 2s) bytes lie below the session's `log`, by the numbers that
+ * zoghvari_count answers. There is no half-way: a refusal changes no byte, of the session neither. */
 ZoghvariInverted zoghvari_invert(uint16_t *links, size_t links_n, int32_t *points, size_t points_n, uint8_t *log,
-                                 size_t log_n, size_t start);
+                                 size_t log_n, size_t redo_n, ZoghvariSession *session);
 
 /* Writes one solid of a sound table as Wavefront OBJ text, for a viewer, at the front of out; the bytes behind it stay.
  * A line ends with a line feed, one space parts its words. First come lines "v x y z", one for each vertex of the solid

@@ -1,5 +1,5 @@
-//! Half-edge tables and the thirteen Euler operators, with undo to the byte, a take-down that turns a table into a
-//! script, and solids as OBJ text for a viewer: the proved kernel's archive behind safe types.
+//! Half-edge tables and the thirteen Euler operators, with undo and redo to the byte, a take-down that turns a table
+//! into a script, and solids as OBJ text for a viewer: the proved kernel's archive behind safe types.
 //!
 //! What is proved is the archive, not this wrapper, which does no more than hand slices over and give numbers names.
 //! docs/GUIDE.md says what each call promises.
@@ -12,6 +12,7 @@
 //! let ran = table.run(&script_bytes(&[Operator::new(1, &[1, 1, 1, 1, 0, 0, 0])])?);
 //! assert_eq!((ran.refusal, ran.done), (None, 1));
 //! assert_eq!(table.undo(ran.done).refusal, None);
+//! assert_eq!(table.redo(ran.done).refusal, None);
 //! # Ok(())
 //! # }
 //! ```
@@ -25,4 +26,5 @@ mod table;
 
 pub use refusal::{Cause, Refusal};
 pub use script::{read, script_bytes, write, Operator};
-pub use table::{Capacities, Counts, Inverted, Ran, Table, Undone};
+pub use sys::Session;
+pub use table::{Capacities, Counts, Inverted, Ran, Redone, Table, Undone};

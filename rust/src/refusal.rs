@@ -3,21 +3,22 @@
 /// Who has to change something so that a call is accepted.
 #[derive(Clone, Copy, Debug, PartialEq, Eq)]
 pub enum Cause {
-    /// Who lends the memory: links, points and the log's start.
+    /// Who lends the memory: links, points and where the two logs start.
     Lender,
     /// Who wrote the script or the log, and so made the part; of a solid that is asked for, who named it.
     Author,
     /// Who chose how long the memory is.
     Sizer,
-    /// Who asked for more than there is.
+    /// Who asked for more operators than there are, to be undone or done again.
     Asker,
 }
 
 /// Why a call was refused.
 #[derive(Clone, Copy, Debug, PartialEq, Eq)]
 pub enum Refusal {
-    /// 1: a capacity or length is wrong, or the log's start lies beyond the log; of [`Table::new`](crate::Table::new) also
-    /// that there is no memory for so long a log.
+    /// 1: a capacity or length is wrong, or the log's start lies beyond the log; of undo and redo also that the redo
+    /// log's start lies beyond the redo log; of [`Table::new`](crate::Table::new) and
+    /// [`Table::with_logs`](crate::Table::with_logs) also that there is no memory for so long a log.
     Lengths,
     /// 2: the table is not sound; the lowest broken rule, 1 to 6.
     Unsound { rule: u8 },
@@ -33,12 +34,14 @@ pub enum Refusal {
     InUse,
     /// 8: the operator's condition fails.
     Condition,
-    /// 9: the log, or the destination of a write, is too short; for the take-down, shorter than
-    /// [`Counts::invert_log_length`](crate::Counts::invert_log_length) in front of its start.
+    /// 9: the log, or the destination of a write, is too short; for undo, the redo log; for the take-down, shorter than
+    /// [`Counts::invert_log_length`](crate::Counts::invert_log_length) in front of its start. The operator that met it
+    /// has changed nothing, and what was done or undone before it stands.
     NoRoom,
     /// 10: the take-down finds no free face, no free loop or no free edge number.
     NoNumber,
-    /// 11: undo finds the log ended where its next operator should begin; what it undid stands.
+    /// 11: undo finds the log ended, or redo the redo log, where its next operator should begin; what was undone or
+    /// done before that stands.
     LogEnded,
     /// 12: a face of the solid is no polygon: it has a ring, a lone loop or under three sides.
     NoPolygon,

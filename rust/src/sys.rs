@@ -1,7 +1,18 @@
 //! The archive's functions as include/zoghvari.h declares them, and a safe function for each. All `unsafe` is here.
 //!
-//! Why each call is safe: the kernel asks nothing of the bytes it is lent, reads and writes only inside the slices (a pointer
-//! and a count of elements), and keeps no pointer. A `&mut` slice is lent to no one else during the call.
+//! Why each call is safe: the kernel asks nothing of the bytes it is lent, reads and writes only inside the slices (a
+//! pointer and a count of elements) and the session, and keeps no pointer. A `&mut` is lent to no one else during the
+//! call.
+
+/// Where the live parts of a table's two logs start. Both logs fill from their ends downward.
+#[repr(C)]
+#[derive(Clone, Copy, Debug, PartialEq, Eq)]
+pub struct Session {
+    /// From there on the log is a script that takes back what was done, the last operator first.
+    pub log: usize,
+    /// From there on the redo log is a script that does again what was undone, the last undone first.
+    pub redo: usize,
+}
 
 #[repr(C)]
 pub struct Operator {
@@ -13,7 +24,6 @@ pub struct Operator {
 #[repr(C)]
 pub struct Cleared {
     pub refusal: u8,
-    pub start: usize,
 }
 
 #[repr(C)]
@@ -49,7 +59,7 @@ pub struct Ran {
     pub rule: u8,
     pub done: usize,
     pub used: usize,
-    pub start: usize,
+    _start: usize, // the session has it
 }
 
 #[repr(C)]
@@ -57,7 +67,14 @@ pub struct Undone {
     pub refusal: u8,
     pub rule: u8,
     pub undone: usize,
-    pub start: usize,
+    _start: usize,
+}
+
+#[repr(C)]
+pub struct Redone {
+    pub refusal: u8,
+    pub rule: u8,
+    pub done: usize,
 }
 
 #[repr(C)]
@@ -65,7 +82,7 @@ pub struct Inverted {
     pub refusal: u8,
     pub rule: u8,
     pub done: usize,
-    pub start: usize,
+    _start: usize,
 }
 
 #[repr(C)]
@@ -76,7 +93,7 @@ pub struct Text {
 }
 
 mod c {
-    use super::{Checked, Cleared, Counted, Inverted, Operator, Ran, Read, Text, Undone, Written};
+    use super::{Checked, Cleared, Counted, Inverted, Operator, Ran, Read, Redone, Session, Text, Undone, Written};
 
     extern "C" {
         #[rustfmt::skip]
@@ -86,6 +103,8 @@ mod c {
             points: *mut i32,
             points_n: usize,
             log_n: usize,
+            redo_n: usize,
+            session: *mut Session,
             s: u16,
             f: u16,
             l: u16,
@@ -104,7 +123,8 @@ mod c {
             points_n: usize,
             log: *mut u8,
             log_n: usize,
-            start: usize,
+            redo_n: usize,
+            session: *mut Session,
             script: *const u8,
             script_n: usize,
         ) -> Ran;
@@ -116,9 +136,24 @@ mod c {
             points_n: usize,
             log: *const u8,
             log_n: usize,
-            start: usize,
+            redo: *mut u8,
+            redo_n: usize,
+            session: *mut Session,
             n: usize,
         ) -> Undone;
+        #[rustfmt::skip]
+        pub fn zoghvari_redo(
+            links: *mut u16,
+            links_n: usize,
+            points: *mut i32,
+            points_n: usize,
+            log: *mut u8,
+            log_n: usize,
+            redo: *const u8,
+            redo_n: usize,
+            session: *mut Session,
+            n: usize,
+        ) -> Redone;
         #[rustfmt::skip]
         pub fn zoghvari_invert(
             links: *mut u16,
@@ -127,7 +162,8 @@ mod c {
             points_n: usize,
             log: *mut u8,
             log_n: usize,
-            start: usize,
+            redo_n: usize,
+            session: *mut Session,
         ) -> Inverted;
         #[rustfmt::skip]
         pub fn zoghvari_obj(
@@ -142,11 +178,12 @@ mod c {
     }
 }
 
-/// The capacities are those of solids, faces, loops, edges and vertices, in this order.
-pub fn clear(links: &mut [u16], points: &mut [i32], log_length: usize, caps: [u16; 5]) -> Cleared {
-    let [s, f, l, e, v] = caps;
+/// The capacities are those of solids, faces, loops, edges and vertices, in this order; of log and redo log the lengths
+/// are handed in.
+pub fn clear(links: &mut [u16], points: &mut [i32], logs: [usize; 2], at: &mut Session, caps: [u16; 5]) -> Cleared {
+    let ([log_n, redo_n], [s, f, l, e, v]) = (logs, caps);
     let (lp, ln, pp, pn) = (links.as_mut_ptr(), links.len(), points.as_mut_ptr(), points.len());
-    unsafe { c::zoghvari_clear(lp, ln, pp, pn, log_length, s, f, l, e, v) }
+    unsafe { c::zoghvari_clear(lp, ln, pp, pn, log_n, redo_n, at, s, f, l, e, v) }
 }
 
 pub fn check(links: &[u16], points: &[i32]) -> Checked {
@@ -165,20 +202,60 @@ pub fn write(op: Operator, out: &mut [u8]) -> Written {
     unsafe { c::zoghvari_write(op, out.as_mut_ptr(), out.len()) }
 }
 
-pub fn run(links: &mut [u16], points: &mut [i32], log: &mut [u8], start: usize, script: &[u8]) -> Ran {
+/// Of the redo log only the length is handed in.
+#[rustfmt::skip]
+pub fn run(
+    links: &mut [u16],
+    points: &mut [i32],
+    log: &mut [u8],
+    redo_n: usize,
+    session: &mut Session,
+    script: &[u8],
+) -> Ran {
     let (lp, ln, pp, pn) = (links.as_mut_ptr(), links.len(), points.as_mut_ptr(), points.len());
     let (gp, gn) = (log.as_mut_ptr(), log.len());
-    unsafe { c::zoghvari_run(lp, ln, pp, pn, gp, gn, start, script.as_ptr(), script.len()) }
+    unsafe { c::zoghvari_run(lp, ln, pp, pn, gp, gn, redo_n, session, script.as_ptr(), script.len()) }
 }
 
-pub fn undo(links: &mut [u16], points: &mut [i32], log: &[u8], start: usize, n: usize) -> Undone {
+#[rustfmt::skip]
+pub fn undo(
+    links: &mut [u16],
+    points: &mut [i32],
+    log: &[u8],
+    redo: &mut [u8],
+    session: &mut Session,
+    n: usize,
+) -> Undone {
     let (lp, ln, pp, pn) = (links.as_mut_ptr(), links.len(), points.as_mut_ptr(), points.len());
-    unsafe { c::zoghvari_undo(lp, ln, pp, pn, log.as_ptr(), log.len(), start, n) }
+    let (rp, rn) = (redo.as_mut_ptr(), redo.len());
+    unsafe { c::zoghvari_undo(lp, ln, pp, pn, log.as_ptr(), log.len(), rp, rn, session, n) }
 }
 
-pub fn invert(links: &mut [u16], points: &mut [i32], log: &mut [u8], start: usize) -> Inverted {
+#[rustfmt::skip]
+pub fn redo(
+    links: &mut [u16],
+    points: &mut [i32],
+    log: &mut [u8],
+    redo: &[u8],
+    session: &mut Session,
+    n: usize,
+) -> Redone {
     let (lp, ln, pp, pn) = (links.as_mut_ptr(), links.len(), points.as_mut_ptr(), points.len());
-    unsafe { c::zoghvari_invert(lp, ln, pp, pn, log.as_mut_ptr(), log.len(), start) }
+    let (gp, gn) = (log.as_mut_ptr(), log.len());
+    unsafe { c::zoghvari_redo(lp, ln, pp, pn, gp, gn, redo.as_ptr(), redo.len(), session, n) }
+}
+
+/// Of the redo log only the length is handed in.
+#[rustfmt::skip]
+pub fn invert(
+    links: &mut [u16],
+    points: &mut [i32],
+    log: &mut [u8],
+    redo_n: usize,
+    session: &mut Session,
+) -> Inverted {
+    let (lp, ln, pp, pn) = (links.as_mut_ptr(), links.len(), points.as_mut_ptr(), points.len());
+    unsafe { c::zoghvari_invert(lp, ln, pp, pn, log.as_mut_ptr(), log.len(), redo_n, session) }
 }
 
 pub fn obj(links: &[u16], points: &[i32], solid: usize, out: &mut [u8]) -> Text {

@@ -1,6 +1,6 @@
-//! A table that owns its memory: links, points, and the log with its start.
+//! A table that owns its memory: links, points, the two logs and where they start.
 
-use crate::{sys, Refusal};
+use crate::{sys, Refusal, Session};
 
 /// How many items of each kind a table has numbers for, each 1 to 4,096.
 #[derive(Clone, Copy, Debug, PartialEq, Eq)]
@@ -71,6 +71,13 @@ pub struct Undone {
     pub undone: usize,
 }
 
+/// What a redo did; the operators done again stand also where the next one was refused.
+#[derive(Clone, Copy, Debug, PartialEq, Eq)]
+pub struct Redone {
+    pub refusal: Option<Refusal>,
+    pub done: usize,
+}
+
 /// What a take-down did. It is whole or refused, so that there is no refusal in here.
 #[derive(Clone, Debug, PartialEq, Eq)]
 pub struct Inverted {
@@ -80,48 +87,62 @@ pub struct Inverted {
     pub script: Vec<u8>,
 }
 
-/// A table with its log. Nobody else can write into either, so undo by the sum of the runs' `done` counts gives back every
-/// byte, where no clearing, undo or take-down came between.
+/// A table with its log and its redo log. Nobody else can write into them, so undo by the sum of the runs' `done`
+/// counts gives back every byte, where no clearing, undo, redo or take-down came between and the redo log has room for
+/// what is undone; and redo by the number undone then gives back every byte of the table and of the log.
 #[derive(Clone, Debug, PartialEq, Eq)]
 pub struct Table {
     links: Vec<u16>,
     points: Vec<i32>,
     log: Vec<u8>,
-    start: usize,
+    redo: Vec<u8>,
+    session: Session,
+}
+
+/// So many bytes, where there is memory for them: the number comes from the caller, and may be any.
+fn bytes(length: usize) -> Result<Vec<u8>, Refusal> {
+    let mut bytes = Vec::new();
+    bytes.try_reserve_exact(length).map_err(|_| Refusal::Lengths)?;
+    bytes.resize(length, 0);
+    Ok(bytes)
 }
 
 impl Table {
-    /// An empty table with a log of so many bytes. Refusal 1, also for a log that there is no memory for: its length comes
-    /// from the caller, and may be any number.
+    /// An empty table with a log of so many bytes, and a redo log as long. With 19 bytes for each operator that is to
+    /// be undone, neither of them gets full. Refusal 1, also for logs that there is no memory for.
     pub fn new(capacities: Capacities, log_length: usize) -> Result<Table, Refusal> {
+        Table::with_logs(capacities, log_length, log_length)
+    }
+
+    /// An empty table with a log and a redo log of so many bytes. The log holds the inverses of what was run, the redo
+    /// log what was undone: as many bytes as the runs' `used` counts sum to are enough for it. A redo log of no bytes
+    /// is for a table of which nothing is ever undone: undo of an operator is then refused with 9. Refusal 1, also for
+    /// logs that there is no memory for.
+    pub fn with_logs(capacities: Capacities, log_length: usize, redo_length: usize) -> Result<Table, Refusal> {
         let (links, points) = (vec![0; capacities.links_length()], vec![0; capacities.points_length()]);
-        let mut log = Vec::new();
-        log.try_reserve_exact(log_length).map_err(|_| Refusal::Lengths)?;
-        log.resize(log_length, 0);
-        let mut table = Table { links, points, log, start: log_length };
+        let session = Session { log: log_length, redo: redo_length };
+        let mut table = Table { links, points, log: bytes(log_length)?, redo: bytes(redo_length)?, session };
         table.clear(capacities)?;
         Ok(table)
     }
 
-    /// A table of words from elsewhere. Nothing is asked of them here: each call looks for itself and refuses what is wrong.
-    pub fn from_parts(links: Vec<u16>, points: Vec<i32>, log: Vec<u8>, start: usize) -> Table {
-        Table { links, points, log, start }
+    /// A table of words from elsewhere. Nothing is asked of them here: each call looks for itself and refuses what is
+    /// wrong.
+    pub fn from_parts(links: Vec<u16>, points: Vec<i32>, log: Vec<u8>, redo: Vec<u8>, session: Session) -> Table {
+        Table { links, points, log, redo, session }
     }
 
-    /// The links, points, log and its start, to be kept or handed on.
-    pub fn into_parts(self) -> (Vec<u16>, Vec<i32>, Vec<u8>, usize) {
-        (self.links, self.points, self.log, self.start)
+    /// The links, points, log, redo log and where the two start, to be kept or handed on.
+    pub fn into_parts(self) -> (Vec<u16>, Vec<i32>, Vec<u8>, Vec<u8>, Session) {
+        (self.links, self.points, self.log, self.redo, self.session)
     }
 
-    /// Empties the table and the log; the log's bytes stay. Refusal 1 where the memory has other lengths than these capacities
-    /// need; the table is then as it was.
+    /// Empties the table and both logs; the logs' bytes stay. Refusal 1 where the memory has other lengths than these
+    /// capacities need; all is then as it was.
     pub fn clear(&mut self, capacities: Capacities) -> Result<(), Refusal> {
-        let answer = sys::clear(&mut self.links, &mut self.points, self.log.len(), capacities.numbers());
-        if let Some(refusal) = Refusal::of(answer.refusal, 0) {
-            return Err(refusal);
-        }
-        self.start = answer.start;
-        Ok(())
+        let logs = [self.log.len(), self.redo.len()];
+        let answer = sys::clear(&mut self.links, &mut self.points, logs, &mut self.session, capacities.numbers());
+        Refusal::of(answer.refusal, 0).map_or(Ok(()), Err)
     }
 
     /// Whether the table is sound. Refusals 1 and 2.
@@ -141,32 +162,68 @@ impl Table {
     }
 
     /// Carries out a script up to its end or the first refusal, and logs the inverses. Its numbers may come in any form
-    /// that [`read`](crate::read) takes, and only `used` differs by it. Refusals 1 to 9.
+    /// that [`read`](crate::read) takes, and only `used` differs by it. Where an operator is done the redo log is
+    /// emptied: what was undone before cannot be done again. Refusals 1 to 9.
     pub fn run(&mut self, script: &[u8]) -> Ran {
-        let answer = sys::run(&mut self.links, &mut self.points, &mut self.log, self.start, script);
-        self.start = answer.start;
+        let (redo_n, session) = (self.redo.len(), &mut self.session);
+        let answer = sys::run(&mut self.links, &mut self.points, &mut self.log, redo_n, session, script);
         Ran { refusal: Refusal::of(answer.refusal, answer.rule), done: answer.done, used: answer.used }
     }
 
-    /// Takes back the last `n` operators; the log's bytes stay. In a log from elsewhere numbers may come in any form,
-    /// as in a script. Refusals 1 to 8 and 11.
+    /// Takes back the last `n` operators, and puts them into the redo log; the log's bytes stay. In a log from
+    /// elsewhere numbers may come in any form, as in a script. Refusals 1 to 8, 11 where the log ends first, 9 where
+    /// the redo log has no room; what was undone before a refusal stands.
     pub fn undo(&mut self, n: usize) -> Undone {
-        let answer = sys::undo(&mut self.links, &mut self.points, &self.log, self.start, n);
-        self.start = answer.start;
+        let (redo, session) = (&mut self.redo, &mut self.session);
+        let answer = sys::undo(&mut self.links, &mut self.points, &self.log, redo, session, n);
         Undone { refusal: Refusal::of(answer.refusal, answer.rule), undone: answer.undone }
     }
 
+    /// Does again the last `n` operators that were undone, and logs their inverses as a run does; the redo log's bytes
+    /// stay. Refusals 1 to 8, 11 where the redo log ends first, 9 where the log has no room; what was done before a
+    /// refusal stands.
+    ///
+    /// ```
+    /// # fn main() -> Result<(), zoghvari::Refusal> {
+    /// use zoghvari::{script_bytes, Capacities, Operator, Redone, Refusal, Table};
+    ///
+    /// let edge = |e, v, x| Operator::new(3, &[1, 0, e, v, 0, x, 0, 0]);
+    /// let mut table = Table::new(Capacities::all(8), 256)?;
+    /// let solid = [Operator::new(1, &[1, 1, 1, 1, 0, 0, 0]), edge(1, 2, 100)];
+    /// assert_eq!(table.run(&script_bytes(&solid)?).done, 2);
+    ///
+    /// let held = table.links().to_vec();
+    /// assert_eq!(table.undo(2).undone, 2); // one too many
+    /// assert_eq!(table.redo(1).done, 1);
+    /// assert_eq!(table.count()?.vertices, 1);
+    /// assert_eq!(table.redo(1).done, 1);
+    /// assert_eq!(table.links(), held);
+    ///
+    /// // Another edge in the place of the first: what was undone before is given up.
+    /// assert_eq!(table.undo(1).undone, 1);
+    /// assert_eq!(table.run(&script_bytes(&[edge(1, 2, 200)])?).done, 1);
+    /// assert_eq!(table.redo(1), Redone { refusal: Some(Refusal::LogEnded), done: 0 });
+    /// # Ok(())
+    /// # }
+    /// ```
+    pub fn redo(&mut self, n: usize) -> Redone {
+        let (log, session) = (&mut self.log, &mut self.session);
+        let answer = sys::redo(&mut self.links, &mut self.points, log, &self.redo, session, n);
+        Redone { refusal: Refusal::of(answer.refusal, answer.rule), done: answer.done }
+    }
+
     /// Takes the table down to nothing and answers the script that builds it again. Links and points are then as
-    /// [`Table::clear`] leaves them; in the log the script stands in front of what was live before, which stays.
+    /// [`Table::clear`] leaves them; in the log the script stands in front of what was live before, which stays. The
+    /// redo log is emptied as by a run.
     ///
     /// Refusals 1 and 2; 10 unless a face, a loop and an edge number are free; 9 where fewer bytes than
-    /// [`Counts::invert_log_length`] lie in front of the log's start. Table, log and start are then as they were.
+    /// [`Counts::invert_log_length`] lie in front of the log's start. Table, logs and starts are then as they were.
     ///
     /// To save a table and go on working with it, take down a copy, with a log of its own:
     ///
     /// ```
     /// # fn main() -> Result<(), zoghvari::Refusal> {
-    /// use zoghvari::{script_bytes, Capacities, Operator, Table};
+    /// use zoghvari::{script_bytes, Capacities, Operator, Session, Table};
     ///
     /// let capacities = Capacities::all(8);
     /// let mut table = Table::new(capacities, 256)?;
@@ -174,7 +231,8 @@ impl Table {
     /// assert_eq!(table.run(&script_bytes(&solid)?).refusal, None);
     ///
     /// let room = table.count()?.invert_log_length();
-    /// let mut copy = Table::from_parts(table.links().to_vec(), table.points().to_vec(), vec![0; room], room);
+    /// let (links, points) = (table.links().to_vec(), table.points().to_vec());
+    /// let mut copy = Table::from_parts(links, points, vec![0; room], vec![], Session { log: room, redo: 0 });
     /// let saved = copy.invert()?;
     ///
     /// let mut built = Table::new(capacities, 19 * saved.done)?;
@@ -185,21 +243,21 @@ impl Table {
     /// # }
     /// ```
     pub fn invert(&mut self) -> Result<Inverted, Refusal> {
-        let end = self.start;
-        let answer = sys::invert(&mut self.links, &mut self.points, &mut self.log, end);
-        if let Some(refusal) = Refusal::of(answer.refusal, answer.rule) {
-            return Err(refusal);
+        let (end, redo_n) = (self.session.log, self.redo.len());
+        let answer = sys::invert(&mut self.links, &mut self.points, &mut self.log, redo_n, &mut self.session);
+        match Refusal::of(answer.refusal, answer.rule) {
+            None => Ok(Inverted { done: answer.done, script: self.log[self.session.log..end].to_vec() }),
+            Some(refusal) => Err(refusal),
         }
-        self.start = answer.start;
-        Ok(Inverted { done: answer.done, script: self.log[answer.start..end].to_vec() })
     }
 
-    /// One solid as Wavefront OBJ text, for a viewer: a line `v` for each of its vertices, by number and in millimetres,
-    /// then a line `f` for each of its faces, by number, its corners counted among the `v` lines from 1. Loops are
-    /// written backwards, so that those that run clockwise seen from outside are counterclockwise, as OBJ wants them.
+    /// One solid as Wavefront OBJ text, for a viewer: a line `v` for each of its vertices, by number and in
+    /// millimetres, then a line `f` for each of its faces, by number, its corners counted among the `v` lines from 1.
+    /// Loops are written backwards, so that those that run clockwise seen from outside are counterclockwise, as OBJ
+    /// wants them.
     ///
-    /// Refusals 1 and 2; 5 where the table has no such number of a solid, 6 where that solid is free; 12 where a face of
-    /// it has a ring, a lone loop or under three sides. The text's length is asked for first, so 13 does not come.
+    /// Refusals 1 and 2; 5 where the table has no such number of a solid, 6 where that solid is free; 12 where a face
+    /// of it has a ring, a lone loop or under three sides. The text's length is asked for first, so 13 does not come.
     ///
     /// ```
     /// # fn main() -> Result<(), zoghvari::Refusal> {
@@ -244,6 +302,20 @@ impl Table {
 
     /// Where the log's live part starts; from there on it is the undo script.
     pub fn start(&self) -> usize {
-        self.start
+        self.session.log
+    }
+
+    pub fn redo_log(&self) -> &[u8] {
+        &self.redo
+    }
+
+    /// Where the redo log's live part starts; from there on it is the script of what was undone.
+    pub fn redo_start(&self) -> usize {
+        self.session.redo
+    }
+
+    /// Both starts.
+    pub fn session(&self) -> Session {
+        self.session
     }
 }

@@ -80,5 +80,5 @@ fn h_capacities() {
     assert_eq!(table.clear(Capacities::all(3)), Err(Refusal::Lengths));
     assert_eq!(table, held);
     assert_eq!(table.clear(SMALL), Ok(()));
-    assert_eq!((table.links(), table.start()), (empty().links(), LOG));
+    assert_eq!((table.links(), table.session()), (empty().links(), empty().session()));
 }

@@ -3,22 +3,23 @@
 mod common;
 
 use common::{after_on, live, operators, B, C, E, SMALL};
-use zoghvari::{Capacities, Inverted, Ran, Refusal, Table, Undone};
+use zoghvari::{Capacities, Inverted, Ran, Redone, Refusal, Session, Table, Undone};
 
 const POCKET: &[u8] = include_bytes!("../../examples/pocket.script");
 const CAPACITIES: Capacities = Capacities::all(64);
 
 /// A block with a pocket and a through hole. Its log holds bytes that no run wrote, before the start and behind it.
 fn pocket() -> Table {
-    let (links, points, _, _) = Table::new(CAPACITIES, 0).unwrap().into_parts();
-    after_on(Table::from_parts(links, points, vec![0xEE; 4_096], 4_000), &[POCKET])
+    let (links, points, ..) = Table::new(CAPACITIES, 0).unwrap().into_parts();
+    let session = Session { log: 4_000, redo: 4_096 };
+    after_on(Table::from_parts(links, points, vec![0xEE; 4_096], vec![0xEE; 4_096], session), &[POCKET])
 }
 
 /// The take-down's example: one face with a ring, and a hole; so many log bytes are free.
 fn ring(loops: u16, free: usize) -> Table {
     let built = after_on(Table::new(Capacities { loops, ..SMALL }, 64).unwrap(), &[&B, &E]);
-    let (links, points, _, _) = built.into_parts();
-    Table::from_parts(links, points, vec![0xEE; free + 5], free)
+    let (links, points, ..) = built.into_parts();
+    Table::from_parts(links, points, vec![0xEE; free + 5], vec![], Session { log: free, redo: 0 })
 }
 
 #[test]
@@ -66,6 +67,29 @@ fn undo_by_the_count_gives_the_table_back_and_the_runs_before_can_be_undone() {
 }
 
 #[test]
+fn it_empties_the_redo_log_and_its_undo_can_be_redone() {
+    let mut table = pocket();
+    assert_eq!(table.undo(2).undone, 2);
+    let saved = table.invert().unwrap();
+    assert_eq!(table.redo_start(), table.redo_log().len());
+    let taken_down = table.clone();
+    assert_eq!(table.undo(saved.done).refusal, None);
+    assert_eq!(table.redo(saved.done), Redone { refusal: None, done: saved.done });
+    assert_eq!((table.links(), table.session()), (taken_down.links(), taken_down.session()));
+    assert_eq!((table.points(), table.log()), (taken_down.points(), taken_down.log()));
+}
+
+#[test]
+fn of_an_empty_table_or_refused_it_keeps_the_redo_log() {
+    // Of the first all is undone, so that it is empty; the second has too short a log.
+    let (mut empty, mut full) = (pocket(), after_on(Table::with_logs(CAPACITIES, 128, 1_024).unwrap(), &[POCKET]));
+    assert_eq!((empty.undo(42).undone, full.undo(1).undone), (42, 1));
+    let (held, kept) = (empty.clone(), full.clone());
+    assert_eq!((empty.invert().map(|saved| saved.done), full.invert()), (Ok(0), Err(Refusal::NoRoom)));
+    assert_eq!((empty, full), (held, kept));
+}
+
+#[test]
 fn the_room_asked_for_is_enough_and_one_byte_less_is_not() {
     let room = ring(3, 0).count().unwrap().invert_log_length();
     assert_eq!(room, 19 * (1 + 2 + 2 + 3 - 2));
@@ -89,7 +113,7 @@ fn a_face_a_loop_and_an_edge_number_must_be_free() {
 /// The same records in a table of other capacities, none smaller: the numbers that it has more are free.
 fn moved(table: &Table, capacities: Capacities, log_length: usize) -> Table {
     let Capacities { solids, faces, loops, edges, vertices } = capacities;
-    let (mut links, mut points, log, start) = Table::new(capacities, log_length).unwrap().into_parts();
+    let (mut links, mut points, log, redo, session) = Table::new(capacities, log_length).unwrap().into_parts();
     let (mut from, mut to) = (5, 5);
     for (kind, new) in [solids, faces, loops, edges, vertices].into_iter().enumerate() {
         let width = [1, 2, 3, 8, 1][kind];
@@ -98,7 +122,7 @@ fn moved(table: &Table, capacities: Capacities, log_length: usize) -> Table {
         (from, to) = (from + old, to + new);
     }
     points[..table.points().len()].copy_from_slice(table.points());
-    Table::from_parts(links, points, log, start)
+    Table::from_parts(links, points, log, redo, session)
 }
 
 #[test]
@@ -120,11 +144,12 @@ fn an_empty_table_needs_no_room() {
 
 #[test]
 fn memory_that_is_wrong_is_refused() {
-    let (links, points, log, start) = ring(3, 128).into_parts();
-    let beyond = Table::from_parts(links.clone(), points.clone(), log.clone(), log.len() + 1);
+    let (links, points, log, redo, session) = ring(3, 128).into_parts();
+    let past = Session { log: log.len() + 1, ..session };
+    let beyond = Table::from_parts(links.clone(), points.clone(), log.clone(), redo.clone(), past);
     let mut bent = links;
     bent[5] = 0; // the solid is free, and its face still names it
-    let bent = Table::from_parts(bent, points, log, start);
+    let bent = Table::from_parts(bent, points, log, redo, session);
     for (mut table, refusal) in [(beyond, Refusal::Lengths), (bent, Refusal::Unsound { rule: 2 })] {
         let held = table.clone();
         assert_eq!((table.invert(), table), (Err(refusal), held));

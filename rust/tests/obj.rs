@@ -161,11 +161,11 @@ fn a_ring_that_is_joined_to_the_outer_loop_is_shown() {
 
 #[test]
 fn memory_that_is_wrong_is_refused_first() {
-    let (links, points, log, start) = pocket(BLOCK).into_parts();
-    let short = Table::from_parts(links.clone(), points[1..].to_vec(), log.clone(), start);
+    let (links, points, log, redo, session) = pocket(BLOCK).into_parts();
+    let short = Table::from_parts(links.clone(), points[1..].to_vec(), log.clone(), redo.clone(), session);
     let mut bent = links;
     bent[5] = 0; // the solid is free, and its faces still name it
-    let bent = Table::from_parts(bent, points, log, start);
+    let bent = Table::from_parts(bent, points, log, redo, session);
     for solid in [0, 1, 2] {
         assert_eq!((short.obj(solid), bent.obj(solid)), (Err(Refusal::Lengths), Err(Refusal::Unsound { rule: 2 })));
     }

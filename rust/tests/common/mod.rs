@@ -45,3 +45,8 @@ pub fn operators(script: &[u8]) -> Vec<Operator> {
 pub fn live(table: &Table) -> &[u8] {
     &table.log()[table.start()..]
 }
+
+/// The live part of the redo log.
+pub fn undone(table: &Table) -> &[u8] {
+    &table.redo_log()[table.redo_start()..]
+}
