@@ -78,13 +78,15 @@ static void close_bench(Bench *b) {
 
 static ZoghvariInverted invert(Bench *b) {
     Table *t = &b->work;
-    return zoghvari_invert(t->links, t->links_n, t->points, t->points_n, b->log, b->log_n, b->log_n);
+    ZoghvariSession s = {b->log_n, 0};
+    return zoghvari_invert(t->links, t->links_n, t->points, t->points_n, b->log, b->log_n, 0, &s);
 }
 
 /* The script that the take-down has left in the log from `start` on. */
 static ZoghvariRan run_script(Bench *b, size_t start) {
     Table *t = &b->work;
-    return zoghvari_run(t->links, t->links_n, t->points, t->points_n, b->other, b->log_n, b->log_n, b->log + start,
+    ZoghvariSession s = {b->log_n, 0};
+    return zoghvari_run(t->links, t->links_n, t->points, t->points_n, b->other, b->log_n, 0, &s, b->log + start,
                         b->log_n - start);
 }
 

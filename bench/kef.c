@@ -117,7 +117,8 @@ static void write_script(Bench *b) {
 /* The first bytes of the script, on the table as it stands. */
 static TwinRan library_run(Bench *b, uint8_t *log, size_t n) {
     Table *t = b->work;
-    ZoghvariRan r = zoghvari_run(t->links, t->links_n, t->points, t->points_n, log, b->log_n, b->log_n, b->script, n);
+    ZoghvariSession s = {b->log_n, 0};
+    ZoghvariRan r = zoghvari_run(t->links, t->links_n, t->points, t->points_n, log, b->log_n, 0, &s, b->script, n);
     return (TwinRan){r.refusal, r.done, r.used, r.start};
 }
 static TwinRan run_twin(Bench *b, uint8_t *log, size_t n) {

@@ -21,12 +21,13 @@
 enum { LIBRARY, TWIN, CGAL, OPENMESH, SYSTEMS };
 enum { RUN, UNDO };
 
-/* A workload, the table that the calls work on, and the log with the place where its live part starts behind a run. */
+/* A workload, the table that the calls work on, the log with the place where its live part starts behind a run, and the
+ * redo log, which is as long and empty when an undo begins. */
 typedef struct {
     Workload w;
     Peer *peer[SYSTEMS]; /* of CGAL and OpenMesh */
     Table work;
-    uint8_t *log;
+    uint8_t *log, *redo;
     size_t log_n, start;
     Sample seconds[SYSTEMS][2]; /* an operator */
     double ns[SYSTEMS][2];
@@ -37,17 +38,23 @@ static void must_of(int ok, const Workload *w, const char *otherwise) { must(ok,
 /* The four calls, each on the table as it stands. */
 static ZoghvariRan library_run(Bench *b, uint8_t *log, const uint8_t *script, size_t script_n) {
     Table *t = &b->work;
-    return zoghvari_run(t->links, t->links_n, t->points, t->points_n, log, b->log_n, b->log_n, script, script_n);
+    ZoghvariSession s = {b->log_n, b->log_n};
+    return zoghvari_run(t->links, t->links_n, t->points, t->points_n, log, b->log_n, b->log_n, &s, script, script_n);
 }
-static ZoghvariUndone library_undo(Bench *b) {
+static TwinMoved library_undo(Bench *b) {
     Table *t = &b->work;
-    return zoghvari_undo(t->links, t->links_n, t->points, t->points_n, b->log, b->log_n, b->start, b->w.operators);
+    ZoghvariSession s = {b->start, b->log_n};
+    ZoghvariUndone u = zoghvari_undo(t->links, t->links_n, t->points, t->points_n, b->log, b->log_n, b->redo, b->log_n,
+                                     &s, b->w.operators);
+    return (TwinMoved){u.refusal, u.undone, s.log, s.redo};
 }
 static Records records(Bench *b) { return records_of(b->work.links, b->work.points); }
 static TwinRan run_twin(Bench *b, uint8_t *log, const uint8_t *script, size_t script_n) {
     return twin_run(records(b), log, b->log_n, script, script_n);
 }
-static TwinRan undo_twin(Bench *b) { return twin_undo(records(b), b->log, b->log_n, b->start, b->w.operators); }
+static TwinMoved undo_twin(Bench *b) {
+    return twin_move(records(b), b->log, b->log_n, b->start, b->redo, b->log_n, b->w.operators);
+}
 
 static void load_before(void *b) { copy_table(&((Bench *)b)->work, &((Bench *)b)->w.before); }
 static void load_after(void *b) { copy_table(&((Bench *)b)->work, &((Bench *)b)->w.after); }
@@ -72,16 +79,17 @@ static size_t verify_run(Bench *b, Pass *load, const uint8_t *script, size_t n, 
     return r.start;
 }
 
-static void verify_undo(Bench *b) {
+/* An undo of all leaves the first table, and in the redo log the script, which is in shortest form. */
+static void verify_undo(Bench *b, TwinMoved (*undo)(Bench *)) {
     const Workload *w = &b->w;
+    memset(b->redo, 1, b->log_n);
     load_after(b);
-    ZoghvariUndone u = library_undo(b);
-    must_of(u.refusal == 0 && u.undone == w->operators && u.start == b->log_n, w, "the library refuses to undo it");
-    must_of(same_table(&b->work, &w->before), w, "the library's undo leaves another table");
-    load_after(b);
-    TwinRan q = undo_twin(b);
-    must_of(q.refusal == 0 && q.done == w->operators && q.start == b->log_n, w, "the twin refuses to undo it");
-    must_of(same_table(&b->work, &w->before), w, "the twin's undo leaves another table");
+    TwinMoved u = undo(b);
+    must_of(u.refusal == 0 && u.done == w->operators && u.from == b->log_n, w, "it is not undone");
+    must_of(same_table(&b->work, &w->before), w, "undo leaves another table");
+    must_of(u.to == b->log_n - w->script_n && !memcmp(b->redo + u.to, w->script, w->script_n), w,
+            "undo leaves another script in the redo log");
+    for (size_t i = 0; i < u.to; i++) must_of(b->redo[i] == 1, w, "undo writes below the redo log's start");
 }
 
 /* The script, its undo, and the log's live part as a script: so the inverses' inverses are compared too. Sets where the
@@ -90,7 +98,8 @@ static void verify(Bench *b) {
     uint8_t *scratch = malloc(b->log_n);
     must_of(scratch != NULL, &b->w, "no memory");
     b->start = verify_run(b, load_before, b->w.script, b->w.script_n, &b->w.after, b->log);
-    verify_undo(b);
+    verify_undo(b, library_undo);
+    verify_undo(b, undo_twin);
     verify_run(b, load_after, b->log + b->start, b->log_n - b->start, &b->w.before, scratch);
     free(scratch);
 }
@@ -100,7 +109,8 @@ static Bench open_bench(const WorkloadKind *kind, int i) {
     b.work = empty_table(b.w.before.cap);
     b.log_n = 19 * b.w.operators;
     b.log = malloc(b.log_n);
-    must_of(b.log != NULL, &b.w, "no memory");
+    b.redo = malloc(b.log_n);
+    must_of(b.log && b.redo, &b.w, "no memory");
     verify(&b);
     return b;
 }
@@ -109,6 +119,7 @@ static void close_bench(Bench *b) {
     free_workload(b->w);
     free_table(b->work);
     free(b->log);
+    free(b->redo);
 }
 
 /* What is timed; the answers were verified, and they are the same each time. */

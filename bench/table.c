@@ -17,7 +17,9 @@ Table empty_table(uint16_t c) {
     Table t = {c, 5 + 15 * (size_t)c, 3 * (size_t)c, NULL, NULL};
     t.links = malloc(t.links_n * sizeof *t.links);
     t.points = malloc(t.points_n * sizeof *t.points);
-    if (!t.links || !t.points || zoghvari_clear(t.links, t.links_n, t.points, t.points_n, 0, c, c, c, c, c).refusal) {
+    ZoghvariSession s; /* of no use here: who runs something on the table has logs of his own */
+    if (!t.links || !t.points ||
+        zoghvari_clear(t.links, t.links_n, t.points, t.points_n, 0, 0, &s, c, c, c, c, c).refusal) {
         fprintf(stderr, "no empty table of capacity %u\n", c);
         exit(2);
     }

@@ -17,6 +17,12 @@ typedef struct {
     size_t done, used, start;
 } TwinRan;
 
+/* Of operators moved from one log to another: where the live parts of both start then. */
+typedef struct {
+    unsigned refusal;
+    size_t done, from, to;
+} TwinMoved;
+
 typedef struct {
     unsigned refusal;
     size_t length;
@@ -28,9 +34,13 @@ uint8_t twin_operands(unsigned code);
 /* The effect of an operator that is known to be good: nothing is asked, nothing is logged. */
 void twin_effect(const Records *t, unsigned code, const int32_t *args);
 
-/* As zoghvari_run and zoghvari_undo, for a table that is known to be sound. */
+/* As zoghvari_run, for a table that is known to be sound. */
 TwinRan twin_run(Records t, uint8_t *log, size_t start, const uint8_t *script, size_t script_n);
-TwinRan twin_undo(Records t, const uint8_t *log, size_t log_n, size_t start, size_t n);
+/* As zoghvari_undo and zoghvari_redo: n operators out of one log, from its start on, each with its inverse below the
+ * start of the other. */
+TwinMoved twin_move(Records t, const uint8_t *log, size_t log_n, size_t from, uint8_t *other, size_t to, size_t n);
+/* Undo as it is without a redo log: what writing one costs is measured by it. */
+TwinMoved twin_undo_only(Records t, const uint8_t *log, size_t log_n, size_t from, size_t n);
 
 /* The lowest rule that a table of good lengths breaks, 0 where it is sound. */
 unsigned twin_check(Records t);

@@ -1,4 +1,4 @@
-/* The twin's run and undo. */
+/* The twin's run, undo and redo. */
 #include <string.h>
 
 #include "twin_parts.h"
@@ -10,7 +10,7 @@ void twin_count(const Records *t, Counts *c) {
     for (unsigned f = 1; f <= t->faces; f++) c->faces[t->face[f].solid]++;
 }
 
-/* What a run and an undo begin with. */
+/* What a run, an undo and a redo begin with. */
 typedef struct {
     Records t;
     OperandKind kinds[KINDS];
@@ -73,20 +73,37 @@ TwinRan twin_run(Records t, uint8_t *log, size_t start, const uint8_t *script, s
     return r;
 }
 
-TwinRan twin_undo(Records t, const uint8_t *log, size_t log_n, size_t start, size_t n) {
+/* Both ways out of a log; `logged` is known where this is compiled in. */
+static inline TwinMoved moved(Records t, const uint8_t *log, size_t log_n, TwinMoved r, uint8_t *other, size_t n,
+                              int logged) {
     State s;
     open_state(&s, t);
-    TwinRan r = {0, 0, 0, start};
     const uint8_t *end = log + log_n;
-    for (const uint8_t *at = log + start; r.done < n; r.start = (size_t)(at - log)) {
+    for (const uint8_t *at = log + r.from; r.done < n; r.from = (size_t)(at - log)) {
         Operator o;
         if (at == end) {
             r.refusal = 11;
             break;
         }
         if ((r.refusal = admit(&s, &at, end, &o))) break;
+        Inverse inverse = logged ? twin_inverse(&t, &o) : (Inverse){0};
+        size_t length = logged ? length_of(&inverse) : 0;
+        if (length > r.to) {
+            r.refusal = 9;
+            break;
+        }
         carry_out(&s, &o);
+        r.to -= length;
+        if (logged) write_inverse(&inverse, other + r.to);
         r.done++;
     }
     return r;
+}
+
+TwinMoved twin_move(Records t, const uint8_t *log, size_t log_n, size_t from, uint8_t *other, size_t to, size_t n) {
+    return moved(t, log, log_n, (TwinMoved){0, 0, from, to}, other, n, 1);
+}
+
+TwinMoved twin_undo_only(Records t, const uint8_t *log, size_t log_n, size_t from, size_t n) {
+    return moved(t, log, log_n, (TwinMoved){0, 0, from, 0}, NULL, n, 0);
 }
