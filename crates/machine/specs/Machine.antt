@@ -23,8 +23,7 @@ use Rattle.takedown.specs.declared.answer.InvertAnswer.{InvertAnswer}
 use Rattle.sessions.specs.declared.UndoAnswer.{UndoAnswer}
 use Rattle.sessions.specs.declared.RedoAnswer.{RedoAnswer}
 use Rattle.sessions.specs.Editing.{Editing, clearIn, clearedFrom, runIn, ranFrom, undoIn, undoneFrom, redoIn}
-use Rattle.sessions.specs.Editing.{redoneFrom}
-use Rattle.sessions.specs.Editing.{invertIn, invertedFrom}
+use Rattle.sessions.specs.Editing.{redoneFrom, invertIn, invertedFrom}
 
 -- ---- one act
 

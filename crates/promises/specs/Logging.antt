@@ -9,44 +9,6 @@ use borrow.Author.Tests.{le-leb}
 use Rattle.numbers.specs.PaddedLaws.{drop-part}
 use Rattle.script.specs.Operator.{putBytes}
 
-module _ (log : List ℕ) (start : ℕ) (b : List ℕ) (room : length b ≤ start) (fits : start ≤ length log) where
-  -- the log after
-  abbrev after : List ℕ
-  after = putBytes log (start - length b) b
-
-  -- it is as long as before
-  pub put-length : length after ≡ length log
-  unfolding putBytes
-  put-length = rw (le-leb (start - length b + length b) (length log) (omega arith))
-      (length-sets log (start - length b) b)
-
-  -- read from the new start: the bytes, then the old live part
-  pub put-live : drop (start - length b) after ≡ b ++ drop start log
-  unfolding putBytes
-  put-live =
-      let e : start - length b + length b ≡ start = omega arith in
-      rw (
-        le-leb (start - length b + length b) (length log) (omega arith),
-        sets-eq b log (start - length b) (omega arith),
-        e,
-        append-assoc (take (start - length b) log) b (drop start log),
-      )
-      (drop-at (take (start - length b) log) (b ++ drop start log) (start - length b)
-      (length-take-le (start - length b) log (omega arith)))
-
-  -- from any place on that is not below the old start, nothing has changed
-  pub put-rest : (at : ℕ) → start ≤ at → drop at after ≡ drop at log
-  put-rest at h =
-      let e : start - length b + length b ≡ start = omega arith in
-      let f : start + (at - start) ≡ at = omega arith in
-      let g : drop start after ≡ drop start log =
-      rw e at (drop-part after (start - length b) b (drop start log) put-live) in
-      let k : drop (start + (at - start)) after ≡ drop (start + (at - start)) log =
-      sym (drop-drop (at - start) start after) ∙ ap (drop (at - start)) g ∙ drop-drop (at - start) start log in
-      rw f at k
-
--- ---- the same bytes said at once: what stands in front, the bytes, what was live
-
 -- a log with bytes just below its start
 abbrev pub below : List ℕ → ℕ → List ℕ → List ℕ
 below log start b = take (start - length b) log ++ (b ++ drop start log)
@@ -70,7 +32,10 @@ module _ (log : List ℕ) (start : ℕ) (fits : start ≤ length log) where
 
   -- it is as long as the log
   pub below-length : (b : List ℕ) → length b ≤ start → length (below log start b) ≡ length log
-  below-length b room = sym (ap length (put-below b room)) ∙ put-length log start b room fits
+  unfolding putBytes
+  below-length b room =
+      sym (ap length (put-below b room)) ∙ rw (le-leb (start - length b + length b) (length log) (omega arith))
+      (length-sets log (start - length b) b)
 
   -- read from the new start: the bytes, then the old live part
   pub below-live : (b : List ℕ) → length b ≤ start → drop (start - length b) (below log start b) ≡ b ++ drop start log
@@ -96,3 +61,29 @@ module _ (log : List ℕ) (start : ℕ) (fits : start ≤ length log) where
       → below log start b ≡ log
   below-same at b e d =
       let f : start - length b ≡ at = omega (arith, e) in rw (f, ← d) (take-append-drop at log)
+
+-- ---- what is written is that
+
+module _ (log : List ℕ) (start : ℕ) (b : List ℕ) (room : length b ≤ start) (fits : start ≤ length log) where
+  -- the log after
+  abbrev after : List ℕ
+  after = putBytes log (start - length b) b
+
+  -- it is as long as before
+  pub put-length : length after ≡ length log
+  put-length = ap length (put-below log start fits b room) ∙ below-length log start fits b room
+
+  -- read from the new start: the bytes, then the old live part
+  pub put-live : drop (start - length b) after ≡ b ++ drop start log
+  put-live = ap (drop (start - length b)) (put-below log start fits b room) ∙ below-live log start fits b room
+
+  -- from any place on that is not below the old start, nothing has changed
+  pub put-rest : (at : ℕ) → start ≤ at → drop at after ≡ drop at log
+  put-rest at h =
+      let e : start - length b + length b ≡ start = omega arith in
+      let f : start + (at - start) ≡ at = omega arith in
+      let g : drop start after ≡ drop start log =
+      rw e at (drop-part after (start - length b) b (drop start log) put-live) in
+      let k : drop (start + (at - start)) after ≡ drop (start + (at - start)) log =
+      sym (drop-drop (at - start) start after) ∙ ap (drop (at - start)) g ∙ drop-drop (at - start) start log in
+      rw f at k

@@ -18,7 +18,7 @@ use Rattle.numbers.specs.PaddedLaws.{shorten-nil}
 use Rattle.table.specs.Check.{checkOf}
 use Rattle.runs.specs.Run.{State, state, Leaves, notRun, entry, runOf}
 use Rattle.runs.specs.Move.{Moved, moved, notMoved, moveOf}
-use Rattle.runs.specs.Clauses.{pick-by, run-out, entry-beyond, move-out, move-beyond}
+use Rattle.runs.specs.Clauses.{pick-by, run-out, entry-beyond, moved-beyond}
 use Rattle.sessions.specs.declared.UndoLeft.{UndoLeft}
 use Rattle.sessions.specs.Session.{undoneSession, sessionUndo}
 use Rattle.sessions.specs.Editing.{Editing, logState, undoIn, undoneFrom}
@@ -81,13 +81,6 @@ nothing-done : (t : State) (ss : List (List ℕ)) → length (t .log) < t .start
 unfolding doneScript
 nothing-done t [] h = refl
 nothing-done t (s ∷ ss) h = rw (run-beyond t s h, shorten-nil) (nothing-done t ss h)
-
--- nor is anything moved out of it
-moved-beyond : (source : List ℕ) (from : ℕ) (t : State) (n : ℕ) → length source < from
-    → moveOf source from t n ≡ notMoved 1 0 from t
-moved-beyond source from t n h =
-    let e = move-beyond source from t h in
-    move-out source from t n (λ z. let y : _≡_ {A = ℕ} 1 0 = rw e at z in omega arith) ∙ rw e
 
 -- two states of the same log
 state-alike : {x y log : List ℕ} {p q : List ℤ} {i j : ℕ} → x ≡ y → p ≡ q → i ≡ j

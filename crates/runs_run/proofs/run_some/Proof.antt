@@ -98,14 +98,14 @@ same-length-3 c = omega (
 
 returns : tie.Need-returns Inv-loop μ-loop
 returns c =
-    run-stop _ _ _ _ _ _ _ (c .before .before .before .before .before .before .before .before .before .before .before
-    .before .before .before .before .loop .inv .6) (ltb-true _ _ (c .before .before .before .before .before .before .before .before .before .before .before .before .before .if1 .taken))
-    (omega (
-      arith,
-      c .before .before .before .before .before .before .before .before .before .before .before .before
-          .before .before .loop-test .taken,
-    )) _ (c .before .before .before .before .before .before .before .run-step
-    .ensures .0) (λ z. omega (arith, z, c .if2 .taken))
+    let l = c .before .before .before .before .before .before .before .before .before .before .before .before .before
+    .before .before .loop .inv in
+    let t = c .before .before .before .before .before .before .before .before .before .before .before .before .before
+    .before .loop-test .taken in
+    let h = c .before .before .before .before .before .before .before .before .before .before .before .before .before
+    .if1 .taken in
+    let r = c .before .before .before .before .before .before .before .run-step .ensures in
+    run-stop _ _ _ _ _ _ _ (l .6) (ltb-true _ _ h) (omega (arith, t)) _ (r .0) (λ z. omega (arith, z, c .if2 .taken))
 
 add-done : tie.Need-add-done Inv-loop μ-loop
 add-done c = omega (
@@ -129,6 +129,8 @@ loop-again c =
     .before .before .loop .inv in
     let t = c .before .before .before .before .before .before .before .before .before .before .before .before .before
     .before .loop-test .taken in
+    let h = c .before .before .before .before .before .before .before .before .before .before .before .before .before
+    .if1 .taken in
     let r = c .before .before .before .before .before .before .before .run-step .ensures in (
       omega (arith, c .before .before .before .before .before .before .links .given, l .0),
       omega (arith, c .before .before .before .before .points .given, l .1),
@@ -145,7 +147,7 @@ loop-again c =
             .before .before .before .before .before .before .before .before .before .before .before .before .before
             .before .before .pre .1 .1,
       ),
-      turned _ _ _ _ _ _ _ (l .6) (ltb-true _ _ (c .before .before .before .before .before .before .before .before .before .before .before .before .before .if1 .taken)) (omega (arith, t)) _ _ _ _ _ _ (r .0)
+      turned _ _ _ _ _ _ _ (l .6) (ltb-true _ _ h) (omega (arith, t)) _ _ _ _ _ _ (r .0)
           (omega (arith, c .if2 .left)) _ _ _ _ (omega (arith, t)) (omega arith) (omega arith) (omega arith),
     )
 
