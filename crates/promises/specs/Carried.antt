@@ -1,7 +1,7 @@
 -- A run as its steps. `Carried` says which operators of a script are carried out, each on the state that the one before
 -- left, up to the script's end or the first refusal: document 01's meaning of done. Every run that is let in goes so
 -- (`run-carried`), an operator is refused just where a condition fails (`step-refusal`), and the operators done, run
--- alone, leave the same (`refused-apart`): the refused one has changed nothing. Likewise a move (`move-apart`, Moves).
+-- alone, leave the same (`refused-apart`): the refused one has changed nothing. Likewise a move (`MoveParts`).
 use mathlib.Core.Path.{_≡_, refl, sym, _∙_, subst}
 use mathlib.Core.Logic.{_≢_}
 use mathlib.Core.List.{List}
@@ -147,7 +147,7 @@ alone {sh} {s} {used} {last} {at} {t} (done {n} l z w) i =
         ∙ rw (lt-ltb at (length (take used s)) (omega arith), y, e, ← q) (f .2 m (c + 1) (omega arith))
 
 -- where the entry does not refuse it names no rule
-pub let-in : (t : State) → entry t .refusal ≡ 0 → entry t ≡ answer 0 0
+let-in : (t : State) → entry t .refusal ≡ 0 → entry t ≡ answer 0 0
 let-in t h = let p = entry-passed t h in good-entry t (checked-good (t .links) (t .points) (p .1)) (p .0)
 
 -- a run's answer and what it left, but for the refusal: that is the entry's
