@@ -23,6 +23,7 @@ use Rattle.euler.specs.EdgeOperators.{jekvTest, jekvLinks, jekvInverse}
 use Rattle.euler.specs.FaceOperators.{mvsfLinks, mvsfInverse, kvsfTest, kvsfLinks, kvsfInverse, kfmrhTest}
 use Rattle.euler.specs.FaceOperators.{kfmrhLinks, kfmrhInverse, mfkrhTest, mfkrhLinks, mfkrhInverse, rmovTest}
 use Rattle.euler.specs.FaceOperators.{rmovLinks, rmovInverse}
+use Rattle.euler.specs.Valence.{lessStarts, moreStarts}
 
 -- links and points
 pub record Table : Type 0 where
@@ -104,7 +105,7 @@ onlyLoop sh x s = faceOuter sh x (faceIn sh x s)
 abbrev pub onlyVertex : Shape → List ℕ → ℕ → ℕ
 onlyVertex sh x s = loopIsolated sh x (onlyLoop sh x s)
 
--- the links afterwards
+-- the links afterwards, of a vertex that is made or killed the word's first count alone: 1 for made, 0 for killed
 abbrev pub linksBy : Shape → List ℕ → (ℕ → ℕ) → List (List ℕ)
 linksBy sh x a =
     x ∷ mvsfLinks sh x (a 0) (a 1) (a 2) (a 3)
@@ -117,8 +118,12 @@ linksBy sh x a =
     ∷ semvLinks sh x (a 0) (halfBy (a 1) (a 3)) (a 2) ∷ jekvLinks sh x (a 0) (nextOf sh x (a 0))
     ∷ rmovLinks sh x (a 0) (a 1) ∷ []
 
+unfoldable pub marksAfter : Shape → List ℕ → Operator → List ℕ
+marksAfter sh x o = getD (linksBy sh x (itemOf o)) (o .code) x
+
+-- the links afterwards: first one less at the vertices that half-edges leave, last one more where they have come
 unfoldable pub linksAfter : Shape → List ℕ → Operator → List ℕ
-linksAfter sh x o = getD (linksBy sh x (itemOf o)) (o .code) x
+linksAfter sh x o = moreStarts sh (marksAfter sh (lessStarts sh x o) o) o
 
 -- the vertex that an operator kills: of kvsf, kev and jekv; 0 for the others
 abbrev pub killed : Shape → List ℕ → (ℕ → ℕ) → List ℕ

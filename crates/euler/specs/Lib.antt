@@ -4,6 +4,7 @@ pub mod Queries
 pub mod Steps
 pub mod EdgeOperators
 pub mod FaceOperators
+pub mod Valence
 pub mod Exec
 pub mod ByCode
 pub mod AdmitLaws
