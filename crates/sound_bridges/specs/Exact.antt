@@ -21,7 +21,7 @@ use Rattle.sound_tables.specs.Cells.{Shows, shows-ext}
 use Rattle.sound_tables.specs.Sound.{In, HalfUsed, Sound}
 use Rattle.sound_tables.specs.HalfNumbers.{edge-by, way-by, way-small, half-is, edge-in, second-half}
 use Rattle.sound_tables.specs.Names.{not-isolated, lone-used, free-zero, free-halves}
-use Rattle.sound_tables.specs.Good.{own, Good, good-shows}
+use Rattle.sound_tables.specs.Good.{own, Marked, marked-shows}
 use Rattle.sound_tables.specs.CornerTest.{CornerAt, cornerLeft}
 use Rattle.sound_tables.specs.Undone.{Kept, Undone}
 use Rattle.sound_bridges.specs.Relation.{Corner, HasCorner, foundAt, corner1, corner2, Bridge, Ends, Bridged}
@@ -64,7 +64,7 @@ module _ {sh : Shape} {p : List ℤ} {c : Columns} (a : Sound sh p c) {l h : ℕ
 
 -- ---- mekr
 
-module _ {sh : Shape} {x : List ℕ} {p : List ℤ} (g : Good sh x p) {l h1 l2 h2 e w : ℕ}
+module _ {sh : Shape} {x : List ℕ} {p : List ℤ} (g : Marked sh x p) {l h1 l2 h2 e w : ℕ}
     (r : MekrFacts sh (own sh x) l h1 l2 h2 e w) {k : ℕ} (hk : halfBy e w ≡ k) where
   -- the columns before
   abbrev c : Columns
@@ -126,7 +126,7 @@ module _ {sh : Shape} {x : List ℕ} {p : List ℤ} (g : Good sh x p) {l h1 l2 h
   s = mekr-shows g ends
 
   -- and is good
-  gy : Good sh y p
+  gy : Marked sh y p
   gy = mekr-good g ends
 
   open Ends ends using (half-in, mate-in, in-1)
@@ -176,7 +176,7 @@ module _ {sh : Shape} {x : List ℕ} {p : List ℤ} (g : Good sh x p) {l h1 l2 h
       record {
         accepted = rw (el, ei) (kemr-accepted sh y (g .capacities) span);
         links = rw (el, ei) (kemr-links sh y (g .capacities) span
-            ∙ shows-ext (kemr-shows gy span) (good-shows g) mekr-back);
+            ∙ shows-ext (kemr-shows gy span) (marked-shows g) mekr-back);
         points = rw (el, ep, ei) (kemr-points sh y (g .capacities) span p);
         again = rw (el, ep, ei) (kemr-inverse sh y (g .capacities) span p
             ∙ ap (λ Z. mekrOf (Z .l) (foundAt (corner1 Z)) (Z .l2) (foundAt (corner2 Z)) (edgeOf (Z .k)) (wayOf (Z .k)))
@@ -188,7 +188,7 @@ module _ {sh : Shape} {x : List ℕ} {p : List ℤ} (g : Good sh x p) {l h1 l2 h
 
 -- ---- kemr
 
-module _ {sh : Shape} {x : List ℕ} {p : List ℤ} (g : Good sh x p) {k l2 : ℕ} (o : Span sh (own sh x) k l2) where
+module _ {sh : Shape} {x : List ℕ} {p : List ℤ} (g : Marked sh x p) {k l2 : ℕ} (o : Span sh (own sh x) k l2) where
   -- the columns before
   abbrev dₖ : Columns
   dₖ = own sh x
@@ -221,7 +221,7 @@ module _ {sh : Shape} {x : List ℕ} {p : List ℤ} (g : Good sh x p) {k l2 : �
   sₖ = kemr-shows g o
 
   -- and is good
-  gₖ : Good sh yₖ p
+  gₖ : Marked sh yₖ p
   gₖ = kemr-good g o
 
   -- the table stays good
@@ -298,7 +298,7 @@ module _ {sh : Shape} {x : List ℕ} {p : List ℤ} (g : Good sh x p) {k l2 : �
       record {
         accepted = rw (el, ei) (mekr-accepted sh yₖ (g .capacities) facts);
         links = rw (el, ei) (mekr-links sh yₖ (g .capacities) facts k hₖ
-            ∙ shows-ext (mekr-shows gₖ (ends gₖ facts hₖ)) (good-shows g) kemr-back);
+            ∙ shows-ext (mekr-shows gₖ (ends gₖ facts hₖ)) (marked-shows g) kemr-back);
         points = rw (el, ep, ei) (mekr-points sh yₖ (g .capacities) facts p);
         again = rw (el, ep, ei) (mekr-inverse sh yₖ p (g .capacities) facts ∙ ap (λ j. kemrOf j l2) hₖ);
       }
@@ -306,7 +306,7 @@ module _ {sh : Shape} {x : List ℕ} {p : List ℤ} (g : Good sh x p) {k l2 : �
 -- ---- as operators
 
 -- both for mekr
-pub mekr-holds : (sh : Shape) (x : List ℕ) (p : List ℤ) (o : Operator) → Good sh x p → length (o .args) ≡ 8
+pub mekr-holds : (sh : Shape) (x : List ℕ) (p : List ℤ) (o : Operator) → Marked sh x p → length (o .args) ≡ 8
     → o .code ≡ 8 → refusalOf sh x o ≡ 0 → Kept sh x p o × Undone sh x p o
 mekr-holds sh x p o g len e h =
     let r = mekr-said sh x o (g .capacities) len e h in
@@ -314,7 +314,7 @@ mekr-holds sh x p o g len e h =
     (mekr-kept g (r .facts) refl, mekr-undone g (r .facts) refl)
 
 -- both for kemr
-pub kemr-holds : (sh : Shape) (x : List ℕ) (p : List ℤ) (o : Operator) → Good sh x p → length (o .args) ≡ 8
+pub kemr-holds : (sh : Shape) (x : List ℕ) (p : List ℤ) (o : Operator) → Marked sh x p → length (o .args) ≡ 8
     → o .code ≡ 7 → refusalOf sh x o ≡ 0 → Kept sh x p o × Undone sh x p o
 kemr-holds sh x p o g len e h =
     let r = kemr-facts sh x o (g .capacities) len e h in

@@ -17,7 +17,7 @@ use Rattle.layout.specs.declared.shape.Shape.{Shape}
 use Rattle.layout.specs.Mate.{mate, edgeOf}
 use Rattle.euler.specs.Surgery.{halfBy, wayOf}
 use Rattle.euler.specs.EdgeOperators.{kemrTest, kemrLinks}
-use Rattle.euler.specs.Exec.{useWord, condition, refusalOf, linksAfter, pointsAfter, inverse}
+use Rattle.euler.specs.Exec.{useWord, condition, refusalOf, marksAfter, pointsAfter, inverse}
 use Rattle.layout.specs.Fields.{Loop}
 use Rattle.sound_tables.specs.Accepted.{use-new, new-use}
 use Rattle.sound_tables.specs.TwoOperands.{two-operands, two-accepted}
@@ -78,8 +78,8 @@ module _ (sh : Shape) (x : List ℕ) {k l2 : ℕ} (caps : Capacities sh) (o : Sp
       (new-use sh x 7 l2 (omega (arith, o .ring-in .0)) refl (o .free)) (rw kn (eqb-same (o .one)))
 
   -- what it does to the list
-  pub kemr-links : linksAfter sh x (kemrOf k l2) ≡ kemrList sh x k l2
-  unfolding linksAfter kemrLinks
+  pub kemr-links : marksAfter sh x (kemrOf k l2) ≡ kemrList sh x k l2
+  unfolding marksAfter kemrLinks
   kemr-links = rw (kn, ln)
 
   -- to the points

@@ -22,7 +22,7 @@ use Rattle.sound_tables.specs.Names.{named-used, lone-unnamed}
 use Rattle.sound_tables.specs.Walking.{runColumns, shows-relabel}
 use Rattle.sound_tables.specs.FirstLow.{first-low}
 use Rattle.sound_tables.specs.Shown.{withFirst, shows-no-edge, shows-first, shows-isolated}
-use Rattle.sound_tables.specs.Good.{own, Good, good-shows, good-after}
+use Rattle.sound_tables.specs.Good.{own, Marked, marked-shows, marked-after}
 use Rattle.sound_bridges.specs.Relation.{Corner, HasCorner, foundAt, Bridge, Derived, derived, corner1, corner2}
 use Rattle.sound_bridges.specs.Relation.{Ends, Bridged, off-k, off-a, new-a}
 use Rattle.sound_bridges.specs.KemrSound.{down-sound}
@@ -30,7 +30,7 @@ use Rattle.sound_bridges.specs.KemrRules.{down-rules}
 use Rattle.sound_bridges.specs.KemrColumns.{spanBridge, partedList, kemrList, cutColumns, kemrColumns, Span, walk}
 use Rattle.sound_bridges.specs.KemrColumns.{down-bridged, down-first, down-first-2}
 
-module _ {sh : Shape} {x : List ℕ} {p : List ℤ} (g : Good sh x p) {k l2 : ℕ} (o : Span sh (own sh x) k l2) where
+module _ {sh : Shape} {x : List ℕ} {p : List ℤ} (g : Marked sh x p) {k l2 : ℕ} (o : Span sh (own sh x) k l2) where
   -- the columns before
   abbrev d : Columns
   d = own sh x
@@ -76,7 +76,7 @@ module _ {sh : Shape} {x : List ℕ} {p : List ℤ} (g : Good sh x p) {k l2 : �
       let P1 = prev-in (g .sound .rules) k uk in
       let P2 = prev-in (g .sound .rules) a ua in
       let s1 : Shows sh (relabelRun sh x (d Next k) a l2) (runColumns d (d Next k) t l2) =
-      shows-relabel sh n t x d (d Next k) a l2 (good-shows g) (omega (arith, w .1)) (w .2)
+      shows-relabel sh n t x d (d Next k) a l2 (marked-shows g) (omega (arith, w .1)) (w .2)
       (λ i h. let v = iter-in perm i (d Next k) N2 in (v .0, v .1)) in
       let s2 = shows-no-edge s1 k (d Prev k) (d Next a) (d Prev a) (d Next k) (uk .0, uk .1) (ua .0, ua .1)
       (P1 .0, P1 .1) (N1 .0, N1 .1) (P2 .0, P2 .1) (N2 .0, N2 .1) in
@@ -119,5 +119,5 @@ module _ {sh : Shape} {x : List ℕ} {p : List ℤ} (g : Good sh x p) {k l2 : �
       renewed (corner1 B) s2 cy (λ i. refl) at-1 loop-in in-1 (off-k b) (inr refl)
 
   -- the table is good afterwards
-  pub kemr-good : Good sh (kemrList sh x k l2) p
-  kemr-good = good-after g kemr-shows (λ i. sym (b .others Capacity refl i)) refl kemr-sound
+  pub kemr-good : Marked sh (kemrList sh x k l2) p
+  kemr-good = marked-after g kemr-shows (λ i. sym (b .others Capacity refl i)) refl kemr-sound

@@ -232,7 +232,6 @@ module _ {sh : Shape} {p : List ℤ} {c d : Columns} {B : Bridge} (a : Sound sh 
     loop = c-loop;
     half-free = c-half-free;
     half = λ i j h. c-half i (j .0, j .1, h);
-    vertex-mark = λ w i. rw (← others VertexUsed refl w) (a .vertex-mark w i);
     vertex = corners-vertex c-corners;
     point = λ w i. let r = a .point w i in
         record { range = r .range; zero = λ h. r .zero (others VertexUsed refl w ∙ h) };

@@ -20,7 +20,7 @@ use Rattle.layout.specs.declared.shape.Shape.{Shape}
 use Rattle.layout.specs.Mate.{mate}
 use Rattle.euler.specs.Surgery.{halfBy, corner}
 use Rattle.euler.specs.EdgeOperators.{mekrTest, mekrLinks}
-use Rattle.euler.specs.Exec.{limits, useWord, condition, refusalOf, linksAfter, pointsAfter}
+use Rattle.euler.specs.Exec.{limits, useWord, condition, refusalOf, marksAfter, pointsAfter}
 use Rattle.layout.specs.Fields.{Outer, Face, Isolated, Start, Prev, Columns}
 use Rattle.sound_tables.specs.Sound.{In}
 use Rattle.sound_tables.specs.Accepted.{by-place, eight, accepted-back, ranges-cons, item-cons, use-old, old-use}
@@ -239,9 +239,9 @@ module _ (sh : Shape) (x : List ℕ) {l h1 l2 h2 e w : ℕ} (caps : Capacities s
       })
 
   -- what it does to the list; k is the half that the way names
-  pub mekr-links : (k : ℕ) → halfBy e w ≡ k → linksAfter sh x (mekrOf l h1 l2 h2 e w)
+  pub mekr-links : (k : ℕ) → halfBy e w ≡ k → marksAfter sh x (mekrOf l h1 l2 h2 e w)
       ≡ mekrList sh x (mekrBridge (own sh x) k l h1 l2 h2)
-  unfolding linksAfter mekrLinks
+  unfolding marksAfter mekrLinks
   mekr-links k q =
       rw (read (small .0), read (small .1), read (small .2), read (small .3), read (small .4), read (small .5), q)
 

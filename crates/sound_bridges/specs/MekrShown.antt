@@ -21,7 +21,7 @@ use Rattle.sound_tables.specs.Names.{named-used, lone-unnamed}
 use Rattle.sound_tables.specs.Walking.{Steps, runColumns, shows-relabel, run-met, run-off, run-other}
 use Rattle.sound_tables.specs.FirstLow.{lower-one, lower-other, lower-new, first-low}
 use Rattle.sound_tables.specs.Shown.{shows-edge, shows-first}
-use Rattle.sound_tables.specs.Good.{own, Good, good-shows, good-after}
+use Rattle.sound_tables.specs.Good.{own, Marked, marked-shows, marked-after}
 use Rattle.sound_bridges.specs.Relation.{corner-away, before-in, after-in, Bridge, Derived, derived, Ends}
 use Rattle.sound_bridges.specs.Relation.{Bridged, off-k, off-a, new-k, new-a, half-stays}
 use Rattle.sound_bridges.specs.MekrSound.{up-sound}
@@ -30,7 +30,7 @@ use Rattle.sound_bridges.specs.MekrColumns.{edgeList, mekrList, bridgeWr
 use Rattle.sound_bridges.specs.MekrColumns.{mekrColumns, up-bridged, up-first, up-first-2}
 use Rattle.sound_bridges.specs.Runs.{Met, met?, run-to, met-in, met-next, met-first}
 
-module _ {sh : Shape} {x : List ℕ} {p : List ℤ} (g : Good sh x p) {B : Bridge} (o : Ends sh (own sh x) B) where
+module _ {sh : Shape} {x : List ℕ} {p : List ℤ} (g : Marked sh x p) {B : Bridge} (o : Ends sh (own sh x) B) where
   open Derived (derived sh B) using (n, a)
   open Bridge B using (k, l, l2, u1, P1, N1, u2, P2, N2)
   open Ends o using (half-in, mate-in, loop-in, ring-in, two, at-1, at-2, in-2, keeps)
@@ -155,7 +155,7 @@ module _ {sh : Shape} {x : List ℕ} {p : List ℤ} (g : Good sh x p) {B : Bridg
   -- the walk shows the joined loops
   joined-shows : Shows sh (relabelRun sh (edgeList sh x B) N2 a l) (withColumn e₀ Loop (joinedLoops c B))
   joined-shows =
-      let s1 : Shows sh (edgeList sh x B) e₀ = shows-edge (good-shows g) k u1 l N2 P1 u2 l N1 P2 half-in mate-in
+      let s1 : Shows sh (edgeList sh x B) e₀ = shows-edge (marked-shows g) k u1 l N2 P1 u2 l N1 P2 half-in mate-in
       (after-in at-2 mate-in) (before-in at-1 mate-in) (after-in at-1 half-in) (before-in at-2 half-in) in
       let s2 : Shows sh (relabelRun sh (edgeList sh x B) (d Next k) a l) (runColumns e₀ (d Next k) (run .0) l) =
       shows-relabel sh n (run .0) _ e₀ (d Next k) a l s1 (omega (arith, run .1)) (run .2)
@@ -172,5 +172,5 @@ module _ {sh : Shape} {x : List ℕ} {p : List ℤ} (g : Good sh x p) {B : Bridg
       (named-used mekr-sound (loop-in .0)) from
 
   -- the table is good afterwards
-  pub mekr-good : Good sh (mekrList sh x B) p
-  mekr-good = good-after g mekr-shows (λ i. refl) refl mekr-sound
+  pub mekr-good : Marked sh (mekrList sh x B) p
+  mekr-good = marked-after g mekr-shows (λ i. refl) refl mekr-sound

@@ -200,7 +200,6 @@ module _ {sh : Shape} {p : List ℤ} {c d : Columns} {B : Bridge} (a : Sound sh 
     loop = d-loop;
     half-free = d-half-free;
     half = λ i j h. d-half i (j .0, j .1, h);
-    vertex-mark = λ w i. rw (others VertexUsed refl w) (a .vertex-mark w i);
     vertex = corners-vertex d-corners;
     point = λ w i. let r = a .point w i in
         record { range = r .range; zero = λ h. r .zero (sym (others VertexUsed refl w) ∙ h) };

@@ -16,7 +16,7 @@ use Rattle.euler.specs.Exec.{useWord, condition, refusalOf}
 use Rattle.sound_tables.specs.Cells.{Shows, shows-ext}
 use Rattle.sound_tables.specs.Sound.{HalfUsed, Sound}
 use Rattle.sound_tables.specs.OneOperand.{one-operand}
-use Rattle.sound_tables.specs.Good.{own, Capacities, Good, good-shows, good-after}
+use Rattle.sound_tables.specs.Good.{own, Capacities, Marked, marked-shows, marked-after}
 use Rattle.sound_tables.specs.Undone.{Kept, Undone}
 use Rattle.sound_cuts.specs.Relation.{Spot, Cut}
 use Rattle.sound_cuts.specs.MefShown.{cutList, cut-shows}
@@ -30,63 +30,63 @@ use Rattle.sound_cuts.specs.KefAccepted.{kef-links, kef-inverse, kef-acc
 
 -- ---- mef
 
-module _ {sh : Shape} {x : List ℕ} {p : List ℤ} (g : Good sh x p) {d : Columns} {q : Spot} (k : Cut sh (own sh x) d q)
+module _ {sh : Shape} {x : List ℕ} {p : List ℤ} (g : Marked sh x p) {d : Columns} {q : Spot} (k : Cut sh (own sh x) d q)
     (t : Sound sh p d) where
   -- the list after mef
   abbrev y : List ℕ
-  y = cutList k t (good-shows g)
+  y = cutList k t (marked-shows g)
 
   -- shows the columns with the edge
   y-shows : Shows sh y d
-  y-shows = cut-shows k t (good-shows g) (g .sound)
+  y-shows = cut-shows k t (marked-shows g) (g .sound)
 
   -- a good table stays good
   pub mef-kept : Kept sh x p (mefAt q)
   mef-kept =
-      rw (mef-links k t (good-shows g) (g .capacities) (g .sound), mef-points sh x p q)
-      (good-after g y-shows (k .others Capacity refl) refl t)
+      rw (mef-links k t (marked-shows g) (g .capacities) (g .sound), mef-points sh x p q)
+      (marked-after g y-shows (k .others Capacity refl) refl t)
 
   -- kef gives everything back
   pub mef-undone : Undone sh x p (mefAt q)
   mef-undone =
-      let el = mef-links k t (good-shows g) (g .capacities) (g .sound) in
+      let el = mef-links k t (marked-shows g) (g .capacities) (g .sound) in
       let ep = mef-points sh x p q in
-      let ei = mef-inverse k t (good-shows g) (g .capacities) (g .sound) p in
+      let ei = mef-inverse k t (marked-shows g) (g .capacities) (g .sound) p in
       record {
         accepted = rw (el, ei) (kef-accepted k (g .sound) t y-shows (g .capacities));
         links = rw (el, ei) (kef-links k (g .sound) t y-shows (g .capacities)
-            ∙ shows-ext (mend-shows k (g .sound) t y-shows) (good-shows g) (λ F n i j. refl));
+            ∙ shows-ext (mend-shows k (g .sound) t y-shows) (marked-shows g) (λ F n i j. refl));
         points = rw (el, ep, ei) (kef-points sh y p (q .b));
         again = rw (el, ep, ei) (kef-inverse k (g .sound) t y-shows (g .capacities) p);
       }
 
 -- ---- kef
 
-module _ {sh : Shape} {y : List ℕ} {p : List ℤ} (g : Good sh y p) {c : Columns} {q : Spot} (k : Cut sh c (own sh y) q)
+module _ {sh : Shape} {y : List ℕ} {p : List ℤ} (g : Marked sh y p) {c : Columns} {q : Spot} (k : Cut sh c (own sh y) q)
     (s : Sound sh p c) where
   -- the list after kef
   abbrev x : List ℕ
-  x = mendList k s (g .sound) (good-shows g)
+  x = mendList k s (g .sound) (marked-shows g)
 
   -- shows the columns without the edge
   x-shows : Shows sh x c
-  x-shows = mend-shows k s (g .sound) (good-shows g)
+  x-shows = mend-shows k s (g .sound) (marked-shows g)
 
   -- a good table stays good
   pub kef-kept : Kept sh y p (kefOf (q .b))
-  kef-kept = rw (kef-links k s (g .sound) (good-shows g) (g .capacities), kef-points sh y p (q .b))
-      (good-after g x-shows (λ n. sym (k .others Capacity refl n)) refl s)
+  kef-kept = rw (kef-links k s (g .sound) (marked-shows g) (g .capacities), kef-points sh y p (q .b))
+      (marked-after g x-shows (λ n. sym (k .others Capacity refl n)) refl s)
 
   -- mef gives everything back
   pub kef-undone : Undone sh y p (kefOf (q .b))
   kef-undone =
-      let el = kef-links k s (g .sound) (good-shows g) (g .capacities) in
+      let el = kef-links k s (g .sound) (marked-shows g) (g .capacities) in
       let ep = kef-points sh y p (q .b) in
-      let ei = kef-inverse k s (g .sound) (good-shows g) (g .capacities) p in
+      let ei = kef-inverse k s (g .sound) (marked-shows g) (g .capacities) p in
       record {
         accepted = rw (el, ei) (mef-accepted k (g .sound) x-shows (g .capacities) s);
         links = rw (el, ei) (mef-links k (g .sound) x-shows (g .capacities) s
-            ∙ shows-ext (cut-shows k (g .sound) x-shows s) (good-shows g) (λ F n i j. refl));
+            ∙ shows-ext (cut-shows k (g .sound) x-shows s) (marked-shows g) (λ F n i j. refl));
         points = rw (el, ep, ei) (mef-points sh x p q);
         again = rw (el, ep, ei) (mef-inverse k (g .sound) x-shows (g .capacities) s p);
       }
@@ -109,7 +109,7 @@ kef-facts sh x o caps len e h =
     record { k = a .n; is = a .is; used = (a .range .0, a .range .1, a .used); test = rw (a .small) at (a .holds) }
 
 -- both for kef
-pub kef-holds : (sh : Shape) (x : List ℕ) (p : List ℤ) (o : Operator) → Good sh x p → length (o .args) ≡ 8
+pub kef-holds : (sh : Shape) (x : List ℕ) (p : List ℤ) (o : Operator) → Marked sh x p → length (o .args) ≡ 8
     → o .code ≡ 6 → refusalOf sh x o ≡ 0 → Kept sh x p o × Undone sh x p o
 kef-holds sh x p o g len e h =
     let f = kef-facts sh x o (g .capacities) len e h in

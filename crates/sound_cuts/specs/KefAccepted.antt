@@ -16,7 +16,7 @@ use Rattle.codec.specs.Operands.{pattern, rows}
 use Rattle.layout.specs.declared.shape.Shape.{Shape}
 use Rattle.euler.specs.Surgery.{edgeOut}
 use Rattle.euler.specs.EdgeOperators.{kefTest, kefLinks}
-use Rattle.euler.specs.Exec.{useWord, condition, refusalOf, linksAfter, killedVertex, pointsAfter, inverse}
+use Rattle.euler.specs.Exec.{useWord, condition, refusalOf, marksAfter, killedVertex, pointsAfter, inverse}
 use Rattle.layout.specs.Fields.{Face, Start, Loop, Next, Prev, Solid, Columns}
 use Rattle.sound_tables.specs.Cells.{Shows}
 use Rattle.sound_tables.specs.Sound.{In, Sound}
@@ -72,8 +72,8 @@ module _ {sh : Shape} {p : List ℤ} {c d : Columns} {q : Spot} (k : Cut sh c d 
   l-face = v .at Face (q .l) (k .site .l-in .1) ∙ face-l k
 
   -- what it does
-  pub kef-links : linksAfter sh y (kefOf (q .b)) ≡ mendList k s t v
-  unfolding linksAfter kefLinks edgeOut
+  pub kef-links : marksAfter sh y (kefOf (q .b)) ≡ mendList k s t v
+  unfolding marksAfter kefLinks edgeOut
   kef-links = rw (bn, ba (k .site), next-a, next-b, prev-a, prev-b, loop-a, loop-b, start-b, face-m)
 
   -- the operator that undoes it

@@ -27,12 +27,12 @@ use Rattle.euler.specs.Surgery.{relabelRun, passed}
 use Rattle.euler.specs.Passed.{length-passed, relabel-passed}
 use Rattle.euler.specs.Steps.{after}
 use Rattle.euler.specs.EdgeOperators.{kefSteps, kefLinks}
-use Rattle.euler.specs.Exec.{refusalOf, linksAfter, pointsAfter}
+use Rattle.euler.specs.Exec.{refusalOf, marksAfter, pointsAfter}
 use Rattle.sound_tables.specs.Cells.{Shows, shows-own, shows-ext}
 use Rattle.sound_tables.specs.Sound.{In, HalfUsed}
 use Rattle.sound_tables.specs.Names.{named-used}
 use Rattle.sound_tables.specs.WriteLaws.{among-off}
-use Rattle.sound_tables.specs.Good.{Good, own, good-shows}
+use Rattle.sound_tables.specs.Good.{Marked, own, marked-shows}
 use Rattle.sound_tables.specs.Walking.{Steps, steps-apart, iter-keeps, way-round, on-the-way}
 use Rattle.sound_tables.specs.Passing.{RunPassed, run-passed}
 use Rattle.sound_cuts.specs.MefOperands.{kefOf}
@@ -77,11 +77,11 @@ pub record KefInPlace (sh : Shape) (x : List ℕ) (k : ℕ) : Type 0 where
   -- where no other links are like that: the sentence settles every word
   pub settled : (n : ℕ) (y z : List ℕ) → KefAmid sh x k d n y → KefAmid sh x k d n z → y ≡ z
   -- and with all of them passed kef goes on, by its other steps
-  pub goes-on : linksAfter sh x (kefOf k) ≡ after sh (drop 1 (kefSteps sh x k)) (amidKef sh x k d)
+  pub goes-on : marksAfter sh x (kefOf k) ≡ after sh (drop 1 (kefSteps sh x k)) (amidKef sh x k d)
   -- no point moves, amid kef or by it: the walk's code is not lent them
   pub points : (p : List ℤ) → pointsAfter sh x p (kefOf k) ≡ p
 
-module _ {sh : Shape} {x : List ℕ} {p : List ℤ} (g : Good sh x p) (k : ℕ) (w : KefPlace sh (own sh x) k) where
+module _ {sh : Shape} {x : List ℕ} {p : List ℤ} (g : Marked sh x p) (k : ℕ) (w : KefPlace sh (own sh x) k) where
   -- the loops are the cycles of next
   loops : Cycles (2 * sh .edges) (HalfUsed sh (own sh x)) (nextOf sh x) (loopOf sh x)
   loops = g .sound .rules .loops
@@ -120,7 +120,7 @@ module _ {sh : Shape} {x : List ℕ} {p : List ℤ} (g : Good sh x p) (k : ℕ) 
   kef-at n h =
       let y = amidKef sh x k n in
       let q : RunPassed sh (own sh x) (nextOf sh x k) (loopOf sh x (mate k)) n y = run-passed sh n x (own sh x)
-      (nextOf sh x k) (loopOf sh x (mate k)) (good-shows g) (λ t b. (rest-used t .0, rest-used t .1)) in
+      (nextOf sh x k) (loopOf sh x (mate k)) (marked-shows g) (λ t b. (rest-used t .0, rest-used t .1)) in
       record {
         behind = λ t b. q .behind t (omega arith);
         ahead = λ t a b. q .others (restAt sh x k t) (rest-used t .0, rest-used t .1)
@@ -169,7 +169,7 @@ module _ {sh : Shape} {x : List ℕ} {p : List ℤ} (g : Good sh x p) (k : ℕ) 
 
   -- all of it
   in-place : KefInPlace sh x k
-  unfolding linksAfter kefLinks
+  unfolding marksAfter kefLinks
   in-place = record {
     differ = apart;
     d = round .0;
@@ -182,7 +182,7 @@ module _ {sh : Shape} {x : List ℕ} {p : List ℤ} (g : Good sh x p) (k : ℕ) 
   }
 
 -- for every good table and every kef that it accepts
-pub kef-in-place : {sh : Shape} {x : List ℕ} {p : List ℤ} → Good sh x p → (k : ℕ) → refusalOf sh x (kefOf k) ≡ 0
+pub kef-in-place : {sh : Shape} {x : List ℕ} {p : List ℤ} → Marked sh x p → (k : ℕ) → refusalOf sh x (kefOf k) ≡ 0
     → KefInPlace sh x k
 kef-in-place {sh} {x} g k h =
     let f = kef-facts sh x (kefOf k) (g .capacities) refl refl h in

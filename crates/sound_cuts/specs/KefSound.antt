@@ -237,7 +237,6 @@ module _ {sh : Shape} {p : List ℤ} {c d : Columns} {q : Spot} (k : Cut sh c d 
         (λ g. loop-old m i g e (t .loop m i (λ z. h (sym (k .face-else m e) ∙ z))));
     half-free = half-free;
     half = λ i j h. half i (j .0, j .1, h);
-    vertex-mark = λ x i. subst (λ y. y ≤ 1) (vertex-used k x) (t .vertex-mark x i);
     vertex = λ x i h. vertex x i (t .vertex x i (λ z. h (sym (vertex-used k x) ∙ z)));
     point = λ x i. record { range = t .point x i .range; zero = λ h. t .point x i .zero (vertex-used k x ∙ h) };
     rules = mend-rules k (t .rules);

@@ -14,7 +14,7 @@ use Rattle.layout.specs.declared.shape.Shape.{Shape}
 use Rattle.layout.specs.Mate.{edgeOf}
 use Rattle.euler.specs.Surgery.{edgeIn}
 use Rattle.euler.specs.EdgeOperators.{mefTest, mefLinks}
-use Rattle.euler.specs.Exec.{limits, useWord, condition, refusalOf, linksAfter, pointsAfter, inverse}
+use Rattle.euler.specs.Exec.{limits, useWord, condition, refusalOf, marksAfter, pointsAfter, inverse}
 use Rattle.layout.specs.Fields.{Solid, Face, Start, Columns}
 use Rattle.sound_tables.specs.Cells.{Shows}
 use Rattle.sound_tables.specs.Sound.{In, Sound}
@@ -78,8 +78,8 @@ module _ {sh : Shape} {p : List ℤ} {c d : Columns} {q : Spot} (k : Cut sh c d 
     links-is = rw (k .site .ab, o .N-is, o .P-is, o .M-is, o .Q-is, o .u-is, o .v-is)
 
     -- so are those of the operator
-    links-by : linksAfter sh x op ≡ cutList k t s
-    unfolding linksAfter
+    links-by : marksAfter sh x op ≡ cutList k t s
+    unfolding marksAfter
     links-by =
         rw (
           le-leb (q .l) mostHalves ln,
@@ -156,7 +156,7 @@ module _ {sh : Shape} {p : List ℤ} {c d : Columns} {q : Spot} (k : Cut sh c d 
     oo = asks k s r
 
     -- what it does
-    pub mef-links : linksAfter sh x (mefAt q) ≡ cutList k t s
+    pub mef-links : marksAfter sh x (mefAt q) ≡ cutList k t s
     mef-links = links-by (restOf q) (endOf q) (wayBack q) oo
 
     -- the operator that undoes it

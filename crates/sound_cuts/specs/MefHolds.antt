@@ -22,7 +22,7 @@ use Rattle.layout.specs.Fields.{Isolated, Start, Loop, Next, Prev, Columns}
 use Rattle.sound_tables.specs.Sound.{In, HalfUsed}
 use Rattle.sound_tables.specs.HalfNumbers.{edge-by, way-rest, mate-edge}
 use Rattle.sound_tables.specs.Names.{not-isolated, free-halves}
-use Rattle.sound_tables.specs.Good.{own, Good}
+use Rattle.sound_tables.specs.Good.{own, Marked}
 use Rattle.sound_tables.specs.CornerTest.{CornerAt}
 use Rattle.sound_tables.specs.Undone.{Kept, Undone}
 use Rattle.sound_cuts.specs.Relation.{Spot, restOf, endOf, Alone, Seated, Site}
@@ -33,7 +33,7 @@ use Rattle.sound_cuts.specs.Exact.{mef-kept, mef-undone}
 use Rattle.sound_cuts.specs.MefPlace.{mef-cut, mef-marked}
 use Rattle.sound_cuts.specs.MefFacts.{MefFacts, mef-facts}
 
-module _ {sh : Shape} {x : List ℕ} {p : List ℤ} (g : Good sh x p) {o : Operator} (r : MefFacts sh (own sh x) o) where
+module _ {sh : Shape} {x : List ℕ} {p : List ℤ} (g : Marked sh x p) {o : Operator} (r : MefFacts sh (own sh x) o) where
   -- the columns of the table
   abbrev c : Columns
   c = own sh x
@@ -245,7 +245,7 @@ module _ {sh : Shape} {x : List ℕ} {p : List ℤ} (g : Good sh x p) {o : Opera
       (le? 2 (r .w)))
 
 -- both for mef
-pub mef-holds : (sh : Shape) (x : List ℕ) (p : List ℤ) (o : Operator) → Good sh x p → length (o .args) ≡ 8
+pub mef-holds : (sh : Shape) (x : List ℕ) (p : List ℤ) (o : Operator) → Marked sh x p → length (o .args) ≡ 8
     → o .code ≡ 5 → refusalOf sh x o ≡ 0 → Kept sh x p o × Undone sh x p o
 mef-holds sh x p o g len e h =
     let r = mef-facts sh x o (g .capacities) len e h in

@@ -207,7 +207,6 @@ module _ {sh : Shape} {p : List ℤ} {c d : Columns} {q : Spot} (k : Cut sh c d 
         (λ g. loop-old m i g e (s .loop m i (λ z. h (k .face-else m e ∙ z)))));
     half-free = half-free;
     half = λ i j h. half i (j .0, j .1, h);
-    vertex-mark = λ x i. rw (vertex-used k x) (s .vertex-mark x i);
     vertex = λ x i h. vertex x i (s .vertex x i (λ z. h (vertex-used k x ∙ z)));
     point = λ x i. record { range = s .point x i .range; zero = λ h. s .point x i .zero (sym (vertex-used k x) ∙ h) };
     rules = cut-rules k w s;

@@ -16,11 +16,11 @@ use Rattle.codec.specs.Operands.{pattern, rows}
 use Rattle.layout.specs.declared.shape.Shape.{Shape}
 use Rattle.layout.specs.Mate.{mate}
 use Rattle.euler.specs.FaceOperators.{linkedAfter}
-use Rattle.euler.specs.Exec.{refusalOf, linksAfter}
+use Rattle.euler.specs.Exec.{refusalOf, marksAfter}
 use Rattle.layout.specs.Fields.{SolidUsed, Solid, Face, Start, Loop}
 use Rattle.sound_tables.specs.Cells.{Shows, shows-ext}
 use Rattle.sound_tables.specs.Sound.{In, HalfUsed, side}
-use Rattle.sound_tables.specs.Good.{own, Good, good-shows, good-after}
+use Rattle.sound_tables.specs.Good.{own, Marked, marked-shows, marked-after}
 use Rattle.sound_tables.specs.Undone.{Kept, Undone, exact}
 use Rattle.sound_tables.specs.TwoOperands.{two-operands}
 use Rattle.sound_holes.specs.Chains.{sideIn, Chain, after-chain, chain-after}
@@ -36,7 +36,7 @@ use Rattle.sound_holes.specs.MfkrhAccepted.{mfkrh-inverse, mfkrh-shows, 
 
 -- ---- mfkrh
 
-module _ {sh : Shape} {x : List ℕ} {p : List ℤ} (g : Good sh x p) {l f f₀ s₀ s : ℕ}
+module _ {sh : Shape} {x : List ℕ} {p : List ℤ} (g : Marked sh x p) {l f f₀ s₀ s : ℕ}
     (r : RingFace sh (own sh x) l f f₀ s₀) (u : Outcome sh x l f f₀ s₀ s) where
   -- the operator
   abbrev op : Operator
@@ -44,7 +44,7 @@ module _ {sh : Shape} {x : List ℕ} {p : List ℤ} (g : Good sh x p) {l f f₀ 
 
   -- the list afterwards
   abbrev y : List ℕ
-  y = linksAfter sh x op
+  y = marksAfter sh x op
 
   -- which faces move
   what-moves : Moved sh (own sh x) l f f₀ s₀ s (movedTo sh x l f s₀ s)
@@ -52,22 +52,22 @@ module _ {sh : Shape} {x : List ℕ} {p : List ℤ} (g : Good sh x p) {l f f₀ 
 
   -- the list shows the columns of `cut`
   y-shows : Shows sh y (cut (own sh x) l f s₀ s (movedTo sh x l f s₀ s))
-  y-shows = mfkrh-shows (g .sound) (g .capacities) r u (good-shows g) (old-solid (g .sound) r .1)
+  y-shows = mfkrh-shows (g .sound) (g .capacities) r u (marked-shows g) (old-solid (g .sound) r .1)
 
   -- and is good
-  y-good : Good sh y p
-  y-good = good-after g y-shows (λ n. refl) refl (cut-sound (g .sound) r what-moves)
+  y-good : Marked sh y p
+  y-good = marked-after g y-shows (λ n. refl) refl (cut-sound (g .sound) r what-moves)
 
   -- the two faces that kfmrh joins again
   y-two : TwoFaces sh (own sh y) f₀ f l s₀ s
   y-two = cut-two (g .sound) r what-moves (λ F n h. y-shows .at F n h)
 
   -- joined again, the list is the first one
-  cut-back : linksAfter sh y (kfmrhOf f₀ f) ≡ x
+  cut-back : marksAfter sh y (kfmrhOf f₀ f) ≡ x
   cut-back =
       kfmrh-links (y-good .sound) (g .capacities) y-two
       ∙ shows-ext (shows-joined y-shows f₀ f l s₀ s (r .face-in) (r .loop-in) (old-solid (g .sound) r .0)
-      (what-moves .solid-in)) (good-shows g) (cut-joined (g .sound) r what-moves)
+      (what-moves .solid-in)) (marked-shows g) (cut-joined (g .sound) r what-moves)
 
   -- a good table stays good, and kfmrh gives everything back
   pub mfkrh-exact : Kept sh x p op × Undone sh x p op
@@ -79,7 +79,7 @@ module _ {sh : Shape} {x : List ℕ} {p : List ℤ} (g : Good sh x p) {l f f₀ 
 
 -- ---- kfmrh
 
-module _ {sh : Shape} {x : List ℕ} {p : List ℤ} (g : Good sh x p) {f1 f2 l s1 s2 : ℕ}
+module _ {sh : Shape} {x : List ℕ} {p : List ℤ} (g : Marked sh x p) {f1 f2 l s1 s2 : ℕ}
     (r : TwoFaces sh (own sh x) f1 f2 l s1 s2) where
   -- the list afterwards
   abbrev yk : List ℕ
@@ -87,12 +87,12 @@ module _ {sh : Shape} {x : List ℕ} {p : List ℤ} (g : Good sh x p) {f1 f2 l s
 
   -- it shows the columns of `joined`
   yk-shows : Shows sh yk (joined (own sh x) f1 f2 l s1 s2)
-  yk-shows = shows-joined (good-shows g) f1 f2 l s1 s2 (r .second-in) (ring-in (g .sound) r)
+  yk-shows = shows-joined (marked-shows g) f1 f2 l s1 s2 (r .second-in) (ring-in (g .sound) r)
       (first-marked (g .sound) r .0) (second-marked (g .sound) r .0)
 
   -- and is good
-  yk-good : Good sh yk p
-  yk-good = good-after g yk-shows (λ n. refl) refl (joined-sound (g .sound) r)
+  yk-good : Marked sh yk p
+  yk-good = marked-after g yk-shows (λ n. refl) refl (joined-sound (g .sound) r)
 
   -- the ring that mfkrh makes a face again
   yk-ring : RingFace sh (own sh yk) l f2 f1 s1
@@ -176,9 +176,9 @@ module _ {sh : Shape} {x : List ℕ} {p : List ℤ} (g : Good sh x p) {f1 f2 l s
       (λ d. rw (eqb-other d) (λ t q. absurd (false≢true (sym t ∙ second-linked n i q))))
 
   -- cut again, the list is the first one
-  joined-back : linksAfter sh yk (mfkrhOf l f2 (solidOperand s1 s2)) ≡ x
+  joined-back : marksAfter sh yk (mfkrhOf l f2 (solidOperand s1 s2)) ≡ x
   joined-back = shows-ext (mfkrh-shows (yk-good .sound) (g .capacities) yk-ring yk-outcome yk-shows (upd-same _ s1 1))
-      (good-shows g) (joined-cut (g .sound) r (movedTo sh yk l f2 s1 s2) moved-second unmoved)
+      (marked-shows g) (joined-cut (g .sound) r (movedTo sh yk l f2 s1 s2) moved-second unmoved)
 
   -- a good table stays good, and mfkrh gives everything back
   pub kfmrh-exact : Kept sh x p (kfmrhOf f1 f2) × Undone sh x p (kfmrhOf f1 f2)
@@ -191,7 +191,7 @@ module _ {sh : Shape} {x : List ℕ} {p : List ℤ} (g : Good sh x p) {f1 f2 l s
 -- ---- as operators
 
 -- both for kfmrh
-pub kfmrh-holds : (sh : Shape) (x : List ℕ) (p : List ℤ) (o : Operator) → Good sh x p → length (o .args) ≡ 8
+pub kfmrh-holds : (sh : Shape) (x : List ℕ) (p : List ℤ) (o : Operator) → Marked sh x p → length (o .args) ≡ 8
     → o .code ≡ 9 → refusalOf sh x o ≡ 0 → Kept sh x p o × Undone sh x p o
 unfolding pattern rows
 kfmrh-holds sh x p o g len e h =
@@ -200,7 +200,7 @@ kfmrh-holds sh x p o g len e h =
     subst (λ q. Kept sh x p q × Undone sh x p q) (sym (k .is)) (kfmrh-exact g (kfmrh-two x (g .sound) k))
 
 -- both for mfkrh
-pub mfkrh-holds : (sh : Shape) (x : List ℕ) (p : List ℤ) (o : Operator) → Good sh x p → length (o .args) ≡ 8
+pub mfkrh-holds : (sh : Shape) (x : List ℕ) (p : List ℤ) (o : Operator) → Marked sh x p → length (o .args) ≡ 8
     → o .code ≡ 10 → refusalOf sh x o ≡ 0 → Kept sh x p o × Undone sh x p o
 mfkrh-holds sh x p o g len e h =
     let k = mfkrh-facts sh x p o (g .sound) (g .capacities) len e h in

@@ -16,7 +16,7 @@ use Rattle.script.specs.declared.Operator.{Operator}
 use Rattle.codec.specs.Operands.{pattern, rows}
 use Rattle.layout.specs.declared.shape.Shape.{Shape}
 use Rattle.euler.specs.FaceOperators.{kfmrhTest, kfmrhLinks}
-use Rattle.euler.specs.Exec.{useWord, condition, refusalOf, linksAfter, pointsAfter, inverse}
+use Rattle.euler.specs.Exec.{useWord, condition, refusalOf, marksAfter, pointsAfter, inverse}
 use Rattle.layout.specs.Fields.{Solid, Outer, Face}
 use Rattle.sound_tables.specs.Sound.{Sound}
 use Rattle.sound_tables.specs.Labels.{many-one, one-many}
@@ -92,8 +92,8 @@ module _ {sh : Shape} {x : List ℕ} {p : List ℤ} (a : Sound sh p (own sh x)) 
       (rw (le-leb f1 mostHalves n1, le-leb f2 mostHalves n2) two-tested)
 
   -- what it does
-  pub kfmrh-links : linksAfter sh x (kfmrhOf f1 f2) ≡ joinedLinks sh x f1 f2 l s1 s2
-  unfolding linksAfter kfmrhLinks
+  pub kfmrh-links : marksAfter sh x (kfmrhOf f1 f2) ≡ joinedLinks sh x f1 f2 l s1 s2
+  unfolding marksAfter kfmrhLinks
   kfmrh-links = rw (le-leb f1 mostHalves n1, le-leb f2 mostHalves n2, r .outer, r .first-solid, r .second-solid)
 
   -- it is undone by mfkrh

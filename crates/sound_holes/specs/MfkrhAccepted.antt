@@ -16,7 +16,7 @@ use Rattle.codec.specs.Operands.{pattern, rows}
 use Rattle.script.specs.Operator.{operandOf}
 use Rattle.layout.specs.declared.shape.Shape.{Shape}
 use Rattle.euler.specs.FaceOperators.{linkedAfter, mfkrhTest, mfkrhLinks}
-use Rattle.euler.specs.Exec.{limits, useWord, useRefusal, condition, refusalOf, linksAfter, pointsAfter, inverse}
+use Rattle.euler.specs.Exec.{limits, useWord, useRefusal, condition, refusalOf, marksAfter, pointsAfter, inverse}
 use Rattle.layout.specs.Fields.{SolidUsed, Solid, Outer, Face, Columns}
 use Rattle.sound_tables.specs.Cells.{Shows}
 use Rattle.sound_tables.specs.Sound.{In, Sound}
@@ -206,14 +206,14 @@ module _ {sh : Shape} {x : List ℕ} {p : List ℤ} (a : Sound sh p (own sh x)) 
   mfkrh-inverse q = rw (le-leb l mostHalves ln, le-leb f mostHalves fn, r .loop-face)
 
   -- what it does where nothing moves
-  face-links : s₀ ≡ s → linksAfter sh x (mfkrhOf l f (solidOperand s₀ s)) ≡ faceLinks sh x l f s₀
-  unfolding linksAfter mfkrhLinks
+  face-links : s₀ ≡ s → marksAfter sh x (mfkrhOf l f (solidOperand s₀ s)) ≡ faceLinks sh x l f s₀
+  unfolding marksAfter mfkrhLinks
   face-links e = rw (le-leb l mostHalves ln, le-leb f mostHalves fn, eqb-same e, r .loop-face, r .face-solid)
 
   -- and where faces move
-  moved-links : s₀ ≢ s → In (sh .solids) s → linksAfter sh x (mfkrhOf l f (solidOperand s₀ s))
+  moved-links : s₀ ≢ s → In (sh .solids) s → marksAfter sh x (mfkrhOf l f (solidOperand s₀ s))
       ≡ movedLinks sh x l f s₀ s (linkedAfter sh x l f f)
-  unfolding linksAfter mfkrhLinks
+  unfolding marksAfter mfkrhLinks
   moved-links n i =
       let h : s ≤ mostHalves = omega (arith, i .1, caps .solids) in
       let d : s ≢ 0 = λ z. omega (arith, i .0, z) in
@@ -229,7 +229,7 @@ module _ {sh : Shape} {x : List ℕ} {p : List ℤ} (a : Sound sh p (own sh x)) 
 
   -- the columns that it shows, where c is what the table shows
   pub mfkrh-shows : {c : Columns} → Shows sh x c → c SolidUsed s₀ ≡ 1
-      → Shows sh (linksAfter sh x (mfkrhOf l f (solidOperand s₀ s))) (cut c l f s₀ s (movedTo sh x l f s₀ s))
+      → Shows sh (marksAfter sh x (mfkrhOf l f (solidOperand s₀ s))) (cut c l f s₀ s (movedTo sh x l f s₀ s))
   mfkrh-shows {c} t m = ⊎-elim
       (λ q. rw (face-links (q .0), eqb-same (q .0))
       (subst (λ n. Shows sh (faceLinks sh x l f s₀) (cut c l f s₀ n (λ g. false))) (q .0)

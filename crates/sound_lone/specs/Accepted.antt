@@ -22,7 +22,7 @@ use Rattle.layout.specs.declared.shape.Shape.{Shape}
 use Rattle.layout.specs.Points.{pointWidth, coordinate, rangeTest}
 use Rattle.euler.specs.Surgery.{putPoint}
 use Rattle.euler.specs.FaceOperators.{mvsfLinks, kvsfTest, kvsfLinks}
-use Rattle.euler.specs.Exec.{limits, useWord, condition, refusalOf, linksAfter, killedVertex, pointsAfter, inverse}
+use Rattle.euler.specs.Exec.{limits, useWord, condition, refusalOf, marksAfter, killedVertex, pointsAfter, inverse}
 use Rattle.layout.specs.Fields.{Field, SolidUsed, Solid, Outer, Face, First, Isolated, Columns, capOf}
 use Rattle.layout.specs.Items.{faceIn}
 use Rattle.sound_tables.specs.Sound.{In, Sound}
@@ -202,9 +202,14 @@ module _ {sh : Shape} {x : List ℕ} {s f l v : ℕ} (o : OneLoop sh (own sh x) 
       ))
 
   -- what kvsf does
-  pub kvsf-links : linksAfter sh x (kvsfOf s) ≡ placedLinks sh x s f l v 0 0 0 0 0
-  unfolding linksAfter kvsfLinks
+  pub kvsf-links : marksAfter sh x (kvsfOf s) ≡ placedLinks sh x s f l v 0 0 0 0 0
+  unfolding marksAfter kvsfLinks
   kvsf-links = rw (s-small, one-isolated, one-outer, one-face)
+
+  -- kills v
+  pub kvsf-killed : killedVertex sh x (kvsfOf s) ≡ v
+  unfolding killedVertex
+  kvsf-killed = rw (s-small, one-isolated)
 
   -- it clears the point
   pub kvsf-points : (p : List ℤ) → pointsAfter sh x p (kvsfOf s) ≡ putPoint p v (pos 0) (pos 0) (pos 0)
@@ -244,8 +249,8 @@ module _ (sh : Shape) (x : List ℕ) (s f l v : ℕ) (a b c : ℤ) (caps : Capac
   vn = omega (arith, r .vertex-in .1, caps .vertices)
 
   -- what it does
-  pub mvsf-links : linksAfter sh x (mvsfOf s f l v a b c) ≡ placedLinks sh x s f l v 1 s l f v
-  unfolding linksAfter mvsfLinks
+  pub mvsf-links : marksAfter sh x (mvsfOf s f l v a b c) ≡ placedLinks sh x s f l v 1 s l f v
+  unfolding marksAfter mvsfLinks
   mvsf-links = rw (le-leb s mostHalves sn, le-leb f mostHalves fn, le-leb l mostHalves ln, le-leb v mostHalves vn)
 
   -- the vertex gets its point

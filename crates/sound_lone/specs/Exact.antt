@@ -3,7 +3,7 @@
 use mathlib.Core.Path.{_≡_, refl, sym, _∙_, subst}
 use mathlib.Core.Logic.{_≢_}
 use mathlib.Core.List.{List}
-use Prim.Native.Nat.{ℕ, _<_}
+use Prim.Native.Nat.{ℕ, _≤_, _<_}
 use native.Mathlib.Omega.{arith}
 use lib.Dec.{T}
 use lib.IntN.{ℤ, pos}
@@ -14,13 +14,13 @@ use Rattle.layout.specs.declared.shape.Shape.{Shape}
 use Rattle.layout.specs.Points.{pointWidth, coordinate, rangeTest}
 use Rattle.euler.specs.Surgery.{putPoint}
 use Rattle.codec.specs.Operands.{pattern, rows}
-use Rattle.euler.specs.Exec.{useWord, condition, refusalOf}
+use Rattle.euler.specs.Exec.{useWord, condition, refusalOf, killedVertex}
 use Rattle.layout.specs.Fields.{Field, SolidUsed, Solid, Face, VertexUsed, Columns}
 use Rattle.sound_tables.specs.Cells.{Shows, shows-ext}
 use Rattle.sound_tables.specs.WriteLaws.{frame}
 use Rattle.sound_tables.specs.WriteBack.{Stand, write-back}
 use Rattle.sound_tables.specs.PointLists.{three, put-length, put-at, put-back, put-cleared, points-new, points-cleared}
-use Rattle.sound_tables.specs.Good.{own, Good, good-shows, good-after}
+use Rattle.sound_tables.specs.Good.{own, Marked, marked-shows, marked-after}
 use Rattle.sound_tables.specs.Undone.{Kept, Undone, exact}
 use Rattle.sound_tables.specs.OneOperand.{one-operand}
 use Rattle.sound_lone.specs.Placed.{placedWrites, placed, placedLinks, shows-placed}
@@ -28,7 +28,7 @@ use Rattle.sound_lone.specs.MvsfSound.{Free, mvsf-sound}
 use Rattle.sound_lone.specs.KvsfSound.{OneLoop, one-used, kvsf-sound}
 use Rattle.sound_lone.specs.Accepted.{mvsfOf, kvsfOf, mvsf-facts, made-one, tested-one, kvsf-links, kvsf-points}
 use Rattle.sound_lone.specs.Accepted.{kvsf-inverse, kvsf-accepted, mvsf-links, mvsf-points, mvsf-inverse}
-use Rattle.sound_lone.specs.Accepted.{mvsf-accepted}
+use Rattle.sound_lone.specs.Accepted.{mvsf-accepted, kvsf-killed}
 
 -- ---- there and back
 
@@ -40,7 +40,7 @@ place-back c s f l v m s′ l′ f′ v′ m₀ s₀ l₀ f₀ v₀ e = write-ba
 
 -- ---- mvsf
 
-module _ {sh : Shape} {x : List ℕ} {p : List ℤ} (g : Good sh x p) {s f l v : ℕ} (r : Free sh (own sh x) s f l v)
+module _ {sh : Shape} {x : List ℕ} {p : List ℤ} (g : Marked sh x p) {s f l v : ℕ} (r : Free sh (own sh x) s f l v)
     (a b z : ℤ) (range : (i : ℕ) → i < pointWidth → T (rangeTest (three a b z i))) where
   -- the columns afterwards
   abbrev d : Columns
@@ -56,11 +56,11 @@ module _ {sh : Shape} {x : List ℕ} {p : List ℤ} (g : Good sh x p) {s f l v :
 
   -- the list shows the columns
   y-shows : Shows sh y d
-  y-shows = shows-placed (good-shows g) s f l v 1 s l f v (r .solid-in) (r .face-in) (r .loop-in) (r .vertex-in)
+  y-shows = shows-placed (marked-shows g) s f l v 1 s l f v (r .solid-in) (r .face-in) (r .loop-in) (r .vertex-in)
 
   -- list and points are good
-  y-good : Good sh y q
-  y-good = good-after g y-shows (λ n. refl) (put-length p v a b z) (mvsf-sound (g .sound) r
+  y-good : Marked sh y q
+  y-good = marked-after g y-shows (λ n. refl) (put-length p v a b z) (mvsf-sound (g .sound) r
       (points-new sh p (own sh x) d v (g .points) (r .vertex-in) (g .sound .point)
       (λ w n. upd-off (own sh x VertexUsed) 1 n)
       a b z (range 0 (omega arith)) (range 1 (omega arith)) (range 2 (omega arith))
@@ -82,7 +82,7 @@ module _ {sh : Shape} {x : List ℕ} {p : List ℤ} (g : Good sh x p) {s f l v :
       let stood : Stand (own sh x) (placedWrites s f l v 0 0 0 0 0)
       = (r .solid, (r .face, (o, (r .loop, (k .0, (k .1, (r .vertex, tt))))))) in
       shows-ext (shows-placed y-shows s f l v 0 0 0 0 0 (r .solid-in) (r .face-in) (r .loop-in) (r .vertex-in))
-      (good-shows g) (λ F n i j. place-back (own sh x) s f l v 1 s l f v 0 0 0 0 0 stood F n)
+      (marked-shows g) (λ F n i j. place-back (own sh x) s f l v 1 s l f v 0 0 0 0 0 stood F n)
 
   -- and its point cleared, the first points
   point-back : putPoint q v (pos 0) (pos 0) (pos 0) ≡ p
@@ -105,8 +105,8 @@ module _ {sh : Shape} {x : List ℕ} {p : List ℤ} (g : Good sh x p) {s f l v :
 
 -- ---- kvsf
 
-module _ {sh : Shape} {x : List ℕ} {p : List ℤ} (g : Good sh x p) {s f l v : ℕ} (o : OneLoop sh (own sh x) s f l v)
-    (used : own sh x SolidUsed s ≢ 0) where
+module _ {sh : Shape} {x : List ℕ} {p : List ℤ} (g : Marked sh x p) {s f l v : ℕ} (o : OneLoop sh (own sh x) s f l v)
+    (used : own sh x SolidUsed s ≢ 0) (low : own sh x VertexUsed v ≤ 1) where
   -- the columns afterwards
   abbrev kd : Columns
   kd = placed (own sh x) s f l v 0 0 0 0 0
@@ -121,11 +121,11 @@ module _ {sh : Shape} {x : List ℕ} {p : List ℤ} (g : Good sh x p) {s f l v :
 
   -- the list shows the columns
   ky-shows : Shows sh ky kd
-  ky-shows = shows-placed (good-shows g) s f l v 0 0 0 0 0 (o .solid-in) (o .face-in) (o .loop-in) (o .vertex-in)
+  ky-shows = shows-placed (marked-shows g) s f l v 0 0 0 0 0 (o .solid-in) (o .face-in) (o .loop-in) (o .vertex-in)
 
   -- list and points are good
-  ky-good : Good sh ky kq
-  ky-good = good-after g ky-shows (λ n. refl) (put-length p v (pos 0) (pos 0) (pos 0)) (kvsf-sound (g .sound) o
+  ky-good : Marked sh ky kq
+  ky-good = marked-after g ky-shows (λ n. refl) (put-length p v (pos 0) (pos 0) (pos 0)) (kvsf-sound (g .sound) o
       (points-cleared sh p (own sh x) kd v (g .points) (o .vertex-in) (g .sound .point)
       (λ w n. upd-off (own sh x VertexUsed) 0 n)))
 
@@ -145,9 +145,8 @@ module _ {sh : Shape} {x : List ℕ} {p : List ℤ} (g : Good sh x p) {s f l v :
   -- a mark that is set is 1: that of the vertex
   v-mark : own sh x VertexUsed v ≡ 1
   v-mark =
-      let m = g .sound .vertex-mark v (o .vertex-in) in
       let u : own sh x VertexUsed v ≢ 0 = one-used (g .sound) o in
-      omega (arith, m, u)
+      omega (arith, low, u)
 
   -- and that of the solid
   s-mark : own sh x SolidUsed s ≡ 1
@@ -157,7 +156,7 @@ module _ {sh : Shape} {x : List ℕ} {p : List ℤ} (g : Good sh x p) {s f l v :
   kvsf-back : placedLinks sh ky s f l v 1 s l f v ≡ x
   kvsf-back =
       shows-ext (shows-placed ky-shows s f l v 1 s l f v (o .solid-in) (o .face-in) (o .loop-in) (o .vertex-in))
-      (good-shows g) (λ F n i j. place-back (own sh x) s f l v 0 0 0 0 0 1 s l f v
+      (marked-shows g) (λ F n i j. place-back (own sh x) s f l v 0 0 0 0 0 1 s l f v
       (s-mark, (o .solid, (o .outer, (o .face, (o .first, (o .isolated, (v-mark, tt))))))) F n)
 
   -- a good table stays good, and mvsf gives everything back
@@ -177,17 +176,20 @@ module _ {sh : Shape} {x : List ℕ} {p : List ℤ} (g : Good sh x p) {s f l v :
 -- ---- as operators
 
 -- both for mvsf
-pub mvsf-holds : (sh : Shape) (x : List ℕ) (p : List ℤ) (o : Operator) → Good sh x p → length (o .args) ≡ 8
+pub mvsf-holds : (sh : Shape) (x : List ℕ) (p : List ℤ) (o : Operator) → Marked sh x p → length (o .args) ≡ 8
     → o .code ≡ 1 → refusalOf sh x o ≡ 0 → Kept sh x p o × Undone sh x p o
 mvsf-holds sh x p o g len e h =
     let k = mvsf-facts sh x o (g .capacities) len e h in
     subst (λ q. Kept sh x p q × Undone sh x p q) (sym (k .is)) (mvsf-exact g (k .free) (k .x) (k .y) (k .z) (k .range))
 
--- both for kvsf
-pub kvsf-holds : (sh : Shape) (x : List ℕ) (p : List ℤ) (o : Operator) → Good sh x p → length (o .args) ≡ 8
-    → o .code ≡ 2 → refusalOf sh x o ≡ 0 → Kept sh x p o × Undone sh x p o
+-- both for kvsf, where the word of the vertex that it kills is 1
+pub kvsf-holds : (sh : Shape) (x : List ℕ) (p : List ℤ) (o : Operator) → Marked sh x p → length (o .args) ≡ 8
+    → o .code ≡ 2 → refusalOf sh x o ≡ 0 → own sh x VertexUsed (killedVertex sh x o) ≤ 1
+    → Kept sh x p o × Undone sh x p o
 unfolding pattern rows useWord condition
-kvsf-holds sh x p o g len e h =
+kvsf-holds sh x p o g len e h low =
     let k = one-operand sh x 2 1 refl refl refl refl (omega (arith, g .capacities .solids)) refl o len e h in
     let r = tested-one x (g .sound) (k .n) (k .range) (k .used) (rw (k .small) at (k .holds)) in
-    subst (λ q. Kept sh x p q × Undone sh x p q) (sym (k .is)) (kvsf-exact g r (k .used))
+    let w = subst (λ q. own sh x VertexUsed (killedVertex sh x q) ≤ 1) (k .is) low in
+    subst (λ q. Kept sh x p q × Undone sh x p q) (sym (k .is))
+    (kvsf-exact g r (k .used) (rw (kvsf-killed r (g .capacities)) at w))

@@ -243,7 +243,6 @@ module _ {sh : Shape} {p : List ℤ} {c : Columns} (a : Sound sh p c) {s f l v :
     loop = λ m i h. split m l (λ e. rw e (own-loop b (rw e at h))) (λ x. old-loop b m i x h);
     half-free = λ k i h. let r = a .half-free k i h in record { loop = r .loop; next = r .next; prev = r .prev };
     half = half-sound b;
-    vertex-mark = λ w i. split w v (λ e. rw e (simp upd-same (mark b))) (λ x. simp upd-off (a .vertex-mark w i));
     vertex = λ w i h. split w v (λ e. rw e (own-vertex b (rw e at h)))
         (λ x. old-vertex b w i x (a .vertex w i (simp upd-off at h)));
     point = points;

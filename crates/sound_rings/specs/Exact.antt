@@ -21,14 +21,14 @@ use Rattle.layout.specs.Layout.{setFaceOuter, setLoopFace}
 use Rattle.layout.specs.Mate.{mate}
 use Rattle.layout.specs.MateLaws.{mate-mate}
 use Rattle.euler.specs.FaceOperators.{sharesOutside, rmovTest, rmovLinks}
-use Rattle.euler.specs.Exec.{useWord, condition, refusalOf, linksAfter, pointsAfter, inverse}
+use Rattle.euler.specs.Exec.{useWord, condition, refusalOf, marksAfter, pointsAfter, inverse}
 use Rattle.layout.specs.Fields.{Solid, Outer, Face, Start, Loop, Columns, change}
 use Rattle.sound_tables.specs.Cells.{Shows, shows-put, put-back}
 use Rattle.sound_tables.specs.Sound.{In, HalfUsed, side}
 use Rattle.sound_tables.specs.Labels.{least-found, least-some}
 use Rattle.sound_tables.specs.Accepted.{use-old, old-use}
 use Rattle.sound_tables.specs.TwoOperands.{twoOf, two-operands, two-accepted}
-use Rattle.sound_tables.specs.Good.{own, Capacities, Good, good-shows, good-after}
+use Rattle.sound_tables.specs.Good.{own, Capacities, Marked, marked-shows, marked-after}
 use Rattle.sound_tables.specs.Undone.{Kept, Undone, exact}
 use Rattle.sound_rings.specs.Sound.{Ring, Shared, swap-sound, move-sound, mate-outside}
 
@@ -116,13 +116,13 @@ module _ (sh : Shape) (x : List ℕ) (l f : ℕ) where
       (rw (le-leb l mostHalves (ln caps r), le-leb f mostHalves (fn caps r)) (of-reached (r .ring) q))
 
   -- what it does where the face is l's own
-  pub swap-links : Capacities sh → Ring sh c l f → f ≡ c Face l → linksAfter sh x (rmovOf l f) ≡ setFaceOuter sh x f l
-  unfolding linksAfter rmovLinks
+  pub swap-links : Capacities sh → Ring sh c l f → f ≡ c Face l → marksAfter sh x (rmovOf l f) ≡ setFaceOuter sh x f l
+  unfolding marksAfter rmovLinks
   swap-links caps r e = rw (le-leb l mostHalves (ln caps r), le-leb f mostHalves (fn caps r), eqb-same e)
 
   -- and where it is another
-  pub move-links : Capacities sh → Ring sh c l f → f ≢ c Face l → linksAfter sh x (rmovOf l f) ≡ setLoopFace sh x l f
-  unfolding linksAfter rmovLinks
+  pub move-links : Capacities sh → Ring sh c l f → f ≢ c Face l → marksAfter sh x (rmovOf l f) ≡ setLoopFace sh x l f
+  unfolding marksAfter rmovLinks
   move-links caps r n = rw (le-leb l mostHalves (ln caps r), le-leb f mostHalves (fn caps r), eqb-other n)
 
   -- points stay
@@ -144,7 +144,7 @@ module _ (sh : Shape) (x : List ℕ) (l f : ℕ) where
 
 -- ---- the ring becomes the outer loop
 
-module _ {sh : Shape} {x : List ℕ} {p : List ℤ} (g : Good sh x p) {l f : ℕ} (r : Ring sh (own sh x) l f)
+module _ {sh : Shape} {x : List ℕ} {p : List ℤ} (g : Marked sh x p) {l f : ℕ} (r : Ring sh (own sh x) l f)
     (e : f ≡ own sh x Face l) where
   -- the list afterwards
   abbrev y : List ℕ
@@ -156,7 +156,7 @@ module _ {sh : Shape} {x : List ℕ} {p : List ℤ} (g : Good sh x p) {l f : ℕ
 
   -- the list shows them
   y-shows : Shows sh y d
-  y-shows = shows-put (good-shows g) Outer f l (r .face-in .0) (r .face-in .1)
+  y-shows = shows-put (marked-shows g) Outer f l (r .face-in .0) (r .face-in .1)
 
   -- the old outer loop
   abbrev l₀ : ℕ
@@ -190,13 +190,13 @@ module _ {sh : Shape} {x : List ℕ} {p : List ℤ} (g : Good sh x p) {l f : ℕ
 
   -- and its outer loop put back, the list is the first one
   swap-back : setFaceOuter sh y f l₀ ≡ x
-  swap-back = put-back (good-shows g) Outer f l l₀ (r .face-in .0) (r .face-in .1) refl
+  swap-back = put-back (marked-shows g) Outer f l l₀ (r .face-in .0) (r .face-in .1) refl
 
   -- a good table stays good, and the inverse gives everything back
   swap-exact : Kept sh x p (rmovOf l f) × Undone sh x p (rmovOf l f)
   swap-exact = exact
       (swap-links sh x l f (g .capacities) r e) (rmov-points sh x l f p) (swap-inverse sh x l f (g .capacities) r p e)
-      (good-after g y-shows (λ n. refl) refl (swap-sound (g .sound) r e))
+      (marked-after g y-shows (λ n. refl) refl (swap-sound (g .sound) r e))
       (rmov-accepted sh y l₀ f (g .capacities) y-ring (inl (sym y-face)))
       (swap-links sh y l₀ f (g .capacities) y-ring (sym y-face) ∙ swap-back)
       (rmov-points sh y l₀ f p)
@@ -204,7 +204,7 @@ module _ {sh : Shape} {x : List ℕ} {p : List ℤ} (g : Good sh x p) {l f : ℕ
 
 -- ---- the ring goes to another face
 
-module _ {sh : Shape} {x : List ℕ} {p : List ℤ} (g : Good sh x p) {l f k : ℕ} (r : Ring sh (own sh x) l f)
+module _ {sh : Shape} {x : List ℕ} {p : List ℤ} (g : Marked sh x p) {l f k : ℕ} (r : Ring sh (own sh x) l f)
     (n : f ≢ own sh x Face l) (s : Shared sh (own sh x) l f k) where
   -- the list afterwards
   abbrev ym : List ℕ
@@ -220,7 +220,7 @@ module _ {sh : Shape} {x : List ℕ} {p : List ℤ} (g : Good sh x p) {l f k : �
 
   -- the list shows them
   ym-shows : Shows sh ym dm
-  ym-shows = shows-put (good-shows g) Face l f (r .loop-in .0) (r .loop-in .1)
+  ym-shows = shows-put (marked-shows g) Face l f (r .loop-in .0) (r .loop-in .1)
 
   -- the face of l is f
   ym-face : own sh ym Face l ≡ f
@@ -266,13 +266,13 @@ module _ {sh : Shape} {x : List ℕ} {p : List ℤ} (g : Good sh x p) {l f k : �
 
   -- and l put back, the list is the first one
   move-back : setLoopFace sh ym l f₀ ≡ x
-  move-back = put-back (good-shows g) Face l f f₀ (r .loop-in .0) (r .loop-in .1) refl
+  move-back = put-back (marked-shows g) Face l f f₀ (r .loop-in .0) (r .loop-in .1) refl
 
   -- a good table stays good, and the inverse gives everything back
   move-exact : Kept sh x p (rmovOf l f) × Undone sh x p (rmovOf l f)
   move-exact = exact
       (move-links sh x l f (g .capacities) r n) (rmov-points sh x l f p) (move-inverse sh x l f (g .capacities) r p n)
-      (good-after g ym-shows (λ n. refl) refl (move-sound (g .sound) r n s))
+      (marked-after g ym-shows (λ n. refl) refl (move-sound (g .sound) r n s))
       (rmov-accepted sh ym l f₀ (g .capacities) ym-ring (inr (ym-other, mate k, ym-shared)))
       (move-links sh ym l f₀ (g .capacities) ym-ring ym-other ∙ move-back)
       (rmov-points sh ym l f₀ p)
@@ -281,7 +281,7 @@ module _ {sh : Shape} {x : List ℕ} {p : List ℤ} (g : Good sh x p) {l f k : �
 -- ---- as an operator
 
 -- a good table stays good, and the inverse gives everything back
-pub rmov-holds : (sh : Shape) (x : List ℕ) (p : List ℤ) (o : Operator) → Good sh x p → length (o .args) ≡ 8
+pub rmov-holds : (sh : Shape) (x : List ℕ) (p : List ℤ) (o : Operator) → Marked sh x p → length (o .args) ≡ 8
     → o .code ≡ 13 → refusalOf sh x o ≡ 0 → Kept sh x p o × Undone sh x p o
 unfolding pattern rows useWord condition
 rmov-holds sh x p o g len e h =

@@ -20,7 +20,7 @@ use Rattle.layout.specs.Mate.{mate, edgeOf}
 use Rattle.layout.specs.Points.{pointWidth, coordinate, rangeTest}
 use Rattle.euler.specs.Surgery.{halfBy, wayOf, putPoint}
 use Rattle.euler.specs.EdgeOperators.{semvLinks, jekvTest, jekvLinks}
-use Rattle.euler.specs.Exec.{limits, useWord, condition, refusalOf, linksAfter, killedVertex, pointsAfter, inverse}
+use Rattle.euler.specs.Exec.{limits, useWord, condition, refusalOf, marksAfter, killedVertex, pointsAfter, inverse}
 use Rattle.layout.specs.Fields.{Start, Next, VertexUsed, Columns}
 use Rattle.sound_tables.specs.Sound.{In, HalfUsed}
 use Rattle.sound_tables.specs.PointLists.{three, all-three}
@@ -143,8 +143,8 @@ module _ (sh : Shape) (x : List ℕ) (caps : Capacities sh) {m : Semv} (r : Semv
   wn = omega (arith, r .way)
 
   -- the links afterwards
-  pub semv-links : linksAfter sh x (semvOf m) ≡ semvLinks sh x (m .half) (newHalf m) (m .vertex)
-  unfolding linksAfter
+  pub semv-links : marksAfter sh x (semvOf m) ≡ semvLinks sh x (m .half) (newHalf m) (m .vertex)
+  unfolding marksAfter
   semv-links =
       let k = le-leb (m .half) mostHalves kn in
       let v = le-leb (m .vertex) mostHalves vn in
@@ -246,9 +246,14 @@ module _ (sh : Shape) (x : List ℕ) (k n : ℕ) (caps : Capacities sh) (o : Joi
       (true-T (eqb-same (o .next-b)))))
 
   -- what it does
-  pub jekv-links : linksAfter sh x (jekvOf k) ≡ jekvLinks sh x k n
-  unfolding linksAfter
+  pub jekv-links : marksAfter sh x (jekvOf k) ≡ jekvLinks sh x k n
+  unfolding marksAfter
   jekv-links = rw (k-small, o .next-k)
+
+  -- it kills n's start
+  pub jekv-killed : killedVertex sh x (jekvOf k) ≡ own sh x Start n
+  unfolding killedVertex
+  jekv-killed = rw (k-small, o .next-k)
 
   -- the point of n's start is cleared
   pub jekv-points : (p : List ℤ) → pointsAfter sh x p (jekvOf k) ≡ putPoint p (own sh x Start n) (pos 0) (pos 0) (pos 0)

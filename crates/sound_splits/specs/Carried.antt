@@ -130,11 +130,10 @@ module _ {sh : Shape} {p : List ℤ} {c d : Columns} (a : Sound sh p c)
     -- what is left to show are starts, vertices and their points, and rules 4 and 5
     pub carried : {q : List ℤ}
         → ((i : ℕ) → HalfUsed sh d i → In (sh .vertices) (d Start i) × (d VertexUsed (d Start i) ≢ 0))
-        → ((v : ℕ) → In (sh .vertices) v → d VertexUsed v ≤ 1)
         → ((v : ℕ) → In (sh .vertices) v → d VertexUsed v ≢ 0 → VertexSound sh d v)
         → ((v : ℕ) → In (sh .vertices) v → PointSound q d v)
         → Rules (2 * sh .edges) mate (HalfUsed sh d) (halves d) → Sound sh q d
-    carried starts mark vertex points rules = record {
+    carried starts vertex points rules = record {
       solid-mark = λ s i. rw (same SolidUsed refl s) (a .solid-mark s i);
       solid = λ s i h. let r = a .solid s i (λ z. h (same SolidUsed refl s ∙ z)) in
           (r .0, r .1, same Solid refl (r .0) ∙ r .2);
@@ -150,7 +149,6 @@ module _ {sh : Shape} {p : List ℤ} {c d : Columns} (a : Sound sh p c)
       loop = λ l i h. carried-loop l i (a .loop l i (λ z. h (same Face refl l ∙ z)));
       half-free = t .half;
       half = λ i j h. carried-half starts i (j .0, j .1, h);
-      vertex-mark = mark;
       vertex = vertex;
       point = points;
       rules = rules;

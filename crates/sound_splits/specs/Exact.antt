@@ -15,13 +15,13 @@ use Rattle.layout.specs.MateLaws.{mate-range}
 use Rattle.layout.specs.Points.{pointsLength, coordinate, rangeTest}
 use Rattle.euler.specs.Surgery.{putPoint}
 use Rattle.euler.specs.EdgeOperators.{semvLinks, jekvLinks}
-use Rattle.euler.specs.Exec.{refusalOf}
+use Rattle.euler.specs.Exec.{refusalOf, killedVertex}
 use Rattle.layout.specs.Fields.{Start, Next, Prev, VertexUsed, Columns}
 use Rattle.sound_tables.specs.Cells.{Shows, shows-ext}
 use Rattle.sound_tables.specs.Sound.{Sound}
 use Rattle.sound_tables.specs.PointLists.{all-three, put-length, put-at, put-back, put-cleared, points-new}
 use Rattle.sound_tables.specs.PointLists.{points-cleared}
-use Rattle.sound_tables.specs.Good.{own, Good, good-shows, good-after}
+use Rattle.sound_tables.specs.Good.{own, Marked, marked-shows, marked-after}
 use Rattle.sound_tables.specs.Undone.{Kept, Undone}
 use Rattle.sound_splits.specs.CycleMoves.{swapFor}
 use Rattle.sound_splits.specs.Relation.{Place, aft, Split, n≢k, n≢m, used-old}
@@ -34,11 +34,11 @@ use Rattle.sound_tables.specs.HalfNumbers.{edge-by, way-by, way-small, half-is,
 use Rattle.sound_tables.specs.Names.{free-halves}
 use Rattle.sound_splits.specs.Accepted.{Semv, semvOf, jekvOf, newHalf, SemvFits, jekvBack, semv-facts, semv-links}
 use Rattle.sound_splits.specs.Accepted.{semv-points, semv-inverse, semv-accepted, jekv-facts, tested-joint}
-use Rattle.sound_splits.specs.Accepted.{jekv-links, jekv-points, jekv-inverse, jekv-accepted}
+use Rattle.sound_splits.specs.Accepted.{jekv-links, jekv-killed, jekv-points, jekv-inverse, jekv-accepted}
 
 -- ---- semv
 
-module _ {sh : Shape} {x : List ℕ} {p : List ℤ} (g : Good sh x p) {m : Semv} (r : SemvFits sh (own sh x) m) where
+module _ {sh : Shape} {x : List ℕ} {p : List ℤ} (g : Marked sh x p) {m : Semv} (r : SemvFits sh (own sh x) m) where
   -- the half-edge that is divided
   abbrev k : ℕ
   k = m .half
@@ -85,7 +85,7 @@ module _ {sh : Shape} {x : List ℕ} {p : List ℤ} (g : Good sh x p) {m : Semv}
 
   -- the list shows it
   y-shows : Shows sh y d
-  y-shows = semv-shows (good-shows g) (g .sound) place
+  y-shows = semv-shows (marked-shows g) (g .sound) place
 
   -- and it is sound
   d-sound : Sound sh q d
@@ -96,7 +96,7 @@ module _ {sh : Shape} {x : List ℕ} {p : List ℤ} (g : Good sh x p) {m : Semv}
   -- a good table stays good
   semv-kept : Kept sh x p (semvOf m)
   semv-kept = rw (semv-links sh x (g .capacities) r, semv-points sh x (g .capacities) r p)
-      (good-after g y-shows (λ i. refl) (put-length p v (m .x) (m .y) (m .z)) d-sound)
+      (marked-after g y-shows (λ i. refl) (put-length p v (m .x) (m .y) (m .z)) d-sound)
 
   -- n is a joint
   d-joint : Joint sh d k n
@@ -107,6 +107,11 @@ module _ {sh : Shape} {x : List ℕ} {p : List ℤ} (g : Good sh x p) {m : Semv}
     n≢m = n≢m place;
     next-b = divided .next-b;
   }
+
+  -- the word of the vertex there is 1
+  d-low : d VertexUsed (d Start n) ≤ 1
+  d-low = let e : d VertexUsed (d Start n) ≡ 1 = ap (d VertexUsed) (divided .start-n) ∙ divided .v-used in
+      omega (arith, e)
 
   -- the same on the list
   y-joint : Joint sh (own sh y) k n
@@ -124,8 +129,8 @@ module _ {sh : Shape} {x : List ℕ} {p : List ℤ} (g : Good sh x p) {m : Semv}
 
   -- jekv leads back
   semv-back : jekvLinks sh y k n ≡ x
-  semv-back = shows-ext (jekv-shows y-shows d-sound d-joint) (good-shows g)
-      (unique-before (jekv-split d-sound d-joint)
+  semv-back = shows-ext (jekv-shows y-shows d-sound d-joint d-low) (marked-shows g)
+      (unique-before (jekv-split d-sound d-joint d-low)
       (subst (λ t. Split sh (own sh x) d k n t) (sym (divided .start-n)) divided))
 
   -- jekv gives everything back
@@ -157,7 +162,8 @@ module _ {sh : Shape} {x : List ℕ} {p : List ℤ} (g : Good sh x p) {m : Semv}
 
 -- ---- jekv
 
-module _ {sh : Shape} {x : List ℕ} {p : List ℤ} (g : Good sh x p) {k n : ℕ} (o : Joint sh (own sh x) k n) where
+module _ {sh : Shape} {x : List ℕ} {p : List ℤ} (g : Marked sh x p) {k n : ℕ} (o : Joint sh (own sh x) k n)
+    (low : own sh x VertexUsed (own sh x Start n) ≤ 1) where
   -- the vertex that goes
   abbrev kv : ℕ
   kv = own sh x Start n
@@ -176,11 +182,11 @@ module _ {sh : Shape} {x : List ℕ} {p : List ℤ} (g : Good sh x p) {k n : ℕ
 
   -- n's start divides k
   rejoined : Split sh kc (own sh x) k n kv
-  rejoined = jekv-split (g .sound) o
+  rejoined = jekv-split (g .sound) o low
 
   -- the list shows what was divided
   ky-shows : Shows sh ky kc
-  ky-shows = jekv-shows (good-shows g) (g .sound) o
+  ky-shows = jekv-shows (marked-shows g) (g .sound) o low
 
   -- n is a number of a half-edge
   n1 : 1 ≤ n
@@ -195,7 +201,7 @@ module _ {sh : Shape} {x : List ℕ} {p : List ℤ} (g : Good sh x p) {k n : ℕ
   -- a good table stays good
   jekv-kept : Kept sh x p (jekvOf k)
   jekv-kept = rw (jekv-links sh x k n (g .capacities) o n1, jekv-points sh x k n (g .capacities) o n1 p)
-      (good-after g ky-shows (λ i. refl) (put-length p kv (pos 0) (pos 0) (pos 0)) c-sound)
+      (marked-after g ky-shows (λ i. refl) (put-length p kv (pos 0) (pos 0) (pos 0)) c-sound)
 
   -- semv fits there
   ky-fits : SemvFits sh (own sh ky) (jekvBack sh x p k n)
@@ -216,7 +222,7 @@ module _ {sh : Shape} {x : List ℕ} {p : List ℤ} (g : Good sh x p) {k n : ℕ
 
   -- semv leads back
   jekv-back : semvLinks sh ky k n kv ≡ x
-  jekv-back = shows-ext (semv-shows ky-shows c-sound (rejoined .place)) (good-shows g)
+  jekv-back = shows-ext (semv-shows ky-shows c-sound (rejoined .place)) (marked-shows g)
       (unique-after (semv-split c-sound (rejoined .place)) rejoined)
 
   -- semv gives everything back
@@ -237,16 +243,20 @@ module _ {sh : Shape} {x : List ℕ} {p : List ℤ} (g : Good sh x p) {k n : ℕ
 -- ---- as operators
 
 -- both for semv
-pub semv-holds : (sh : Shape) (x : List ℕ) (p : List ℤ) (o : Operator) → Good sh x p → length (o .args) ≡ 8
+pub semv-holds : (sh : Shape) (x : List ℕ) (p : List ℤ) (o : Operator) → Marked sh x p → length (o .args) ≡ 8
     → o .code ≡ 11 → refusalOf sh x o ≡ 0 → Kept sh x p o × Undone sh x p o
 semv-holds sh x p o g len e h =
     let f = semv-facts sh x o (g .capacities) len e h in
     subst (λ q. Kept sh x p q × Undone sh x p q) (sym (f .is)) (semv-kept g (f .fits), semv-undone g (f .fits))
 
--- both for jekv
-pub jekv-holds : (sh : Shape) (x : List ℕ) (p : List ℤ) (o : Operator) → Good sh x p → length (o .args) ≡ 8
-    → o .code ≡ 12 → refusalOf sh x o ≡ 0 → Kept sh x p o × Undone sh x p o
-jekv-holds sh x p o g len e h =
+-- both for jekv, where the word of the vertex that it kills is 1
+pub jekv-holds : (sh : Shape) (x : List ℕ) (p : List ℤ) (o : Operator) → Marked sh x p → length (o .args) ≡ 8
+    → o .code ≡ 12 → refusalOf sh x o ≡ 0 → own sh x VertexUsed (killedVertex sh x o) ≤ 1
+    → Kept sh x p o × Undone sh x p o
+jekv-holds sh x p o g len e h low =
     let f = jekv-facts sh x o (g .capacities) len e h in
     let j = tested-joint sh x (f .k) (f .half) (f .test) in
-    subst (λ q. Kept sh x p q × Undone sh x p q) (sym (f .is)) (jekv-kept g j, jekv-undone g j)
+    let u = subst (λ q. own sh x VertexUsed (killedVertex sh x q) ≤ 1) (f .is) low in
+    let i = g .sound .rules .loops .perm .f-in (f .k) (f .half) .0 in
+    let v = rw (jekv-killed sh x (f .k) (own sh x Next (f .k)) (g .capacities) j i) at u in
+    subst (λ q. Kept sh x p q × Undone sh x p q) (sym (f .is)) (jekv-kept g j v, jekv-undone g j v)

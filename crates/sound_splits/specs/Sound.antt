@@ -68,7 +68,6 @@ module _ {sh : Shape} {c d : Columns} {k n v : ℕ} (r : Split sh c d k n v) whe
       (old (mate k) (o .m-used) (mate n) (r .start-b))
       (λ i u. split i (mate k) (λ e. at-v i (ap (d Start) e ∙ r .start-m))
       (λ e. old i u i (r .start i e (off-n o i u) (off-b o i u)))))
-      (λ w i. split w v (λ e. rw e (rw (r .v-used) (omega arith))) (λ e. rw (r .used w e) (a .vertex-mark w i)))
       (λ w i h. split w v
       (λ e. subst (VertexSound sh d) (sym e)
       (joined (λ l j z. isolated-unnamed a v (o .v-in) (o .v-free) l j (sym (r .isolated l) ∙ z)) n (o .n-in)
@@ -103,7 +102,6 @@ module _ {sh : Shape} {c d : Columns} {k n v : ℕ} (r : Split sh c d k n v) whe
       let e = start-fore r i u in
       let h : d VertexUsed (c Start i) ≢ 0 = rw e at (s .start-used) in
       (rw e at (s .start-in), keep (c Start i) (not-v i u) h))
-      (λ w i. split w v (λ e. rw e (rw (o .v-free) (omega arith))) (λ e. rw (sym (r .used w e)) (a .vertex-mark w i)))
       (λ w i h. let u = used-after w h in vertex-carried w (λ l. sym (r .isolated l)) (started-before w (u .0))
       (started-after w (i .0)) (a .vertex w i (u .1)))
       points

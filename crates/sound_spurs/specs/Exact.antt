@@ -19,13 +19,13 @@ use Rattle.layout.specs.Fields.{Field, Face, First, Isolated, Start, Loop, Next
 use Rattle.layout.specs.Fields.{capOf}
 use Rattle.layout.specs.Writes.{write, cleared, changes}
 use Rattle.euler.specs.Surgery.{putPoint, noEdgeWrites}
-use Rattle.euler.specs.Exec.{refusalOf}
+use Rattle.euler.specs.Exec.{refusalOf, killedVertex}
 use Rattle.sound_tables.specs.Cells.{Shows, shows-ext}
 use Rattle.sound_tables.specs.Sound.{HalfUsed, firstOf, Sound}
 use Rattle.sound_tables.specs.Names.{not-isolated}
 use Rattle.sound_tables.specs.HalfNumbers.{edge-by, way-by, way-small, half-is, edge-in, second-half}
 use Rattle.sound_tables.specs.PointLists.{put-at, put-back, put-cleared, all-three}
-use Rattle.sound_tables.specs.Good.{own, Good, good-shows}
+use Rattle.sound_tables.specs.Good.{own, Marked, marked-shows}
 use Rattle.sound_tables.specs.CornerTest.{CornerAt}
 use Rattle.sound_tables.specs.WriteLaws.{Apart, frame}
 use Rattle.sound_tables.specs.Undone.{Kept, Undone}
@@ -42,7 +42,7 @@ use Rattle.sound_spurs.specs.MevAccepted.{Mev, mevOf, newHalf, MevFits, 
 use Rattle.sound_spurs.specs.MevAccepted.{mev-links, mev-points, mev-inverse, mev-accepted, mev-place, mev-corner}
 use Rattle.sound_spurs.specs.MevAccepted.{mev-shows, mev-good}
 use Rattle.sound_spurs.specs.KevAccepted.{spurEdge, kevOf, kev-facts, kevList, kevPoints, kevBack, kev-links}
-use Rattle.sound_spurs.specs.KevAccepted.{kev-points}
+use Rattle.sound_spurs.specs.KevAccepted.{kev-killed, kev-points}
 use Rattle.sound_spurs.specs.KevAccepted.{kev-inverse, kev-accepted, kev-shows, killed-good}
 
 -- ---- mev, then kev
@@ -72,7 +72,7 @@ module _ {sh : Shape} {c : Columns} {E : NewEdge} (o : MevPlace sh c E) where
       (λ h. absurd (other-item (h 3) refl), (λ h. absurd (other-item (h 7) refl), of-k)) in
       (λ h. after-P (other-item (h 9)), (λ h. before-N (other-item (h 5)), covered))
 
-module _ {sh : Shape} {x : List ℕ} {p : List ℤ} (g : Good sh x p) {m : Mev} (r : MevFits sh (own sh x) m) where
+module _ {sh : Shape} {x : List ℕ} {p : List ℤ} (g : Marked sh x p) {m : Mev} (r : MevFits sh (own sh x) m) where
   -- the columns before
   abbrev c : Columns
   c = own sh x
@@ -161,7 +161,7 @@ module _ {sh : Shape} {x : List ℕ} {p : List ℤ} (g : Good sh x p) {m : Mev} 
 
   -- kev leads back
   kev-leads-back : kevList sh y k ≡ x
-  kev-leads-back = shows-ext (kev-shows (mev-good g r) uk nk left) (good-shows g) (λ F n i j.
+  kev-leads-back = shows-ext (kev-shows (mev-good g r) uk nk left) (marked-shows g) (λ F n i j.
       (λ t. changes (write First (at-l t) (first-back t) ∷ write Isolated (at-l t) (c Isolated (m .loop))
       ∷ write VertexUsed (at-v t) 0 ∷ []) (out-is t) F n)
       ∙ restored (write First (m .loop) (c First (m .loop)) ∷ write Isolated (m .loop) (c Isolated (m .loop))
@@ -203,8 +203,9 @@ module _ {sh : Shape} {x : List ℕ} {p : List ℤ} (g : Good sh x p) {m : Mev} 
 
 -- ---- kev, then mev
 
-module _ {sh : Shape} {x : List ℕ} {p : List ℤ} (g : Good sh x p) {k : ℕ} (uk : HalfUsed sh (own sh x) k)
-    (nk : own sh x Next k ≡ mate k) {I : ℕ} (left : Left (own sh x) k I) where
+module _ {sh : Shape} {x : List ℕ} {p : List ℤ} (g : Marked sh x p) {k : ℕ} (uk : HalfUsed sh (own sh x) k)
+    (nk : own sh x Next k ≡ mate k) {I : ℕ} (left : Left (own sh x) k I)
+    (low : own sh x VertexUsed (own sh x Start (mate k)) ≤ 1) where
   -- the columns before
   abbrev kc : Columns
   kc = own sh x
@@ -234,7 +235,7 @@ module _ {sh : Shape} {x : List ℕ} {p : List ℤ} (g : Good sh x p) {k : ℕ} 
   kq = kevPoints sh x p k
 
   -- they are good
-  gy : Good sh ky kq
+  gy : Marked sh ky kq
   gy = killed-good g uk nk left
 
   -- the columns they show
@@ -331,11 +332,11 @@ module _ {sh : Shape} {x : List ℕ} {p : List ℤ} (g : Good sh x p) {k : ℕ} 
 
   -- the mark of the vertex that went was 1
   far-mark : kc VertexUsed (kE .to) ≡ 1
-  far-mark = let a = g .sound .vertex-mark (kE .to) (far-in sp) in let u = far-used sp in omega (arith, a, u)
+  far-mark = let u = far-used sp in omega (arith, low, u)
 
   -- mev leads back
   mev-leads-back : mevList sh ky (newEdge kY m) ≡ x
-  mev-leads-back = shows-ext (mev-shows gy fits) (good-shows g) (λ F n i j.
+  mev-leads-back = shows-ext (mev-shows gy fits) (marked-shows g) (λ F n i j.
       (λ t. mevColumns sh kY (edge-is t) F n)
       ∙ restored (endStores kE (firstOf sh (edged kY kE) (kE .loop))) kc (edged kY kE)
       ((λ h. first-again), ((λ h. sym (not-isolated (g .sound) k uk refl)), ((λ h. sym far-mark), tt))) F n
@@ -362,17 +363,20 @@ module _ {sh : Shape} {x : List ℕ} {p : List ℤ} (g : Good sh x p) {k : ℕ} 
 -- ---- as operators
 
 -- both for mev
-pub mev-holds : (sh : Shape) (x : List ℕ) (p : List ℤ) (o : Operator) → Good sh x p → length (o .args) ≡ 8 → o .code ≡ 3
+pub mev-holds : (sh : Shape) (x : List ℕ) (p : List ℤ) (o : Operator) → Marked sh x p → length (o .args) ≡ 8 → o .code ≡ 3
     → refusalOf sh x o ≡ 0 → Kept sh x p o × Undone sh x p o
 mev-holds sh x p o g len e h =
     let f = mev-facts sh x o (g .capacities) len e h in
     subst (λ q. Kept sh x p q × Undone sh x p q) (sym (f .is)) (mev-kept g (f .fits), mev-undone g (f .fits))
 
--- both for kev
-pub kev-holds : (sh : Shape) (x : List ℕ) (p : List ℤ) (o : Operator) → Good sh x p → length (o .args) ≡ 8 → o .code ≡ 4
-    → refusalOf sh x o ≡ 0 → Kept sh x p o × Undone sh x p o
-kev-holds sh x p o g len e h =
+-- both for kev, where the word of the vertex that it kills is 1
+pub kev-holds : (sh : Shape) (x : List ℕ) (p : List ℤ) (o : Operator) → Marked sh x p → length (o .args) ≡ 8
+    → o .code ≡ 4 → refusalOf sh x o ≡ 0 → own sh x VertexUsed (killedVertex sh x o) ≤ 1
+    → Kept sh x p o × Undone sh x p o
+kev-holds sh x p o g len e h low =
     let f = kev-facts sh x o (g .capacities) len e h in
     let w = left-of (own sh x) (f .k) in
+    let u = subst (λ q. own sh x VertexUsed (killedVertex sh x q) ≤ 1) (f .is) low in
+    let v = rw (kev-killed g (f .used) (f .next)) at u in
     subst (λ q. Kept sh x p q × Undone sh x p q) (sym (f .is))
-    (kev-kept g (f .used) (f .next) (w .1), kev-undone g (f .used) (f .next) (w .1))
+    (kev-kept g (f .used) (f .next) (w .1) v, kev-undone g (f .used) (f .next) (w .1) v)

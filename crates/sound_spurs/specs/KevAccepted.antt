@@ -21,14 +21,14 @@ use Rattle.layout.specs.Mate.{mate, edgeOf}
 use Rattle.layout.specs.Points.{coordinate}
 use Rattle.euler.specs.Surgery.{wayOf, putPoint, edgeOut, renew}
 use Rattle.euler.specs.EdgeOperators.{kevTest, kevLinks}
-use Rattle.euler.specs.Exec.{useWord, condition, refusalOf, linksAfter, killedVertex, pointsAfter, inverse}
+use Rattle.euler.specs.Exec.{useWord, condition, refusalOf, marksAfter, killedVertex, pointsAfter, inverse}
 use Rattle.layout.specs.Fields.{First, Start, Loop, Next, Prev, VertexUsed, Columns}
 use Rattle.sound_tables.specs.Cells.{Shows, shows-put}
 use Rattle.sound_tables.specs.Labels.{label-none}
 use Rattle.sound_tables.specs.Sound.{HalfUsed, firstOf, Sound}
 use Rattle.sound_tables.specs.PointLists.{put-length, points-cleared}
 use Rattle.sound_tables.specs.OneOperand.{oneOf, one-operand, one-accepted}
-use Rattle.sound_tables.specs.Good.{own, Capacities, Good, good-shows, good-after}
+use Rattle.sound_tables.specs.Good.{own, Capacities, Marked, marked-shows, marked-after}
 use Rattle.sound_tables.specs.CornerTest.{cornerLeft}
 use Rattle.sound_tables.specs.FirstLow.{first-low}
 use Rattle.sound_tables.specs.Shown.{withFirst, shows-no-edge, shows-first, shows-isolated}
@@ -95,7 +95,7 @@ kevBack sh x p k = record {
   z = coordinate p (own sh x Start (mate k)) 2;
 }
 
-module _ {sh : Shape} {x : List ℕ} {p : List ℤ} (g : Good sh x p) {k : ℕ} (uk : HalfUsed sh (own sh x) k)
+module _ {sh : Shape} {x : List ℕ} {p : List ℤ} (g : Marked sh x p) {k : ℕ} (uk : HalfUsed sh (own sh x) k)
     (nk : own sh x Next k ≡ mate k) where
   -- the columns
   abbrev c : Columns
@@ -114,9 +114,14 @@ module _ {sh : Shape} {x : List ℕ} {p : List ℤ} (g : Good sh x p) {k : ℕ} 
   kn = le-leb k mostHalves (omega (arith, uk .1, g .capacities .edges))
 
   -- what kev does to the links
-  pub kev-links : linksAfter sh x (kevOf k) ≡ kevList sh x k
-  unfolding linksAfter kevLinks
+  pub kev-links : marksAfter sh x (kevOf k) ≡ kevList sh x k
+  unfolding marksAfter kevLinks
   kev-links = rw (kn, prev-b sp, nk)
+
+  -- the vertex that goes
+  pub kev-killed : killedVertex sh x (kevOf k) ≡ own sh x Start (mate k)
+  unfolding killedVertex
+  kev-killed = rw kn
 
   -- to the points
   pub kev-points : pointsAfter sh x p (kevOf k) ≡ kevPoints sh x p k
@@ -148,7 +153,7 @@ module _ {sh : Shape} {x : List ℕ} {p : List ℤ} (g : Good sh x p) {k : ℕ} 
     -- the list once the edge is out
     out-shows : Shows sh (edgeOut sh x k (c Prev k) (c Next (mate k)) k (mate k)) (kevOut c k)
     out-shows =
-        shows-no-edge (good-shows g) k (c Prev k) (c Next (mate k)) k (mate k) (in-k sp) (in-b sp) (in-P sp) (in-N sp)
+        shows-no-edge (marked-shows g) k (c Prev k) (c Next (mate k)) k (mate k) (in-k sp) (in-b sp) (in-P sp) (in-N sp)
         (in-k sp) (in-b sp)
 
     -- what names the loop now named it before
@@ -181,5 +186,5 @@ module _ {sh : Shape} {x : List ℕ} {p : List ℤ} (g : Good sh x p) {k : ℕ} 
     kev-shows = shows-put first-shows VertexUsed v 0 (far-in sp .0) (far-in sp .1)
 
     -- the table is good afterwards
-    pub killed-good : Good sh (kevList sh x k) (kevPoints sh x p k)
-    killed-good = good-after g kev-shows (λ n. refl) (put-length p v (pos 0) (pos 0) (pos 0)) d-sound
+    pub killed-good : Marked sh (kevList sh x k) (kevPoints sh x p k)
+    killed-good = marked-after g kev-shows (λ n. refl) (put-length p v (pos 0) (pos 0) (pos 0)) d-sound

@@ -325,8 +325,6 @@ module _ {sh : Shape} {p : List ℤ} {c : Columns} {k : ℕ} (sp : Spur sh p c k
     loop = loop-sound;
     half-free = free-half;
     half = λ i j h. half-sound i (j .0, j .1, h);
-    vertex-mark = λ w i. split w v (λ e. rw (upd-at (c VertexUsed) 0 e) (omega arith))
-        (λ e. rw (upd-off (c VertexUsed) 0 e) (a .vertex-mark w i));
     vertex = λ w i h. let e : w ≢ v = λ z. h (upd-at (c VertexUsed) 0 z) in
         vertex-stays w i e (a .vertex w i (λ z. h (upd-off (c VertexUsed) 0 e ∙ z)));
     point = points;

@@ -23,7 +23,7 @@ use Rattle.layout.specs.MateLaws.{mate-range}
 use Rattle.layout.specs.Points.{pointWidth, rangeTest}
 use Rattle.euler.specs.Surgery.{corner, halfBy, putPoint, edgeIn, lower, renew}
 use Rattle.euler.specs.EdgeOperators.{mevLinks}
-use Rattle.euler.specs.Exec.{limits, useWord, condition, refusalOf, linksAfter, pointsAfter, inverse}
+use Rattle.euler.specs.Exec.{limits, useWord, condition, refusalOf, marksAfter, pointsAfter, inverse}
 use Rattle.layout.specs.Fields.{Face, First, Isolated, Start, Loop, Prev, VertexUsed, Columns}
 use Rattle.sound_tables.specs.EdgeIn.{prev-in, next-prev}
 use Rattle.sound_tables.specs.Cells.{Shows, shows-put}
@@ -35,7 +35,7 @@ use Rattle.sound_tables.specs.Accepted.{old-use, use-new, new-use, use-none, in
 use Rattle.sound_tables.specs.Accepted.{coordinate-range, unused-range, unused-use, in-range-or-none, three-range}
 use Rattle.sound_tables.specs.Accepted.{three-use}
 use Rattle.sound_tables.specs.OneOperand.{oneOf}
-use Rattle.sound_tables.specs.Good.{own, Capacities, Good, good-shows, good-after}
+use Rattle.sound_tables.specs.Good.{own, Capacities, Marked, marked-shows, marked-after}
 use Rattle.sound_tables.specs.CornerTest.{CornerAt, corner-most, test-corner, corner-test, corner-use}
 use Rattle.sound_tables.specs.FirstLow.{lower-new, first-low}
 use Rattle.sound_tables.specs.Shown.{shows-edge, shows-first}
@@ -194,8 +194,8 @@ module _ (sh : Shape) (x : List ℕ) (caps : Capacities sh) {m : Mev} (r : MevFi
   wn = omega (arith, r .way)
 
   -- the links afterwards
-  pub mev-links : linksAfter sh x (mevOf m) ≡ mevList sh x (newEdge (own sh x) m)
-  unfolding linksAfter mevLinks
+  pub mev-links : marksAfter sh x (mevOf m) ≡ mevList sh x (newEdge (own sh x) m)
+  unfolding marksAfter mevLinks
   mev-links =
       let l = le-leb (m .loop) mostHalves ln in
       let h = le-leb (m .half) mostHalves hn in
@@ -245,7 +245,7 @@ module _ (sh : Shape) (x : List ℕ) (caps : Capacities sh) {m : Mev} (r : MevFi
 
 -- ---- a good table stays good
 
-module _ {sh : Shape} {x : List ℕ} {p : List ℤ} (g : Good sh x p) {m : Mev} (r : MevFits sh (own sh x) m) where
+module _ {sh : Shape} {x : List ℕ} {p : List ℤ} (g : Marked sh x p) {m : Mev} (r : MevFits sh (own sh x) m) where
   -- the columns
   abbrev c : Columns
   c = own sh x
@@ -329,7 +329,7 @@ module _ {sh : Shape} {x : List ℕ} {p : List ℤ} (g : Good sh x p) {m : Mev} 
       (λ q. (q .0 .0, q .0 .1)) (o .corner) in
       let a-in : In (2 * sh .edges) (E .after) = ⊎-elim (λ q. subst (In (2 * sh .edges)) (sym (q .1)) (o .half-in))
       (λ q. (q .1 .0, q .1 .1)) (o .corner) in
-      let s1 = shows-edge (good-shows g) k (E .from) (m .loop) (mate k) (E .before) (m .vertex) (m .loop) (E .after) k
+      let s1 = shows-edge (marked-shows g) k (E .from) (m .loop) (mate k) (E .before) (m .vertex) (m .loop) (E .after) k
       (o .half-in) (o .mate-in) (o .mate-in) b-in a-in (o .half-in) in
       let s2 = shows-first {U = HalfUsed sh d} s1 (m .loop) (lower (c First (m .loop)) (lower k (mate k))) k 0
       (o .loop-in) (d-sound .rules .loops) (new-k o) (loop-k o)
@@ -339,5 +339,5 @@ module _ {sh : Shape} {x : List ℕ} {p : List ℤ} (g : Good sh x p) {m : Mev} 
       shows-put s2 VertexUsed (m .vertex) 1 (o .vertex-in .0) (o .vertex-in .1)
 
   -- the table is good afterwards
-  pub mev-good : Good sh (mevList sh x (newEdge (own sh x) m)) (mevPoints p m)
-  mev-good = good-after g mev-shows (λ n. refl) (put-length p (m .vertex) (m .x) (m .y) (m .z)) d-sound
+  pub mev-good : Marked sh (mevList sh x (newEdge (own sh x) m)) (mevPoints p m)
+  mev-good = marked-after g mev-shows (λ n. refl) (put-length p (m .vertex) (m .x) (m .y) (m .z)) d-sound

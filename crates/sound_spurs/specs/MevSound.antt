@@ -345,8 +345,6 @@ module _ {sh : Shape} {c : Columns} {E : NewEdge} (o : MevPlace sh c E) where
       loop = mev-loop;
       half-free = mev-half-free;
       half = λ i j h. mev-half i (j .0, j .1, h);
-      vertex-mark = λ w i. split w v (λ e. rw (upd-at (c VertexUsed) 1 e) (omega arith))
-          (λ e. rw (upd-off (c VertexUsed) 1 e) (a .vertex-mark w i));
       vertex = corners-vertex mev-corners;
       point = points;
       rules = corners-rules mev-corners;

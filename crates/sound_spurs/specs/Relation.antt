@@ -19,7 +19,7 @@ use Rattle.layout.specs.Fields.{Face, Start, Loop, Next, Prev, VertexUsed, Colu
 use Rattle.sound_tables.specs.Mates.{mate-other}
 use Rattle.sound_tables.specs.EdgeIn.{prev-in, next-prev}
 use Rattle.sound_tables.specs.Sound.{In, HalfUsed, Sound}
-use Rattle.sound_tables.specs.Good.{own, Good}
+use Rattle.sound_tables.specs.Good.{own, Marked}
 
 -- a half-edge of a sound table that its mate follows
 pub record Spur (sh : Shape) (p : List ℤ) (c : Columns) (k : ℕ) : Type 0 where
@@ -28,7 +28,7 @@ pub record Spur (sh : Shape) (p : List ℤ) (c : Columns) (k : ℕ) : Type 0 whe
   pub next : c Next k ≡ mate k
 
 -- the spur at k of a good table
-abbrev pub spurOf : {sh : Shape} {x : List ℕ} {p : List ℤ} → Good sh x p → {k : ℕ} → HalfUsed sh (own sh x) k
+abbrev pub spurOf : {sh : Shape} {x : List ℕ} {p : List ℤ} → Marked sh x p → {k : ℕ} → HalfUsed sh (own sh x) k
     → own sh x Next k ≡ mate k → Spur sh p (own sh x) k
 spurOf g u n = record { sound = g .sound; used = u; next = n }
 

@@ -21,7 +21,7 @@ use Rattle.layout.specs.Fields.{Field, groupOf, wordOf, groupAt, head, field-in
 use Rattle.layout.specs.Fields.{SolidUsed, Solid, Outer, Face, First, Isolated}
 use Rattle.layout.specs.Fields.{Start, Loop, Next, Prev, VertexUsed}
 use Rattle.sound_tables.specs.Sound.{HalfUsed, FaceUsed, Sound}
-use Rattle.sound_tables.specs.Good.{own, Good}
+use Rattle.sound_tables.specs.Good.{own, Marked}
 use Rattle.sound_tables.specs.ValidGood.{sizes-capacities, good-valid}
 
 -- a list of one value, read anywhere
@@ -112,7 +112,6 @@ module _ (s f l e v : ℕ) where
       prev = word-0 Prev (lit≤ tt) k;
     };
     half = λ k i h. absurd (h (word-0 Start (lit≤ tt) k));
-    vertex-mark = λ n i. omega (arith, word-0 VertexUsed (lit≤ tt) n);
     vertex = λ n i h. absurd (h (word-0 VertexUsed (lit≤ tt) n));
     point = λ n i. record {
       range = λ j h. rw (zero-coordinate (pointsLength v) n j) tt;
@@ -128,7 +127,7 @@ module _ (s f l e v : ℕ) where
   }
 
   -- an empty table of these capacities is good
-  empty-good : {m n : ℕ} → Sizes m n s f l e v → Good sh x p
+  empty-good : {m n : ℕ} → Sizes m n s f l e v → Marked sh x p
   empty-good z = record {
     shape = refl;
     capacities = sizes-capacities z;

@@ -200,7 +200,6 @@ module _ {sh : Shape} {x : List ℕ} {p : List ℤ} (r1 : Rule1 sh x p) (r2 : Ru
               other-zero (R .with-prev) h;
         };
     half = half-sound;
-    vertex-mark = λ v i. r1 .vertex v (i .0) (i .1) .mark;
     vertex = λ v i h. vertex-sound v (r5 .vertex v (i .0) (i .1) h);
     point = point-sound;
     rules = half-rules;

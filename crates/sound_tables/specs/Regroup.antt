@@ -73,7 +73,6 @@ module _ {sh : Shape} {p : List ℤ} {c d : Columns} (a : Sound sh p c) (r : Reg
           loop-in = b .loop-in;
           loop-used = still-used (c Loop k) (b .loop-in) (b .loop-used);
         };
-    vertex-mark = a .vertex-mark;
     vertex = λ v i h. vertex-same (λ l i. refl) (λ k i. refl) (a .vertex v i h);
     point = λ v i. let b = a .point v i in record { range = b .range; zero = b .zero };
     rules = a .rules;

@@ -1,7 +1,8 @@
 -- A sound table in plain words, over its columns. `Sound` is what the six rules say, with nothing said twice: next,
 -- previous and start are two labelled permutations (`Rules`), first is a function of the loop column, and rule 6 is
 -- `Solids`.
-use mathlib.Core.Path.{_≡_, sym, ap, _∙_}
+use mathlib.Core.Path.{_≡_, refl, sym, ap, _∙_}
+use mathlib.Core.Bool.{false}
 use mathlib.Core.Logic.{_≢_, _⊎_, inl, inr, ⊎-elim}
 use mathlib.Core.List.{List}
 use Prim.Native.Nat.{ℕ, _*_, _≤_, _<_}
@@ -13,7 +14,7 @@ use Rattle.layout.specs.declared.shape.Shape.{Shape}
 use Rattle.layout.specs.Mate.{mate}
 use Rattle.layout.specs.Points.{pointWidth, coordinate, inRange}
 use Rattle.layout.specs.Fields.{Field, SolidUsed, Solid, Outer, Face, First, Isolated, Start, Loop, Next, Prev}
-use Rattle.layout.specs.Fields.{VertexUsed, Columns, capOf}
+use Rattle.layout.specs.Fields.{VertexUsed, Columns, capOf, sameField}
 use Rattle.sound_tables.specs.EdgeIn.{Halves, Rules}
 use Rattle.sound_tables.specs.Dummies.{agree-rules}
 use Rattle.sound_tables.specs.Solids.{Solids}
@@ -97,7 +98,6 @@ pub record Sound (sh : Shape) (p : List ℤ) (c : Columns) : Type 0 where
   pub loop : (l : ℕ) → In (sh .loops) l → c Face l ≢ 0 → LoopSound sh c l
   pub half-free : (k : ℕ) → In (2 * sh .edges) k → c Start k ≡ 0 → HalfFree sh c k
   pub half : (k : ℕ) → In (2 * sh .edges) k → c Start k ≢ 0 → HalfSound sh c k
-  pub vertex-mark : (v : ℕ) → In (sh .vertices) v → c VertexUsed v ≤ 1
   pub vertex : (v : ℕ) → In (sh .vertices) v → c VertexUsed v ≢ 0 → VertexSound sh c v
   pub point : (v : ℕ) → In (sh .vertices) v → PointSound p c v
   pub rules : Rules (2 * sh .edges) mate (HalfUsed sh c) (halves c)
@@ -116,61 +116,72 @@ vertex-same e s (alone l i a b n) = alone l i (e l i ∙ a) (λ m j q. b m j (sy
     (λ k j q. n k j (sym (s k j) ∙ q))
 vertex-same e s (joined n k i a) = joined (λ m j q. n m j (sym (e m j) ∙ q)) k i (s k i ∙ a)
 
--- ---- what is said of columns is said of columns that agree up to the capacities
+-- ---- what is said of columns is said of columns that agree up to the capacities; of the vertex words it is enough
+-- that the same are 0
 
-module _ (sh : Shape) (p : List ℤ) {c d : Columns} (e : (F : Field) (n : ℕ) → n ≤ capOf sh F → d F n ≡ c F n) where
+-- the vertices in use are the same in c and in d
+abbrev pub SameUsed : Shape → Columns → Columns → Type 0
+SameUsed sh c d = (v : ℕ) → v ≤ sh .vertices → (d VertexUsed v ≡ 0 → c VertexUsed v ≡ 0)
+    × (c VertexUsed v ≡ 0 → d VertexUsed v ≡ 0)
+
+-- all other columns agree
+abbrev pub SameElse : Shape → Columns → Columns → Type 0
+SameElse sh c d = (F : Field) → sameField VertexUsed F ≡ false → (n : ℕ) → n ≤ capOf sh F → d F n ≡ c F n
+
+module _ (sh : Shape) (p : List ℤ) {c d : Columns} (e : SameElse sh c d) (u : SameUsed sh c d) where
   -- a face
   face-agree : (f : ℕ) → In (sh .faces) f → FaceSound sh c f → FaceSound sh d f
   face-agree f i r = record {
-    solid-in = rw (e Solid f (i .1)) (r .solid-in);
-    solid-used = rw (e Solid f (i .1), e SolidUsed (c Solid f) (r .solid-in .1)) (r .solid-used);
-    outer-in = rw (e Outer f (i .1)) (r .outer-in);
-    outer-face = rw (e Outer f (i .1), e Face (c Outer f) (r .outer-in .1)) (r .outer-face);
+    solid-in = rw (e Solid refl f (i .1)) (r .solid-in);
+    solid-used = rw (e Solid refl f (i .1), e SolidUsed refl (c Solid f) (r .solid-in .1)) (r .solid-used);
+    outer-in = rw (e Outer refl f (i .1)) (r .outer-in);
+    outer-face = rw (e Outer refl f (i .1), e Face refl (c Outer f) (r .outer-in .1)) (r .outer-face);
   }
 
   -- a loop
   loop-agree : (l : ℕ) → In (sh .loops) l → LoopSound sh c l → LoopSound sh d l
   loop-agree l i r = record {
-    face-in = rw (e Face l (i .1)) (r .face-in);
-    face-used = rw (e Face l (i .1), e Solid (c Face l) (r .face-in .1)) (r .face-used);
-    first = e First l (i .1) ∙ r .first ∙ least-ext (2 * sh .edges) _ _ (λ k a b. ap (λ n. eqb n l) (sym (e Loop k b)));
-    either = ⊎-elim (λ h. inl (rw (e First l (i .1), e Isolated l (i .1)) h))
-        (λ h. inr (rw (e First l (i .1), e Isolated l (i .1), e VertexUsed (c Isolated l) (h .1 .1)) h)) (r .either);
+    face-in = rw (e Face refl l (i .1)) (r .face-in);
+    face-used = rw (e Face refl l (i .1), e Solid refl (c Face l) (r .face-in .1)) (r .face-used);
+    first = e First refl l (i .1) ∙ r .first ∙ least-ext (2 * sh .edges) _ _ (λ k a b. ap (λ n. eqb n l) (sym (e Loop refl k b)));
+    either = ⊎-elim (λ h. inl (rw (e First refl l (i .1), e Isolated refl l (i .1)) h))
+        (λ h. inr (rw (e First refl l (i .1), e Isolated refl l (i .1)) (h .0, h .1, λ z. h .2 (u (c Isolated l) (h .1 .1) .0 z))))
+        (r .either);
   }
 
   -- a half-edge
   half-agree : (k : ℕ) → In (2 * sh .edges) k → HalfSound sh c k → HalfSound sh d k
   half-agree k i r = record {
-    start-in = rw (e Start k (i .1)) (r .start-in);
-    start-used = rw (e Start k (i .1), e VertexUsed (c Start k) (r .start-in .1)) (r .start-used);
-    loop-in = rw (e Loop k (i .1)) (r .loop-in);
-    loop-used = rw (e Loop k (i .1), e Face (c Loop k) (r .loop-in .1)) (r .loop-used);
+    start-in = rw (e Start refl k (i .1)) (r .start-in);
+    start-used = rw (e Start refl k (i .1)) (λ z. r .start-used (u (c Start k) (r .start-in .1) .0 z));
+    loop-in = rw (e Loop refl k (i .1)) (r .loop-in);
+    loop-used = rw (e Loop refl k (i .1), e Face refl (c Loop k) (r .loop-in .1)) (r .loop-used);
   }
 
   -- the half-edges in use are the same
   half-to : (k : ℕ) → HalfUsed sh c k → HalfUsed sh d k
-  half-to k u = (u .0, u .1, rw (e Start k (u .1)) (u .2))
+  half-to k u = (u .0, u .1, rw (e Start refl k (u .1)) (u .2))
 
   -- and back
   half-from : (k : ℕ) → HalfUsed sh d k → HalfUsed sh c k
-  half-from k u = (u .0, u .1, λ z. u .2 (e Start k (u .1) ∙ z))
+  half-from k u = (u .0, u .1, λ z. u .2 (e Start refl k (u .1) ∙ z))
 
   module _ (s : Sound sh p c) where
     -- the side of a half-edge in use
     side-same : (k : ℕ) → HalfUsed sh c k → side d k ≡ side c k
-    side-same k u = rw (e Loop k (u .1), e Face (c Loop k) (s .half k (u .0, u .1) (u .2) .loop-in .1))
+    side-same k u = rw (e Loop refl k (u .1), e Face refl (c Loop k) (s .half k (u .0, u .1) (u .2) .loop-in .1))
 
     -- rule 6
     solids-agree : Solids (HalfUsed sh d) (FaceUsed sh d) (side d) mate (d Solid)
     solids-agree = record {
       side-in = λ k u. let v = half-from k u in let f = s .solids .side-in k v in
-          rw (side-same k v, e Solid (side c k) (f .1)) f;
+          rw (side-same k v, e Solid refl (side c k) (f .1)) f;
       edge = λ k u. let v = half-from k u in let w = s .rules .mate-in k v in
           rw (
             side-same k v,
             side-same (mate k) w,
-            e Solid (side c k) (s .solids .side-in k v .1),
-            e Solid (side c (mate k)) (s .solids .side-in (mate k) w .1),
+            e Solid refl (side c k) (s .solids .side-in k v .1),
+            e Solid refl (side c (mate k)) (s .solids .side-in (mate k) w .1),
           ) (s .solids .edge k v);
       one = λ f g a b q. map-linked (λ i. i)
           (λ i j t.
@@ -180,34 +191,37 @@ module _ (sh : Shape) (p : List ℤ) {c d : Columns} (e : (F : Field) (n : ℕ) 
             side-same (t .0) (t .1) ∙ t .2,
             side-same (mate (t .0)) (s .rules .mate-in (t .0) (t .1)) ∙ t .3,
           ))
-          (s .solids .one f g (a .0, a .1, λ z. a .2 (e Solid f (a .1) ∙ z))
-          (b .0, b .1, λ z. b .2 (e Solid g (b .1) ∙ z)) (sym (e Solid f (a .1)) ∙ q ∙ e Solid g (b .1)));
+          (s .solids .one f g (a .0, a .1, λ z. a .2 (e Solid refl f (a .1) ∙ z))
+          (b .0, b .1, λ z. b .2 (e Solid refl g (b .1) ∙ z)) (sym (e Solid refl f (a .1)) ∙ q ∙ e Solid refl g (b .1)));
     }
 
     -- all of it
-    pub sound-agree : Sound sh p d
-    sound-agree = record {
-      solid-mark = λ n i. rw (e SolidUsed n (i .1)) (s .solid-mark n i);
-      solid = λ n i h. let r = s .solid n i (λ z. h (e SolidUsed n (i .1) ∙ z)) in
-          (r .0, r .1, e Solid (r .0) (r .1 .1) ∙ r .2);
-      face-free = λ f i h. e Outer f (i .1) ∙ s .face-free f i (sym (e Solid f (i .1)) ∙ h);
-      face = λ f i h. face-agree f i (s .face f i (λ z. h (e Solid f (i .1) ∙ z)));
-      loop-free = λ l i h. let r = s .loop-free l i (sym (e Face l (i .1)) ∙ h) in
-          (e First l (i .1) ∙ r .0, e Isolated l (i .1) ∙ r .1);
-      loop = λ l i h. loop-agree l i (s .loop l i (λ z. h (e Face l (i .1) ∙ z)));
-      half-free = λ k i h. let r = s .half-free k i (sym (e Start k (i .1)) ∙ h) in
+    pub sound-alike : Sound sh p d
+    sound-alike = record {
+      solid-mark = λ n i. rw (e SolidUsed refl n (i .1)) (s .solid-mark n i);
+      solid = λ n i h. let r = s .solid n i (λ z. h (e SolidUsed refl n (i .1) ∙ z)) in
+          (r .0, r .1, e Solid refl (r .0) (r .1 .1) ∙ r .2);
+      face-free = λ f i h. e Outer refl f (i .1) ∙ s .face-free f i (sym (e Solid refl f (i .1)) ∙ h);
+      face = λ f i h. face-agree f i (s .face f i (λ z. h (e Solid refl f (i .1) ∙ z)));
+      loop-free = λ l i h. let r = s .loop-free l i (sym (e Face refl l (i .1)) ∙ h) in
+          (e First refl l (i .1) ∙ r .0, e Isolated refl l (i .1) ∙ r .1);
+      loop = λ l i h. loop-agree l i (s .loop l i (λ z. h (e Face refl l (i .1) ∙ z)));
+      half-free = λ k i h. let r = s .half-free k i (sym (e Start refl k (i .1)) ∙ h) in
           record {
-            loop = e Loop k (i .1) ∙ r .loop;
-            next = e Next k (i .1) ∙ r .next;
-            prev = e Prev k (i .1) ∙ r .prev;
+            loop = e Loop refl k (i .1) ∙ r .loop;
+            next = e Next refl k (i .1) ∙ r .next;
+            prev = e Prev refl k (i .1) ∙ r .prev;
           };
-      half = λ k i h. half-agree k i (s .half k i (λ z. h (e Start k (i .1) ∙ z)));
-      vertex-mark = λ v i. rw (e VertexUsed v (i .1)) (s .vertex-mark v i);
-      vertex = λ v i h. vertex-same (λ l j. e Isolated l (j .1)) (λ k j. e Start k (j .1))
-          (s .vertex v i (λ z. h (e VertexUsed v (i .1) ∙ z)));
-      point = λ v i.
-          record { range = s .point v i .range; zero = λ h. s .point v i .zero (sym (e VertexUsed v (i .1)) ∙ h) };
-      rules = agree-rules (s .rules) half-to half-from (λ k u. e Start k (u .1)) (λ k u. e Loop k (u .1))
-          (λ k u. e Next k (u .1)) (λ k u. e Prev k (u .1));
+      half = λ k i h. half-agree k i (s .half k i (λ z. h (e Start refl k (i .1) ∙ z)));
+      vertex = λ v i h. vertex-same (λ l j. e Isolated refl l (j .1)) (λ k j. e Start refl k (j .1))
+          (s .vertex v i (λ z. h (u v (i .1) .1 z)));
+      point = λ v i. record { range = s .point v i .range; zero = λ h. s .point v i .zero (u v (i .1) .0 h) };
+      rules = agree-rules (s .rules) half-to half-from (λ k u. e Start refl k (u .1)) (λ k u. e Loop refl k (u .1))
+          (λ k u. e Next refl k (u .1)) (λ k u. e Prev refl k (u .1));
       solids = solids-agree;
     }
+
+-- where all columns agree
+pub sound-agree : (sh : Shape) (p : List ℤ) {c d : Columns} → ((F : Field) (n : ℕ) → n ≤ capOf sh F → d F n ≡ c F n)
+    → Sound sh p c → Sound sh p d
+sound-agree sh p e = sound-alike sh p (λ F t. e F) (λ v i. (λ z. sym (e VertexUsed v i) ∙ z, λ z. e VertexUsed v i ∙ z))

@@ -127,7 +127,6 @@ module _ {sh : Shape} {x : List ℕ} {p : List ℤ} (a : Sound sh p (own sh x)) 
   -- a vertex
   vertex-range : (v : ℕ) → 1 ≤ v → v ≤ sh .vertices → VertexRange sh x p v
   vertex-range v l u = let q = a .point v (l, u) in record {
-    mark = a .vertex-mark v (l, u);
     x-range = range-is (coordinate p v 0) (q .range 0 (omega arith));
     y-range = range-is (coordinate p v 1) (q .range 1 (omega arith));
     z-range = range-is (coordinate p v 2) (q .range 2 (omega arith));
