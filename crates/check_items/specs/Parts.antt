@@ -19,7 +19,7 @@ goesWith a b = onlyWith a b
 unfoldable pub pointIn : List ℤ → ℕ → Bool
 pointIn p v = every (inRange p v 0 ∷ inRange p v 1 ∷ inRange p v 2 ∷ [])
 
--- the point of vertex v is zero where its mark u is 0
+-- the point of vertex v is zero where its word u is 0
 unfoldable pub pointFree : List ℤ → ℕ → ℕ → Bool
 pointFree p v u = some u || (isZero p v 0 && isZero p v 1 && isZero p v 2)
 

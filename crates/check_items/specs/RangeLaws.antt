@@ -1,7 +1,7 @@
 -- Rule 1, one item at a time: the words that were read pass the tests of the table's words.
-use mathlib.Core.Path.{_≡_, refl, _∙_}
+use mathlib.Core.Path.{_≡_, _∙_}
 use mathlib.Core.Logic.{_≢_}
-use mathlib.Core.Bool.{Bool, true, false, _&&_, _||_}
+use mathlib.Core.Bool.{Bool, true, _&&_}
 use mathlib.Core.List.{List, [], _∷_}
 use Prim.Native.Nat.{ℕ, _*_}
 use lib.Dec.{eqb, leb}
@@ -13,7 +13,6 @@ use Rattle.layout.specs.Layout.{solidUsed, faceSolid, faceOuter, loopFace, loop
 use Rattle.layout.specs.Layout.{startOf, loopOf, nextOf, prevOf, vertexUsed}
 use Rattle.layout.specs.Mate.{mate}
 use Rattle.layout.specs.Points.{inRange, isZero}
-use Rattle.layout.specs.Items.{some}
 use Rattle.check_items.specs.Rules.{together, solidRange, faceRange, loopRange, halfRange, vertexRange}
 use Rattle.check_items.specs.Parts.{goesWith, pointIn, pointFree}
 
@@ -73,15 +72,7 @@ module _ (sh : Shape) (x : List ℕ) (n : ℕ) where
   unfolding halfRange
   half-range-is v l a b m k ev el ea eb em ek = rw (ek, em, ev, el, ea, eb)
 
-  -- what is grouped is the same test
-  grouped : (a b d e f : Bool) → (a && every (b ∷ d ∷ e ∷ []) && f) ≡ every (a ∷ b ∷ d ∷ e ∷ f ∷ [])
-  grouped true b d e f = refl
-  grouped false b d e f = refl
-
   pub vertex-range-is : (p : List ℤ) (u : ℕ) (a b : Bool) → u ≡ vertexUsed sh x n → a ≡ pointIn p n
-      → b ≡ pointFree p n u → every (leb u 1 ∷ a ∷ b ∷ []) ≡ vertexRange sh x p n
+      → b ≡ pointFree p n u → (a && b) ≡ vertexRange sh x p n
   unfolding vertexRange pointIn pointFree
-  vertex-range-is p u a b eu ea eb =
-      rw (ea, eb, eu)
-      (grouped (leb (vertexUsed sh x n) 1) (inRange p n 0) (inRange p n 1) (inRange p n 2)
-      (some (vertexUsed sh x n) || (isZero p n 0 && isZero p n 1 && isZero p n 2)))
+  vertex-range-is p u a b eu ea eb = rw (ea, eb, eu)

@@ -1,7 +1,7 @@
 -- The six rules of a sound table (document 01, "Sound tables"), as tests that compute. Each item has a short list of
 -- small tests; a rule is that all items of each kind pass theirs. `sh` is the table's shape, `x` its links, `p` its
 -- points.
-use Prim.Native.Nat.{ℕ, _-_, _*_}
+use Prim.Native.Nat.{ℕ, _+_, _-_, _*_}
 use mathlib.Core.Bool.{Bool, not, _&&_, _||_}
 use mathlib.Core.List.{List, [], _∷_}
 use lib.Dec.{eqb, leb}
@@ -33,8 +33,8 @@ onlyWith a b = some a || eqb b 0
 abbrev pub whereSome : ℕ → Bool → Bool
 whereSome a t = eqb a 0 || t
 
--- ---- rule 1: marks, numbers and coordinates are in range; free records are zero; both halves of an edge are in use or
--- neither
+-- ---- rule 1: the marks of solids, numbers and coordinates are in range; free records are zero; both halves of an edge
+-- are in use or neither
 
 unfoldable pub solidRange : Shape → List ℕ → ℕ → Bool
 solidRange sh x s = leb (solidUsed sh x s) 1
@@ -61,11 +61,11 @@ halfRange sh x k =
     ∷ together (startOf sh x k) (prevOf sh x k)
     ∷ together (startOf sh x k) (startOf sh x (mate k)) ∷ [])
 
--- a vertex's mark, and its point: in range, and zero where the vertex is free
+-- a vertex's point: in range, and zero where the vertex is free
 unfoldable pub vertexRange : Shape → List ℕ → List ℤ → ℕ → Bool
 vertexRange sh x p v =
     every
-    (leb (vertexUsed sh x v) 1 ∷ inRange p v 0 ∷ inRange p v 1 ∷ inRange p v 2
+    (inRange p v 0 ∷ inRange p v 1 ∷ inRange p v 2
     ∷ (some (vertexUsed sh x v) || (isZero p v 0 && isZero p v 1 && isZero p v 2)) ∷ [])
 
 unfoldable pub rule1 : Shape → List ℕ → List ℤ → Bool
@@ -142,13 +142,17 @@ rule4 sh x =
     every (allTo (2 * sh .edges) (halfLinks sh x) ∷ allTo (sh .loops) (firstNames sh x)
     ∷ allTo (2 * sh .edges) (halfInLoop sh x) ∷ [])
 
--- ---- rule 5: a vertex in use is either the isolated vertex of exactly one loop and starts no half-edge, or it is
--- isolated in none
--- and the half-edges starting there, at least one, form one cycle under "next of the mate"
+-- ---- rule 5: a vertex in use holds 1 plus the number of half-edges that start there; it is either the isolated vertex
+-- of exactly one loop and starts none, or isolated in none, and the half-edges starting there, at least one, form one
+-- cycle under "next of the mate"
 
 -- in how many loops v is isolated
 abbrev pub isolatedIn : Shape → List ℕ → ℕ → ℕ
 isolatedIn sh x v = countTo (sh .loops) (λ l. eqb (loopIsolated sh x l) v)
+
+-- how many half-edges start at v
+abbrev pub startsAt : Shape → List ℕ → ℕ → ℕ
+startsAt sh x v = countTo (2 * sh .edges) (λ k. eqb (startOf sh x k) v)
 
 -- the least half-edge that starts at v, or 0
 abbrev pub starter : Shape → List ℕ → ℕ → ℕ
@@ -161,7 +165,9 @@ around sh x k = nextOf sh x (mate k)
 unfoldable pub vertexEither : Shape → List ℕ → ℕ → Bool
 vertexEither sh x v =
     whereSome (vertexUsed sh x v)
-    ((eqb (isolatedIn sh x v) 1 && eqb (starter sh x v) 0) || (eqb (isolatedIn sh x v) 0 && some (starter sh x v)))
+    (eqb (vertexUsed sh x v) (1 + startsAt sh x v)
+    && ((eqb (isolatedIn sh x v) 1 && eqb (startsAt sh x v) 0)
+    || (eqb (isolatedIn sh x v) 0 && some (startsAt sh x v))))
 
 -- k is met from the least half-edge of its start, going around
 unfoldable pub halfAtVertex : Shape → List ℕ → ℕ → Bool

@@ -1,5 +1,5 @@
-// Rule 1, one item at a time: marks, numbers and coordinates in range, free records zero, both halves of an edge in use
-// or neither. Reading is total, so every test of an item is made, whatever the others say.
+// Rule 1, one item at a time: marks of solids, numbers and coordinates in range, free records zero, both halves of an
+// edge in use or neither. Reading is total, so every test of an item is made, whatever the others say.
 ghost use mathlib.Core.Path.{_≡_};
 ghost use Prim.Native.Nat.{ℕ, _<_};
 ghost use Rattle.check_items.specs.Rules.{solidRange, faceRange, loopRange, halfRange, vertexRange};
@@ -94,7 +94,7 @@ fn point_in(points: &[i32], n: usize) -> bool
     in_range(points, n, 0) & in_range(points, n, 1) & in_range(points, n, 2)
 }
 
-// The point of vertex n is zero where its mark u is 0.
+// The point of vertex n is zero where its word u is 0.
 fn point_free(points: &[i32], n: usize, u: usize) -> bool
     requires { ⌜ n < 65536 ⌝ }
     ensures { λ r. ⌜ r ≡ pointFree (now (points .entry)) n u ⌝ }
@@ -105,11 +105,11 @@ fn point_free(points: &[i32], n: usize, u: usize) -> bool
     is_zero(points, n, 0) & is_zero(points, n, 1) & is_zero(points, n, 2)
 }
 
-// The mark of vertex n is 0 or 1, and its point in range, and zero where the vertex is free.
+// The point of vertex n is in range, and zero where the vertex is free. Rule 5 looks at the vertex's word.
 pub fn vertex_range(links: &[u16], points: &[i32], sh: Shape, n: usize) -> bool
     requires { ⌜ n < 65536 ⌝ }
     ensures { λ r. ⌜ r ≡ vertexRange sh (now (links .entry)) (now (points .entry)) n ⌝ }
 {
     let u = vertex_used(links, sh, n);
-    (u <= 1) & point_in(points, n) & point_free(points, n, u)
+    point_in(points, n) & point_free(points, n, u)
 }

@@ -37,8 +37,8 @@ module _ (sh : Shape) (x : List ℕ) where
     pub first : (l : ℕ) → 1 ≤ l → l ≤ sh .loops → loopFirst sh x l ≢ 0 → loopOf sh x (loopFirst sh x l) ≡ l
     pub cycles : Cycles (2 * sh .edges) (Half sh x) (nextOf sh x) (loopOf sh x)
 
-  -- a vertex is isolated in one loop or starts half-edges, and those that start at one vertex are one cycle under "next
-  -- of the mate"
+  -- a vertex's word counts the half-edges that start there, it is isolated in one loop or starts some, and those that
+  -- start at one vertex are one cycle under "next of the mate"
   pub record Rule5 : Type 0 where
     pub vertex : (v : ℕ) → 1 ≤ v → v ≤ sh .vertices → vertexUsed sh x v ≢ 0 → VertexEither sh x v
     pub cycles : Cycles (2 * sh .edges) (Half sh x) (around sh x) (startOf sh x)

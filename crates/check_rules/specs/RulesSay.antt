@@ -3,7 +3,7 @@
 use mathlib.Core.Path.{_≡_}
 use mathlib.Core.Logic.{_≢_, _⊎_}
 use mathlib.Core.List.{List}
-use Prim.Native.Nat.{ℕ, _*_, _≤_}
+use Prim.Native.Nat.{ℕ, _+_, _*_, _≤_}
 use lib.IntN.{ℤ, pos, negsuc}
 use lib.Signed.{_≤ℤ_}
 use Rattle.layout.specs.declared.shape.Shape.{Shape}
@@ -16,7 +16,7 @@ use Rattle.check_rules.specs.Says.{Says, reword, says-le, says-eq, says-
 use Rattle.check_rules.specs.Says.{says-where, says-all, last, more, says-every}
 use Rattle.check_items.specs.Rules.{together, onlyWith, solidRange, faceRange, loopRange, halfRange}
 use Rattle.check_items.specs.Rules.{vertexRange, rule1, solidNames, faceNames, loopNames, halfNames, rule2, loopEither}
-use Rattle.check_items.specs.Rules.{rule3, halfLinks, firstNames, isolatedIn, starter, vertexEither, halfSides}
+use Rattle.check_items.specs.Rules.{rule3, halfLinks, firstNames, isolatedIn, startsAt, vertexEither, halfSides}
 
 -- ---- small statements
 
@@ -129,7 +129,6 @@ module _ (sh : Shape) (x : List ℕ) where
       (last (says-together (startOf sh x k) (startOf sh x (mate k))))))))))))
 
   pub record VertexRange (p : List ℤ) (v : ℕ) : Type 0 where
-    pub mark : vertexUsed sh x v ≤ 1
     pub x-range : InRange (coordinate p v 0)
     pub y-range : InRange (coordinate p v 1)
     pub z-range : InRange (coordinate p v 2)
@@ -140,20 +139,18 @@ module _ (sh : Shape) (x : List ℕ) where
   unfolding vertexRange
   says-vertexRange p v =
       reword (λ h. record {
-        mark = h .0;
-        x-range = h .1 .0;
-        y-range = h .1 .1 .0;
-        z-range = h .1 .1 .1 .0;
+        x-range = h .0;
+        y-range = h .1 .0;
+        z-range = h .1 .1 .0;
         free-zero =
-            h .1 .1 .1 .1;
-      }) (λ r. (r .mark, (r .x-range, (r .y-range, (r .z-range, r .free-zero)))))
+            h .1 .1 .1;
+      }) (λ r. (r .x-range, (r .y-range, (r .z-range, r .free-zero))))
       (says-every
-      (more (says-le (vertexUsed sh x v) 1)
       (more (says-range (coordinate p v 0))
       (more (says-range (coordinate p v 1)) (more (says-range (coordinate p v 2))
       (last (says-or (says-some (vertexUsed sh x v))
       (says-and (says-and (says-zero (coordinate p v 0)) (says-zero (coordinate p v 1)))
-      (says-zero (coordinate p v 2))))))))))
+      (says-zero (coordinate p v 2)))))))))
 
   pub record Rule1 (p : List ℤ) : Type 0 where
     pub solid : (s : ℕ) → 1 ≤ s → s ≤ sh .solids → solidUsed sh x s ≤ 1
@@ -301,16 +298,19 @@ module _ (sh : Shape) (x : List ℕ) where
 
   -- ---- rule 5, of one vertex
 
-  -- a vertex in use is isolated in one loop and starts nothing, or is isolated in none and starts something
-  abbrev pub VertexEither : ℕ → Type 0
-  VertexEither v = ((isolatedIn sh x v ≡ 1) × (starter sh x v ≡ 0)) ⊎ ((isolatedIn sh x v ≡ 0) × (starter sh x v ≢ 0))
+  -- a vertex in use: its word, and isolated in one loop or with half-edges
+  pub record VertexEither (v : ℕ) : Type 0 where
+    pub word : vertexUsed sh x v ≡ 1 + startsAt sh x v
+    pub either : ((isolatedIn sh x v ≡ 1) × (startsAt sh x v ≡ 0)) ⊎ ((isolatedIn sh x v ≡ 0) × (startsAt sh x v ≢ 0))
 
   pub says-vertexEither : (v : ℕ) → Says (vertexEither sh x v) (vertexUsed sh x v ≢ 0 → VertexEither v)
   unfolding vertexEither
   says-vertexEither v =
       says-where (vertexUsed sh x v)
-      (says-or (says-and (says-eq (isolatedIn sh x v) 1) (says-eq (starter sh x v) 0))
-      (says-and (says-eq (isolatedIn sh x v) 0) (says-some (starter sh x v))))
+      (reword (λ h. record { word = h .0; either = h .1 }) (λ r. (r .word, r .either))
+      (says-and (says-eq (vertexUsed sh x v) (1 + startsAt sh x v))
+      (says-or (says-and (says-eq (isolatedIn sh x v) 1) (says-eq (startsAt sh x v) 0))
+      (says-and (says-eq (isolatedIn sh x v) 0) (says-some (startsAt sh x v))))))
 
   -- ---- rule 6, of one half-edge
 

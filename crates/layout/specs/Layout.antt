@@ -129,7 +129,7 @@ prevOf sh = column sh Prev
 abbrev pub setPrev : Shape → List ℕ → ℕ → ℕ → List ℕ
 setPrev sh = put sh Prev
 
--- 1 where vertex n is in use
+-- the vertex word: 1 plus the number of half-edges that start at vertex n; 0 where it is free
 abbrev pub vertexUsed : Shape → List ℕ → ℕ → ℕ
 vertexUsed sh = column sh VertexUsed
 

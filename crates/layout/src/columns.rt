@@ -176,7 +176,7 @@ pub fn set_prev(links: &mut [u16], sh: Shape, n: usize, v: usize)
     put_cell(links, sh.half0, HALF_WIDTH, HALF_PREV, n, v);
 }
 
-// 1 where vertex n is in use.
+// The vertex word: 1 plus the number of half-edges that start at vertex n; 0 where it is free.
 pub fn vertex_used(links: &[u16], sh: Shape, n: usize) -> usize
     requires { ⌜ n ≤ 65536 ⌝ }
     ensures { λ r. ⌜ (r ≡ vertexUsed sh (now (links .entry)) n) × (r < 65536) ⌝ }
