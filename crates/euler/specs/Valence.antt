@@ -52,6 +52,15 @@ comeBy sh x a =
     none ∷ none ∷ none ∷ ends sh x (halfBy (a 2) (a 4)) ∷ none ∷ ends sh x (halfBy (a 3) (a 6)) ∷ none ∷ none
     ∷ ends sh x (halfBy (a 4) (a 5)) ∷ none ∷ none ∷ two (a 2) (a 2) ∷ none ∷ none ∷ []
 
+-- of operator o
+abbrev pub leaveOf : Shape → List ℕ → Operator → Two
+leaveOf sh x o = getD (leaveBy sh x (itemOf o)) (o .code) none
+
+abbrev pub comeOf : Shape → List ℕ → Operator → Two
+comeOf sh x o = getD (comeBy sh x (itemOf o)) (o .code) none
+
+-- ---- the links
+
 -- one less at each of the two, and one more
 abbrev pub lessAt : Shape → List ℕ → Two → List ℕ
 lessAt sh x t = oneLess sh (oneLess sh x (t .one)) (t .other)
@@ -59,10 +68,10 @@ lessAt sh x t = oneLess sh (oneLess sh x (t .one)) (t .other)
 abbrev pub moreAt : Shape → List ℕ → Two → List ℕ
 moreAt sh x t = oneMore sh (oneMore sh x (t .one)) (t .other)
 
--- the links with one less where half-edges leave
+-- one less where half-edges leave
 unfoldable pub lessStarts : Shape → List ℕ → Operator → List ℕ
-lessStarts sh x o = lessAt sh x (getD (leaveBy sh x (itemOf o)) (o .code) none)
+lessStarts sh x o = lessAt sh x (leaveOf sh x o)
 
--- the links with one more where half-edges have come
+-- one more where half-edges have come
 unfoldable pub moreStarts : Shape → List ℕ → Operator → List ℕ
-moreStarts sh x o = moreAt sh x (getD (comeBy sh x (itemOf o)) (o .code) none)
+moreStarts sh x o = moreAt sh x (comeOf sh x o)

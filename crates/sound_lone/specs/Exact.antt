@@ -14,14 +14,14 @@ use Rattle.layout.specs.declared.shape.Shape.{Shape}
 use Rattle.layout.specs.Points.{pointWidth, coordinate, rangeTest}
 use Rattle.euler.specs.Surgery.{putPoint}
 use Rattle.codec.specs.Operands.{pattern, rows}
-use Rattle.euler.specs.Exec.{useWord, condition, refusalOf, killedVertex}
+use Rattle.euler.specs.Exec.{useWord, condition, refusalOf}
 use Rattle.layout.specs.Fields.{Field, SolidUsed, Solid, Face, VertexUsed, Columns}
 use Rattle.sound_tables.specs.Cells.{Shows, shows-ext}
 use Rattle.sound_tables.specs.WriteLaws.{frame}
 use Rattle.sound_tables.specs.WriteBack.{Stand, write-back}
 use Rattle.sound_tables.specs.PointLists.{three, put-length, put-at, put-back, put-cleared, points-new, points-cleared}
 use Rattle.sound_tables.specs.Good.{own, Marked, marked-shows, marked-after}
-use Rattle.sound_tables.specs.Undone.{Kept, Undone, exact}
+use Rattle.sound_tables.specs.Undone.{Kept, Undone, exact, Low}
 use Rattle.sound_tables.specs.OneOperand.{one-operand}
 use Rattle.sound_lone.specs.Placed.{placedWrites, placed, placedLinks, shows-placed}
 use Rattle.sound_lone.specs.MvsfSound.{Free, mvsf-sound}
@@ -106,7 +106,7 @@ module _ {sh : Shape} {x : List ℕ} {p : List ℤ} (g : Marked sh x p) {s f l v
 -- ---- kvsf
 
 module _ {sh : Shape} {x : List ℕ} {p : List ℤ} (g : Marked sh x p) {s f l v : ℕ} (o : OneLoop sh (own sh x) s f l v)
-    (used : own sh x SolidUsed s ≢ 0) (low : own sh x VertexUsed v ≤ 1) where
+    (used : own sh x SolidUsed s ≢ 0) where
   -- the columns afterwards
   abbrev kd : Columns
   kd = placed (own sh x) s f l v 0 0 0 0 0
@@ -142,26 +142,20 @@ module _ {sh : Shape} {x : List ℕ} {p : List ℤ} (g : Marked sh x p) {s f l v
     vertex = ky-shows .at VertexUsed v (o .vertex-in .1) ∙ upd-same _ v 0;
   }
 
-  -- a mark that is set is 1: that of the vertex
-  v-mark : own sh x VertexUsed v ≡ 1
-  v-mark =
-      let u : own sh x VertexUsed v ≢ 0 = one-used (g .sound) o in
-      omega (arith, low, u)
-
-  -- and that of the solid
+  -- a mark that is set is 1
   s-mark : own sh x SolidUsed s ≡ 1
   s-mark = let m = g .sound .solid-mark s (o .solid-in) in omega (arith, m, used)
 
-  -- made again, it leaves the first list
-  kvsf-back : placedLinks sh ky s f l v 1 s l f v ≡ x
-  kvsf-back =
+  -- made again, it leaves the first list, where the word of the vertex was 1
+  kvsf-back : own sh x VertexUsed v ≡ 1 → placedLinks sh ky s f l v 1 s l f v ≡ x
+  kvsf-back v-mark =
       shows-ext (shows-placed ky-shows s f l v 1 s l f v (o .solid-in) (o .face-in) (o .loop-in) (o .vertex-in))
       (marked-shows g) (λ F n i j. place-back (own sh x) s f l v 0 0 0 0 0 1 s l f v
       (s-mark, (o .solid, (o .outer, (o .face, (o .first, (o .isolated, (v-mark, tt))))))) F n)
 
   -- a good table stays good, and mvsf gives everything back
-  pub kvsf-exact : Kept sh x p (kvsfOf s) × Undone sh x p (kvsfOf s)
-  kvsf-exact =
+  kvsf-exact : own sh x VertexUsed v ≡ 1 → Kept sh x p (kvsfOf s) × Undone sh x p (kvsfOf s)
+  kvsf-exact v-mark =
       let caps = g .capacities in
       let a = coordinate p v 0 in
       let b = coordinate p v 1 in
@@ -169,9 +163,19 @@ module _ {sh : Shape} {x : List ℕ} {p : List ℤ} (g : Marked sh x p) {s f l v
       let r = g .sound .point v (o .vertex-in) .range in
       exact (kvsf-links o caps) (kvsf-points o caps p) (kvsf-inverse o caps p) ky-good
       (mvsf-accepted sh ky s f l v a b z caps ky-free (r 0 (omega arith)) (r 1 (omega arith)) (r 2 (omega arith)))
-      (mvsf-links sh ky s f l v a b z caps ky-free ∙ kvsf-back)
+      (mvsf-links sh ky s f l v a b z caps ky-free ∙ kvsf-back v-mark)
       (mvsf-points sh ky s f l v a b z caps ky-free kq ∙ put-back (sh .vertices) p v (pos 0) (pos 0) (pos 0)
       (g .points) (o .vertex-in)) (mvsf-inverse sh ky s f l v a b z caps ky-free kq)
+
+  -- the first of the two
+  kvsf-kept : Kept sh x p (kvsfOf s)
+  kvsf-kept = rw (kvsf-links o (g .capacities), kvsf-points o (g .capacities) p) ky-good
+
+  -- and the second
+  kvsf-undone : own sh x VertexUsed v ≤ 1 → Undone sh x p (kvsfOf s)
+  kvsf-undone low =
+      let u : own sh x VertexUsed v ≢ 0 = one-used (g .sound) o in
+      kvsf-exact (omega (arith, low, u)) .1
 
 -- ---- as operators
 
@@ -182,14 +186,12 @@ mvsf-holds sh x p o g len e h =
     let k = mvsf-facts sh x o (g .capacities) len e h in
     subst (λ q. Kept sh x p q × Undone sh x p q) (sym (k .is)) (mvsf-exact g (k .free) (k .x) (k .y) (k .z) (k .range))
 
--- both for kvsf, where the word of the vertex that it kills is 1
+-- both for kvsf: it is undone where the word of the vertex that it kills is 1
 pub kvsf-holds : (sh : Shape) (x : List ℕ) (p : List ℤ) (o : Operator) → Marked sh x p → length (o .args) ≡ 8
-    → o .code ≡ 2 → refusalOf sh x o ≡ 0 → own sh x VertexUsed (killedVertex sh x o) ≤ 1
-    → Kept sh x p o × Undone sh x p o
+    → o .code ≡ 2 → refusalOf sh x o ≡ 0 → Kept sh x p o × (Low sh x o → Undone sh x p o)
 unfolding pattern rows useWord condition
-kvsf-holds sh x p o g len e h low =
+kvsf-holds sh x p o g len e h =
     let k = one-operand sh x 2 1 refl refl refl refl (omega (arith, g .capacities .solids)) refl o len e h in
     let r = tested-one x (g .sound) (k .n) (k .range) (k .used) (rw (k .small) at (k .holds)) in
-    let w = subst (λ q. own sh x VertexUsed (killedVertex sh x q) ≤ 1) (k .is) low in
-    subst (λ q. Kept sh x p q × Undone sh x p q) (sym (k .is))
-    (kvsf-exact g r (k .used) (rw (kvsf-killed r (g .capacities)) at w))
+    subst (λ q. Kept sh x p q × (Low sh x q → Undone sh x p q)) (sym (k .is))
+    (kvsf-kept g r (k .used), λ low. kvsf-undone g r (k .used) (rw (kvsf-killed r (g .capacities)) at low))

@@ -8,6 +8,7 @@ use native.Mathlib.Omega.{arith}
 use lib.Dec.{T, lit≤}
 use lib.IntN.{ℤ, pos}
 use lib.ListN.{length}
+use Rattle.laws.specs.Update.{upd-same}
 use Rattle.script.specs.declared.Operator.{Operator}
 use Rattle.layout.specs.declared.shape.Shape.{Shape}
 use Rattle.layout.specs.Mate.{mate, edgeOf}
@@ -15,14 +16,14 @@ use Rattle.layout.specs.MateLaws.{mate-range}
 use Rattle.layout.specs.Points.{pointsLength, coordinate, rangeTest}
 use Rattle.euler.specs.Surgery.{putPoint}
 use Rattle.euler.specs.EdgeOperators.{semvLinks, jekvLinks}
-use Rattle.euler.specs.Exec.{refusalOf, killedVertex}
+use Rattle.euler.specs.Exec.{refusalOf}
 use Rattle.layout.specs.Fields.{Start, Next, Prev, VertexUsed, Columns}
 use Rattle.sound_tables.specs.Cells.{Shows, shows-ext}
 use Rattle.sound_tables.specs.Sound.{Sound}
 use Rattle.sound_tables.specs.PointLists.{all-three, put-length, put-at, put-back, put-cleared, points-new}
 use Rattle.sound_tables.specs.PointLists.{points-cleared}
 use Rattle.sound_tables.specs.Good.{own, Marked, marked-shows, marked-after}
-use Rattle.sound_tables.specs.Undone.{Kept, Undone}
+use Rattle.sound_tables.specs.Undone.{Kept, Undone, Low}
 use Rattle.sound_splits.specs.CycleMoves.{swapFor}
 use Rattle.sound_splits.specs.Relation.{Place, aft, Split, n≢k, n≢m, used-old}
 use Rattle.sound_splits.specs.Unique.{unique-after, unique-before}
@@ -91,7 +92,7 @@ module _ {sh : Shape} {x : List ℕ} {p : List ℤ} (g : Marked sh x p) {m : Sem
   d-sound : Sound sh q d
   d-sound = split-sound divided (g .sound)
       (points-new sh p (own sh x) d v (g .points) (r .vertex-in) (g .sound .point) (divided .used)
-      (m .x) (m .y) (m .z) (r .range 0 (lit≤ tt)) (r .range 1 (lit≤ tt)) (r .range 2 (lit≤ tt)) (divided .v-used))
+      (m .x) (m .y) (m .z) (r .range 0 (lit≤ tt)) (r .range 1 (lit≤ tt)) (r .range 2 (lit≤ tt)) (upd-same (own sh x VertexUsed) v 1))
 
   -- a good table stays good
   semv-kept : Kept sh x p (semvOf m)
@@ -107,11 +108,6 @@ module _ {sh : Shape} {x : List ℕ} {p : List ℤ} (g : Marked sh x p) {m : Sem
     n≢m = n≢m place;
     next-b = divided .next-b;
   }
-
-  -- the word of the vertex there is 1
-  d-low : d VertexUsed (d Start n) ≤ 1
-  d-low = let e : d VertexUsed (d Start n) ≡ 1 = ap (d VertexUsed) (divided .start-n) ∙ divided .v-used in
-      omega (arith, e)
 
   -- the same on the list
   y-joint : Joint sh (own sh y) k n
@@ -129,8 +125,8 @@ module _ {sh : Shape} {x : List ℕ} {p : List ℤ} (g : Marked sh x p) {m : Sem
 
   -- jekv leads back
   semv-back : jekvLinks sh y k n ≡ x
-  semv-back = shows-ext (jekv-shows y-shows d-sound d-joint d-low) (marked-shows g)
-      (unique-before (jekv-split d-sound d-joint d-low)
+  semv-back = shows-ext (jekv-shows y-shows d-sound d-joint) (marked-shows g)
+      (unique-before (jekv-split d-sound d-joint)
       (subst (λ t. Split sh (own sh x) d k n t) (sym (divided .start-n)) divided))
 
   -- jekv gives everything back
@@ -162,8 +158,7 @@ module _ {sh : Shape} {x : List ℕ} {p : List ℤ} (g : Marked sh x p) {m : Sem
 
 -- ---- jekv
 
-module _ {sh : Shape} {x : List ℕ} {p : List ℤ} (g : Marked sh x p) {k n : ℕ} (o : Joint sh (own sh x) k n)
-    (low : own sh x VertexUsed (own sh x Start n) ≤ 1) where
+module _ {sh : Shape} {x : List ℕ} {p : List ℤ} (g : Marked sh x p) {k n : ℕ} (o : Joint sh (own sh x) k n) where
   -- the vertex that goes
   abbrev kv : ℕ
   kv = own sh x Start n
@@ -182,11 +177,11 @@ module _ {sh : Shape} {x : List ℕ} {p : List ℤ} (g : Marked sh x p) {k n : �
 
   -- n's start divides k
   rejoined : Split sh kc (own sh x) k n kv
-  rejoined = jekv-split (g .sound) o low
+  rejoined = jekv-split (g .sound) o
 
   -- the list shows what was divided
   ky-shows : Shows sh ky kc
-  ky-shows = jekv-shows (marked-shows g) (g .sound) o low
+  ky-shows = jekv-shows (marked-shows g) (g .sound) o
 
   -- n is a number of a half-edge
   n1 : 1 ≤ n
@@ -220,21 +215,22 @@ module _ {sh : Shape} {x : List ℕ} {p : List ℤ} (g : Marked sh x p) {k n : �
         range = all-three (λ z. T (rangeTest z)) _ _ _ (s 0 (omega arith)) (s 1 (omega arith)) (s 2 (omega arith));
       }
 
-  -- semv leads back
-  jekv-back : semvLinks sh ky k n kv ≡ x
-  jekv-back = shows-ext (semv-shows ky-shows c-sound (rejoined .place)) (marked-shows g)
-      (unique-after (semv-split c-sound (rejoined .place)) rejoined)
+  -- semv leads back, where the word of the vertex was 1
+  jekv-back : own sh x VertexUsed kv ≤ 1 → semvLinks sh ky k n kv ≡ x
+  jekv-back low = shows-ext (semv-shows ky-shows c-sound (rejoined .place)) (marked-shows g)
+      (unique-after (semv-split c-sound (rejoined .place)) rejoined
+      (upd-same (kc VertexUsed) kv 1 ∙ (let u = rejoined .v-used in omega (arith, low, u))))
 
   -- semv gives everything back
-  jekv-undone : Undone sh x p (jekvOf k)
-  jekv-undone =
+  jekv-undone : own sh x VertexUsed kv ≤ 1 → Undone sh x p (jekvOf k)
+  jekv-undone low =
       let el = jekv-links sh x k n (g .capacities) o n1 in
       let ep = jekv-points sh x k n (g .capacities) o n1 p in
       let ei = jekv-inverse sh x k n (g .capacities) o n1 p in
       record {
         accepted = rw (el, ei) (semv-accepted sh ky (g .capacities) ky-fits);
         links = rw (el, ei) (semv-links sh ky (g .capacities) ky-fits ∙ ap (λ t. semvLinks sh ky k t kv) (half-is n n1)
-            ∙ jekv-back);
+            ∙ jekv-back low);
         points = rw (el, ep, ei) (semv-points sh ky (g .capacities) ky-fits kq ∙ put-back (sh .vertices) p kv (pos 0)
             (pos 0) (pos 0) (g .points) (rejoined .place .v-in));
         again = rw (el, ep, ei) (semv-inverse sh ky (g .capacities) ky-fits kq);
@@ -249,14 +245,13 @@ semv-holds sh x p o g len e h =
     let f = semv-facts sh x o (g .capacities) len e h in
     subst (λ q. Kept sh x p q × Undone sh x p q) (sym (f .is)) (semv-kept g (f .fits), semv-undone g (f .fits))
 
--- both for jekv, where the word of the vertex that it kills is 1
+-- both for jekv: it is undone where the word of the vertex that it kills is 1
 pub jekv-holds : (sh : Shape) (x : List ℕ) (p : List ℤ) (o : Operator) → Marked sh x p → length (o .args) ≡ 8
-    → o .code ≡ 12 → refusalOf sh x o ≡ 0 → own sh x VertexUsed (killedVertex sh x o) ≤ 1
-    → Kept sh x p o × Undone sh x p o
-jekv-holds sh x p o g len e h low =
+    → o .code ≡ 12 → refusalOf sh x o ≡ 0 → Kept sh x p o × (Low sh x o → Undone sh x p o)
+jekv-holds sh x p o g len e h =
     let f = jekv-facts sh x o (g .capacities) len e h in
     let j = tested-joint sh x (f .k) (f .half) (f .test) in
-    let u = subst (λ q. own sh x VertexUsed (killedVertex sh x q) ≤ 1) (f .is) low in
     let i = g .sound .rules .loops .perm .f-in (f .k) (f .half) .0 in
-    let v = rw (jekv-killed sh x (f .k) (own sh x Next (f .k)) (g .capacities) j i) at u in
-    subst (λ q. Kept sh x p q × Undone sh x p q) (sym (f .is)) (jekv-kept g j v, jekv-undone g j v)
+    let v = jekv-killed sh x (f .k) (own sh x Next (f .k)) (g .capacities) j i in
+    subst (λ q. Kept sh x p q × (Low sh x q → Undone sh x p q)) (sym (f .is))
+    (jekv-kept g j, λ low. jekv-undone g j (rw v at low))

@@ -272,17 +272,14 @@ module _ {sh : Shape} {p : List ℤ} {d : Columns} (a : Sound sh p d) {k n : ℕ
           record { loop = sym (loop-o i f g) ∙ r .loop; next = simp upd-off (r .next); prev = simp upd-off (r .prev) }
 
   -- n's start divides k
-  pub jekv-split : d VertexUsed (d Start n) ≤ 1
-      → Split sh (jekvColumns sh d k n (swapFor n k (d Prev (mate n)))) d k n (d Start n)
-  jekv-split low = record {
+  pub jekv-split : Split sh (jekvColumns sh d k n (swapFor n k (d Prev (mate n)))) d k n (d Start n)
+  jekv-split = record {
     place = joint-place;
     others = λ F e i. sym
         (closed-others sh (jekvWrites d k n q) d (d Loop k) (d Loop (mate k)) (d Start n) 0 refl F e i);
     isolated = λ i. sym (clear-zero (d Isolated) (d Loop k) (d Loop (mate k)) (not-isolated a k (o .k-used) refl)
         (not-isolated a (mate k) m-used refl) i);
-    v-used = let h = a .half n (n-used .0, n-used .1) (n-used .2) in
-        let y : d VertexUsed (d Start n) ≢ 0 = h .start-used in
-        omega (arith, low, y);
+    v-used = a .half n (n-used .0, n-used .1) (n-used .2) .start-used;
     used = λ w e. sym (upd-off (d VertexUsed) 0 e);
     start-m = sym (ap (d Start) (sym (ap (d Next) (mate-mate k) ∙ o .next-k)) ∙ a .rules .verts .keeps (mate k) m-used);
     start-n = refl;

@@ -62,7 +62,7 @@ pub record Split (sh : Shape) (c d : Columns) (k n v : ℕ) : Type 0 where
   pub place : Place sh c k n v
   pub others : (F : Field) → among moved F ≡ false → (i : ℕ) → d F i ≡ c F i
   pub isolated : (l : ℕ) → d Isolated l ≡ c Isolated l
-  pub v-used : d VertexUsed v ≡ 1
+  pub v-used : d VertexUsed v ≢ 0
   pub used : (w : ℕ) → w ≢ v → d VertexUsed w ≡ c VertexUsed w
   pub start-m : d Start (mate k) ≡ v
   pub start-n : d Start n ≡ v

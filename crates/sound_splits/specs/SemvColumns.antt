@@ -152,7 +152,7 @@ module _ {sh : Shape} {p : List ℤ} {c : Columns} (a : Sound sh p c) {k n v : �
     others = closed-others sh (semvWrites c k n v q) c (c Loop k) (c Loop (mate k)) v 1 refl;
     isolated = clear-zero (c Isolated) (c Loop k) (c Loop (mate k)) (not-isolated a k (o .k-used) refl)
         (not-isolated a (mate k) (o .m-used) refl);
-    v-used = upd-same (c VertexUsed) v 1;
+    v-used = λ z. omega (arith, sym (upd-same (c VertexUsed) v 1) ∙ z);
     used = λ w e. upd-off (c VertexUsed) 1 e;
     start-m = start-m;
     start-n = start-n;

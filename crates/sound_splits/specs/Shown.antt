@@ -102,10 +102,10 @@ semv-shows {sh} {x} {c = c} {k} {n} {v} s a o =
 
 -- the list after jekv
 pub jekv-shows : {sh : Shape} {x : List ℕ} {p : List ℤ} {d : Columns} {k n : ℕ} → Shows sh x d → Sound sh p d
-    → Joint sh d k n → d VertexUsed (d Start n) ≤ 1
+    → Joint sh d k n
     → Shows sh (jekvLinks sh x k n) (jekvColumns sh d k n (swapFor n k (d Prev (mate n))))
 unfolding jekvLinks
-jekv-shows {sh} {x} {d = d} {k} {n} s a o one =
+jekv-shows {sh} {x} {d = d} {k} {n} s a o =
     let q = swapFor n k (d Prev (mate n)) in
     let ik : In (2 * sh .edges) k = (o .k-used .0, o .k-used .1) in
     let mu = m-used a o in
@@ -119,7 +119,7 @@ jekv-shows {sh} {x} {d = d} {k} {n} s a o one =
     let s1 = shows-writes (tied k (d Next n)) s (ik, ((A .0, A .1), tt)) in
     let s4 = shows-writes (jekvWrites d k n q) s
     (ik, ((A .0, A .1), ((qu .0, qu .1), (im, (im, (jn, (jn, (jn, (jn, (ib, (ib, (ib, (ib, tt))))))))))))) in
-    let r = jekv-split a o one in
+    let r = jekv-split a o in
     let h1 = a .half k ik (o .k-used .2) in
     let h2 = a .half (mate k) im (mu .2) in
     let h = a .half n jn (nu .2) in

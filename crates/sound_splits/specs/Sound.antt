@@ -79,7 +79,7 @@ module _ {sh : Shape} {c d : Columns} {k n v : ℕ} (r : Split sh c d k n v) whe
     where
       -- one that starts at v
       at-v : (i : ℕ) → d Start i ≡ v → In (sh .vertices) (d Start i) × (d VertexUsed (d Start i) ≢ 0)
-      at-v i e = rw e (o .v-in, λ z. omega (arith, sym (r .v-used) ∙ z))
+      at-v i e = rw e (o .v-in, r .v-used)
 
       -- one that starts where one started before
       old : (j : ℕ) → HalfUsed sh c j → (i : ℕ) → d Start i ≡ c Start j → In (sh .vertices) (d Start i)
@@ -95,7 +95,7 @@ module _ {sh : Shape} {c d : Columns} {k n v : ℕ} (r : Split sh c d k n v) whe
   join-sound a points = carried a (λ F e i. sym (r .others F e i)) (λ l. sym (r .isolated l)) (r .tidy-c)
       (matched-before mates) (matched-after mates)
       (λ l i h u. keep (d Isolated l)
-      (not-isolated l i (a .vertex v (o .v-in) (λ z. omega (arith, sym (r .v-used) ∙ z)))) u)
+      (not-isolated l i (a .vertex v (o .v-in) (r .v-used))) u)
       (λ i u.
       let w = fore-in r i u in
       let s = a .half (fore k n i) (w .0 .0 .0, w .0 .0 .1) (w .0 .0 .2) in

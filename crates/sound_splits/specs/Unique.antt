@@ -17,9 +17,10 @@ first-same : {sh : Shape} {c d : Columns} → Tidy sh c → Tidy sh d
 first-same {sh} s t e l i = s .first l i ∙ least-ext (2 * sh .edges) _ _ (λ k a b. ap (λ m. eqb m l) (e k (a, b)))
     ∙ sym (t .first l i)
 
--- ---- d is settled by c
+-- ---- d is settled by c, but for the word of v
 
-module _ {sh : Shape} {c d e : Columns} {k n v : ℕ} (r : Split sh c d k n v) (s : Split sh c e k n v) where
+module _ {sh : Shape} {c d e : Columns} {k n v : ℕ} (r : Split sh c d k n v) (s : Split sh c e k n v)
+    (word : d VertexUsed v ≡ e VertexUsed v) where
   -- starts
   start-d : (i : ℕ) → d Start i ≡ e Start i
   start-d i = split i (mate k) (λ z. rw z (r .start-m ∙ sym (s .start-m))) λ f. split i n
@@ -51,9 +52,9 @@ module _ {sh : Shape} {c d e : Columns} {k n v : ℕ} (r : Split sh c d k n v) (
   isolated-d : (l : ℕ) → d Isolated l ≡ e Isolated l
   isolated-d l = r .isolated l ∙ sym (s .isolated l)
 
-  -- marks of vertices
+  -- the words of vertices
   used-d : (w : ℕ) → d VertexUsed w ≡ e VertexUsed w
-  used-d w = split w v (λ z. rw z (r .v-used ∙ sym (s .v-used))) (λ z. r .used w z ∙ sym (s .used w z))
+  used-d w = split w v (λ z. rw z word) (λ z. r .used w z ∙ sym (s .used w z))
 
   -- what comes from one table is one
   pub unique-after : (F : Field) (i : ℕ) → 1 ≤ i → i ≤ capOf sh F → d F i ≡ e F i
@@ -106,7 +107,7 @@ module _ {sh : Shape} {c e d : Columns} {k n v : ℕ} (r : Split sh c d k n v) (
   isolated-c : (l : ℕ) → c Isolated l ≡ e Isolated l
   isolated-c l = sym (r .isolated l) ∙ s .isolated l
 
-  -- marks of vertices
+  -- the words of vertices
   used-c : (w : ℕ) → c VertexUsed w ≡ e VertexUsed w
   used-c w = split w v (λ z. rw z (o .v-free ∙ sym (s .place .v-free))) (λ z. sym (r .used w z) ∙ s .used w z)
 

@@ -19,7 +19,7 @@ use Rattle.layout.specs.Fields.{Field, Face, First, Isolated, Start, Loop, Next
 use Rattle.layout.specs.Fields.{capOf}
 use Rattle.layout.specs.Writes.{write, cleared, changes}
 use Rattle.euler.specs.Surgery.{putPoint, noEdgeWrites}
-use Rattle.euler.specs.Exec.{refusalOf, killedVertex}
+use Rattle.euler.specs.Exec.{refusalOf}
 use Rattle.sound_tables.specs.Cells.{Shows, shows-ext}
 use Rattle.sound_tables.specs.Sound.{HalfUsed, firstOf, Sound}
 use Rattle.sound_tables.specs.Names.{not-isolated}
@@ -28,7 +28,7 @@ use Rattle.sound_tables.specs.PointLists.{put-at, put-back, put-cleared, all-th
 use Rattle.sound_tables.specs.Good.{own, Marked, marked-shows}
 use Rattle.sound_tables.specs.CornerTest.{CornerAt}
 use Rattle.sound_tables.specs.WriteLaws.{Apart, frame}
-use Rattle.sound_tables.specs.Undone.{Kept, Undone}
+use Rattle.sound_tables.specs.Undone.{Kept, Undone, Low}
 use Rattle.sound_tables.specs.WriteBack.{Restores, restored, other-item}
 use Rattle.sound_spurs.specs.Relation.{Spur, spurOf, in-k, in-b, in-N, next-P, prev-b, prev-N, Nb, whole-P}
 use Rattle.sound_spurs.specs.Relation.{spur-loop-b, spur-loop-N, spur-loop-in, spur-loop-used, spur-start-N}
@@ -204,8 +204,7 @@ module _ {sh : Shape} {x : List ℕ} {p : List ℤ} (g : Marked sh x p) {m : Mev
 -- ---- kev, then mev
 
 module _ {sh : Shape} {x : List ℕ} {p : List ℤ} (g : Marked sh x p) {k : ℕ} (uk : HalfUsed sh (own sh x) k)
-    (nk : own sh x Next k ≡ mate k) {I : ℕ} (left : Left (own sh x) k I)
-    (low : own sh x VertexUsed (own sh x Start (mate k)) ≤ 1) where
+    (nk : own sh x Next k ≡ mate k) {I : ℕ} (left : Left (own sh x) k I) where
   -- the columns before
   abbrev kc : Columns
   kc = own sh x
@@ -330,13 +329,9 @@ module _ {sh : Shape} {x : List ℕ} {p : List ℤ} (g : Marked sh x p) {k : ℕ
       (λ i a b. ap (λ z. eqb z (kE .loop)) (in-back Loop i b (inl refl, (inl refl, (inl refl, tt)))))
       ∙ sym (g .sound .loop (kE .loop) (spur-loop-in sp) (spur-loop-used sp) .first)
 
-  -- the mark of the vertex that went was 1
-  far-mark : kc VertexUsed (kE .to) ≡ 1
-  far-mark = let u = far-used sp in omega (arith, low, u)
-
-  -- mev leads back
-  mev-leads-back : mevList sh ky (newEdge kY m) ≡ x
-  mev-leads-back = shows-ext (mev-shows gy fits) (marked-shows g) (λ F n i j.
+  -- mev leads back, where the word of the vertex that went was 1
+  mev-leads-back : kc VertexUsed (kE .to) ≡ 1 → mevList sh ky (newEdge kY m) ≡ x
+  mev-leads-back far-mark = shows-ext (mev-shows gy fits) (marked-shows g) (λ F n i j.
       (λ t. mevColumns sh kY (edge-is t) F n)
       ∙ restored (endStores kE (firstOf sh (edged kY kE) (kE .loop))) kc (edged kY kE)
       ((λ h. first-again), ((λ h. sym (not-isolated (g .sound) k uk refl)), ((λ h. sym far-mark), tt))) F n
@@ -347,14 +342,15 @@ module _ {sh : Shape} {x : List ℕ} {p : List ℤ} (g : Marked sh x p) {k : ℕ
   kev-kept = rw (kev-links g uk nk, kev-points g uk nk) gy
 
   -- mev gives everything back
-  kev-undone : Undone sh x p (kevOf k)
-  kev-undone =
+  kev-undone : kc VertexUsed (kE .to) ≤ 1 → Undone sh x p (kevOf k)
+  kev-undone low =
+      let u = far-used sp in
       let el = kev-links g uk nk in
       let ep = kev-points g uk nk in
       let ei = kev-inverse g uk nk in
       record {
         accepted = rw (el, ei) (mev-accepted sh ky (g .capacities) fits);
-        links = rw (el, ei) (mev-links sh ky (g .capacities) fits ∙ mev-leads-back);
+        links = rw (el, ei) (mev-links sh ky (g .capacities) fits ∙ mev-leads-back (omega (arith, low, u)));
         points = rw (el, ep, ei) (mev-points sh ky (g .capacities) fits kq ∙ put-back (sh .vertices) p (kE .to) (pos 0)
             (pos 0) (pos 0) (g .points) (far-in sp));
         again = rw (el, ep, ei) (mev-inverse sh ky (g .capacities) fits kq ∙ ap kevOf (half-is k (uk .0)));
@@ -369,14 +365,12 @@ mev-holds sh x p o g len e h =
     let f = mev-facts sh x o (g .capacities) len e h in
     subst (λ q. Kept sh x p q × Undone sh x p q) (sym (f .is)) (mev-kept g (f .fits), mev-undone g (f .fits))
 
--- both for kev, where the word of the vertex that it kills is 1
+-- both for kev: it is undone where the word of the vertex that it kills is 1
 pub kev-holds : (sh : Shape) (x : List ℕ) (p : List ℤ) (o : Operator) → Marked sh x p → length (o .args) ≡ 8
-    → o .code ≡ 4 → refusalOf sh x o ≡ 0 → own sh x VertexUsed (killedVertex sh x o) ≤ 1
-    → Kept sh x p o × Undone sh x p o
-kev-holds sh x p o g len e h low =
+    → o .code ≡ 4 → refusalOf sh x o ≡ 0 → Kept sh x p o × (Low sh x o → Undone sh x p o)
+kev-holds sh x p o g len e h =
     let f = kev-facts sh x o (g .capacities) len e h in
     let w = left-of (own sh x) (f .k) in
-    let u = subst (λ q. own sh x VertexUsed (killedVertex sh x q) ≤ 1) (f .is) low in
-    let v = rw (kev-killed g (f .used) (f .next)) at u in
-    subst (λ q. Kept sh x p q × Undone sh x p q) (sym (f .is))
-    (kev-kept g (f .used) (f .next) (w .1) v, kev-undone g (f .used) (f .next) (w .1) v)
+    let v = kev-killed g (f .used) (f .next) in
+    subst (λ q. Kept sh x p q × (Low sh x q → Undone sh x p q)) (sym (f .is))
+    (kev-kept g (f .used) (f .next) (w .1), λ low. kev-undone g (f .used) (f .next) (w .1) (rw v at low))

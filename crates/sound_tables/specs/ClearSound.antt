@@ -21,7 +21,7 @@ use Rattle.layout.specs.Fields.{Field, groupOf, wordOf, groupAt, head, field-in
 use Rattle.layout.specs.Fields.{SolidUsed, Solid, Outer, Face, First, Isolated}
 use Rattle.layout.specs.Fields.{Start, Loop, Next, Prev, VertexUsed}
 use Rattle.sound_tables.specs.Sound.{HalfUsed, FaceUsed, Sound}
-use Rattle.sound_tables.specs.Good.{own, Marked}
+use Rattle.sound_tables.specs.Good.{own, Good}
 use Rattle.sound_tables.specs.ValidGood.{sizes-capacities, good-valid}
 
 -- a list of one value, read anywhere
@@ -127,13 +127,14 @@ module _ (s f l e v : ℕ) where
   }
 
   -- an empty table of these capacities is good
-  empty-good : {m n : ℕ} → Sizes m n s f l e v → Marked sh x p
+  empty-good : {m n : ℕ} → Sizes m n s f l e v → Good sh x p
   empty-good z = record {
     shape = refl;
     capacities = sizes-capacities z;
     fit = omega (arith, length-replicate {A = ℕ} (linksLength s f l e v - head) 0);
     points = length-replicate (pointsLength v) (pos 0);
     sound = empty-sound;
+    valent = λ n i h. absurd (h (word-0 VertexUsed (lit≤ tt) n));
   }
 
 -- WHAT IS CLEARED IS SOUND: whatever was handed in, a clearing that answers 0 leaves a table that passes the check

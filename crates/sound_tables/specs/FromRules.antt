@@ -1,6 +1,6 @@
 -- The six rules, in the words of `table`, make a sound table.
 use mathlib.Core.Path.{_≡_, refl, sym, ap, _∙_, subst}
-use mathlib.Core.Logic.{_≢_, inl, inr, ⊎-elim}
+use mathlib.Core.Logic.{_≢_, _⊎_, inl, inr, ⊎-elim}
 use mathlib.Core.List.{List}
 use Prim.Native.Nat.{ℕ, zero, suc, _*_, _≤_, _<_}
 use native.Mathlib.Omega.{arith}
@@ -15,7 +15,7 @@ use Rattle.layout.specs.Mate.{mate}
 use Rattle.layout.specs.MateLaws.{mate-range}
 use Rattle.layout.specs.Points.{pointWidth, coordinate, inRange, rangeTest}
 use Rattle.check_orbits.specs.OrbitsLaws.{Half}
-use Rattle.check_rules.specs.RulesSay.{Together, InRange, IsZero, Rule1, Rule2, Rule3, VertexEither}
+use Rattle.check_rules.specs.RulesSay.{Together, InRange, IsZero, Rule1, Rule2, Rule3}
 use Rattle.check_rules.specs.CyclesSay.{Rule4, Rule5, Rule6}
 use Rattle.layout.specs.Fields.{Solid, Face, First, Isolated, Start, Loop, Columns}
 use Rattle.sound_tables.specs.EdgeIn.{Rules}
@@ -24,7 +24,7 @@ use Rattle.sound_tables.specs.Sound.{In, halves, HalfUsed, FaceUsed, sid
 use Rattle.sound_tables.specs.Sound.{VertexSound, alone, joined, PointSound, Sound}
 use Rattle.sound_tables.specs.Labels.{leastWith, label-found, label-some, label-none, none-label, manyWith}
 use Rattle.sound_tables.specs.Labels.{many-none, none-many, one-many}
-use Rattle.sound_tables.specs.Good.{own}
+use Rattle.sound_tables.specs.Good.{own, Valent}
 use Rattle.sound_tables.specs.EdgesAcross.{edge-half}
 
 -- what is there is at least 1
@@ -113,14 +113,16 @@ module _ {sh : Shape} {x : List ℕ} {p : List ℤ} (r1 : Rule1 sh x p) (r2 : Ru
   isolated-one v h z = omega (arith, h, many-none (sh .loops) (c Isolated) v (none-label (sh .loops) (c Isolated) v z))
 
   -- a vertex in use
-  vertex-sound : (v : ℕ) → VertexEither sh x v → VertexSound sh c v
+  vertex-sound : (v : ℕ) → ((manyWith (sh .loops) (c Isolated) v ≡ 1) × (manyWith (2 * sh .edges) (c Start) v ≡ 0))
+      ⊎ ((manyWith (sh .loops) (c Isolated) v ≡ 0) × (manyWith (2 * sh .edges) (c Start) v ≢ 0)) → VertexSound sh c v
   vertex-sound v (inl h) =
       let b = label-found (sh .loops) (c Isolated) v (isolated-one v (h .0)) in
       alone (leastWith (sh .loops) (c Isolated) v) (b .range) (b .label)
       (λ m i e. one-many (sh .loops) (c Isolated) v (h .0) (leastWith (sh .loops) (c Isolated) v) m (b .range)
-      (b .label) i e) (none-label (2 * sh .edges) (c Start) v (h .1))
+      (b .label) i e) (none-many (2 * sh .edges) (c Start) v (h .1))
   vertex-sound v (inr h) =
-      let b = label-found (2 * sh .edges) (c Start) v (h .1) in
+      let b = label-found (2 * sh .edges) (c Start) v
+      (λ z. h .1 (many-none (2 * sh .edges) (c Start) v (none-label (2 * sh .edges) (c Start) v z))) in
       joined (none-many (sh .loops) (c Isolated) v (h .0)) (leastWith (2 * sh .edges) (c Start) v) (b .range) (b .label)
 
   -- a point
@@ -200,8 +202,12 @@ module _ {sh : Shape} {x : List ℕ} {p : List ℤ} (r1 : Rule1 sh x p) (r2 : Ru
               other-zero (R .with-prev) h;
         };
     half = half-sound;
-    vertex = λ v i h. vertex-sound v (r5 .vertex v (i .0) (i .1) h);
+    vertex = λ v i h. vertex-sound v (r5 .vertex v (i .0) (i .1) h .either);
     point = point-sound;
     rules = half-rules;
     solids = solids-sound;
   }
+
+-- and its words are right
+pub rules-valent : {sh : Shape} {x : List ℕ} → Rule5 sh x → Valent sh x
+rules-valent r v i h = r .vertex v (i .0) (i .1) h .word

@@ -2,7 +2,7 @@
 use mathlib.Core.Path.{_≡_, refl, sym, ap, _∙_, subst}
 use mathlib.Core.Logic.{_≢_, inl, inr, ⊎-elim}
 use mathlib.Core.List.{List}
-use Prim.Native.Nat.{ℕ, _*_, _≤_}
+use Prim.Native.Nat.{ℕ, _+_, _*_, _≤_}
 use native.Mathlib.Omega.{arith}
 use lib.Dec.{T, eqb, eqb→eq, not-T}
 use lib.IntN.{ℤ, pos, negsuc}
@@ -14,14 +14,15 @@ use Rattle.layout.specs.declared.shape.Shape.{Shape}
 use Rattle.layout.specs.Mate.{mate}
 use Rattle.layout.specs.MateLaws.{mate-mate, mate-range}
 use Rattle.layout.specs.Points.{coordinate, rangeTest}
+use Rattle.check_items.specs.Rules.{startsAt}
 use Rattle.check_rules.specs.RulesSay.{Together, InRange, IsZero, FaceRange, LoopRange, HalfRange, VertexRange, Rule1}
 use Rattle.check_rules.specs.RulesSay.{Rule2, Rule3, HalfLinks, VertexEither}
 use Rattle.check_rules.specs.CyclesSay.{Rule4, Rule5, Rule6}
 use Rattle.sound_tables.specs.EdgeIn.{prev-in, next-prev}
 use Rattle.layout.specs.Fields.{Solid, Face, First, Isolated, Start, Loop, Next, VertexUsed, Columns}
 use Rattle.sound_tables.specs.Sound.{In, HalfUsed, side, VertexSound, alone, joined, Sound}
-use Rattle.sound_tables.specs.Labels.{label-found, label-some, label-none, many-none, many-one}
-use Rattle.sound_tables.specs.Good.{own}
+use Rattle.sound_tables.specs.Labels.{label-found, label-some, many-none, none-many, many-one}
+use Rattle.sound_tables.specs.Good.{own, Valent}
 use Rattle.sound_tables.specs.EdgesAcross.{half-edge}
 use Rattle.sound_tables.specs.FromRules.{half-used, used-half}
 
@@ -219,14 +220,20 @@ module _ {sh : Shape} {x : List ℕ} {p : List ℤ} (a : Sound sh p (own sh x)) 
   -- ---- rule 5
 
   -- a vertex in use is isolated or starts something
-  vertex-either : (v : ℕ) → VertexSound sh c v → VertexEither sh x v
-  vertex-either v (alone l i e u n) = inl (many-one (sh .loops) (c Isolated) v l i e u, label-none n2 (c Start) v n)
-  vertex-either v (joined n k i e) = inr (many-none (sh .loops) (c Isolated) v n, label-some n2 (c Start) v k i e)
+  vertex-either : (v : ℕ) → VertexSound sh c v → c VertexUsed v ≡ 1 + startsAt sh x v → VertexEither sh x v
+  vertex-either v (alone l i e u n) w = record {
+    word = w;
+    either = inl (many-one (sh .loops) (c Isolated) v l i e u, many-none n2 (c Start) v n);
+  }
+  vertex-either v (joined n k i e) w = record {
+    word = w;
+    either = inr (many-none (sh .loops) (c Isolated) v n, λ z. none-many n2 (c Start) v z k i e);
+  }
 
   -- half-edges fall into vertices
-  pub to-rule5 : Rule5 sh x
-  to-rule5 = record {
-    vertex = λ v l u h. vertex-either v (a .vertex v (l, u) h);
+  pub to-rule5 : Valent sh x → Rule5 sh x
+  to-rule5 w = record {
+    vertex = λ v l u h. vertex-either v (a .vertex v (l, u) h) (w v (l, u) h);
     cycles = agree (a .rules .verts) (used-half sh x) (half-used sh x) (λ k u. refl) (λ k u. refl);
   }
 

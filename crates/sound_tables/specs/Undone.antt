@@ -2,12 +2,13 @@
 -- everything back.
 use mathlib.Core.Path.{_≡_}
 use mathlib.Core.List.{List}
-use Prim.Native.Nat.{ℕ}
+use Prim.Native.Nat.{ℕ, _≤_}
 use lib.IntN.{ℤ}
 use Rattle.script.specs.declared.Operator.{Operator}
 use Rattle.layout.specs.declared.shape.Shape.{Shape}
-use Rattle.euler.specs.Exec.{refusalOf, marksAfter, pointsAfter, inverse}
-use Rattle.sound_tables.specs.Good.{Marked}
+use Rattle.euler.specs.Exec.{refusalOf, marksAfter, killedVertex, pointsAfter, inverse}
+use Rattle.layout.specs.Fields.{VertexUsed}
+use Rattle.sound_tables.specs.Good.{own, Marked}
 
 -- o's inverse is accepted on what o left, gives back every word of links and points, and has o for its own inverse;
 -- `after` is what operators do to the links
@@ -23,6 +24,10 @@ pub record UndoneBy (after : Shape → List ℕ → Operator → List ℕ) (sh :
 -- operator o on a marked table leaves a marked one
 abbrev pub Kept : Shape → List ℕ → List ℤ → Operator → Type 0
 Kept sh x p o = Marked sh (marksAfter sh x o) (pointsAfter sh x p o)
+
+-- the word of the vertex that o kills is 1 at most, as operators leave it that make a vertex
+abbrev pub Low : Shape → List ℕ → Operator → Type 0
+Low sh x o = own sh x VertexUsed (killedVertex sh x o) ≤ 1
 
 -- and is undone
 abbrev pub Undone : Shape → List ℕ → List ℤ → Operator → Type 0

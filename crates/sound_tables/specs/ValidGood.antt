@@ -15,8 +15,8 @@ use Rattle.table.specs.SizesLaws.{Sizes, sizes-are}
 use Rattle.table.specs.Valid.{Valid, valid-parts, parts-valid}
 use Rattle.check_rules.specs.RulesSay.{says-rule1, says-rule2, says-rule3}
 use Rattle.check_rules.specs.CyclesSay.{says-rule4, says-rule5, says-rule6}
-use Rattle.sound_tables.specs.Good.{Capacities, Marked}
-use Rattle.sound_tables.specs.FromRules.{rules-sound}
+use Rattle.sound_tables.specs.Good.{Capacities, Good}
+use Rattle.sound_tables.specs.FromRules.{rules-sound, rules-valent}
 use Rattle.sound_tables.specs.ToRules.{to-rule1, to-rule2, to-rule3, to-rule4, to-rule5, to-rule6}
 
 -- sizes that fit are capacities
@@ -30,7 +30,7 @@ sizes-capacities z = record {
 }
 
 -- what the check passes is good
-pub valid-good : (x : List ℕ) (p : List ℤ) → Valid x p → Marked (shapeOf x) x p
+pub valid-good : (x : List ℕ) (p : List ℤ) → Valid x p → Good (shapeOf x) x p
 valid-good x p v =
     let h = valid-parts x p v in
     let sh = shapeOf x in
@@ -63,6 +63,7 @@ valid-good x p v =
       );
       points = z .points;
       sound = rules-sound r1 r2 r3 r4 r5 r6;
+      valent = rules-valent r5;
     }
 
 -- a capacity in range passes its test
@@ -70,7 +71,7 @@ capacity-fits : (n : ℕ) → (1 ≤ n) × (n ≤ mostItems) → T (capacity n)
 capacity-fits n i = T-and (leb 1 n) (leb n mostItems) (le→leb 1 n (i .0)) (le→leb n mostItems (i .1))
 
 -- and what is good passes
-pub good-valid : (x : List ℕ) (p : List ℤ) → Marked (shapeOf x) x p → Valid x p
+pub good-valid : (x : List ℕ) (p : List ℤ) → Good (shapeOf x) x p → Valid x p
 unfolding sizesFit
 good-valid x p g =
     let sh = shapeOf x in
@@ -99,6 +100,6 @@ good-valid x p g =
       second = T-true (says-rule2 sh x .back r2);
       third = T-true (says-rule3 sh x .back (to-rule3 (g .sound)));
       fourth = T-true (says-rule4 sh x p r1 r2 .back r4);
-      fifth = T-true (says-rule5 sh x p r1 r2 r4 .back (to-rule5 (g .sound)));
+      fifth = T-true (says-rule5 sh x p r1 r2 r4 .back (to-rule5 (g .sound) (g .valent)));
       sixth = T-true (says-rule6 sh x p r1 r2 .back (to-rule6 (g .sound)));
     })
