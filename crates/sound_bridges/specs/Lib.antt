@@ -1,7 +1,8 @@
 -- mekr and kemr. Two tables that differ by a bridge (Relation). From the one's soundness the other's: the rules with
 -- dummies (PassedOver, CornerMembers, MekrRules, Runs, KemrDummies, KemrRules), then the rest (MekrSound, KemrSound).
 -- What the operators leave, as columns (MekrColumns, KemrColumns) and as lists that show them (MekrShown, KemrShown);
--- when they are accepted (MekrAccepted, KemrAccepted); each table settles the other (Unique); the theorems (Exact).
+-- when they are accepted (MekrAccepted, KemrAccepted); each table settles the other (Unique); the theorems (Exact);
+-- and what they do to the words of vertices (Balance).
 pub mod Relation
 pub mod PassedOver
 pub mod CornerMembers
@@ -19,3 +20,4 @@ pub mod Unique
 pub mod MekrAccepted
 pub mod KemrAccepted
 pub mod Exact
+pub mod Balance

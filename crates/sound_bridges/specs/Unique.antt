@@ -1,18 +1,20 @@
 -- Each of the two tables settles the other: what differs from one table by the same bridge is one table. So the inverse
 -- operator gives back the table to the word. Fields that a bridge does not touch are done all at once.
-use mathlib.Core.Path.{_≡_, sym, ap, _∙_}
+use mathlib.Core.Path.{_≡_, refl, sym, ap, _∙_, subst}
 use mathlib.Core.Logic.{_≢_, ⊎-elim}
+use mathlib.Core.Bool.{false}
 use mathlib.Core.List.{List}
 use Prim.Native.Nat.{ℕ, _*_, _≤_}
 use native.Mathlib.Omega.{arith}
 use lib.Dec.{eqb}
 use lib.IntN.{ℤ}
-use Rattle.laws.specs.Bools.{split}
+use Rattle.laws.specs.Bools.{split, ask}
 use Rattle.laws.specs.Search.{least-ext}
 use Rattle.laws.specs.Linked.{linked-same}
 use Rattle.layout.specs.declared.shape.Shape.{Shape}
 use Rattle.layout.specs.Mate.{mate}
-use Rattle.layout.specs.Fields.{Field, Face, First, Isolated, Start, Loop, Next, Prev, Columns, capOf, by-fields}
+use Rattle.layout.specs.Fields.{Field, Face, First, Isolated, Start, Loop, Next, Prev, VertexUsed, Columns, capOf}
+use Rattle.layout.specs.Fields.{sameField, same-field, by-fields}
 use Rattle.sound_tables.specs.Sound.{In, HalfUsed, Sound}
 use Rattle.sound_tables.specs.Names.{named-used, lone-unnamed}
 use Rattle.sound_bridges.specs.Relation.{Corner, HasCorner, real-before, real-after, Bridge, Ends, Bridged}
@@ -25,6 +27,10 @@ AlikeIn sh c c′ F = (i : ℕ) → 1 ≤ i → i ≤ capOf sh F → c F i ≡ c
 -- and in every field
 abbrev pub Alike : Shape → Columns → Columns → Type 0
 Alike sh c c′ = (F : Field) → AlikeIn sh c c′ F
+
+-- and in every field but the words of vertices
+abbrev pub AlikeElse : Shape → Columns → Columns → Type 0
+AlikeElse sh c c′ = (F : Field) → sameField VertexUsed F ≡ false → AlikeIn sh c c′ F
 
 -- f and g agree at m, at n, and so everywhere where they do so elsewhere
 by-two : (f g : ℕ → ℕ) (m n : ℕ) → f m ≡ g m → f n ≡ g n → (i : ℕ) → (i ≢ m → i ≢ n → f i ≡ g i) → f i ≡ g i
@@ -58,7 +64,7 @@ module _ {sh : Shape} {c c′ : Columns} {s : Corner} (q : HasCorner sh c s) (q�
 -- ---- from the loop with the bridge to the two loops
 
 module _ {sh : Shape} {p p′ : List ℤ} {c c′ d d′ : Columns} {B : Bridge} (s : Sound sh p c) (s′ : Sound sh p′ c′)
-    (b : Bridged sh c d B) (b′ : Bridged sh c′ d′ B) (e : Alike sh d d′) where
+    (b : Bridged sh c d B) (b′ : Bridged sh c′ d′ B) (e : AlikeElse sh d d′) where
   open Bridge B using (k, l, l2, P1, N1, P2, N2)
   open Ends (b .ends) using (loop-in, ring-in, two, one-face, at-1, at-2, in-2, zero-k, zero-a)
   open Ends (b′ .ends) using (one-face as one-face′, at-1 as at-1′, at-2 as at-2′, zero-k as zero-k′, zero-a as zero-a′)
@@ -67,7 +73,7 @@ module _ {sh : Shape} {p p′ : List ℤ} {c c′ d d′ : Columns} {B : Bridge}
   start-same : AlikeIn sh c c′ Start
   start-same i v w = by-two (c Start) (c′ Start) k (mate k) (zero-k .s ∙ sym (zero-k′ .s))
       (zero-a .s ∙ sym (zero-a′ .s)) i
-      (λ x y. sym (b .start-o i x y) ∙ e Start i v w ∙ b′ .start-o i x y)
+      (λ x y. sym (b .start-o i x y) ∙ e Start refl i v w ∙ b′ .start-o i x y)
 
   -- so the same half-edges are in use
   half-same : (i : ℕ) → HalfUsed sh c i → HalfUsed sh c′ i
@@ -78,14 +84,14 @@ module _ {sh : Shape} {p p′ : List ℤ} {c c′ d d′ : Columns} {B : Bridge}
   next-same i v w = by-two (c Next) (c′ Next) k (mate k) (zero-k .n ∙ sym (zero-k′ .n)) (zero-a .n ∙ sym (zero-a′ .n)) i
       (λ x y. split i P1 (λ z. next-there at-1 at-1′ z y)
       (λ f. split i P2 (λ z. next-there at-2 at-2′ z x)
-      (λ g. sym (b .next-o i x y f g) ∙ e Next i v w ∙ b′ .next-o i x y f g)))
+      (λ g. sym (b .next-o i x y f g) ∙ e Next refl i v w ∙ b′ .next-o i x y f g)))
 
   -- previous
   prev-same : AlikeIn sh c c′ Prev
   prev-same i v w = by-two (c Prev) (c′ Prev) k (mate k) (zero-k .p ∙ sym (zero-k′ .p)) (zero-a .p ∙ sym (zero-a′ .p)) i
       (λ x y. split i N1 (λ z. prev-there at-1 at-1′ z x)
       (λ f. split i N2 (λ z. prev-there at-2 at-2′ z y)
-      (λ g. sym (b .prev-o i x y f g) ∙ e Prev i v w ∙ b′ .prev-o i x y f g)))
+      (λ g. sym (b .prev-o i x y f g) ∙ e Prev refl i v w ∙ b′ .prev-o i x y f g)))
 
   -- what names the ring in c names it in c′
   ring-same : (i : ℕ) → In (2 * sh .edges) i → c Loop i ≡ l2 → c′ Loop i ≡ l2
@@ -106,34 +112,43 @@ module _ {sh : Shape} {p p′ : List ℤ} {c c′ d d′ : Columns} {B : Bridge}
 
   -- and back
   ring-back : (i : ℕ) → In (2 * sh .edges) i → c′ Loop i ≡ l2 → c Loop i ≡ l2
-  ring-back = Rattle.sound_bridges.specs.Unique.ring-same s′ s b′ b (λ F m g h. sym (e F m g h))
+  ring-back = Rattle.sound_bridges.specs.Unique.ring-same s′ s b′ b (λ F t m g h. sym (e F t m g h))
 
   -- the loops of the half-edges
   loop-same : AlikeIn sh c c′ Loop
   loop-same i v w = by-two (c Loop) (c′ Loop) k (mate k) (zero-k .l ∙ sym (zero-k′ .l)) (zero-a .l ∙ sym (zero-a′ .l)) i
       (λ x y. split (c Loop i) l2 (λ z. z ∙ sym (ring-same i (v, w) z))
-      (λ z. sym (b .loop-o i x y z) ∙ e Loop i v w ∙ b′ .loop-o i x y (λ t. z (ring-back i (v, w) t))))
+      (λ z. sym (b .loop-o i x y z) ∙ e Loop refl i v w ∙ b′ .loop-o i x y (λ t. z (ring-back i (v, w) t))))
 
   -- the faces of the loops
   face-same : AlikeIn sh c c′ Face
   face-same m x y =
       let at : (m : ℕ) → 1 ≤ m → m ≤ sh .loops → m ≢ l2 → c Face m ≡ c′ Face m = λ m x y z. sym (b .face-o m z)
-      ∙ e Face m x y ∙ b′ .face-o m z in
+      ∙ e Face refl m x y ∙ b′ .face-o m z in
       split m l2 (λ z. rw z (one-face ∙ at l (loop-in .0) (loop-in .1) two ∙ sym one-face′)) (at m x y)
 
   -- the isolated vertices
   isolated-all : AlikeIn sh c c′ Isolated
   isolated-all m x y = by-two (c Isolated) (c′ Isolated) l l2 (isolated-same at-1 at-1′ (off-k b) (off-k b′))
       (isolated-same at-2 at-2′ (off-a b) (off-a b′)) m
-      (λ f g. sym (b .isolated-o m f g) ∙ e Isolated m x y ∙ b′ .isolated-o m f g)
+      (λ f g. sym (b .isolated-o m f g) ∙ e Isolated refl m x y ∙ b′ .isolated-o m f g)
 
-  -- the table without the bridge is settled
-  pub down-same : Alike sh c c′
-  down-same =
+  -- the table without the bridge is settled, but for the words of vertices
+  pub down-else : AlikeElse sh c c′
+  down-else =
       let first-all = first-same s s′ face-same loop-same in
-      by-fields touched (AlikeIn sh c c′)
-      (start-same, (loop-same, (next-same, (prev-same, (face-same, (first-all, (isolated-all, tt)))))))
-      (λ F q i x y. sym (b .others F q i) ∙ e F i x y ∙ b′ .others F q i)
+      by-fields touched (λ F. sameField VertexUsed F ≡ false → AlikeIn sh c c′ F)
+      (λ t. start-same, (λ t. loop-same, (λ t. next-same, (λ t. prev-same, (λ t. face-same, (λ t. first-all,
+      (λ t. isolated-all, tt)))))))
+      (λ F q t i x y. sym (b .others F q i) ∙ e F t i x y ∙ b′ .others F q i)
+
+-- and where these agree too, they do so afterwards
+pub down-same : {sh : Shape} {p p′ : List ℤ} {c c′ d d′ : Columns} {B : Bridge} → Sound sh p c → Sound sh p′ c′
+    → Bridged sh c d B → Bridged sh c′ d′ B → Alike sh d d′ → Alike sh c c′
+down-same {sh} {c = c} {c′} s s′ b b′ e F = ⊎-elim
+    (λ t. subst (AlikeIn sh c c′) (same-field VertexUsed F t)
+    (λ i x y. sym (b .others VertexUsed refl i) ∙ e VertexUsed i x y ∙ b′ .others VertexUsed refl i))
+    (λ t. down-else s s′ b b′ (λ G q. e G) F t) (ask (sameField VertexUsed F))
 
 -- ---- from the two loops to the loop with the bridge
 

@@ -23,3 +23,4 @@ pub mod KefAccepted
 pub mod Exact
 pub mod MefHolds
 pub mod KefAmid
+pub mod Balance

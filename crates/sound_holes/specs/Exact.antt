@@ -21,8 +21,9 @@ use Rattle.layout.specs.Fields.{SolidUsed, Solid, Face, Start, Loop}
 use Rattle.sound_tables.specs.Cells.{Shows, shows-ext}
 use Rattle.sound_tables.specs.Sound.{In, HalfUsed, side}
 use Rattle.sound_tables.specs.Good.{own, Marked, marked-shows, marked-after}
+use Rattle.sound_tables.specs.Balance.{Balanced, shown-still}
 use Rattle.sound_tables.specs.Undone.{Kept, Undone, exact}
-use Rattle.sound_tables.specs.TwoOperands.{two-operands}
+use Rattle.sound_tables.specs.TwoOperands.{TwoOperands, two-operands}
 use Rattle.sound_holes.specs.Chains.{sideIn, Chain, after-chain, chain-after}
 use Rattle.sound_holes.specs.MfkrhSound.{cut, RingFace, Moved, old-solid, cut-sound}
 use Rattle.sound_holes.specs.KfmrhSound.{joined, TwoFaces, second-face, first-marked, second-marked, ring-in}
@@ -76,6 +77,10 @@ module _ {sh : Shape} {x : List ℕ} {p : List ℤ} (g : Marked sh x p) {l f f�
       exact refl (mfkrh-points sh x l f (solidOperand s₀ s) p) (mfkrh-inverse (g .sound) caps r u p) y-good
       (kfmrh-accepted (y-good .sound) caps y-two) cut-back (kfmrh-points sh y f₀ f p)
       (kfmrh-inverse (y-good .sound) caps y-two p)
+
+  -- neither half-edges nor vertices change
+  mfkrh-still : Balanced sh x op
+  mfkrh-still = shown-still y-shows refl refl (λ i. refl) (λ w i. inl refl)
 
 -- ---- kfmrh
 
@@ -188,15 +193,27 @@ module _ {sh : Shape} {x : List ℕ} {p : List ℤ} (g : Marked sh x p) {f1 f2 l
       (mfkrh-accepted (yk-good .sound) caps yk-ring yk-outcome) joined-back
       (mfkrh-points sh yk l f2 (solidOperand s1 s2) p) (mfkrh-inverse (yk-good .sound) caps yk-ring yk-outcome p)
 
+  -- neither half-edges nor vertices change
+  kfmrh-still : Balanced sh x (kfmrhOf f1 f2)
+  kfmrh-still = shown-still
+      (subst (λ t. Shows sh t (joined (own sh x) f1 f2 l s1 s2)) (sym (kfmrh-links (g .sound) (g .capacities) r))
+      yk-shows) refl refl (λ i. refl) (λ w i. inl refl)
+
 -- ---- as operators
+
+-- the two faces of an accepted kfmrh
+kfmrh-faces : (sh : Shape) (x : List ℕ) (p : List ℤ) (o : Operator) → Marked sh x p → length (o .args) ≡ 8
+    → o .code ≡ 9 → refusalOf sh x o ≡ 0 → TwoOperands sh x o 9 4 4
+unfolding pattern rows
+kfmrh-faces sh x p o g len e h =
+    let most : sh .faces ≤ mostHalves = omega (arith, g .capacities .faces) in
+    two-operands sh x 9 4 4 refl refl refl refl most refl refl most refl o len e h
 
 -- both for kfmrh
 pub kfmrh-holds : (sh : Shape) (x : List ℕ) (p : List ℤ) (o : Operator) → Marked sh x p → length (o .args) ≡ 8
     → o .code ≡ 9 → refusalOf sh x o ≡ 0 → Kept sh x p o × Undone sh x p o
-unfolding pattern rows
 kfmrh-holds sh x p o g len e h =
-    let most : sh .faces ≤ mostHalves = omega (arith, g .capacities .faces) in
-    let k = two-operands sh x 9 4 4 refl refl refl refl most refl refl most refl o len e h in
+    let k = kfmrh-faces sh x p o g len e h in
     subst (λ q. Kept sh x p q × Undone sh x p q) (sym (k .is)) (kfmrh-exact g (kfmrh-two x (g .sound) k))
 
 -- both for mfkrh
@@ -205,3 +222,16 @@ pub mfkrh-holds : (sh : Shape) (x : List ℕ) (p : List ℤ) (o : Operator) → 
 mfkrh-holds sh x p o g len e h =
     let k = mfkrh-facts sh x p o (g .sound) (g .capacities) len e h in
     subst (λ q. Kept sh x p q × Undone sh x p q) (sym (k .is)) (mfkrh-exact g (k .ring) (k .outcome))
+
+-- what they do to starts and marks: nothing
+pub kfmrh-balanced : (sh : Shape) (x : List ℕ) (p : List ℤ) (o : Operator) → Marked sh x p → length (o .args) ≡ 8
+    → o .code ≡ 9 → refusalOf sh x o ≡ 0 → Balanced sh x o
+kfmrh-balanced sh x p o g len e h =
+    let k = kfmrh-faces sh x p o g len e h in
+    subst (Balanced sh x) (sym (k .is)) (kfmrh-still g (kfmrh-two x (g .sound) k))
+
+pub mfkrh-balanced : (sh : Shape) (x : List ℕ) (p : List ℤ) (o : Operator) → Marked sh x p → length (o .args) ≡ 8
+    → o .code ≡ 10 → refusalOf sh x o ≡ 0 → Balanced sh x o
+mfkrh-balanced sh x p o g len e h =
+    let k = mfkrh-facts sh x p o (g .sound) (g .capacities) len e h in
+    subst (Balanced sh x) (sym (k .is)) (mfkrh-still g (k .ring) (k .outcome))

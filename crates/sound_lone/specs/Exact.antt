@@ -1,26 +1,29 @@
 -- The pair mvsf and kvsf: a good table stays good, and each undoes the other to the word. Both are `placed` on the
 -- columns; going there and back is `place-back`, one lemma for both ways.
-use mathlib.Core.Path.{_≡_, refl, sym, _∙_, subst}
-use mathlib.Core.Logic.{_≢_}
+use mathlib.Core.Path.{_≡_, refl, sym, ap, _∙_, subst}
+use mathlib.Core.Logic.{_≢_, inl, inr}
 use mathlib.Core.List.{List}
 use Prim.Native.Nat.{ℕ, _≤_, _<_}
 use native.Mathlib.Omega.{arith}
 use lib.Dec.{T}
 use lib.IntN.{ℤ, pos}
 use lib.ListN.{length}
-use Rattle.laws.specs.Update.{upd-same, upd-off}
+use Rattle.laws.specs.Bools.{split}
+use Rattle.laws.specs.Update.{upd-same, upd-off, upd-at}
 use Rattle.script.specs.declared.Operator.{Operator}
 use Rattle.layout.specs.declared.shape.Shape.{Shape}
 use Rattle.layout.specs.Points.{pointWidth, coordinate, rangeTest}
 use Rattle.euler.specs.Surgery.{putPoint}
 use Rattle.codec.specs.Operands.{pattern, rows}
-use Rattle.euler.specs.Exec.{useWord, condition, refusalOf}
+use Rattle.euler.specs.Exec.{useWord, condition, refusalOf, onlyLoop, onlyVertex}
+use Rattle.layout.specs.Items.{faceIn}
 use Rattle.layout.specs.Fields.{Field, SolidUsed, Solid, Face, VertexUsed, Columns}
 use Rattle.sound_tables.specs.Cells.{Shows, shows-ext}
 use Rattle.sound_tables.specs.WriteLaws.{frame}
 use Rattle.sound_tables.specs.WriteBack.{Stand, write-back}
 use Rattle.sound_tables.specs.PointLists.{three, put-length, put-at, put-back, put-cleared, points-new, points-cleared}
 use Rattle.sound_tables.specs.Good.{own, Marked, marked-shows, marked-after}
+use Rattle.sound_tables.specs.Balance.{Balanced, shown-still}
 use Rattle.sound_tables.specs.Undone.{Kept, Undone, exact, Low}
 use Rattle.sound_tables.specs.OneOperand.{one-operand}
 use Rattle.sound_lone.specs.Placed.{placedWrites, placed, placedLinks, shows-placed}
@@ -103,6 +106,14 @@ module _ {sh : Shape} {x : List ℕ} {p : List ℤ} (g : Marked sh x p) {s f l v
       (kvsf-points y-one caps q ∙ point-back) (kvsf-inverse y-one caps q
       ∙ (λ t. mvsfOf s f l v (point-at 0 (omega arith) t) (point-at 1 (omega arith) t) (point-at 2 (omega arith) t)))
 
+  -- a vertex is made, no half-edge
+  mvsf-still : Balanced sh x (mvsfOf s f l v a b z)
+  mvsf-still = shown-still
+      (subst (λ t. Shows sh t d) (sym (mvsf-links sh x s f l v a b z (g .capacities) r)) y-shows) refl refl
+      (λ i. refl)
+      (λ w i. split w v (λ e. inr (inl (ap (own sh x VertexUsed) e ∙ r .vertex, upd-at (own sh x VertexUsed) 1 e)))
+      (λ e. inl (upd-off (own sh x VertexUsed) 1 e)))
+
 -- ---- kvsf
 
 module _ {sh : Shape} {x : List ℕ} {p : List ℤ} (g : Marked sh x p) {s f l v : ℕ} (o : OneLoop sh (own sh x) s f l v)
@@ -177,7 +188,24 @@ module _ {sh : Shape} {x : List ℕ} {p : List ℤ} (g : Marked sh x p) {s f l v
       let u : own sh x VertexUsed v ≢ 0 = one-used (g .sound) o in
       kvsf-exact (omega (arith, low, u)) .1
 
+  -- a vertex is killed, no half-edge
+  kvsf-still : Balanced sh x (kvsfOf s)
+  kvsf-still = shown-still
+      (subst (λ t. Shows sh t kd) (sym (kvsf-links o (g .capacities))) ky-shows) refl refl (λ i. refl)
+      (λ w i. split w v (λ e. inr (inr (upd-at (own sh x VertexUsed) 0 e)))
+      (λ e. inl (upd-off (own sh x VertexUsed) 0 e)))
+
 -- ---- as operators
+
+-- what an accepted kvsf kills
+kvsf-one : (sh : Shape) (x : List ℕ) (p : List ℤ) (o : Operator) → Marked sh x p → length (o .args) ≡ 8 → o .code ≡ 2
+    → refusalOf sh x o ≡ 0
+    → (s : ℕ) × (o ≡ kvsfOf s) × (own sh x SolidUsed s ≢ 0)
+    × OneLoop sh (own sh x) s (faceIn sh x s) (onlyLoop sh x s) (onlyVertex sh x s)
+unfolding pattern rows useWord condition
+kvsf-one sh x p o g len e h =
+    let k = one-operand sh x 2 1 refl refl refl refl (omega (arith, g .capacities .solids)) refl o len e h in
+    (k .n, k .is, k .used, tested-one x (g .sound) (k .n) (k .range) (k .used) (rw (k .small) at (k .holds)))
 
 -- both for mvsf
 pub mvsf-holds : (sh : Shape) (x : List ℕ) (p : List ℤ) (o : Operator) → Marked sh x p → length (o .args) ≡ 8
@@ -189,9 +217,20 @@ mvsf-holds sh x p o g len e h =
 -- both for kvsf: it is undone where the word of the vertex that it kills is 1
 pub kvsf-holds : (sh : Shape) (x : List ℕ) (p : List ℤ) (o : Operator) → Marked sh x p → length (o .args) ≡ 8
     → o .code ≡ 2 → refusalOf sh x o ≡ 0 → Kept sh x p o × (Low sh x o → Undone sh x p o)
-unfolding pattern rows useWord condition
 kvsf-holds sh x p o g len e h =
-    let k = one-operand sh x 2 1 refl refl refl refl (omega (arith, g .capacities .solids)) refl o len e h in
-    let r = tested-one x (g .sound) (k .n) (k .range) (k .used) (rw (k .small) at (k .holds)) in
-    subst (λ q. Kept sh x p q × (Low sh x q → Undone sh x p q)) (sym (k .is))
-    (kvsf-kept g r (k .used), λ low. kvsf-undone g r (k .used) (rw (kvsf-killed r (g .capacities)) at low))
+    let k = kvsf-one sh x p o g len e h in
+    subst (λ q. Kept sh x p q × (Low sh x q → Undone sh x p q)) (sym (k .1))
+    (kvsf-kept g (k .3) (k .2), λ low. kvsf-undone g (k .3) (k .2) (rw (kvsf-killed (k .3) (g .capacities)) at low))
+
+-- what they do to starts and marks
+pub mvsf-balanced : (sh : Shape) (x : List ℕ) (p : List ℤ) (o : Operator) → Marked sh x p → length (o .args) ≡ 8
+    → o .code ≡ 1 → refusalOf sh x o ≡ 0 → Balanced sh x o
+mvsf-balanced sh x p o g len e h =
+    let k = mvsf-facts sh x o (g .capacities) len e h in
+    subst (Balanced sh x) (sym (k .is)) (mvsf-still g (k .free) (k .x) (k .y) (k .z) (k .range))
+
+pub kvsf-balanced : (sh : Shape) (x : List ℕ) (p : List ℤ) (o : Operator) → Marked sh x p → length (o .args) ≡ 8
+    → o .code ≡ 2 → refusalOf sh x o ≡ 0 → Balanced sh x o
+kvsf-balanced sh x p o g len e h =
+    let k = kvsf-one sh x p o g len e h in
+    subst (Balanced sh x) (sym (k .1)) (kvsf-still g (k .3) (k .2))

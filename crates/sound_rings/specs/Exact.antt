@@ -29,6 +29,7 @@ use Rattle.sound_tables.specs.Labels.{least-found, least-some}
 use Rattle.sound_tables.specs.Accepted.{use-old, old-use}
 use Rattle.sound_tables.specs.TwoOperands.{twoOf, two-operands, two-accepted}
 use Rattle.sound_tables.specs.Good.{own, Capacities, Marked, marked-shows, marked-after}
+use Rattle.sound_tables.specs.Balance.{Balanced, shown-still}
 use Rattle.sound_tables.specs.Undone.{Kept, Undone, exact}
 use Rattle.sound_rings.specs.Sound.{Ring, Shared, swap-sound, move-sound, mate-outside}
 
@@ -280,11 +281,13 @@ module _ {sh : Shape} {x : List ℕ} {p : List ℤ} (g : Marked sh x p) {l f k :
 
 -- ---- as an operator
 
--- a good table stays good, and the inverse gives everything back
-pub rmov-holds : (sh : Shape) (x : List ℕ) (p : List ℤ) (o : Operator) → Marked sh x p → length (o .args) ≡ 8
-    → o .code ≡ 13 → refusalOf sh x o ≡ 0 → Kept sh x p o × Undone sh x p o
+-- what holds of both ways to move a ring holds of an accepted rmov
+rmov-either : (sh : Shape) (x : List ℕ) (p : List ℤ) (o : Operator) (Q : Operator → Type 0) → Marked sh x p
+    → ((l f : ℕ) → Ring sh (own sh x) l f → f ≡ own sh x Face l → Q (rmovOf l f))
+    → ((l f k : ℕ) → Ring sh (own sh x) l f → f ≢ own sh x Face l → Shared sh (own sh x) l f k → Q (rmovOf l f))
+    → length (o .args) ≡ 8 → o .code ≡ 13 → refusalOf sh x o ≡ 0 → Q o
 unfolding pattern rows useWord condition
-rmov-holds sh x p o g len e h =
+rmov-either sh x p o Q g swap move len e h =
     let caps = g .capacities in
     let k = two-operands sh x 13 6 4 refl refl refl refl (omega (arith, caps .loops)) refl refl
     (omega (arith, caps .faces)) refl o len e h in
@@ -296,5 +299,19 @@ rmov-holds sh x p o g len e h =
       face-used = use-old sh x 4 (k .n) (omega (arith, k .n-in .0)) refl (k .n-use);
       ring = q .0;
     } in
-    subst (λ o. Kept sh x p o × Undone sh x p o) (sym (k .is))
-    (⊎-elim (swap-exact g r) (λ a. move-exact g r (a .0) (a .2)) (q .1))
+    subst Q (sym (k .is)) (⊎-elim (swap (k .m) (k .n) r) (λ a. move (k .m) (k .n) (a .1) r (a .0) (a .2)) (q .1))
+
+-- a good table stays good, and the inverse gives everything back
+pub rmov-holds : (sh : Shape) (x : List ℕ) (p : List ℤ) (o : Operator) → Marked sh x p → length (o .args) ≡ 8
+    → o .code ≡ 13 → refusalOf sh x o ≡ 0 → Kept sh x p o × Undone sh x p o
+rmov-holds sh x p o g = rmov-either sh x p o (λ o. Kept sh x p o × Undone sh x p o) g (λ l f r. swap-exact g r)
+    (λ l f k r. move-exact g r)
+
+-- neither half-edges nor vertices change
+pub rmov-balanced : (sh : Shape) (x : List ℕ) (p : List ℤ) (o : Operator) → Marked sh x p → length (o .args) ≡ 8
+    → o .code ≡ 13 → refusalOf sh x o ≡ 0 → Balanced sh x o
+rmov-balanced sh x p o g = rmov-either sh x p o (Balanced sh x) g
+    (λ l f r e. shown-still (subst (λ t. Shows sh t (change (own sh x) Outer f l))
+    (sym (swap-links sh x l f (g .capacities) r e)) (y-shows g r e)) refl refl (λ i. refl) (λ w i. inl refl))
+    (λ l f k r n s. shown-still (subst (λ t. Shows sh t (change (own sh x) Face l f))
+    (sym (move-links sh x l f (g .capacities) r n)) (ym-shows g r n s)) refl refl (λ i. refl) (λ w i. inl refl))

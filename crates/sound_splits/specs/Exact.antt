@@ -81,11 +81,11 @@ module _ {sh : Shape} {x : List ℕ} {p : List ℤ} (g : Marked sh x p) {m : Sem
       }
 
   -- v divides k
-  divided : Split sh (own sh x) d k n v
+  pub divided : Split sh (own sh x) d k n v
   divided = semv-split (g .sound) place
 
   -- the list shows it
-  y-shows : Shows sh y d
+  pub y-shows : Shows sh y d
   y-shows = semv-shows (marked-shows g) (g .sound) place
 
   -- and it is sound
@@ -176,11 +176,11 @@ module _ {sh : Shape} {x : List ℕ} {p : List ℤ} (g : Marked sh x p) {k n : �
   kq = putPoint p (own sh x Start n) (pos 0) (pos 0) (pos 0)
 
   -- n's start divides k
-  rejoined : Split sh kc (own sh x) k n kv
+  pub rejoined : Split sh kc (own sh x) k n kv
   rejoined = jekv-split (g .sound) o
 
   -- the list shows what was divided
-  ky-shows : Shows sh ky kc
+  pub ky-shows : Shows sh ky kc
   ky-shows = jekv-shows (marked-shows g) (g .sound) o
 
   -- n is a number of a half-edge

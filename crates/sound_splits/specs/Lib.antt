@@ -12,5 +12,6 @@ pub mod Carried
 pub mod Sound
 pub mod Unique
 pub mod Exact
+pub mod Balance
 pub mod CycleMoves
 pub mod Firsts

@@ -9,3 +9,4 @@ pub mod KevRules
 pub mod MevSound
 pub mod KevSound
 pub mod Exact
+pub mod Balance

@@ -113,7 +113,7 @@ module _ {sh : Shape} {c : Columns} {E : NewEdge} (o : MevPlace sh c E) where
   start-b = upd-same _ (mate k) v
 
   -- the others where they did
-  start-old : (i : ℕ) → i ≢ k → i ≢ mate k → d Start i ≡ c Start i
+  pub start-old : (i : ℕ) → i ≢ k → i ≢ mate k → d Start i ≡ c Start i
   start-old i e f = upd-off _ v f ∙ upd-off (c Start) u e
 
   -- k lies in the loop

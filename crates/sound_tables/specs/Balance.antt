@@ -13,12 +13,13 @@ use Rattle.laws.specs.Update.{upd, upd-same, upd-off}
 use Rattle.script.specs.declared.Operator.{Operator}
 use Rattle.layout.specs.declared.shape.Shape.{Shape}
 use Rattle.layout.specs.Mate.{mate}
-use Rattle.layout.specs.Fields.{Start, VertexUsed}
+use Rattle.layout.specs.Fields.{Start, VertexUsed, Columns}
 use Rattle.check_items.specs.Rules.{startsAt}
 use Rattle.euler.specs.Valence.{Two, none, ends, leaveOf, comeOf}
 use Rattle.euler.specs.Exec.{marksAfter}
 use Rattle.sound_tables.specs.Mates.{mate-other}
 use Rattle.sound_tables.specs.Sound.{In, HalfUsed, Sound}
+use Rattle.sound_tables.specs.Cells.{Shows}
 use Rattle.sound_tables.specs.Good.{own}
 
 -- how many of the two are w
@@ -151,3 +152,10 @@ module _ {sh : Shape} {x : List ℕ} {o : Operator}
         come = rw ec (inl refl, inl refl);
         mark = mark;
       }
+
+-- no half-edge comes or goes, seen through the columns afterwards
+pub shown-still : {sh : Shape} {x : List ℕ} {o : Operator} {d : Columns} → Shows sh (marksAfter sh x o) d
+    → leaveOf sh x o ≡ none → comeOf sh (marksAfter sh x o) o ≡ none → ((i : ℕ) → d Start i ≡ own sh x Start i)
+    → ((w : ℕ) → In (sh .vertices) w → Mark (own sh x VertexUsed w) (d VertexUsed w)) → Balanced sh x o
+shown-still s el ec e m =
+    still-balanced (λ w i. rw (s .at VertexUsed w (i .1)) (m w i)) el ec (λ i j. s .at Start i (j .1) ∙ e i)
