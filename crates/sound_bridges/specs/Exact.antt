@@ -80,8 +80,8 @@ module _ {sh : Shape} {x : List ℕ} {p : List ℤ} (g : Marked sh x p) {l h1 l2
       (free-halves (g .sound) e w (r .edge-in) (r .edge-free))
 
   -- so mekr can be done
-  ends : Ends sh (own sh x) (mekrBridge (own sh x) k l h1 l2 h2)
-  ends =
+  pub mekr-ends : Ends sh (own sh x) (mekrBridge (own sh x) k l h1 l2 h2)
+  mekr-ends =
       let m = mate-range k (sh .edges) (free .0 .0) (free .0 .1) in
       let v1 = corner-vertex (g .sound) (r .loop-in) (r .at-1) in
       let v2 = corner-vertex (g .sound) (r .ring-in) (r .at-2) in
@@ -106,8 +106,8 @@ module _ {sh : Shape} {x : List ℕ} {p : List ℤ} (g : Marked sh x p) {l h1 l2
       }
 
   -- the table stays good
-  mekr-kept : Kept sh x p (mekrOf l h1 l2 h2 e w)
-  mekr-kept = rw (mekr-links sh x (g .capacities) r k hk, mekr-points sh x (g .capacities) r p) (mekr-good g ends)
+  pub mekr-kept : Kept sh x p (mekrOf l h1 l2 h2 e w)
+  mekr-kept = rw (mekr-links sh x (g .capacities) r k hk, mekr-points sh x (g .capacities) r p) (mekr-good g mekr-ends)
 
   -- the list afterwards
   abbrev y : List ℕ
@@ -119,17 +119,17 @@ module _ {sh : Shape} {x : List ℕ} {p : List ℤ} (g : Marked sh x p) {l h1 l2
 
   -- before and after
   b : Bridged sh (own sh x) d B
-  b = up-bridged ends
+  b = up-bridged mekr-ends
 
   -- the list shows them
   s : Shows sh y d
-  s = mekr-shows g ends
+  s = mekr-shows g mekr-ends
 
   -- and is good
   gy : Marked sh y p
-  gy = mekr-good g ends
+  gy = mekr-good g mekr-ends
 
-  open Ends ends using (half-in, mate-in, in-1)
+  open Ends mekr-ends using (half-in, mate-in, in-1)
   open Bridged b using (start-k, start-a, loop-k, loop-a, next-k, next-a, prev-k, prev-a, face-2)
 
   -- k and its mate are in one loop there
@@ -285,8 +285,8 @@ module _ {sh : Shape} {x : List ℕ} {p : List ℤ} (g : Marked sh x p) {k l2 : 
   kemr-back =
       let q1 = read-back at-1 (off-k bₖ) loop-in in
       let q2 = read-back at-2 (off-a bₖ) ring-in in
-      up-same (mekr-sound gₖ (ends gₖ facts hₖ)) (g .sound)
-      (subst (Bridged sh _ _) (λ t. bridgeOf k (q1 t) (q2 t)) (up-bridged (ends gₖ facts hₖ))) bₖ
+      up-same (mekr-sound gₖ (mekr-ends gₖ facts hₖ)) (g .sound)
+      (subst (Bridged sh _ _) (λ t. bridgeOf k (q1 t) (q2 t)) (up-bridged (mekr-ends gₖ facts hₖ))) bₖ
       (λ F i v h. sₖ .at F i h)
 
   -- mekr gives everything back
@@ -298,7 +298,7 @@ module _ {sh : Shape} {x : List ℕ} {p : List ℤ} (g : Marked sh x p) {k l2 : 
       record {
         accepted = rw (el, ei) (mekr-accepted sh yₖ (g .capacities) facts);
         links = rw (el, ei) (mekr-links sh yₖ (g .capacities) facts k hₖ
-            ∙ shows-ext (mekr-shows gₖ (ends gₖ facts hₖ)) (marked-shows g) kemr-back);
+            ∙ shows-ext (mekr-shows gₖ (mekr-ends gₖ facts hₖ)) (marked-shows g) kemr-back);
         points = rw (el, ep, ei) (mekr-points sh yₖ (g .capacities) facts p);
         again = rw (el, ep, ei) (mekr-inverse sh yₖ p (g .capacities) facts ∙ ap (λ j. kemrOf j l2) hₖ);
       }

@@ -17,6 +17,7 @@ use Rattle.layout.specs.declared.shape.Shape.{Shape}
 use Rattle.layout.specs.Mate.{mate, edgeOf}
 use Rattle.euler.specs.Surgery.{halfBy, wayOf}
 use Rattle.euler.specs.EdgeOperators.{kemrTest, kemrLinks}
+use Rattle.euler.specs.Valence.{ends, leaveOf}
 use Rattle.euler.specs.Exec.{useWord, condition, refusalOf, marksAfter, pointsAfter, inverse}
 use Rattle.layout.specs.Fields.{Loop}
 use Rattle.sound_tables.specs.Accepted.{use-new, new-use}
@@ -81,6 +82,10 @@ module _ (sh : Shape) (x : List ℕ) {k l2 : ℕ} (caps : Capacities sh) (o : Sp
   pub kemr-links : marksAfter sh x (kemrOf k l2) ≡ kemrList sh x k l2
   unfolding marksAfter kemrLinks
   kemr-links = rw (kn, ln)
+
+  -- where half-edges leave
+  pub kemr-leave : leaveOf sh x (kemrOf k l2) ≡ ends sh x k
+  kemr-leave = rw kn
 
   -- to the points
   pub kemr-points : (p : List ℤ) → pointsAfter sh x p (kemrOf k l2) ≡ p

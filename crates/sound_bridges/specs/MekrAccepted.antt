@@ -20,6 +20,7 @@ use Rattle.layout.specs.declared.shape.Shape.{Shape}
 use Rattle.layout.specs.Mate.{mate}
 use Rattle.euler.specs.Surgery.{halfBy, corner}
 use Rattle.euler.specs.EdgeOperators.{mekrTest, mekrLinks}
+use Rattle.euler.specs.Valence.{ends, comeOf}
 use Rattle.euler.specs.Exec.{limits, useWord, condition, refusalOf, marksAfter, pointsAfter}
 use Rattle.layout.specs.Fields.{Outer, Face, Isolated, Start, Prev, Columns}
 use Rattle.sound_tables.specs.Sound.{In}
@@ -244,6 +245,10 @@ module _ (sh : Shape) (x : List ℕ) {l h1 l2 h2 e w : ℕ} (caps : Capacities s
   unfolding marksAfter mekrLinks
   mekr-links k q =
       rw (read (small .0), read (small .1), read (small .2), read (small .3), read (small .4), read (small .5), q)
+
+  -- where half-edges come
+  pub mekr-come : (k : ℕ) → halfBy e w ≡ k → (y : List ℕ) → comeOf sh y (mekrOf l h1 l2 h2 e w) ≡ ends sh y k
+  mekr-come k q y = rw (read (small .4), read (small .5), q)
 
   -- to the points
   pub mekr-points : (p : List ℤ) → pointsAfter sh x p (mekrOf l h1 l2 h2 e w) ≡ p

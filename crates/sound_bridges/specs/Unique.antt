@@ -137,9 +137,25 @@ module _ {sh : Shape} {p p′ : List ℤ} {c c′ d d′ : Columns} {B : Bridge}
   pub down-else : AlikeElse sh c c′
   down-else =
       let first-all = first-same s s′ face-same loop-same in
-      by-fields touched (λ F. sameField VertexUsed F ≡ false → AlikeIn sh c c′ F)
-      (λ t. start-same, (λ t. loop-same, (λ t. next-same, (λ t. prev-same, (λ t. face-same, (λ t. first-all,
-      (λ t. isolated-all, tt)))))))
+      by-fields touched (λ F. sameField VertexUsed F ≡ false → AlikeIn sh c c′ F) (
+        λ t. start-same,
+        (
+          λ t. loop-same,
+          (
+            λ t. next-same,
+            (
+              λ t. prev-same,
+              (
+                λ t. face-same,
+                (
+                  λ t. first-all,
+                  (λ t. isolated-all, tt),
+                ),
+              ),
+            ),
+          ),
+        ),
+      )
       (λ F q t i x y. sym (b .others F q i) ∙ e F t i x y ∙ b′ .others F q i)
 
 -- and where these agree too, they do so afterwards

@@ -1,4 +1,3 @@
 pub mod Stays
-pub mod Caps
 pub mod Moves
 pub mod Kept

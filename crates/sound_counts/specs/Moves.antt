@@ -32,7 +32,7 @@ use Rattle.sound_counts.specs.Stays.{InOrder, in-order, Stays, store-sta
 use Rattle.sound_counts.specs.Stays.{other-stays, put-half-stays, put-face-stays, put-loop-stays, tie-stays}
 use Rattle.sound_counts.specs.Stays.{between-stays, edge-in-stays, edge-out-stays, relabel-stays, renew-stays}
 use Rattle.sound_counts.specs.Stays.{sweep-stays, clear-half-stays}
-use Rattle.sound_counts.specs.Caps.{least-cap, loop-cap, face-cap, solid-cap, outer-cap, operand-cap}
+use Rattle.sound_tables.specs.Caps.{least-cap, loop-cap, face-cap, solid-cap, outer-cap, operand-cap}
 
 -- from x to y no loop but m changes its face, and m is at most the number of loops
 pub record Moves (sh : Shape) (x y : List ℕ) (m : ℕ) : Type 0 where
@@ -217,7 +217,7 @@ module _ (sh : Shape) (x : List ℕ) (p : List ℤ) (o : Operator) (g : Good sh 
   moves-kvsf e =
       let f : faceIn sh x (itemOf o 0) ≤ sh .faces = least-cap (sh .faces) _ in
       by-code 2 e (record {
-        cap = outer-cap g (faceIn sh x (itemOf o 0)) f;
+        cap = outer-cap (g .sound) (faceIn sh x (itemOf o 0)) f;
         others = λ l i d. kvsf-stays order i x _ _ _ _
             (operand 2 0 (sh .solids) e refl (lit≤ tt) refl refl solids-small) f d;
       })
@@ -243,8 +243,8 @@ module _ (sh : Shape) (x : List ℕ) (p : List ℤ) (o : Operator) (g : Good sh 
   moves-kef : o .code ≡ 6 → Moves sh x (linksAfter sh x o) (movedLoop sh x o)
   unfolding pattern rows
   moves-kef e =
-      let c = loop-cap g (itemOf o 0) (operand 6 0 (2 * sh .edges) e refl (lit≤ tt) refl refl halves-small) in
-      by-code 6 e (record { cap = c; others = λ l i d. kef-stays order i x _ (face-cap g _ c) d })
+      let c = loop-cap (g .sound) (itemOf o 0) (operand 6 0 (2 * sh .edges) e refl (lit≤ tt) refl refl halves-small) in
+      by-code 6 e (record { cap = c; others = λ l i d. kef-stays order i x _ (face-cap (g .sound) _ c) d })
 
   -- 7: the loop is an operand
   moves-kemr : o .code ≡ 7 → Moves sh x (linksAfter sh x o) (movedLoop sh x o)
@@ -269,8 +269,8 @@ module _ (sh : Shape) (x : List ℕ) (p : List ℤ) (o : Operator) (g : Good sh 
       let f1 = operand 9 0 (sh .faces) e refl (lit≤ tt) refl refl faces-small in
       let f2 = operand 9 1 (sh .faces) e refl (lit≤ tt) refl refl faces-small in
       by-code 9 e (record {
-        cap = outer-cap g (itemOf o 1) f2;
-        others = λ l i d. kfmrh-stays order i x _ _ f2 (solid-cap g (itemOf o 0) f1) (solid-cap g (itemOf o 1) f2) d;
+        cap = outer-cap (g .sound) (itemOf o 1) f2;
+        others = λ l i d. kfmrh-stays order i x _ _ f2 (solid-cap (g .sound) (itemOf o 0) f1) (solid-cap (g .sound) (itemOf o 1) f2) d;
       })
 
   -- 10: face and solid are operands

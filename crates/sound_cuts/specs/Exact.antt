@@ -10,7 +10,7 @@ use lib.ListN.{length}
 use Rattle.script.specs.declared.Operator.{Operator}
 use Rattle.codec.specs.Operands.{pattern, rows}
 use Rattle.layout.specs.declared.shape.Shape.{Shape}
-use Rattle.layout.specs.Fields.{Capacity, Columns}
+use Rattle.layout.specs.Fields.{Capacity, Loop, Columns}
 use Rattle.euler.specs.EdgeOperators.{kefTest}
 use Rattle.euler.specs.Exec.{useWord, condition, refusalOf}
 use Rattle.sound_tables.specs.Cells.{Shows, shows-ext}
@@ -23,7 +23,7 @@ use Rattle.sound_cuts.specs.MefShown.{cutList, cut-shows}
 use Rattle.sound_cuts.specs.KefShown.{mendList, mend-shows}
 use Rattle.sound_cuts.specs.MefOperands.{kefOf}
 use Rattle.sound_cuts.specs.MefAccepted.{mefAt, mef-links, mef-inverse, mef-accepted, mef-points}
-use Rattle.sound_cuts.specs.KefPlace.{kef-place}
+use Rattle.sound_cuts.specs.KefPlace.{spotAt, mendColumns, KefPlace, kef-place}
 use Rattle.sound_cuts.specs.KefRelation.{kef-cut, kef-only, kef-first}
 use Rattle.sound_cuts.specs.KefSound.{mend-sound}
 use Rattle.sound_cuts.specs.KefAccepted.{kef-links, kef-inverse, kef-accepted, kef-points}
@@ -108,6 +108,11 @@ kef-facts sh x o caps len e h =
     let a = one-operand sh x 6 9 refl refl refl refl (omega (arith, caps .edges)) refl o len e h in
     record { k = a .n; is = a .is; used = (a .range .0, a .range .1, a .used); test = rw (a .small) at (a .holds) }
 
+-- the columns that kef leaves are sound
+pub kef-sound : {sh : Shape} {p : List ℤ} {d : Columns} → (t : Sound sh p d) → d Loop 0 ≡ 0 → {b : ℕ} → KefPlace sh d b
+    → Sound sh p (mendColumns sh d (spotAt d b))
+kef-sound t z w = mend-sound (kef-cut t z w) (kef-only t z w) (kef-first t z w) t
+
 -- both for kef
 pub kef-holds : (sh : Shape) (x : List ℕ) (p : List ℤ) (o : Operator) → Marked sh x p → length (o .args) ≡ 8
     → o .code ≡ 6 → refusalOf sh x o ≡ 0 → Kept sh x p o × Undone sh x p o
@@ -115,5 +120,5 @@ kef-holds sh x p o g len e h =
     let f = kef-facts sh x o (g .capacities) len e h in
     let w = kef-place x (g .sound) (f .k) (f .used) (f .test) in
     let k = kef-cut (g .sound) refl w in
-    let s = mend-sound k (kef-only (g .sound) refl w) (kef-first (g .sound) refl w) (g .sound) in
+    let s = kef-sound (g .sound) refl w in
     subst (λ q. Kept sh x p q × Undone sh x p q) (sym (f .is)) (kef-kept g k s, kef-undone g k s)

@@ -16,6 +16,7 @@ use Rattle.codec.specs.Operands.{pattern, rows}
 use Rattle.layout.specs.declared.shape.Shape.{Shape}
 use Rattle.euler.specs.Surgery.{edgeOut}
 use Rattle.euler.specs.EdgeOperators.{kefTest, kefLinks}
+use Rattle.euler.specs.Valence.{ends, leaveOf}
 use Rattle.euler.specs.Exec.{useWord, condition, refusalOf, marksAfter, killedVertex, pointsAfter, inverse}
 use Rattle.layout.specs.Fields.{Face, Start, Loop, Next, Prev, Solid, Columns}
 use Rattle.sound_tables.specs.Cells.{Shows}
@@ -80,6 +81,10 @@ module _ {sh : Shape} {p : List ℤ} {c d : Columns} {q : Spot} (k : Cut sh c d 
   pub kef-inverse : (w : List ℤ) → inverse sh y w (kefOf (q .b)) ≡ mefAt q
   unfolding inverse
   kef-inverse w = rw (bn, ba (k .site), next-a, next-b, loop-a, loop-b, face-m)
+
+  -- half-edges leave where the edge ends
+  pub kef-leave : leaveOf sh y (kefOf (q .b)) ≡ ends sh y (q .b)
+  kef-leave = rw bn
 
   -- m is the only loop of f
   only-m : (n : ℕ) → In (sh .loops) n → own sh y Face n ≡ q .f → n ≡ q .m

@@ -14,6 +14,7 @@ use Rattle.layout.specs.declared.shape.Shape.{Shape}
 use Rattle.layout.specs.Mate.{edgeOf}
 use Rattle.euler.specs.Surgery.{edgeIn}
 use Rattle.euler.specs.EdgeOperators.{mefTest, mefLinks}
+use Rattle.euler.specs.Valence.{ends, comeOf}
 use Rattle.euler.specs.Exec.{limits, useWord, condition, refusalOf, marksAfter, pointsAfter, inverse}
 use Rattle.layout.specs.Fields.{Solid, Face, Start, Columns}
 use Rattle.sound_tables.specs.Cells.{Shows}
@@ -98,6 +99,10 @@ module _ {sh : Shape} {p : List ℤ} {c d : Columns} {q : Spot} (k : Cut sh c d 
     unfolding inverse
     inverse-by v = rw (le-leb (edgeOf (q .b)) mostHalves en, le-leb w mostHalves wn, o .half, k .site .ab)
 
+    -- half-edges come where the edge ends
+    come-by : (y : List ℕ) → comeOf sh y op ≡ ends sh y (q .a)
+    come-by y = rw (le-leb (edgeOf (q .b)) mostHalves en, le-leb w mostHalves wn, o .half)
+
     -- the edge is free
     edge-free : own sh x Start (2 * edgeOf (q .b)) ≡ 0
     edge-free = ⊎-elim (λ z. ap (own sh x Start) z ∙ s .at Start (q .b) (k .site .b-in .1) ∙ k .zero-b .s)
@@ -162,6 +167,10 @@ module _ {sh : Shape} {p : List ℤ} {c d : Columns} {q : Spot} (k : Cut sh c d 
     -- the operator that undoes it
     pub mef-inverse : (v : List ℤ) → inverse sh x v (mefAt q) ≡ kefOf (q .b)
     mef-inverse = inverse-by (restOf q) (endOf q) (wayBack q) oo
+
+    -- where half-edges come
+    pub mef-come : (y : List ℕ) → comeOf sh y (mefAt q) ≡ ends sh y (q .a)
+    mef-come = come-by (restOf q) (endOf q) (wayBack q) oo
 
     -- it is accepted
     pub mef-accepted : refusalOf sh x (mefAt q) ≡ 0

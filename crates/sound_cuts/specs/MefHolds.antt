@@ -19,19 +19,23 @@ use Rattle.euler.specs.Exec.{refusalOf}
 use Rattle.sound_tables.specs.Mates.{mate-other}
 use Rattle.sound_tables.specs.EdgeIn.{prev-in, next-prev, prev-loop}
 use Rattle.layout.specs.Fields.{Isolated, Start, Loop, Next, Prev, Columns}
-use Rattle.sound_tables.specs.Sound.{In, HalfUsed}
+use Rattle.sound_tables.specs.Sound.{In, HalfUsed, Sound}
 use Rattle.sound_tables.specs.HalfNumbers.{edge-by, way-rest, mate-edge}
 use Rattle.sound_tables.specs.Names.{not-isolated, free-halves}
 use Rattle.sound_tables.specs.Good.{own, Marked}
 use Rattle.sound_tables.specs.CornerTest.{CornerAt}
 use Rattle.sound_tables.specs.Undone.{Kept, Undone}
-use Rattle.sound_cuts.specs.Relation.{Spot, restOf, endOf, Alone, Seated, Site}
+use Rattle.sound_cuts.specs.Relation.{Spot, restOf, endOf, Alone, Seated, Site, Cut}
 use Rattle.sound_cuts.specs.MefSound.{cut-sound}
 use Rattle.sound_cuts.specs.MefOperands.{mefOf, wayBack}
 use Rattle.sound_cuts.specs.MefAccepted.{mefAt}
 use Rattle.sound_cuts.specs.Exact.{mef-kept, mef-undone}
 use Rattle.sound_cuts.specs.MefPlace.{mef-cut, mef-marked}
 use Rattle.sound_cuts.specs.MefFacts.{MefFacts, mef-facts}
+
+-- C holds of each mef on table x, as it is read off its corners
+abbrev pub OfEach : Shape → List ℕ → List ℤ → (Operator → Type 0) → Type 0
+OfEach sh x p C = (d : Columns) (q : Spot) → Cut sh (own sh x) d q → Sound sh p d → C (mefAt q)
 
 module _ {sh : Shape} {x : List ℕ} {p : List ℤ} (g : Marked sh x p) {o : Operator} (r : MefFacts sh (own sh x) o) where
   -- the columns of the table
@@ -129,9 +133,9 @@ module _ {sh : Shape} {x : List ℕ} {p : List ℤ} (g : Marked sh x p) {o : Ope
     };
   }
 
-  -- then both hold
-  holds-at : {A B : Bool} {u v P N Q M : ℕ} → Choice A B u v P N Q M → Kept sh x p op × Undone sh x p op
-  holds-at {u = u} {v} {P} {N} {Q} {M} y =
+  -- what holds of each mef, read off its corners, holds of this one
+  holds-at : {A B : Bool} {u v P N Q M : ℕ} → (C : Operator → Type 0) → OfEach sh x p C → Choice A B u v P N Q M → C op
+  holds-at {u = u} {v} {P} {N} {Q} {M} C all y =
       let k = mef-cut (g .sound) refl (place y) in
       let t = cut-sound k (mef-marked (g .sound) refl (place y)) (g .sound) in
       let e1 : restOf (spot u v P N Q M) ≡ r .h1 = rw (y .A-is, y .B-is) (y .h1-is) in
@@ -139,7 +143,7 @@ module _ {sh : Shape} {x : List ℕ} {p : List ℤ} (g : Marked sh x p) {o : Ope
       let e3 : wayBack (spot u v P N Q M) ≡ r .w = rw (y .A-is, y .B-is) (y .w-is) in
       let e4 = mate-edge a (free .0 .0) ∙ edge-by (r .e) (r .w) (r .e-in .0) in
       let e : mefAt (spot u v P N Q M) ≡ op = λ i. mefOf (r .l) (e1 i) (e2 i) (e4 i) (r .f) (r .m) (e3 i) in
-      subst (λ z. Kept sh x p z × Undone sh x p z) e (mef-kept g k t, mef-undone g k t)
+      subst C e (all _ (spot u v P N Q M) k t)
 
   -- ---- by the corners
 
@@ -234,19 +238,27 @@ module _ {sh : Shape} {x : List ℕ} {p : List ℤ} (g : Marked sh x p) {o : Ope
   }
 
   -- whichever they are
-  holds : CornerAt sh c (r .l) (r .h1) → CornerAt sh c (r .l) (r .h2) → Kept sh x p op × Undone sh x p op
-  holds (inl y) (inl z) = ⊎-elim (λ h. absurd (r .high h .1 (y .0))) (λ h. holds-at (pair (y .0) (z .0) (y .1) h))
-      (le? 2 (r .w))
-  holds (inl y) (inr z) = absurd (y .1 (not-isolated (g .sound) (r .h2) (z .0) (z .1)))
-  holds (inr y) (inl z) = absurd (z .1 (not-isolated (g .sound) (r .h1) (y .0) (y .1)))
-  holds (inr y) (inr z) = split (r .h1) (r .h2)
-      (λ e. ⊎-elim (λ h. holds-at (left (y .0) (y .1) e h)) (λ h. holds-at (right (y .0) (y .1) e h)) (le? 2 (r .w)))
-      (λ e. ⊎-elim (λ h. absurd (e (r .high h .0))) (λ h. holds-at (both (y .0) (y .1) (z .0) (z .1) e h))
+  holds : (C : Operator → Type 0) → OfEach sh x p C → CornerAt sh c (r .l) (r .h1) → CornerAt sh c (r .l) (r .h2)
+      → C op
+  holds C a (inl y) (inl z) = ⊎-elim (λ h. absurd (r .high h .1 (y .0)))
+      (λ h. holds-at C a (pair (y .0) (z .0) (y .1) h)) (le? 2 (r .w))
+  holds C a (inl y) (inr z) = absurd (y .1 (not-isolated (g .sound) (r .h2) (z .0) (z .1)))
+  holds C a (inr y) (inl z) = absurd (z .1 (not-isolated (g .sound) (r .h1) (y .0) (y .1)))
+  holds C a (inr y) (inr z) = split (r .h1) (r .h2)
+      (λ e. ⊎-elim (λ h. holds-at C a (left (y .0) (y .1) e h)) (λ h. holds-at C a (right (y .0) (y .1) e h))
       (le? 2 (r .w)))
+      (λ e. ⊎-elim (λ h. absurd (e (r .high h .0))) (λ h. holds-at C a (both (y .0) (y .1) (z .0) (z .1) e h))
+      (le? 2 (r .w)))
+
+-- of an accepted mef holds what holds of each that is read off its corners
+pub mef-by : (sh : Shape) (x : List ℕ) (p : List ℤ) (o : Operator) → Marked sh x p → length (o .args) ≡ 8
+    → o .code ≡ 5 → refusalOf sh x o ≡ 0 → (C : Operator → Type 0) → OfEach sh x p C → C o
+mef-by sh x p o g len e h C all =
+    let r = mef-facts sh x o (g .capacities) len e h in
+    subst C (sym (r .is)) (holds g r C all (r .corner1) (r .corner2))
 
 -- both for mef
 pub mef-holds : (sh : Shape) (x : List ℕ) (p : List ℤ) (o : Operator) → Marked sh x p → length (o .args) ≡ 8
     → o .code ≡ 5 → refusalOf sh x o ≡ 0 → Kept sh x p o × Undone sh x p o
-mef-holds sh x p o g len e h =
-    let r = mef-facts sh x o (g .capacities) len e h in
-    subst (λ q. Kept sh x p q × Undone sh x p q) (sym (r .is)) (holds g r (r .corner1) (r .corner2))
+mef-holds sh x p o g len e h = mef-by sh x p o g len e h (λ q. Kept sh x p q × Undone sh x p q)
+    (λ d q k t. (mef-kept g k t, mef-undone g k t))

@@ -1,7 +1,7 @@
 -- The pair mev and kev: where half-edges come and go and which vertices are made and killed (`Balanced`); and kev on
 -- two tables that differ in vertex words alone.
 use mathlib.Core.Path.{_≡_, refl, sym, ap, _∙_, subst}
-use mathlib.Core.Logic.{_≢_, inl, inr, ⊎-elim}
+use mathlib.Core.Logic.{inl, inr, ⊎-elim}
 use mathlib.Core.Bool.{Bool, true, false}
 use mathlib.Core.List.{List, [], _∷_}
 use Prim.Native.Nat.{ℕ, _*_, _≤_}
@@ -20,9 +20,9 @@ use Rattle.layout.specs.Mate.{mate}
 use Rattle.layout.specs.Fields.{Field, First, Isolated, Start, Loop, Next, Prev, VertexUsed, Columns, capOf, sameField}
 use Rattle.layout.specs.Writes.{Write, write, changes}
 use Rattle.euler.specs.Surgery.{noEdgeWrites}
-use Rattle.euler.specs.Valence.{none, ends, leaveOf, comeOf}
+use Rattle.euler.specs.Valence.{ends, leaveOf, comeOf}
 use Rattle.euler.specs.Exec.{refusalOf, marksAfter}
-use Rattle.sound_tables.specs.Cells.{Shows, upd-near}
+use Rattle.sound_tables.specs.Cells.{upd-near}
 use Rattle.sound_tables.specs.Sound.{In, HalfUsed, firstOf, SameElse}
 use Rattle.sound_tables.specs.Good.{own, Marked}
 use Rattle.sound_tables.specs.Balance.{Mark, Balanced, made-balanced, killed-balanced}
@@ -30,9 +30,9 @@ use Rattle.sound_spurs.specs.Relation.{Spur, spurOf, in-b}
 use Rattle.sound_spurs.specs.MevSound.{mevColumns, MevPlace, start-k, start-old}
 use Rattle.sound_spurs.specs.KevSound.{outStores, kevOut, kevColumns, Left, left-of, columns-out, out-start-k}
 use Rattle.sound_spurs.specs.KevSound.{out-start-b}
-use Rattle.sound_spurs.specs.MevAccepted.{Mev, mevOf, newHalf, MevFits, mev-facts, newEdge, mevList, mev-links}
+use Rattle.sound_spurs.specs.MevAccepted.{Mev, mevOf, newHalf, MevFits, mev-facts, newEdge, mev-links}
 use Rattle.sound_spurs.specs.MevAccepted.{mevPoints, mev-place, mev-shows, mev-good}
-use Rattle.sound_spurs.specs.KevAccepted.{kevOf, kev-facts, kevList, kev-links, kev-shows}
+use Rattle.sound_spurs.specs.KevAccepted.{kevOf, kev-facts, kev-links, kev-shows}
 
 -- ---- kev on tables that differ in vertex words alone
 
@@ -179,8 +179,10 @@ module _ {sh : Shape} {x : List ℕ} {p : List ℤ} (g : Marked sh x p) {m : Mev
   mev-mark : (w : ℕ) → In (sh .vertices) w
       → Mark (own sh x VertexUsed w) (own sh (marksAfter sh x (mevOf m)) VertexUsed w)
   mev-mark w i = split w (m .vertex)
-      (λ e. inr (inl (ap (own sh x VertexUsed) e ∙ r .vertex-free,
-      mev-reads VertexUsed w (i .1) ∙ upd-at (own sh x VertexUsed) 1 e)))
+      (λ e. inr (inl (
+        ap (own sh x VertexUsed) e ∙ r .vertex-free,
+        mev-reads VertexUsed w (i .1) ∙ upd-at (own sh x VertexUsed) 1 e,
+      )))
       (λ e. inl (mev-reads VertexUsed w (i .1) ∙ upd-off (own sh x VertexUsed) 1 e))
 
   -- the balance
@@ -188,9 +190,12 @@ module _ {sh : Shape} {x : List ℕ} {p : List ℤ} (g : Marked sh x p) {m : Mev
   mev-balance =
       let k = newHalf m in
       let gy = subst (λ y. Marked sh y (mevPoints p m)) (sym (mev-links sh x (g .capacities) r)) (mev-good g r) in
-      let uk : HalfUsed sh (own sh (marksAfter sh x (mevOf m))) k =
-      (o .half-in .0, o .half-in .1, λ z.
-      omega (arith, o .corner-in .0, sym (mev-reads Start k (o .half-in .1) ∙ start-k o) ∙ z)) in
+      let uk : HalfUsed sh (own sh (marksAfter sh x (mevOf m))) k = (
+        o .half-in .0,
+        o .half-in .1,
+        λ z.
+            omega (arith, o .corner-in .0, sym (mev-reads Start k (o .half-in .1) ∙ start-k o) ∙ z),
+      ) in
       made-balanced mev-mark k refl mev-comes (gy .sound) uk (o .half-free) (o .mate-free)
       (λ i j e f. mev-reads Start i (j .1) ∙ start-old o i e f)
 

@@ -16,6 +16,7 @@ pub mod OneOperand
 pub mod TwoOperands
 pub mod PointLists
 pub mod Good
+pub mod Caps
 pub mod Balance
 pub mod CornerTest
 pub mod Undone
