@@ -5,6 +5,7 @@ pub mod Steps
 pub mod EdgeOperators
 pub mod FaceOperators
 pub mod Valence
+pub mod ValenceLaws
 pub mod Exec
 pub mod ByCode
 pub mod AdmitLaws

@@ -1,5 +1,5 @@
 -- The moved loop by code, at a code that is known and at one that moves none; and kvsf, which has all effects at once.
-use mathlib.Core.Path.{_≡_, refl, ap, _∙_}
+use mathlib.Core.Path.{_≡_, refl, sym, ap, _∙_}
 use mathlib.Core.Logic.{_⊎_, inl, ⊎-elim}
 use mathlib.Core.List.{List}
 use Prim.Native.Nat.{ℕ}
@@ -13,6 +13,9 @@ use Rattle.euler.specs.ByCode.{by-code, by-none}
 use Rattle.euler.specs.Surgery.{itemIn}
 use Rattle.euler.specs.FaceOperators.{kvsfLinks}
 use Rattle.euler.specs.Exec.{operatorBy, onlyLoop, onlyVertex, linksAfter, clearPoint, pointsAfter}
+use Rattle.euler.specs.ValenceLaws.{less-kept, more-kept}
+use Rattle.euler_effects.specs.Chosen.{marks-kvsf}
+use Rattle.euler_effects.specs.Performed.{links-steps}
 use Rattle.euler_points.specs.Chosen.{killed-kvsf, points-by, points-cleared}
 use Rattle.euler_counts.specs.Counts.{movedLoops, movedLoop, lowered, raised, countsAfter}
 
@@ -78,9 +81,19 @@ module _ (sh : Shape) (x : List ℕ) (code : ℕ) (args : List ℤ) (s : ℕ) (e
       points-by sh x p o (onlyVertex sh x s) q (killed-kvsf sh x o s _ e a refl)
       (points-cleared p o (onlyVertex sh x s) q (inl e) h)
 
+  -- no half-edge leaves or comes, so the vertex words stay but for the killed one's
+  pub killed-links : (r : List ℕ) → r ≡ solidKilled sh x s → r ≡ linksAfter sh x (operatorBy code args)
+  killed-links r h =
+      let o = operatorBy code args in
+      links-steps sh x o (sym (less-kept sh x o 2 e refl)) (marks-kvsf sh x code args s r e a h)
+      (sym (more-kept sh r o 2 e refl))
+
   pub killed-counts : (c d : List ℕ) → d ≡ solidUncounted sh x c s → d ≡ countsAfter sh x c (operatorBy code args)
-  unfolding countsAfter linksAfter movedLoop
-  killed-counts c d h = rw (e, ← a) h
+  unfolding countsAfter
+  killed-counts c d h =
+      let o = operatorBy code args in
+      let m : onlyLoop sh x s ≡ movedLoop sh x o = moved-of sh x code args 2 0 onlyLoop e a refl refl in
+      rw (← m, ← killed-links _ refl) h
 
 -- any other operator, step by step
 pub counts-steps : (sh : Shape) (x c : List ℕ) (code : ℕ) (args : List ℤ) (l f : ℕ) (y d : List ℕ) (g : ℕ) (r : List ℕ)

@@ -14,7 +14,7 @@ use Rattle.euler.specs.ByCode.{by-code, by-none}
 use Rattle.euler.specs.Surgery.{itemIn, halfBy}
 use Rattle.euler.specs.EdgeOperators.{jekvLinks}
 use Rattle.euler.specs.FaceOperators.{kvsfLinks}
-use Rattle.euler.specs.Exec.{operatorBy, linksBy, linksAfter, onlyLoop, onlyVertex}
+use Rattle.euler.specs.Exec.{operatorBy, linksBy, marksAfter, onlyLoop, onlyVertex}
 
 -- the links after code k with these operands
 abbrev pub linksAt : ℕ → Shape → List ℕ → List ℤ → List ℕ
@@ -43,16 +43,16 @@ pub jekv-found : (sh : Shape) (x : List ℕ) (k : ℕ) {n : ℕ} {r : List ℕ} 
 jekv-found sh x k e er = er ∙ ap (jekvLinks sh x k) e
 
 module _ (sh : Shape) (x : List ℕ) (code : ℕ) (args : List ℤ) where
-  pub links-at : (k : ℕ) (r : List ℕ) → code ≡ k → r ≡ linksAt k sh x args → r ≡ linksAfter sh x (operatorBy code args)
-  unfolding linksAfter
-  links-at k r e g = by-code (linksBy sh x (itemIn args)) x code k _ r e refl g
+  pub marks-at : (k : ℕ) (r : List ℕ) → code ≡ k → r ≡ linksAt k sh x args → r ≡ marksAfter sh x (operatorBy code args)
+  unfolding marksAfter
+  marks-at k r e g = by-code (linksBy sh x (itemIn args)) x code k _ r e refl g
 
-  pub links-kvsf : (a : ℕ) (r : List ℕ) → code ≡ 2 → a ≡ itemIn args 0
+  pub marks-kvsf : (a : ℕ) (r : List ℕ) → code ≡ 2 → a ≡ itemIn args 0
       → r ≡ kvsfLinks sh x a (faceIn sh x a) (onlyLoop sh x a) (onlyVertex sh x a)
-      → r ≡ linksAfter sh x (operatorBy code args)
-  links-kvsf a r e h g =
-      links-at 2 r e (subst (λ s. r ≡ kvsfLinks sh x s (faceIn sh x s) (onlyLoop sh x s) (onlyVertex sh x s)) h g)
+      → r ≡ marksAfter sh x (operatorBy code args)
+  marks-kvsf a r e h g =
+      marks-at 2 r e (subst (λ s. r ≡ kvsfLinks sh x s (faceIn sh x s) (onlyLoop sh x s) (onlyVertex sh x s)) h g)
 
-  pub links-none : NoneOf lastCode code → x ≡ linksAfter sh x (operatorBy code args)
-  unfolding linksAfter
-  links-none n = by-none (linksBy sh x (itemIn args)) x code refl refl n
+  pub marks-none : NoneOf lastCode code → x ≡ marksAfter sh x (operatorBy code args)
+  unfolding marksAfter
+  marks-none n = by-none (linksBy sh x (itemIn args)) x code refl refl n

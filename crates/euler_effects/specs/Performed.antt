@@ -5,12 +5,19 @@ use Prim.Native.Nat.{ℕ}
 use lib.IntN.{ℤ}
 use Rattle.script.specs.declared.Operator.{Operator}
 use Rattle.layout.specs.declared.shape.Shape.{Shape}
-use Rattle.euler.specs.Exec.{operatorBy, linksAfter, killedVertex, pointsAfter}
+use Rattle.euler.specs.Valence.{lessStarts, moreStarts}
+use Rattle.euler.specs.Exec.{operatorBy, marksAfter, linksAfter, killedVertex, pointsAfter}
 
 module _ (sh : Shape) (x : List ℕ) (o : Operator) where
   pub links-performed : (y : List ℕ) → y ≡ linksAfter sh x (operatorBy (o .code) (o .args)) → y ≡ linksAfter sh x o
-  unfolding linksAfter
+  unfolding linksAfter marksAfter lessStarts moreStarts
   links-performed y e = e
+
+  -- step by step: words down, links, words up
+  pub links-steps : {y z r : List ℕ} → y ≡ lessStarts sh x o → z ≡ marksAfter sh y o → r ≡ moreStarts sh z o
+      → r ≡ linksAfter sh x o
+  unfolding linksAfter
+  links-steps ey ez er = rw (er, ez, ey)
 
   pub points-performed : (p q : List ℤ) → q ≡ pointsAfter sh x p (operatorBy (o .code) (o .args))
       → q ≡ pointsAfter sh x p o

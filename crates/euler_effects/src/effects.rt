@@ -6,10 +6,12 @@ ghost use Rattle.bounds.specs.Bounds.{mostHalves};
 ghost use Rattle.layout.specs.Layout.{nextOf};
 ghost use Rattle.euler.specs.EdgeOperators.{jekvLinks};
 ghost use Rattle.euler.specs.FaceOperators.{kvsfLinks};
-ghost use Rattle.euler.specs.Exec.{operatorBy, linksAfter, pointsAfter, onlyLoop, onlyVertex};
+ghost use Rattle.euler.specs.Exec.{operatorBy, marksAfter, linksAfter, pointsAfter, onlyLoop, onlyVertex};
 ghost use Rattle.layout.specs.Small.{Small};
 ghost use Rattle.layout.specs.Items.{faceIn};
 ghost use Rattle.euler_effects.specs.Chosen.{linksAt};
+use crate::valence::lower_starts;
+use crate::valence::raise_starts;
 use euler::records::half_by;
 use euler::records::item_at;
 use euler_bridges::kemr_mekr::kemr_links;
@@ -117,11 +119,11 @@ fn split_edge(links: &mut [u16], sh: Shape, args: &[i32; 8])
     semv_links(links, sh, a0, half_by(a1, a3), a2);
 }
 
-// The links after the operator.
+// The links after the operator, but for the half-edges that the vertex words count.
 pub fn apply_links(links: &mut [u16], sh: Shape, code: u8, args: &[i32; 8])
     requires { ⌜ Small sh ⌝ }
     ensures { λ _. ⌜ now (links .exit)
-        ≡ linksAfter sh (now (links .entry)) (operatorBy code (now (args .entry))) ⌝ }
+        ≡ marksAfter sh (now (links .entry)) (operatorBy code (now (args .entry))) ⌝ }
 {
     match code {
         1 => make_solid(links, sh, args),
@@ -157,6 +159,9 @@ pub fn perform(links: &mut [u16], points: &mut [i32], sh: Shape, code: u8, args:
 {
     // the killed vertex is found before links change
     let v = killed_vertex(links, sh, code, args);
+    // ends are read while their edge stands: an edge that goes is read first, one that comes last
+    lower_starts(links, sh, code, args);
     apply_links(links, sh, code, args);
     apply_points(points, code, args, v);
+    raise_starts(links, sh, code, args);
 }

@@ -1,2 +1,3 @@
 // One operator on a table: its effect on links and points.
 pub mod effects;
+pub mod valence;

@@ -1,5 +1,4 @@
-use Rattle.euler_effects.specs.Chosen.{links-kvsf}
-use Rattle.euler_counted.specs.Moved.{killed-points, killed-counts}
+use Rattle.euler_counted.specs.Moved.{killed-links, killed-points, killed-counts}
 use borrow.Author.Needs.{needs}
 use Rattle.euler_counted.proofs.counted.perform_counted.Statement.{statement}
 use Rattle.euler_counted.proofs.counted.perform_counted.Tie as tie
@@ -31,7 +30,7 @@ returns c =
     let a = k .before .item-at .ensures .0 in
     let d = k .kill-counted .ensures in
     let t = killed-counts _ _ _ _ _ e a _ _ (d .2) in
-    ((links-kvsf _ _ _ _ _ _ e a (d .0), killed-points _ _ _ _ _ e a _ _ (d .1)), t)
+    ((killed-links _ _ _ _ _ e a _ (d .0), killed-points _ _ _ _ _ e a _ _ (d .1)), t)
 
 same-length-3 : tie.Need-same-length-3
 same-length-3 c = search needs

@@ -2,7 +2,7 @@ use mathlib.Core.Path.{refl}
 use Rattle.layout.specs.Layout.{nextOf}
 use Rattle.euler.specs.EdgeOperators.{kevLinks, kefLinks, kemrLinks, jekvLinks}
 use Rattle.euler.specs.FaceOperators.{kfmrhLinks, mfkrhLinks, rmovLinks}
-use Rattle.euler_effects.specs.Chosen.{links-of, links-at, links-kvsf, links-none}
+use Rattle.euler_effects.specs.Chosen.{links-of, marks-at, marks-kvsf, marks-none}
 use borrow.Author.Needs.{needs}
 use Rattle.euler_effects.proofs.effects.apply_links.Statement.{statement}
 use Rattle.euler_effects.proofs.effects.apply_links.Tie as tie
@@ -107,7 +107,7 @@ same-length c = search needs
 returns : tie.Need-returns
 returns c =
     let d = c .before .before in
-    links-at _ _ _ _ 1 _ (d .before .before .match .keys1) (d .make-solid .ensures)
+    marks-at _ _ _ _ 1 _ (d .before .before .match .keys1) (d .make-solid .ensures)
 
 same-length-2 : tie.Need-same-length-2
 same-length-2 c = search needs
@@ -115,7 +115,7 @@ same-length-2 c = search needs
 returns-2 : tie.Need-returns-2
 returns-2 c =
     let d = c .before .before in
-    links-kvsf _ _ _ _ _ _ (d .before .before .before .match .keys2) (d .before .item-at .ensures .0)
+    marks-kvsf _ _ _ _ _ _ (d .before .before .before .match .keys2) (d .before .item-at .ensures .0)
     (d .kill-solid .ensures)
 
 same-length-3 : tie.Need-same-length-3
@@ -124,7 +124,7 @@ same-length-3 c = search needs
 returns-3 : tie.Need-returns-3
 returns-3 c =
     let d = c .before .before in
-    links-at _ _ _ _ 3 _ (d .before .before .match .keys3) (d .make-vertex .ensures)
+    marks-at _ _ _ _ 3 _ (d .before .before .match .keys3) (d .make-vertex .ensures)
 
 same-length-4 : tie.Need-same-length-4
 same-length-4 c = search needs
@@ -132,7 +132,7 @@ same-length-4 c = search needs
 returns-4 : tie.Need-returns-4
 returns-4 c =
     let z = c .before .before .before .item-at2 .ensures .0 in
-    links-at _ _ _ _ 4 _ (c .before .before .before .before .before .match .keys4)
+    marks-at _ _ _ _ 4 _ (c .before .before .before .before .before .match .keys4)
     (links-of _ _ (c .before .before .before .before .before .before .before .args .args .now) 4
     (λ sh x a _ _ _ _ _ _. kevLinks sh x a) (c .before .before .kev-links .ensures) z z z z z z z refl)
 
@@ -142,7 +142,7 @@ same-length-5 c = search needs
 returns-5 : tie.Need-returns-5
 returns-5 c =
     let d = c .before .before in
-    links-at _ _ _ _ 5 _ (d .before .before .match .keys5) (d .make-face .ensures)
+    marks-at _ _ _ _ 5 _ (d .before .before .match .keys5) (d .make-face .ensures)
 
 same-length-6 : tie.Need-same-length-6
 same-length-6 c = search needs
@@ -150,7 +150,7 @@ same-length-6 c = search needs
 returns-6 : tie.Need-returns-6
 returns-6 c =
     let z = c .before .before .before .item-at3 .ensures .0 in
-    links-at _ _ _ _ 6 _ (c .before .before .before .before .before .match .keys6)
+    marks-at _ _ _ _ 6 _ (c .before .before .before .before .before .match .keys6)
     (links-of _ _ (c .before .before .before .before .before .before .before .args .args .now) 6
     (λ sh x a _ _ _ _ _ _. kefLinks sh x a) (c .before .before .kef-links .ensures) z z z z z z z refl)
 
@@ -160,7 +160,7 @@ same-length-7 c = search needs
 returns-7 : tie.Need-returns-7
 returns-7 c =
     let z = c .before .before .before .before .item-at4 .ensures .0 in
-    links-at _ _ _ _ 7 _ (c .before .before .before .before .before .before .match .keys7)
+    marks-at _ _ _ _ 7 _ (c .before .before .before .before .before .before .match .keys7)
     (links-of _ _ (c .before .before .before .before .before .before .before .before .args .args .now) 7
     (λ sh x a b _ _ _ _ _. kemrLinks sh x a b) (c .before .before .kemr-links .ensures) z
     (c .before .before .before .item-at5 .ensures .0) z z z z z refl)
@@ -171,7 +171,7 @@ same-length-8 c = search needs
 returns-8 : tie.Need-returns-8
 returns-8 c =
     let d = c .before .before in
-    links-at _ _ _ _ 8 _ (d .before .before .match .keys8) (d .join-ring .ensures)
+    marks-at _ _ _ _ 8 _ (d .before .before .match .keys8) (d .join-ring .ensures)
 
 same-length-9 : tie.Need-same-length-9
 same-length-9 c = search needs
@@ -179,7 +179,7 @@ same-length-9 c = search needs
 returns-9 : tie.Need-returns-9
 returns-9 c =
     let z = c .before .before .before .before .item-at6 .ensures .0 in
-    links-at _ _ _ _ 9 _ (c .before .before .before .before .before .before .match .keys9)
+    marks-at _ _ _ _ 9 _ (c .before .before .before .before .before .before .match .keys9)
     (links-of _ _ (c .before .before .before .before .before .before .before .before .args .args .now) 9
     (λ sh x a b _ _ _ _ _. kfmrhLinks sh x a b) (c .before .before .kfmrh-links .ensures) z
     (c .before .before .before .item-at7 .ensures .0) z z z z z refl)
@@ -190,7 +190,7 @@ same-length-10 c = search needs
 returns-10 : tie.Need-returns-10
 returns-10 c =
     let z = c .before .before .before .before .before .item-at8 .ensures .0 in
-    links-at _ _ _ _ 10 _ (c .before .before .before .before .before .before .before .match .keys10)
+    marks-at _ _ _ _ 10 _ (c .before .before .before .before .before .before .before .match .keys10)
     (links-of _ _ (c .before .before .before .before .before .before .before .before .before .args .args .now) 10
     (λ sh x a b d _ _ _ _. mfkrhLinks sh x a b d) (c .before .before .mfkrh-links .ensures) z
     (c .before .before .before .before .item-at9 .ensures .0)
@@ -202,7 +202,7 @@ same-length-11 c = search needs
 returns-11 : tie.Need-returns-11
 returns-11 c =
     let d = c .before .before in
-    links-at _ _ _ _ 11 _ (d .before .before .match .keys11) (d .split-edge .ensures)
+    marks-at _ _ _ _ 11 _ (d .before .before .match .keys11) (d .split-edge .ensures)
 
 same-length-12 : tie.Need-same-length-12
 same-length-12 c = search needs
@@ -210,7 +210,7 @@ same-length-12 c = search needs
 returns-12 : tie.Need-returns-12
 returns-12 c =
     let z = c .before .before .before .item-at11 .ensures .0 in
-    links-at _ _ _ _ 12 _ (c .before .before .before .before .before .match .keys12)
+    marks-at _ _ _ _ 12 _ (c .before .before .before .before .before .match .keys12)
     (links-of _ _ (c .before .before .before .before .before .before .before .args .args .now) 12
     (λ sh x a _ _ _ _ _ _. jekvLinks sh x a (nextOf sh x a))
     (c .before .before .join-edges .ensures) z z z z z z z refl)
@@ -221,13 +221,13 @@ same-length-13 c = search needs
 returns-13 : tie.Need-returns-13
 returns-13 c =
     let z = c .before .before .before .before .item-at12 .ensures .0 in
-    links-at _ _ _ _ 13 _ (c .before .before .before .before .before .before .match .keys13)
+    marks-at _ _ _ _ 13 _ (c .before .before .before .before .before .before .match .keys13)
     (links-of _ _ (c .before .before .before .before .before .before .before .before .args .args .now) 13
     (λ sh x a b _ _ _ _ _. rmovLinks sh x a b) (c .before .before .rmov-links .ensures) z
     (c .before .before .before .item-at13 .ensures .0) z z z z z refl)
 
 returns-14 : tie.Need-returns-14
-returns-14 c = links-none _ _ _ _ (c .match .rest)
+returns-14 c = marks-none _ _ _ _ (c .match .rest)
 
 pub apply-links-spec : {M : Type 1} → statement M
 apply-links-spec =

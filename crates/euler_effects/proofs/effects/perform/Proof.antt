@@ -1,21 +1,30 @@
 use Rattle.euler_points.specs.Chosen.{points-by}
+use Rattle.euler_effects.specs.Performed.{links-steps}
 use borrow.Author.Needs.{needs}
 use Rattle.euler_effects.proofs.effects.perform.Statement.{statement}
 use Rattle.euler_effects.proofs.effects.perform.Tie as tie
 use Rattle.euler_effects.proofs.effects.perform.Reads as reads
 use Rattle.euler_effects.proofs.effects.perform.Lts as lts
 use Rattle.euler_effects.proofs.effects.apply_links.Reads as apply-links-reads
+use Rattle.euler_effects.proofs.valence.lower_starts.Reads as lower-starts-reads
+use Rattle.euler_effects.proofs.valence.raise_starts.Reads as raise-starts-reads
 use Rattle.euler_points.proofs.points.apply_points.Reads as apply-points-reads
 use Rattle.euler_points.proofs.points.killed_vertex.Reads as killed-vertex-reads
 
 killed-vertex-requires : tie.Need-killed-vertex-requires
 killed-vertex-requires c κs = search needs
 
+lower-starts-requires : tie.Need-lower-starts-requires
+lower-starts-requires c κs = search needs
+
 apply-links-requires : tie.Need-apply-links-requires
 apply-links-requires c κs = search needs
 
 apply-points-requires : tie.Need-apply-points-requires
 apply-points-requires c κs = search needs
+
+raise-starts-requires : tie.Need-raise-starts-requires
+raise-starts-requires c κs = search needs
 
 same-length : tie.Need-same-length
 same-length c = search needs
@@ -25,9 +34,11 @@ same-length-2 c = search needs
 
 returns : tie.Need-returns
 returns c =
-    let a = c .before .before .before .before .before in (
-      a .apply-links .ensures,
-      points-by _ _ _ _ _ _ (a .before .before .killed-vertex .ensures .0) (c .before .apply-points .ensures),
+    let p = c .before .before .before .before .before in
+    let a = p .before .before .before .before in
+    let b = a .before .before .before .before in (
+      links-steps _ _ _ (b .lower-starts .ensures) (a .apply-links .ensures) (c .before .before .raise-starts .ensures),
+      points-by _ _ _ _ _ _ (b .before .before .killed-vertex .ensures .0) (p .apply-points .ensures),
     )
 
 pub perform-spec : {M : Type 1} → statement M
@@ -35,8 +46,10 @@ perform-spec =
     tie.close
     (tie.spec
     killed-vertex-requires
+    lower-starts-requires
     apply-links-requires
     apply-points-requires
+    raise-starts-requires
     same-length
     same-length-2
     returns)

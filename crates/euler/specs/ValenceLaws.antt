@@ -1,0 +1,25 @@
+-- Where no half-edge leaves or comes no vertex word changes: both vertices are 0, and a store to vertex 0 does nothing.
+use mathlib.Core.Path.{_≡_, refl}
+use mathlib.Core.List.{List}
+use Prim.Native.Nat.{ℕ}
+use lib.ListN.{getD}
+use Rattle.script.specs.declared.Operator.{Operator}
+use Rattle.layout.specs.declared.shape.Shape.{Shape}
+use Rattle.euler.specs.Surgery.{itemOf}
+use Rattle.euler.specs.Valence.{none, leaveBy, comeBy, lessAt, moreAt, lessStarts, moreStarts}
+
+pub less-none : (sh : Shape) (x : List ℕ) → lessAt sh x none ≡ x
+less-none sh x = refl
+
+pub more-none : (sh : Shape) (x : List ℕ) → moreAt sh x none ≡ x
+more-none sh x = refl
+
+-- an operator of code k, where the list by code has none
+module _ (sh : Shape) (x : List ℕ) (o : Operator) (k : ℕ) (e : o .code ≡ k) where
+  pub less-kept : getD (leaveBy sh x (itemOf o)) k none ≡ none → lessStarts sh x o ≡ x
+  unfolding lessStarts
+  less-kept z = rw (e, z) (less-none sh x)
+
+  pub more-kept : getD (comeBy sh x (itemOf o)) k none ≡ none → moreStarts sh x o ≡ x
+  unfolding moreStarts
+  more-kept z = rw (e, z) (more-none sh x)
