@@ -25,7 +25,7 @@ use Rattle.euler.specs.EdgeOperators.{semvLinks, jekvLinks}
 use Rattle.euler.specs.Steps.{does, after}
 use Rattle.euler.specs.Exec.{limits, linksBy, linksAfter, refusalOf}
 use Rattle.sound_tables.specs.Sound.{In}
-use Rattle.sound_tables.specs.Accepted.{no-other, limitOf}
+use Rattle.sound_tables.specs.Accepted.{by-thirteen, limitOf}
 use Rattle.sound_tables.specs.Good.{Good}
 use Rattle.euler_counts.specs.Counts.{movedLoops, movedLoop}
 use Rattle.sound_counts.specs.Stays.{InOrder, in-order, Stays, store-stays, free-stays, solid-stays}
@@ -302,21 +302,8 @@ module _ (sh : Shape) (x : List ℕ) (p : List ℤ) (o : Operator) (g : Good sh 
   -- whichever it is, it moves the loop that is named and no other
   pub moves : Moves sh x (linksAfter sh x o) (movedLoop sh x o)
   moves =
-      split (o .code) 1 moves-mvsf (λ d1.
-      split (o .code) 2 moves-kvsf (λ d2.
-      split (o .code) 3 moves-mev (λ d3.
-      split (o .code) 4 moves-kev (λ d4.
-      split (o .code) 5 moves-mef (λ d5.
-      split (o .code) 6 moves-kef (λ d6.
-      split (o .code) 7 moves-kemr (λ d7.
-      split (o .code) 8 moves-mekr (λ d8.
-      split (o .code) 9 moves-kfmrh (λ d9.
-      split (o .code) 10 moves-mfkrh (λ d10.
-      split (o .code) 11 moves-semv (λ d11.
-      split (o .code) 12 moves-jekv (λ d12.
-      split (o .code) 13 moves-rmov (λ d13.
-      absurd (no-other sh x o h
-      (((((((((((((tt, d1), d2), d3), d4), d5), d6), d7), d8), d9), d10), d11), d12), d13)))))))))))))))
+      by-thirteen sh x o h moves-mvsf moves-kvsf moves-mev moves-kev moves-mef moves-kef moves-kemr moves-mekr moves-kfmrh
+      moves-mfkrh moves-semv moves-jekv moves-rmov
 
   -- an accepted operator changes the face of no loop but the one that `movedLoop` names
   pub others-stay : (l : ℕ) → In (sh .loops) l → l ≢ movedLoop sh x o

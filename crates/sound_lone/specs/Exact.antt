@@ -24,7 +24,7 @@ use Rattle.sound_tables.specs.WriteBack.{Stand, write-back}
 use Rattle.sound_tables.specs.PointLists.{three, put-length, put-at, put-back, put-cleared, points-new, points-cleared}
 use Rattle.sound_tables.specs.Good.{own, Marked, marked-shows, marked-after}
 use Rattle.sound_tables.specs.Balance.{Balanced, shown-still}
-use Rattle.sound_tables.specs.Undone.{Kept, Undone, exact, Low}
+use Rattle.sound_tables.specs.Undone.{Kept, Undone, exact, Low, Gone}
 use Rattle.sound_tables.specs.OneOperand.{one-operand}
 use Rattle.sound_lone.specs.Placed.{placedWrites, placed, placedLinks, shows-placed}
 use Rattle.sound_lone.specs.MvsfSound.{Free, mvsf-sound}
@@ -178,6 +178,11 @@ module _ {sh : Shape} {x : List ℕ} {p : List ℤ} (g : Marked sh x p) {s f l v
       (mvsf-points sh ky s f l v a b z caps ky-free kq ∙ put-back (sh .vertices) p v (pos 0) (pos 0) (pos 0)
       (g .points) (o .vertex-in)) (mvsf-inverse sh ky s f l v a b z caps ky-free kq)
 
+  -- its vertex is free afterwards
+  kvsf-free : Gone sh x (kvsfOf s)
+  kvsf-free = rw (kvsf-killed o (g .capacities), kvsf-links o (g .capacities))
+      (inr (o .vertex-in, ky-free .vertex))
+
   -- the first of the two
   kvsf-kept : Kept sh x p (kvsfOf s)
   kvsf-kept = rw (kvsf-links o (g .capacities), kvsf-points o (g .capacities) p) ky-good
@@ -234,3 +239,10 @@ pub kvsf-balanced : (sh : Shape) (x : List ℕ) (p : List ℤ) (o : Operator) �
 kvsf-balanced sh x p o g len e h =
     let k = kvsf-one sh x p o g len e h in
     subst (Balanced sh x) (sym (k .1)) (kvsf-still g (k .3) (k .2))
+
+-- the vertex that kvsf kills is free afterwards
+pub kvsf-gone : (sh : Shape) (x : List ℕ) (p : List ℤ) (o : Operator) → Marked sh x p → length (o .args) ≡ 8
+    → o .code ≡ 2 → refusalOf sh x o ≡ 0 → Gone sh x o
+kvsf-gone sh x p o g len e h =
+    let k = kvsf-one sh x p o g len e h in
+    subst (Gone sh x) (sym (k .1)) (kvsf-free g (k .3) (k .2))

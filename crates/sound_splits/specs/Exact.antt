@@ -1,7 +1,7 @@
 -- The pair semv and jekv: a good table stays good, and each undoes the other to the word. Both are one relation between
 -- the columns (`Split`), which each side settles.
 use mathlib.Core.Path.{_≡_, refl, sym, ap, _∙_, subst}
-use mathlib.Core.Logic.{⊎-elim}
+use mathlib.Core.Logic.{inr, ⊎-elim}
 use mathlib.Core.List.{List}
 use Prim.Native.Nat.{ℕ, _*_, _≤_}
 use native.Mathlib.Omega.{arith}
@@ -23,7 +23,7 @@ use Rattle.sound_tables.specs.Sound.{Sound}
 use Rattle.sound_tables.specs.PointLists.{all-three, put-length, put-at, put-back, put-cleared, points-new}
 use Rattle.sound_tables.specs.PointLists.{points-cleared}
 use Rattle.sound_tables.specs.Good.{own, Marked, marked-shows, marked-after}
-use Rattle.sound_tables.specs.Undone.{Kept, Undone, Low}
+use Rattle.sound_tables.specs.Undone.{Kept, Undone, Low, Gone}
 use Rattle.sound_splits.specs.CycleMoves.{swapFor}
 use Rattle.sound_splits.specs.Relation.{Place, aft, Split, n≢k, n≢m, used-old}
 use Rattle.sound_splits.specs.Unique.{unique-after, unique-before}
@@ -255,3 +255,17 @@ jekv-holds sh x p o g len e h =
     let v = jekv-killed sh x (f .k) (own sh x Next (f .k)) (g .capacities) j i in
     subst (λ q. Kept sh x p q × (Low sh x q → Undone sh x p q)) (sym (f .is))
     (jekv-kept g j, λ low. jekv-undone g j (rw v at low))
+
+-- the vertex that jekv kills is free afterwards
+pub jekv-gone : (sh : Shape) (x : List ℕ) (p : List ℤ) (o : Operator) → Marked sh x p → length (o .args) ≡ 8
+    → o .code ≡ 12 → refusalOf sh x o ≡ 0 → Gone sh x o
+jekv-gone sh x p o g len e h =
+    let f = jekv-facts sh x o (g .capacities) len e h in
+    let j = tested-joint sh x (f .k) (f .half) (f .test) in
+    let i = n1 g j in
+    let t = ky-fits g j in
+    let n = own sh x Next (f .k) in
+    subst (Gone sh x) (sym (f .is)) (rw (
+      jekv-killed sh x (f .k) n (g .capacities) j i,
+      jekv-links sh x (f .k) n (g .capacities) j i,
+    ) (inr (t .vertex-in, t .vertex-free)))

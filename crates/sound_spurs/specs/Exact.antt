@@ -28,7 +28,7 @@ use Rattle.sound_tables.specs.PointLists.{put-at, put-back, put-cleared, all-th
 use Rattle.sound_tables.specs.Good.{own, Marked, marked-shows}
 use Rattle.sound_tables.specs.CornerTest.{CornerAt}
 use Rattle.sound_tables.specs.WriteLaws.{Apart, frame}
-use Rattle.sound_tables.specs.Undone.{Kept, Undone, Low}
+use Rattle.sound_tables.specs.Undone.{Kept, Undone, Low, Gone}
 use Rattle.sound_tables.specs.WriteBack.{Restores, restored, other-item}
 use Rattle.sound_spurs.specs.Relation.{Spur, spurOf, in-k, in-b, in-N, next-P, prev-b, prev-N, Nb, whole-P}
 use Rattle.sound_spurs.specs.Relation.{spur-loop-b, spur-loop-N, spur-loop-in, spur-loop-used, spur-start-N}
@@ -374,3 +374,13 @@ kev-holds sh x p o g len e h =
     let v = kev-killed g (f .used) (f .next) in
     subst (λ q. Kept sh x p q × (Low sh x q → Undone sh x p q)) (sym (f .is))
     (kev-kept g (f .used) (f .next) (w .1), λ low. kev-undone g (f .used) (f .next) (w .1) (rw v at low))
+
+-- the vertex that kev kills is free afterwards
+pub kev-gone : (sh : Shape) (x : List ℕ) (p : List ℤ) (o : Operator) → Marked sh x p → length (o .args) ≡ 8
+    → o .code ≡ 4 → refusalOf sh x o ≡ 0 → Gone sh x o
+kev-gone sh x p o g len e h =
+    let f = kev-facts sh x o (g .capacities) len e h in
+    let w = left-of (own sh x) (f .k) in
+    let t = fits g (f .used) (f .next) (w .1) in
+    subst (Gone sh x) (sym (f .is)) (rw (kev-killed g (f .used) (f .next), kev-links g (f .used) (f .next))
+    (inr (t .vertex-in, t .vertex-free)))

@@ -69,6 +69,28 @@ pub no-other : (sh : Shape) (x : List ℕ) (o : Operator) → refusalOf sh x o �
 no-other sh x o h n =
     false≢true (sym (accepted sh x o h .code) ∙ ap (λ q. eqb (q .count) 0) (sym (pattern-none (o .code) n)))
 
+-- what holds of each of the thirteen codes holds of an accepted operator
+pub by-thirteen : (sh : Shape) (x : List ℕ) (o : Operator) {Q : Type 0} → refusalOf sh x o ≡ 0
+    → (o .code ≡ 1 → Q) → (o .code ≡ 2 → Q) → (o .code ≡ 3 → Q) → (o .code ≡ 4 → Q) → (o .code ≡ 5 → Q)
+    → (o .code ≡ 6 → Q) → (o .code ≡ 7 → Q) → (o .code ≡ 8 → Q) → (o .code ≡ 9 → Q) → (o .code ≡ 10 → Q)
+    → (o .code ≡ 11 → Q) → (o .code ≡ 12 → Q) → (o .code ≡ 13 → Q) → Q
+by-thirteen sh x o h q1 q2 q3 q4 q5 q6 q7 q8 q9 q10 q11 q12 q13 =
+    split (o .code) 1 q1 (λ d1.
+    split (o .code) 2 q2 (λ d2.
+    split (o .code) 3 q3 (λ d3.
+    split (o .code) 4 q4 (λ d4.
+    split (o .code) 5 q5 (λ d5.
+    split (o .code) 6 q6 (λ d6.
+    split (o .code) 7 q7 (λ d7.
+    split (o .code) 8 q8 (λ d8.
+    split (o .code) 9 q9 (λ d9.
+    split (o .code) 10 q10 (λ d10.
+    split (o .code) 11 q11 (λ d11.
+    split (o .code) 12 q12 (λ d12.
+    split (o .code) 13 q13 (λ d13.
+    absurd (no-other sh x o h
+    (((((((((((((tt, d1), d2), d3), d4), d5), d6), d7), d8), d9), d10), d11), d12), d13)))))))))))))))
+
 -- and they are all it takes
 pub accepted-back : (sh : Shape) (x : List ℕ) (o : Operator) → Accepted sh x o → refusalOf sh x o ≡ 0
 unfolding refusalOf admitOf rangeRefusal

@@ -1,6 +1,7 @@
 -- What a theorem about an operator says: the table stays sound, and the operator's inverse, run on what it left, gives
 -- everything back.
 use mathlib.Core.Path.{_≡_}
+use mathlib.Core.Logic.{_⊎_}
 use mathlib.Core.List.{List}
 use Prim.Native.Nat.{ℕ, _≤_}
 use lib.IntN.{ℤ}
@@ -8,6 +9,7 @@ use Rattle.script.specs.declared.Operator.{Operator}
 use Rattle.layout.specs.declared.shape.Shape.{Shape}
 use Rattle.euler.specs.Exec.{refusalOf, marksAfter, killedVertex, pointsAfter, inverse}
 use Rattle.layout.specs.Fields.{VertexUsed}
+use Rattle.sound_tables.specs.Sound.{In}
 use Rattle.sound_tables.specs.Good.{own, Marked}
 
 -- o's inverse is accepted on what o left, gives back every word of links and points, and has o for its own inverse;
@@ -28,6 +30,11 @@ Kept sh x p o = Marked sh (marksAfter sh x o) (pointsAfter sh x p o)
 -- the word of the vertex that o kills is 1 at most, as operators leave it that make a vertex
 abbrev pub Low : Shape → List ℕ → Operator → Type 0
 Low sh x o = own sh x VertexUsed (killedVertex sh x o) ≤ 1
+
+-- that vertex is free afterwards
+abbrev pub Gone : Shape → List ℕ → Operator → Type 0
+Gone sh x o = (killedVertex sh x o ≡ 0) ⊎ (In (sh .vertices) (killedVertex sh x o)
+    × (own sh (marksAfter sh x o) VertexUsed (killedVertex sh x o) ≡ 0))
 
 -- and is undone
 abbrev pub Undone : Shape → List ℕ → List ℤ → Operator → Type 0

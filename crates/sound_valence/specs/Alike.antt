@@ -79,7 +79,7 @@ module _ {sh : Shape} {x y : List ℕ} {p : List ℤ} (o : Operator) (g : Marked
   k = itemOf o 0
 
   -- its number is in range
-  first-half : (code : ℕ) → o .code ≡ code → length (pattern code .kinds) ≡ 8
+  pub first-half : (code : ℕ) → o .code ≡ code → length (pattern code .kinds) ≡ 8
       → getD (pattern code .kinds) 0 0 ≡ oldHalf → itemOf o 0 ≤ 2 * sh .edges
   first-half code c eight q =
       let small : 2 * sh .edges ≤ mostHalves = omega (arith, g .capacities .edges) in

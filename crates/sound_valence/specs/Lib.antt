@@ -1,2 +1,4 @@
 pub mod Words
 pub mod Alike
+pub mod Marks
+pub mod Kept
