@@ -82,7 +82,7 @@ fn rule_4(links: &[u16], points: &[i32], sh: Shape) -> bool
 }
 
 // Each vertex in use has 1 plus the number of half-edges that start there, and is isolated in one loop or starts some.
-// (A function of its own, so that its two arrays are gone before the walks of `vertex_cycles` need room.)
+// (A function of its own: its two arrays and those of `vertex_cycles` are never needed together.)
 fn vertices_either(links: &[u16], sh: Shape) -> bool
     requires { ⌜ Small sh ⌝ }
     ensures { λ r. ⌜ r ≡ allTo (sh .vertices) (vertexEither sh (now (links .entry))) ⌝ }
