@@ -29,6 +29,12 @@ pub least-turn : (f : ℕ → ℕ) (k v w : ℕ) (a b whole : List ℕ) → leas
     → b ≡ set a v w → leastNaming f (k - 1) b ≡ whole
 least-turn f k v w a b whole rest h ev ew eb = down-turn (λ j l. set l (f j) j) k a b whole rest h (eb ∙ rw (ev, ew))
 
+-- the entry that grows is the one that the record names
+pub tally-turn : (f : ℕ → ℕ) (k v : ℕ) (a b whole : List ℕ) → tally f k a ≡ whole → 0 < k → v ≡ f k
+    → b ≡ set a v (getD a v 0 + 1) → tally f (k - 1) b ≡ whole
+tally-turn f k v a b whole rest h ev eb =
+    down-turn (λ j l. set l (f j) (getD l (f j) 0 + 1)) k a b whole rest h (eb ∙ rw ev)
+
 -- nothing is left
 pub down-out : (g : ℕ → List ℕ → List ℕ) (k : ℕ) (a whole : List ℕ) → down g k a ≡ whole → k ≤ 0 → a ≡ whole
 unfolding down

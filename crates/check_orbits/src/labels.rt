@@ -5,13 +5,12 @@ ghost use Prim.Native.Nat.{_+_, _<_, _≤_};
 ghost use lib.ListN.{length, getD, set};
 ghost use Rattle.bounds.specs.Bounds.{itemPlaces};
 ghost use Rattle.layout.specs.Column.{entryOf};
-ghost use Rattle.layout.specs.Layout.{loopFirst, loopIsolated};
+ghost use Rattle.layout.specs.Layout.{loopFirst};
 ghost use Rattle.check_orbits.specs.Labels.{blank, leastNaming, tally, copied};
 use bounds::ITEM_PLACES;
 use layout::cells::cell;
 use layout::column::Column;
 use layout::columns::loop_first;
-use layout::columns::loop_isolated;
 use layout::shape::Shape;
 
 // The entry at i set to v; past the end nothing changes.
@@ -48,16 +47,16 @@ pub fn least_naming(links: &[u16], column: Column, least: &mut [u16; ITEM_PLACES
     }
 }
 
-// For each vertex in how many loops it is isolated.
-pub fn isolated_counts(links: &[u16], sh: Shape, counts: &mut [u16; ITEM_PLACES])
-    requires { ⌜ (sh .loops < 65536) × (now counts ≡ blank) ⌝ }
-    ensures { λ _. ⌜ now (counts .exit) ≡ tally (loopIsolated sh (now (links .entry))) (sh .loops) blank ⌝ }
+// For each label how many records name it.
+pub fn tally_naming(links: &[u16], column: Column, counts: &mut [u16; ITEM_PLACES])
+    requires { ⌜ (column .count < 65536) × (now counts ≡ blank) ⌝ }
+    ensures { λ _. ⌜ now (counts .exit) ≡ tally (entryOf column (now (links .entry))) (column .count) blank ⌝ }
 {
-    let mut l = sh.loops as usize;
-    while l > 0 {
-        let v = loop_isolated(links, sh, l);
+    let mut k = column.count;
+    while k > 0 {
+        let v = cell(links, column.base, column.width, column.word, k);
         bump(counts, v);
-        l -= 1;
+        k -= 1;
     }
 }
 

@@ -3,7 +3,8 @@ use mathlib.Core.Path.{_≡_, refl, _∙_}
 use mathlib.Core.Logic.{_≢_}
 use mathlib.Core.Bool.{Bool, true, false, _&&_, _||_}
 use mathlib.Core.List.{List}
-use Prim.Native.Nat.{ℕ}
+use Prim.Native.Nat.{ℕ, _+_}
+use native.Mathlib.Omega.{arith}
 use lib.Dec.{eqb}
 use lib.ListN.{getD}
 use Rattle.laws.specs.Bools.{eqb-same, eqb-other}
@@ -34,17 +35,27 @@ module _ (sh : Shape) (x a b : List ℕ) (n : ℕ) where
   unfolding labelTest
   vertex-free e = rw (eqb-same e)
 
-  -- one that is isolated in one loop starts nothing
-  pub vertex-isolated : (r : Bool) → vertexUsed sh x n ≢ 0 → getD a n 0 ≡ 1 → r ≡ eqb (getD b n 0) 0
+  -- one whose word is not 1 plus the number of half-edges that start there
+  pub vertex-miscounted : vertexUsed sh x n ≢ 0 → vertexUsed sh x n ≢ 1 + getD b n 0
+      → false ≡ labelTest VertexEither sh x a b n
+  unfolding labelTest
+  vertex-miscounted f g = rw (eqb-other f, eqb-other g)
+
+  -- any other is in use
+  counted : vertexUsed sh x n ≡ 1 + getD b n 0 → vertexUsed sh x n ≢ 0
+  counted e = omega arith
+
+  -- isolated in one loop it starts nothing
+  pub vertex-isolated : (r : Bool) → vertexUsed sh x n ≡ 1 + getD b n 0 → getD a n 0 ≡ 1 → r ≡ eqb (getD b n 0) 0
       → r ≡ labelTest VertexEither sh x a b n
   unfolding labelTest
-  vertex-isolated r f e h = h ∙ rw (eqb-other f, e, or-false (eqb (getD b n 0) 0))
+  vertex-isolated r w e h = h ∙ rw (eqb-other (counted w), eqb-same w, e, or-false (eqb (getD b n 0) 0))
 
-  -- any other is isolated in none and starts something
-  pub vertex-starting : (c k : ℕ) → vertexUsed sh x n ≢ 0 → c ≢ 1 → c ≡ getD a n 0 → k ≡ getD b n 0
+  -- else it is isolated in none and starts something
+  pub vertex-starting : (c k : ℕ) → vertexUsed sh x n ≡ 1 + getD b n 0 → c ≢ 1 → c ≡ getD a n 0 → k ≡ getD b n 0
       → (eqb c 0 && some k) ≡ labelTest VertexEither sh x a b n
   unfolding labelTest
-  vertex-starting c k f g ec ek = rw (eqb-other f, ← ec, ← ek, eqb-other g)
+  vertex-starting c k w g ec ek = rw (eqb-other (counted w), eqb-same w, ← ec, ← ek, eqb-other g)
 
 -- the arm that was taken is the test's own
 pub by-label : (test t : LabelTest) → test ≡ t → (sh : Shape) (x a b : List ℕ) (n : ℕ) (r : Bool)

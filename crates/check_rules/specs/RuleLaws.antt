@@ -68,9 +68,42 @@ pub leaders-long : (f : ℕ → ℕ) (n : ℕ) (ls : List ℕ) → ls ≡ leastN
 leaders-long f n ls e = ap length e ∙ named-long f n blank ∙ length-replicate {A = ℕ} itemPlaces 0
 
 -- a pass down the column of a field, as the code hands it on
+passed-by : (pass : (ℕ → ℕ) → ℕ → List ℕ → List ℕ) (sh : Shape) (x : List ℕ) (F : Field) {c : Column} {ls : List ℕ}
+    → c ≡ columnAt sh F → ls ≡ pass (entryOf c x) (c .count) blank → ls ≡ pass (column sh F x) (capOf sh F) blank
+passed-by pass sh x F {c} {ls} e h = subst (λ (k : Column). ls ≡ pass (entryOf k x) (k .count) blank) e h
+
 pub named-by : (sh : Shape) (x : List ℕ) (F : Field) {c : Column} {ls : List ℕ} → c ≡ columnAt sh F
     → ls ≡ leastNaming (entryOf c x) (c .count) blank → ls ≡ leastNaming (column sh F x) (capOf sh F) blank
-named-by sh x F {c} {ls} e h = subst (λ (k : Column). ls ≡ leastNaming (entryOf k x) (k .count) blank) e h
+named-by = passed-by leastNaming
+
+pub counted-by : (sh : Shape) (x : List ℕ) (F : Field) {c : Column} {ls : List ℕ} → c ≡ columnAt sh F
+    → ls ≡ tally (entryOf c x) (c .count) blank → ls ≡ tally (column sh F x) (capOf sh F) blank
+counted-by = passed-by tally
+
+-- ---- the passes of rule 5
+
+module _ (sh : Shape) (x : List ℕ) where
+  -- the entries of the arrays are the rule's own counts
+  pub vertices-counted : (isolated starts : List ℕ) (r : Bool) → sh .vertices ≤ mostItems
+      → isolated ≡ tally (loopIsolated sh x) (sh .loops) blank → starts ≡ tally (startOf sh x) (2 * sh .edges) blank
+      → r ≡ allTo (sh .vertices) (labelTest VertexEither sh x isolated starts)
+      → r ≡ allTo (sh .vertices) (vertexEither sh x)
+  unfolding labelTest vertexEither
+  vertices-counted isolated starts r h ei es er = er ∙ all-ext (sh .vertices) _ _
+      (λ k l u. rw (
+        ei,
+        es,
+        tally-at (loopIsolated sh x) (sh .loops) k (omega arith),
+        tally-at (startOf sh x) (2 * sh .edges) k (omega arith),
+      ))
+
+  -- the walks are those of the array
+  pub cycles-walked : (starters : List ℕ) (r : Bool) → starters ≡ leastNaming (startOf sh x) (2 * sh .edges) blank
+      → r ≡ oneCycleEach sh x true starters (sh .vertices)
+      → r ≡ oneCycleEach sh x true (leastNaming (startOf sh x) (2 * sh .edges) blank) (sh .vertices)
+  cycles-walked starters r es er = er ∙ ap (λ l. oneCycleEach sh x true l (sh .vertices)) es
+
+-- ---- the rules
 
 module _ (sh : Shape) (x : List ℕ) (p : List ℤ) where
   pub rule1-is : (a b c d e : Bool) → a ≡ allTo (sh .solids) (itemTest SolidRange sh x p)
@@ -98,20 +131,6 @@ module _ (sh : Shape) (x : List ℕ) (p : List ℤ) where
   pub rule3-is : (r : Bool) → r ≡ allTo (sh .loops) (itemTest LoopEither sh x p) → r ≡ rule3 sh x
   unfolding rule3 itemTest
   rule3-is r h = h
-
-  -- the entries of the arrays are the rule's own counts and starters
-  vertices-counted : (counts starters : List ℕ) → sh .vertices ≤ mostItems
-      → counts ≡ tally (loopIsolated sh x) (sh .loops) blank
-      → starters ≡ leastNaming (startOf sh x) (2 * sh .edges) blank
-      → allTo (sh .vertices) (labelTest VertexEither sh x counts starters) ≡ allTo (sh .vertices) (vertexEither sh x)
-  unfolding labelTest vertexEither
-  vertices-counted counts starters h ec es = all-ext (sh .vertices) _ _
-      (λ k l u. rw (
-        ec,
-        es,
-        tally-at (loopIsolated sh x) (sh .loops) k (omega arith),
-        least-at (startOf sh x) (2 * sh .edges) k (omega arith),
-      ))
 
   module _ (lower : Lower sh x p) where
     r1 : Rule1 sh x p
@@ -146,21 +165,14 @@ module _ (sh : Shape) (x : List ℕ) (p : List ℤ) where
           (er ∙ ap (λ l. oneCycleEach sh x false l (sh .loops)) ef
           ∙ loops-one-cycle sh x (links-hold n) (lower .small .edges) (lower .small .loops) ∙ met-loops sh x)
 
-    pub rule5-is : rule4 sh x ≡ true → (counts starters : List ℕ) (a r : Bool)
-        → counts ≡ tally (loopIsolated sh x) (sh .loops) blank
-        → starters ≡ leastNaming (startOf sh x) (2 * sh .edges) blank
-        → a ≡ allTo (sh .vertices) (labelTest VertexEither sh x counts starters)
-        → r ≡ oneCycleEach sh x true starters (sh .vertices) → (a && r) ≡ rule5 sh x
+    pub rule5-is : rule4 sh x ≡ true → (a r : Bool) → a ≡ allTo (sh .vertices) (vertexEither sh x)
+        → r ≡ oneCycleEach sh x true (leastNaming (startOf sh x) (2 * sh .edges) blank) (sh .vertices)
+        → (a && r) ≡ rule5 sh x
     unfolding rule5
-    rule5-is h4 counts starters a r ec es ea er =
-        both a r (allTo (sh .vertices) (vertexEither sh x)) (allTo (2 * sh .edges) (halfAtVertex sh x)) (ea ∙ counted)
-        (er ∙ ap (λ l. oneCycleEach sh x true l (sh .vertices)) es
-        ∙ vertices-one-cycle sh x (vertex-facts sh x p r1 r2 (says-rule4 sh x p r1 r2 .out (true-T h4) .half))
+    rule5-is h4 a r ea er =
+        both a r (allTo (sh .vertices) (vertexEither sh x)) (allTo (2 * sh .edges) (halfAtVertex sh x)) ea
+        (er ∙ vertices-one-cycle sh x (vertex-facts sh x p r1 r2 (says-rule4 sh x p r1 r2 .out (true-T h4) .half))
         (lower .small .edges) (lower .small .vertices) ∙ met-vertices sh x)
-      where
-        counted : allTo (sh .vertices) (labelTest VertexEither sh x counts starters)
-            ≡ allTo (sh .vertices) (vertexEither sh x)
-        counted = vertices-counted counts starters (lower .small .vertices) ec es
 
     pub rule6-is : (ls : List ℕ) (a r : Bool) → ls ≡ leastNaming (faceSolid sh x) (sh .faces) blank
         → a ≡ allTo (2 * sh .edges) (itemTest HalfSides sh x p)

@@ -18,7 +18,7 @@ pub enum LabelTest {
 }
 
 fn wide(x: u16) -> usize
-    ensures { λ r. ⌜ r ≡ x ⌝ }
+    ensures { λ r. ⌜ (r ≡ x) × (r < 65536) ⌝ }
 {
     x as usize
 }
@@ -35,23 +35,28 @@ fn solid_names(links: &[u16], sh: Shape, faces: &[u16; ITEM_PLACES], n: usize) -
     f != 0
 }
 
-// Vertex n is free, or isolated in one loop and starts no half-edge, or isolated in none and starts one.
+// Vertex n is free, or its word is 1 plus the number of half-edges that start there, and it is isolated in one loop and
+// starts none, or isolated in none and starts some.
 fn vertex_either(
     links: &[u16],
     sh: Shape,
-    counts: &[u16; ITEM_PLACES],
-    starters: &[u16; ITEM_PLACES],
+    isolated: &[u16; ITEM_PLACES],
+    starts: &[u16; ITEM_PLACES],
     n: usize,
 ) -> bool
     requires { ⌜ n ≤ mostItems ⌝ }
     ensures { λ r.
-        ⌜ r ≡ labelTest VertexEither sh (now (links .entry)) (now (counts .entry)) (now (starters .entry)) n ⌝ }
+        ⌜ r ≡ labelTest VertexEither sh (now (links .entry)) (now (isolated .entry)) (now (starts .entry)) n ⌝ }
 {
-    if vertex_used(links, sh, n) == 0 {
+    let u = vertex_used(links, sh, n);
+    if u == 0 {
         return true;
     }
-    let c = wide(counts[n]);
-    let k = wide(starters[n]);
+    let c = wide(isolated[n]);
+    let k = wide(starts[n]);
+    if u != 1 + k {
+        return false;
+    }
     if c == 1 {
         return k == 0;
     }

@@ -28,7 +28,8 @@ use Rattle.euler.specs.EdgeOperators.{kemrLinks, mekrTest, mekrLinks, jekvTest,
 use Rattle.euler.specs.FaceOperators.{kvsfTest, kvsfLinks, kfmrhTest, kfmrhLinks, linkedAfter, mfkrhTest, mfkrhLinks}
 use Rattle.euler.specs.FaceOperators.{rmovTest, rmovLinks}
 use Rattle.euler.specs.Exec.{Table, refusalOf, admitOf, rangeRefusal, useRefusals, useRefusal, useWord, condition}
-use Rattle.euler.specs.Exec.{linksAfter, pointsAfter, killedVertex, inverse}
+use Rattle.euler.specs.Exec.{marksAfter, linksAfter, pointsAfter, killedVertex, inverse}
+use Rattle.euler.specs.Valence.{lessStarts, moreStarts}
 use Rattle.evidence_witnesses.specs.Clauses.{clausesOf}
 
 -- what comes of the operator: what the check says of the table afterwards; and where it says that all is well, the
@@ -103,9 +104,10 @@ unfolding checkOf sizesFit brokenRule rule1 rule2 rule3 rule4 rule5 rule6 solidR
     vertexRange solidNames faceNames loopNames halfNames loopEither halfLinks firstNames halfInLoop vertexEither
     halfAtVertex halfSides faceLinked allTo leastFrom sumTo meets linkedb rounds pass across mate within joins linkedBy
     refusalOf admitOf rangeRefusal pattern rows inRanges inRange wire zig useRefusals useRefusal useWord condition
-    linksAfter pointsAfter killedVertex inverse corner edgeIn edgeOut relabel seek renew sweep kvsfTest kvsfLinks
-    mevLinks kevTest kevLinks mefTest mefLinks kefTest kefLinks kemrTest kemrLinks mekrTest mekrLinks kfmrhTest
-    kfmrhLinks linkedAfter mfkrhTest mfkrhLinks jekvTest jekvLinks rmovTest rmovLinks clausesOf
+    marksAfter lessStarts moreStarts linksAfter pointsAfter killedVertex inverse corner edgeIn edgeOut relabel seek
+    renew sweep kvsfTest kvsfLinks mevLinks kevTest kevLinks mefTest mefLinks kefTest kefLinks kemrTest kemrLinks
+    mekrTest mekrLinks kfmrhTest kfmrhLinks linkedAfter mfkrhTest mfkrhLinks jekvTest jekvLinks rmovTest rmovLinks
+    clausesOf
 shown w =
     record {
       before = checkOf (w .table .links) (w .table .points);

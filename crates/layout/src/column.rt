@@ -2,13 +2,14 @@
 // the specs, and knows no field.
 ghost use mathlib.Core.Path.{_≡_};
 ghost use Prim.Native.Nat.{ℕ};
-ghost use Rattle.layout.specs.Fields.{Solid, Face, Start};
+ghost use Rattle.layout.specs.Fields.{Solid, Face, Isolated, Start};
 ghost use Rattle.layout.specs.Column.{columnAt};
 use crate::fields::FACE_SOLID;
 use crate::fields::FACE_WIDTH;
 use crate::fields::HALF_START;
 use crate::fields::HALF_WIDTH;
 use crate::fields::LOOP_FACE;
+use crate::fields::LOOP_ISOLATED;
 use crate::fields::LOOP_WIDTH;
 use crate::shape::Shape;
 
@@ -39,6 +40,18 @@ pub fn faces_of_loops(sh: Shape) -> Column
         base: sh.loop0,
         width: LOOP_WIDTH,
         word: LOOP_FACE,
+        count: sh.loops as usize,
+    }
+}
+
+// The isolated vertex of each loop.
+pub fn isolated_of_loops(sh: Shape) -> Column
+    ensures { λ r. ⌜ r ≡ columnAt sh Isolated ⌝ }
+{
+    Column {
+        base: sh.loop0,
+        width: LOOP_WIDTH,
+        word: LOOP_ISOLATED,
         count: sh.loops as usize,
     }
 }
