@@ -7,6 +7,7 @@ pub mod FaceOperators
 pub mod Valence
 pub mod ValenceLaws
 pub mod Exec
+pub mod Inverses
 pub mod ByCode
 pub mod AdmitLaws
 pub mod RecordLaws

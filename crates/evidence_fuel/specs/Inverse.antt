@@ -14,7 +14,7 @@ use Rattle.sound_tables.specs.Accepted.{accepted}
 use Rattle.sound_tables.specs.Good.{Good}
 use Rattle.sound_operators.specs.Theorems.{all-hold}
 use Rattle.promises.specs.Checked.{good-within}
-use Rattle.promises.specs.Inverses.{inverse-eight}
+use Rattle.euler.specs.Inverses.{inverse-eight}
 use Rattle.promises.specs.Reading.{in-range, range-writable}
 use Rattle.evidence_fuel.specs.Operands.{OperandInRange, operands-in-range}
 

@@ -17,7 +17,7 @@ use Rattle.sound_tables.specs.Good.{Good}
 use Rattle.sound_operators.specs.Theorems.{all-hold}
 use Rattle.runs.specs.Run.{State, inverseBytes, stepped}
 use Rattle.promises.specs.Checked.{good-within}
-use Rattle.promises.specs.Inverses.{inverse-eight}
+use Rattle.euler.specs.Inverses.{inverse-eight}
 use Rattle.promises.specs.Logging.{put-live}
 use Rattle.promises.specs.WayBack.{Back, back-stepped}
 use Rattle.evidence_fuel.specs.Inverse.{inverse-small}

@@ -1,5 +1,4 @@
 pub mod RunAll
-pub mod Inverses
 pub mod Reading
 pub mod Logging
 pub mod Leads

@@ -20,7 +20,7 @@ use Rattle.runs.specs.Run.{State}
 use Rattle.runs.specs.Move.{moveOf, moveEntry}
 use Rattle.runs.specs.Clauses.{entry-passed, move-passed, move-out}
 use Rattle.promises.specs.RunAll.{runAll}
-use Rattle.promises.specs.Inverses.{inverse-eight}
+use Rattle.euler.specs.Inverses.{inverse-eight}
 use Rattle.promises.specs.Reading.{range-writable}
 use Rattle.promises.specs.Checked.{good-within}
 use Rattle.promises.specs.Trail.{Trail, none, more, Gone, gone-live}

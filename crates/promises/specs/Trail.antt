@@ -27,7 +27,7 @@ use Rattle.runs.specs.Run.{State, state, readAt, inverseBytes, carryRefusal, ru
 use Rattle.runs.specs.Clauses.{pick-by, run-none, run-some}
 use Rattle.runs.specs.RunLaws.{run-read}
 use Rattle.promises.specs.RunAll.{leftBy}
-use Rattle.promises.specs.Inverses.{inverse-eight}
+use Rattle.euler.specs.Inverses.{inverse-eight}
 use Rattle.promises.specs.Reading.{taken, in-range, range-writable, written-at}
 use Rattle.promises.specs.Checked.{good-within}
 use Rattle.promises.specs.Logging.{below, put-below, below-none, below-length, below-live, below-both}

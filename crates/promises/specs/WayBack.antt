@@ -18,7 +18,7 @@ use Rattle.sound_tables.specs.Good.{Good}
 use Rattle.runs.specs.Run.{State, readAt, refusalAt, inverseBytes, carryRefusal, stepped, runRefusal}
 use Rattle.runs.specs.RunLaws.{read-admitted}
 use Rattle.sound_tables.specs.Accepted.{first-zero}
-use Rattle.promises.specs.Inverses.{inverse-eight}
+use Rattle.euler.specs.Inverses.{inverse-eight}
 use Rattle.promises.specs.Logging.{put-length, put-live, put-rest}
 use Rattle.promises.specs.Leads.{Leads, none, first}
 use Rattle.sound_operators.specs.Theorems.{all-hold}

@@ -25,7 +25,7 @@ use Rattle.euler.specs.EdgeOperators.{kevTest, kefTest, kemrTest, jekvTest}
 use Rattle.euler.specs.Queries.{loopsIn}
 use Rattle.euler.specs.Valence.{none, leaveOf}
 use Rattle.euler.specs.Exec.{limits, useWord, useRefusal, useRefusals, condition, admitOf, refusalOf, killedVertex, pointsAfter}
-use Rattle.euler.specs.Exec.{inverse}
+use Rattle.euler.specs.Exec.{pointsBy, inverse}
 use Rattle.sound_tables.specs.Sound.{SameElse, SameUsed, Sound, sound-alike}
 use Rattle.sound_tables.specs.Good.{own, Marked}
 use Rattle.sound_tables.specs.Caps.{loop-cap, next-cap, operand-cap}
@@ -57,6 +57,18 @@ pub record Finds (sh : Shape) (x y : List ℕ) (o : Operator) : Type 0 where
   pub inverted : (p : List ℤ) → inverse sh y p o ≡ inverse sh x p o
   pub killed : killedVertex sh y o ≡ killedVertex sh x o
   pub leaves : leaveOf sh y o ≡ leaveOf sh x o
+
+-- so it is accepted there too
+pub accepted-too : {sh : Shape} {x y : List ℕ} {o : Operator} → Finds sh x y o → refusalOf sh x o ≡ 0
+    → refusalOf sh y o ≡ 0
+unfolding refusalOf
+accepted-too f h = rw (f .admit) h
+
+-- and does the same to the points
+pub points-too : {sh : Shape} {x y : List ℕ} {o : Operator} → Finds sh x y o → (p : List ℤ)
+    → pointsAfter sh y p o ≡ pointsAfter sh x p o
+unfolding pointsAfter
+points-too {o = o} f p = ap (λ v. getD (pointsBy p o (itemOf o) v) (o .code) p) (f .killed)
 
 -- in one table
 pub finds-same : {sh : Shape} {x y : List ℕ} {o : Operator} → y ≡ x → Finds sh x y o

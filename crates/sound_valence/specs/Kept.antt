@@ -30,31 +30,38 @@ use Rattle.sound_tables.specs.Balance.{times, UsedOrNone, Balanced, times-none,
 use Rattle.sound_tables.specs.Undone.{Low, UndoneBy}
 use Rattle.sound_valence.specs.Words.{Reworded, reworded-same, same-words, then-words, words-are, NoneOrIn}
 use Rattle.sound_valence.specs.Words.{less-two, more-two}
-use Rattle.sound_valence.specs.Alike.{marked-alike, Finds, finds-same, first-half, kev-finds, kef-finds}
+use Rattle.sound_valence.specs.Alike.{marked-alike, Finds, accepted-too, points-too, finds-same, first-half}
+use Rattle.sound_valence.specs.Alike.{kev-finds, kef-finds}
 use Rattle.sound_valence.specs.Alike.{kemr-finds, jekv-finds}
 use Rattle.sound_valence.specs.Marks.{marks-hold, marks-balanced, marks-gone}
 
 -- ---- small facts
 
 -- a vertex in use is one of the table's
-none-or-in : {sh : Shape} {x : List ℕ} {v : ℕ} → UsedOrNone sh x v → NoneOrIn sh v
-none-or-in (inl z) = inl z
-none-or-in (inr u) = inr (u .0)
+none-or-in : (sh : Shape) (x : List ℕ) {v : ℕ} → UsedOrNone sh x v → NoneOrIn sh v
+none-or-in sh x (inl z) = inl z
+none-or-in sh x (inr u) = inr (u .0)
 
 -- one that is free is not one of those in use
-free-other : {sh : Shape} {x : List ℕ} {v w : ℕ} → UsedOrNone sh x v → 1 ≤ w → own sh x VertexUsed w ≡ 0
+free-other : (sh : Shape) (x : List ℕ) {v w : ℕ} → UsedOrNone sh x v → 1 ≤ w → own sh x VertexUsed w ≡ 0
     → bit (eqb v w) ≡ 0
-free-other {sh} {x} {v} {w} (inl z) l f = ap (λ n. bit (eqb n w)) z ∙ times-none w l
-free-other {sh} {x} {v} {w} (inr u) l f = ap bit (eqb-other (λ e. u .1 (ap (own sh x VertexUsed) e ∙ f)))
+free-other sh x {v} {w} (inl z) l f = ap (λ n. bit (eqb n w)) z ∙ times-none w l
+free-other sh x {v} {w} (inr u) l f = ap bit (eqb-other {m = v} {n = w} (λ e. u .1 (ap (own sh x VertexUsed) e ∙ f)))
 
--- there are no two of them where both are none
+-- nor are two
+free-others : (sh : Shape) (x : List ℕ) (t : Two) {w : ℕ} → UsedOrNone sh x (t .one) × UsedOrNone sh x (t .other)
+    → 1 ≤ w → own sh x VertexUsed w ≡ 0 → times t w ≡ 0
+free-others sh x t u l f = let a = free-other sh x (u .0) l f in let b = free-other sh x (u .1) l f in
+    omega (arith, a, b)
+
+-- there are none where both are none
 none-times : (t : Two) (w : ℕ) → t ≡ none → 1 ≤ w → times t w ≡ 0
 none-times t w e l = rw e (let z = times-none w l in omega (arith, z))
 
 -- how many start somewhere is seen in the start column
-starts-same : {sh : Shape} {x y : List ℕ} → SameElse sh (own sh x) (own sh y) → (w : ℕ)
+starts-same : (sh : Shape) (x y : List ℕ) → SameElse sh (own sh x) (own sh y) → (w : ℕ)
     → startsAt sh y w ≡ startsAt sh x w
-starts-same {sh} {x} {y} e w =
+starts-same sh x y e w =
     many-same (2 * sh .edges) (own sh x Start) (own sh y Start) w (λ k i. e Start refl k (i .1))
 
 -- none starts at a free vertex
@@ -85,3 +92,141 @@ module _ {sh : Shape} {x y : List ℕ} {p : List ℤ} (o : Operator) (g : Marked
       -- where none leaves
       same : leaveOf sh x o ≡ none → Finds sh x y o
       same z = finds-same (one z)
+
+-- ---- an accepted operator on a good table
+
+module _ {sh : Shape} {x : List ℕ} {p : List ℤ} (o : Operator) (g : Good sh x p) (len : length (o .args) ≡ 8)
+    (h : refusalOf sh x o ≡ 0) where
+  -- what it does to starts and marks
+  B : Balanced sh x o
+  B = marks-balanced sh x p o (marked g) len h
+
+  -- the links once half-edges have left
+  abbrev x′ : List ℕ
+  x′ = lessStarts sh x o
+
+  -- their words
+  less : Reworded sh x x′ (λ w. own sh x VertexUsed w - times (leaveOf sh x o) w)
+  unfolding lessStarts
+  less = less-two (g .fit) (leaveOf sh x o) (none-or-in sh x (B .leave .0)) (none-or-in sh x (B .leave .1))
+
+  -- at least as many start at a vertex as leave
+  few : (w : ℕ) → In (sh .vertices) w → times (leaveOf sh x o) w ≤ startsAt sh x w
+  few w i = ⊎-elim
+      (λ e. let z = none-times (leaveOf sh x o) w e (i .0) in omega (arith, z))
+      (λ e. let z = none-times (comeOf sh (marksAfter sh x o) o) w e (i .0) in omega (arith, B .starts w (i .0), z))
+      (B .one-way)
+
+  -- so a word covers what leaves
+  covers : (w : ℕ) → In (sh .vertices) w → times (leaveOf sh x o) w ≤ own sh x VertexUsed w
+  covers w i = split (own sh x VertexUsed w) 0
+      (λ f. let z = free-others sh x (leaveOf sh x o) (B .leave) (i .0) f in omega (arith, z))
+      (λ d. omega (arith, g .valent w i d, few w i))
+
+  -- no word is full
+  low-x : (w : ℕ) → In (sh .vertices) w → own sh x VertexUsed w < 65534
+  low-x w i = split (own sh x VertexUsed w) 0 (λ f. omega (arith, f))
+      (λ d. omega (arith, g .valent w i d, count-le (2 * sh .edges) (λ k. eqb (own sh x Start k) w),
+      g .capacities .edges .1))
+
+  -- the same vertices are in use
+  used-less : SameUsed sh (own sh x) (own sh x′)
+  used-less zero u = (λ z. refl, λ z. refl)
+  used-less (suc v) u =
+      let i : In (sh .vertices) (suc v) = (omega arith, u) in (
+        λ z. split (own sh x VertexUsed (suc v)) 0 (λ e. e)
+            (λ d. absurd (omega (arith, less .word (suc v) i, z, g .valent (suc v) i d, few (suc v) i))),
+        λ z. less .word (suc v) i ∙ omega (arith, z),
+      )
+
+  -- it is sound as well
+  g′ : Marked sh x′ p
+  g′ = marked-alike (marked g) (less .fit) (less .else) used-less
+
+  -- where none leaves it is the table
+  one : leaveOf sh x o ≡ none → x′ ≡ x
+  unfolding lessStarts
+  one z = rw z
+
+  -- the operator finds there what it found before
+  F : Finds sh x x′ o
+  F = finds o (marked g) (less .else) len h one
+
+  -- and is accepted
+  h′ : refusalOf sh x′ o ≡ 0
+  h′ = accepted-too F h
+
+  -- what it does there to starts and marks
+  B′ : Balanced sh x′ o
+  B′ = marks-balanced sh x′ p o g′ len h′
+
+  -- what it leaves
+  abbrev m : List ℕ
+  m = marksAfter sh x′ o
+
+  abbrev q : List ℤ
+  q = pointsAfter sh x′ p o
+
+  -- a sound table
+  gm : Marked sh m q
+  gm = marks-hold sh x′ p o g′ len h′ .0
+
+  -- a mark is not full
+  low-m : (w : ℕ) → w ≤ sh .vertices → own sh m VertexUsed w < 65534
+  low-m zero u = omega arith
+  low-m (suc v) u =
+      let w = suc v in
+      let i : In (sh .vertices) (suc v) = (omega arith, u) in
+      ⊎-elim (λ e. omega (arith, e, less .word w i, low-x w i))
+      (⊎-elim (λ e. omega (arith, e .1)) (λ e. omega (arith, e))) (B′ .mark w i)
+
+  -- the links once half-edges have come
+  abbrev y : List ℕ
+  y = linksAfter sh x o
+
+  -- their words
+  more : Reworded sh m y (λ w. own sh m VertexUsed w + times (comeOf sh m o) w)
+  unfolding linksAfter moreStarts
+  more = more-two (gm .fit) (comeOf sh m o) (none-or-in sh m (B′ .come .0)) (none-or-in sh m (B′ .come .1)) low-m
+
+  -- none comes to a free vertex
+  free-come : (w : ℕ) → 1 ≤ w → own sh m VertexUsed w ≡ 0 → times (comeOf sh m o) w ≡ 0
+  free-come w l f = free-others sh m (comeOf sh m o) (B′ .come) l f
+
+  -- the same vertices are in use
+  used-more : SameUsed sh (own sh m) (own sh y)
+  used-more zero u = (λ z. refl, λ z. refl)
+  used-more (suc v) u =
+      let i : In (sh .vertices) (suc v) = (omega arith, u) in (
+        λ z. omega (arith, more .word (suc v) i, z),
+        λ z. more .word (suc v) i ∙ omega (arith, z, free-come (suc v) (i .0) z),
+      )
+
+  -- it is sound as well
+  gy : Marked sh y q
+  gy = marked-alike gm (more .fit) (more .else) used-more
+
+  -- what comes and goes is balanced
+  sums : (w : ℕ) → 1 ≤ w → startsAt sh m w + times (leaveOf sh x o) w ≡ startsAt sh x w + times (comeOf sh m o) w
+  sums w l =
+      let e : times (leaveOf sh x′ o) w ≡ times (leaveOf sh x o) w = ap (λ t. times t w) (F .leaves) in
+      omega (arith, e, B′ .starts w l, starts-same sh x x′ (less .else) w)
+
+  -- THE WORDS ARE KEPT
+  valence-kept : Valent sh y
+  valence-kept w i d =
+      let s = starts-same sh m y (more .else) w in
+      ⊎-elim
+      (λ e. split (own sh x VertexUsed w) 0
+      (λ f. absurd (d (more .word w i ∙ (
+        let z : own sh m VertexUsed w ≡ 0 = e ∙ less .word w i ∙ omega (arith, f) in
+        omega (arith, z, free-come w (i .0) z)
+      ))))
+      (λ n. omega (arith, s, e, more .word w i, less .word w i, g .valent w i n, few w i, sums w (i .0))))
+      (⊎-elim
+      (λ e.
+      let z = free-starts g′ w i (e .0) in
+      let l = free-others sh x′ (leaveOf sh x′ o) (B′ .leave) (i .0) (e .0) in
+      omega (arith, s, e .1, more .word w i, z, l, B′ .starts w (i .0)))
+      (λ e. absurd (d (more .word w i ∙ omega (arith, e, free-come w (i .0) e)))))
+      (B′ .mark w i)
