@@ -17,7 +17,7 @@ use Rattle.layout.specs.declared.shape.Shape.{Shape}
 use Rattle.layout.specs.Fields.{Start, VertexUsed}
 use Rattle.check_items.specs.Rules.{startsAt}
 use Rattle.euler.specs.Valence.{Two, none, leaveOf, comeOf, lessAt, moreAt, lessStarts, moreStarts}
-use Rattle.euler.specs.ValenceLaws.{less-kept}
+use Rattle.euler.specs.Inverses.{inverse-eight}
 use Rattle.euler.specs.Surgery.{itemOf}
 use Rattle.euler.specs.Exec.{limits, refusalOf, marksAfter, linksAfter, killedVertex, pointsAfter, inverse}
 use Rattle.sound_tables.specs.Sound.{In, SameElse, SameUsed, Sound}
@@ -92,6 +92,12 @@ module _ {sh : Shape} {x y : List ℕ} {p : List ℤ} (o : Operator) (g : Marked
       -- where none leaves
       same : leaveOf sh x o ≡ none → Finds sh x y o
       same z = finds-same (one z)
+
+-- the links afterwards, once half-edges have left
+by-marks : {sh : Shape} (y : List ℕ) (o : Operator) {m : List ℕ} → lessStarts sh y o ≡ m
+    → linksAfter sh y o ≡ moreStarts sh (marksAfter sh m o) o
+unfolding linksAfter
+by-marks {sh} y o e = ap (λ t. moreStarts sh (marksAfter sh t o) o) e
 
 -- ---- an accepted operator on a good table
 
@@ -230,3 +236,112 @@ module _ {sh : Shape} {x : List ℕ} {p : List ℤ} (o : Operator) (g : Good sh 
       omega (arith, s, e .1, more .word w i, z, l, B′ .starts w (i .0)))
       (λ e. absurd (d (more .word w i ∙ omega (arith, e, free-come w (i .0) e)))))
       (B′ .mark w i)
+
+  -- the table stays good
+  pub good-kept : Good sh (linksAfter sh x o) (pointsAfter sh x p o)
+  good-kept = subst (Good sh y) (points-too F p) (worded gy valence-kept)
+
+  -- ---- and is given back
+
+  -- the word of a vertex that is killed is 1 once half-edges have left
+  low : Low sh x′ o
+  low = ⊎-elim (λ z. rw z (omega arith))
+      (λ v.
+      let w = killedVertex sh x′ o in
+      let i = v .0 in
+      let s = free-starts gm w i (v .1) in
+      let c = free-come w (i .0) (v .1) in
+      split (own sh x VertexUsed w) 0 (λ f. omega (arith, less .word w i, f))
+      (λ n. omega (arith, less .word w i, g .valent w i n, s, c, sums w (i .0))))
+      (marks-gone sh x′ p o g′ len h′)
+
+  -- what undoes it there
+  abbrev I : Operator
+  I = inverse sh x′ p o
+
+  U : UndoneBy marksAfter sh x′ p o
+  U = marks-hold sh x′ p o g′ len h′ .1 low
+
+  -- what that does to starts and marks
+  BI : Balanced sh m I
+  BI = marks-balanced sh m q I gm (inverse-eight sh x′ p o) (U .accepted)
+
+  -- where half-edges come by it, read in the table that it leaves
+  abbrev CI : Two
+  CI = comeOf sh x′ (inverse sh x′ p o)
+
+  -- what comes by the one leaves by the other
+  turned : (w : ℕ) → 1 ≤ w → (times (leaveOf sh m I) w ≡ times (comeOf sh m o) w)
+      × (times CI w ≡ times (leaveOf sh x′ o) w)
+  turned w l =
+      let a = B′ .starts w l in
+      let b : startsAt sh x′ w + times (leaveOf sh m I) w ≡ startsAt sh m w + times CI w =
+      subst (λ t. startsAt sh t w + times (leaveOf sh m I) w ≡ startsAt sh m w + times (comeOf sh t I) w) (U .links)
+      (BI .starts w l) in
+      let c : (leaveOf sh m I ≡ none) ⊎ (CI ≡ none) =
+      subst (λ t. (leaveOf sh m I ≡ none) ⊎ (comeOf sh t I ≡ none)) (U .links) (BI .one-way) in
+      ⊎-elim (λ e. ⊎-elim (λ f. both a b (inl (none-times _ w e l)) (inl (none-times _ w f l)))
+      (λ f. both a b (inl (none-times _ w e l)) (inr (none-times _ w f l))) c)
+      (λ e. ⊎-elim (λ f. both a b (inr (none-times _ w e l)) (inl (none-times _ w f l)))
+      (λ f. both a b (inr (none-times _ w e l)) (inr (none-times _ w f l))) c)
+      (B′ .one-way)
+    where
+      -- numbers that go there and back, each one way
+      both : {s t a b c d : ℕ} → s + a ≡ t + b → t + c ≡ s + d → (a ≡ 0) ⊎ (b ≡ 0) → (c ≡ 0) ⊎ (d ≡ 0)
+          → (c ≡ b) × (d ≡ a)
+      both u v (inl e) (inl f) = (omega arith, omega arith)
+      both u v (inl e) (inr f) = (omega arith, omega arith)
+      both u v (inr e) (inl f) = (omega arith, omega arith)
+      both u v (inr e) (inr f) = (omega arith, omega arith)
+
+  -- where none leaves by it, none has come
+  one-y : leaveOf sh m I ≡ none → y ≡ m
+  one-y z = reworded-same more (same-words (gm .fit)) (λ w i.
+      let t = turned w (i .0) .0 in
+      let n = none-times (leaveOf sh m I) w z (i .0) in
+      omega (arith, t, n))
+
+  -- it finds in the table with words what it finds in the one with marks
+  FI : Finds sh m y I
+  FI = finds I gm (more .else) (inverse-eight sh x′ p o) (U .accepted) one-y
+
+  -- one less where half-edges have come: the marks again
+  back-m : lessStarts sh y I ≡ m
+  unfolding lessStarts
+  back-m =
+      let r = less-two (more .fit) (leaveOf sh m I) (none-or-in sh m (BI .leave .0)) (none-or-in sh m (BI .leave .1)) in
+      ap (lessAt sh y) (FI .leaves)
+      ∙ reworded-same (then-words more r) (same-words (gm .fit)) (λ w i.
+      let t = turned w (i .0) .0 in omega (arith, t, more .word w i))
+
+  -- a word that half-edges have left is not full
+  low-x′ : (w : ℕ) → w ≤ sh .vertices → own sh x′ VertexUsed w < 65534
+  low-x′ zero u = omega arith
+  low-x′ (suc v) u =
+      let i : In (sh .vertices) (suc v) = (omega arith, u) in omega (arith, less .word (suc v) i, low-x (suc v) i)
+
+  -- one more where half-edges had left: the table again
+  back-x : moreStarts sh x′ I ≡ x
+  unfolding moreStarts
+  back-x =
+      let c : UsedOrNone sh x′ (CI .one) × UsedOrNone sh x′ (CI .other) =
+      subst (λ t. UsedOrNone sh t (comeOf sh t I .one) × UsedOrNone sh t (comeOf sh t I .other)) (U .links)
+      (BI .come) in
+      let r = more-two (less .fit) CI (none-or-in sh x′ (c .0)) (none-or-in sh x′ (c .1)) low-x′ in
+      reworded-same (then-words less r) (same-words (g .fit)) (λ w i.
+      let t = turned w (i .0) .1 in
+      let e : times (leaveOf sh x′ o) w ≡ times (leaveOf sh x o) w = ap (λ t. times t w) (F .leaves) in
+      omega (arith, t, e, less .word w i, covers w i))
+
+  -- the links
+  links-back : linksAfter sh (linksAfter sh x o) I ≡ x
+  links-back = by-marks (linksAfter sh x o) I back-m ∙ ap (λ t. moreStarts sh t I) (U .links) ∙ back-x
+
+  -- EVERYTHING IS GIVEN BACK: links with their words, points, and the operator
+  pub good-undone : UndoneBy linksAfter sh x p o
+  good-undone = rw (← F .inverted p, ← points-too F p) (record {
+    accepted = accepted-too FI (U .accepted);
+    links = links-back;
+    points = points-too FI q ∙ U .points;
+    again = FI .inverted q ∙ U .again;
+  })
