@@ -40,28 +40,32 @@ module _ (sh : Shape) (x : List ℕ) (v n : ℕ) (e : n ≡ vertexUsed sh x v) w
   pub raise-one : {y : List ℕ} → n < 65535 → y ≡ setVertexUsed sh x v (n + 1) → y ≡ oneMore sh x v
   raise-one h g = rw (← e, lt-ltb n 65535 h) g
 
--- ---- two words, the vertices read before
+-- ---- two words
 
-module _ (sh : Shape) (x : List ℕ) (k : ℕ) {u v m : ℕ} {y r : List ℕ} where
-  pub less-ends : u ≡ startOf sh x k → m ≡ mate k → v ≡ startOf sh x m → y ≡ oneLess sh x u → r ≡ oneLess sh y v
-      → r ≡ lessAt sh x (ends sh x k)
-  less-ends eu em ev ey er = rw (er, ey, ev, em, eu)
+module _ (sh : Shape) (x : List ℕ) (u v : ℕ) {y r : List ℕ} where
+  pub less-both : y ≡ oneLess sh x u → r ≡ oneLess sh y v → r ≡ lessAt sh x (two u v)
+  less-both ey er = rw (er, ey)
 
-  pub more-ends : u ≡ startOf sh x k → m ≡ mate k → v ≡ startOf sh x m → y ≡ oneMore sh x u → r ≡ oneMore sh y v
-      → r ≡ moreAt sh x (ends sh x k)
-  more-ends eu em ev ey er = rw (er, ey, ev, em, eu)
+  pub more-both : y ≡ oneMore sh x u → r ≡ oneMore sh y v → r ≡ moreAt sh x (two u v)
+  more-both ey er = rw (er, ey)
 
 -- the vertex between k and the half-edge after it
 abbrev pub between : Shape → List ℕ → ℕ → Two
 between sh x k = two (startOf sh x (nextOf sh x k)) (startOf sh x (nextOf sh x k))
 
-pub less-between : (sh : Shape) (x : List ℕ) (k : ℕ) {n v : ℕ} {y r : List ℕ} → n ≡ nextOf sh x k → v ≡ startOf sh x n
-    → y ≡ oneLess sh x v → r ≡ oneLess sh y v → r ≡ lessAt sh x (between sh x k)
-less-between sh x k en ev ey er = rw (er, ey, ev, en)
+-- the vertices read before
+module _ (sh : Shape) (x : List ℕ) (k : ℕ) {u v m : ℕ} {r : List ℕ} where
+  pub less-ends : u ≡ startOf sh x k → m ≡ mate k → v ≡ startOf sh x m → r ≡ lessAt sh x (two u v)
+      → r ≡ lessAt sh x (ends sh x k)
+  less-ends eu em ev er = rw (er, ev, em, eu)
 
-pub more-twice : (sh : Shape) (x : List ℕ) (v : ℕ) {y r : List ℕ} → y ≡ oneMore sh x v → r ≡ oneMore sh y v
-    → r ≡ moreAt sh x (two v v)
-more-twice sh x v ey er = rw (er, ey)
+  pub more-ends : u ≡ startOf sh x k → m ≡ mate k → v ≡ startOf sh x m → r ≡ moreAt sh x (two u v)
+      → r ≡ moreAt sh x (ends sh x k)
+  more-ends eu em ev er = rw (er, ev, em, eu)
+
+pub less-between : (sh : Shape) (x : List ℕ) (k : ℕ) {n v : ℕ} {r : List ℕ} → n ≡ nextOf sh x k → v ≡ startOf sh x n
+    → r ≡ lessAt sh x (two v v) → r ≡ lessAt sh x (between sh x k)
+less-between sh x k en ev er = rw (er, ev, en)
 
 -- ---- by code
 

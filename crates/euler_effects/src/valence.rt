@@ -36,26 +36,42 @@ fn raise_word(links: &mut [u16], sh: Shape, v: usize)
     }
 }
 
-// One less at both ends of k's edge, two where they are one vertex.
+// One less at u and at v, two where they are one vertex.
+fn lower_both(links: &mut [u16], sh: Shape, u: usize, v: usize)
+    requires { ⌜ (u ≤ 65536) × (v ≤ 65536) ⌝ }
+    ensures { λ _. ⌜ now (links .exit) ≡ lessAt sh (now (links .entry)) (two u v) ⌝ }
+{
+    lower_word(links, sh, u);
+    lower_word(links, sh, v);
+}
+
+// One more at u and at v, two where they are one vertex.
+fn raise_both(links: &mut [u16], sh: Shape, u: usize, v: usize)
+    requires { ⌜ (u ≤ 65536) × (v ≤ 65536) ⌝ }
+    ensures { λ _. ⌜ now (links .exit) ≡ moreAt sh (now (links .entry)) (two u v) ⌝ }
+{
+    raise_word(links, sh, u);
+    raise_word(links, sh, v);
+}
+
+// One less at both ends of k's edge.
 fn lower_ends(links: &mut [u16], sh: Shape, k: usize)
     requires { ⌜ k ≤ 65535 ⌝ }
     ensures { λ _. ⌜ now (links .exit) ≡ lessAt sh (now (links .entry)) (ends sh (now (links .entry)) k) ⌝ }
 {
     let u = start_of(links, sh, k);
     let v = start_of(links, sh, mate_of(k));
-    lower_word(links, sh, u);
-    lower_word(links, sh, v);
+    lower_both(links, sh, u, v);
 }
 
-// One more at both ends of k's edge, two where they are one vertex.
+// One more at both ends of k's edge.
 fn raise_ends(links: &mut [u16], sh: Shape, k: usize)
     requires { ⌜ k ≤ 65535 ⌝ }
     ensures { λ _. ⌜ now (links .exit) ≡ moreAt sh (now (links .entry)) (ends sh (now (links .entry)) k) ⌝ }
 {
     let u = start_of(links, sh, k);
     let v = start_of(links, sh, mate_of(k));
-    raise_word(links, sh, u);
-    raise_word(links, sh, v);
+    raise_both(links, sh, u, v);
 }
 
 // Two less at the vertex between k and the half-edge after it.
@@ -65,17 +81,7 @@ fn lower_between(links: &mut [u16], sh: Shape, k: usize)
 {
     let n = next_of(links, sh, k);
     let v = start_of(links, sh, n);
-    lower_word(links, sh, v);
-    lower_word(links, sh, v);
-}
-
-// Two more at vertex v.
-fn raise_twice(links: &mut [u16], sh: Shape, v: usize)
-    requires { ⌜ v ≤ 65535 ⌝ }
-    ensures { λ _. ⌜ now (links .exit) ≡ moreAt sh (now (links .entry)) (two v v) ⌝ }
-{
-    raise_word(links, sh, v);
-    raise_word(links, sh, v);
+    lower_both(links, sh, v, v);
 }
 
 // One less where half-edges leave: kev, kef and kemr kill an edge, jekv a vertex between two.
@@ -101,7 +107,10 @@ pub fn raise_starts(links: &mut [u16], sh: Shape, code: u8, args: &[i32; 8])
         3 => raise_ends(links, sh, half_by(item_at(args, 2), item_at(args, 4))),
         5 => raise_ends(links, sh, half_by(item_at(args, 3), item_at(args, 6))),
         8 => raise_ends(links, sh, half_by(item_at(args, 4), item_at(args, 5))),
-        11 => raise_twice(links, sh, item_at(args, 2)),
+        11 => {
+            let v = item_at(args, 2);
+            raise_both(links, sh, v, v);
+        }
         _ => {}
     }
 }

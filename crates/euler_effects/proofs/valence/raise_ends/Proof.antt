@@ -4,7 +4,7 @@ use Rattle.euler_effects.proofs.valence.raise_ends.Statement.{statement
 use Rattle.euler_effects.proofs.valence.raise_ends.Tie as tie
 use Rattle.euler_effects.proofs.valence.raise_ends.Reads as reads
 use Rattle.euler_effects.proofs.valence.raise_ends.Lts as lts
-use Rattle.euler_effects.proofs.valence.raise_word.Reads as raise-word-reads
+use Rattle.euler_effects.proofs.valence.raise_both.Reads as raise-both-reads
 use Rattle.layout.proofs.columns.start_of.Reads as start-of-reads
 use Rattle.layout.proofs.mates.mate_of.Reads as mate-of-reads
 
@@ -17,22 +17,18 @@ mate-of-requires c κs = search needs
 start-of-requires-2 : tie.Need-start-of-requires-2
 start-of-requires-2 c κs = search needs
 
-raise-word-requires : tie.Need-raise-word-requires
-raise-word-requires c κs = search needs
-
-raise-word-requires-2 : tie.Need-raise-word-requires-2
-raise-word-requires-2 c κs = search needs
+raise-both-requires : tie.Need-raise-both-requires
+raise-both-requires c κs = search needs
 
 same-length : tie.Need-same-length
 same-length c = search needs
 
 returns : tie.Need-returns
 returns c =
-    let w = c .before .before .before .before .before .before in
-    let s = w .before .before in
+    let s = c .before .before .before .before in
     let a = s .before .before .before .before .before .before .args in
     more-ends (a .sh) (a .links .now) (a .k) (s .before .before .before .start-of .ensures .0)
-    (s .before .mate-of .ensures .0) (s .start-of2 .ensures .0) (w .raise-word .ensures) (c .before .before .raise-word2 .ensures)
+    (s .before .mate-of .ensures .0) (s .start-of2 .ensures .0) (c .before .before .raise-both .ensures)
 
 pub raise-ends-spec : {M : Type 1} → statement M
 raise-ends-spec =
@@ -41,7 +37,6 @@ raise-ends-spec =
     start-of-requires
     mate-of-requires
     start-of-requires-2
-    raise-word-requires
-    raise-word-requires-2
+    raise-both-requires
     same-length
     returns)

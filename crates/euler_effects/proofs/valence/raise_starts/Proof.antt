@@ -7,8 +7,8 @@ use Rattle.euler_effects.proofs.valence.raise_starts.Reads as reads
 use Rattle.euler_effects.proofs.valence.raise_starts.Lts as lts
 use Rattle.euler.proofs.records.half_by.Reads as half-by-reads
 use Rattle.euler.proofs.records.item_at.Reads as item-at-reads
+use Rattle.euler_effects.proofs.valence.raise_both.Reads as raise-both-reads
 use Rattle.euler_effects.proofs.valence.raise_ends.Reads as raise-ends-reads
-use Rattle.euler_effects.proofs.valence.raise_twice.Reads as raise-twice-reads
 
 item-at-requires : tie.Need-item-at-requires
 item-at-requires c κs = search needs
@@ -49,8 +49,8 @@ raise-ends-requires-3 c κs = search needs
 item-at-requires-7 : tie.Need-item-at-requires-7
 item-at-requires-7 c κs = search needs
 
-raise-twice-requires : tie.Need-raise-twice-requires
-raise-twice-requires c κs = search needs
+raise-both-requires : tie.Need-raise-both-requires
+raise-both-requires c κs = search needs
 
 same-length : tie.Need-same-length
 same-length c = search needs
@@ -96,11 +96,13 @@ returns-4 c =
     let d = c .before .before in
     let m = d .before .before .before in
     let a = m .before .before .args in
-    more-divided (a .sh) (a .links .now) (a .code) (a .args .now) (m .match .keys4) (d .before .item-at7 .ensures .0)
-    (d .raise-twice .ensures)
+    more-divided (a .sh) (a .links .now) (a .code) (a .args .now) (m .match .keys4)
+    (d .before .before .item-at7 .ensures .0) (d .raise-both .ensures)
 
 returns-5 : tie.Need-returns-5
-returns-5 c = let r = c .match .rest in more-kept-by _ _ _ _ (r .0 .0 .0 .1) (r .0 .0 .1) (r .0 .1) (r .1)
+returns-5 c =
+    let r = c .match .rest in
+    more-kept-by _ _ _ _ (r .0 .0 .0 .1) (r .0 .0 .1) (r .0 .1) (r .1)
 
 pub raise-starts-spec : {M : Type 1} → statement M
 raise-starts-spec =
@@ -119,7 +121,7 @@ raise-starts-spec =
     half-by-requires-3
     raise-ends-requires-3
     item-at-requires-7
-    raise-twice-requires
+    raise-both-requires
     same-length
     returns
     same-length-2

@@ -1,9 +1,9 @@
-use Rattle.euler_effects.specs.Starts.{more-twice}
+use Rattle.euler_effects.specs.Starts.{more-both}
 use borrow.Author.Needs.{needs}
-use Rattle.euler_effects.proofs.valence.raise_twice.Statement.{statement}
-use Rattle.euler_effects.proofs.valence.raise_twice.Tie as tie
-use Rattle.euler_effects.proofs.valence.raise_twice.Reads as reads
-use Rattle.euler_effects.proofs.valence.raise_twice.Lts as lts
+use Rattle.euler_effects.proofs.valence.raise_both.Statement.{statement}
+use Rattle.euler_effects.proofs.valence.raise_both.Tie as tie
+use Rattle.euler_effects.proofs.valence.raise_both.Reads as reads
+use Rattle.euler_effects.proofs.valence.raise_both.Lts as lts
 use Rattle.euler_effects.proofs.valence.raise_word.Reads as raise-word-reads
 
 raise-word-requires : tie.Need-raise-word-requires
@@ -19,8 +19,8 @@ returns : tie.Need-returns
 returns c =
     let w = c .before .before .before .before .before .before in
     let a = w .before .before .before .args in
-    more-twice (a .sh) (a .links .now) (a .v) (w .raise-word .ensures) (c .before .before .raise-word2 .ensures)
+    more-both (a .sh) (a .links .now) (a .u) (a .v) (w .raise-word .ensures) (c .before .before .raise-word2 .ensures)
 
-pub raise-twice-spec : {M : Type 1} → statement M
-raise-twice-spec =
+pub raise-both-spec : {M : Type 1} → statement M
+raise-both-spec =
     tie.close (tie.spec raise-word-requires raise-word-requires-2 same-length returns)
