@@ -4,7 +4,8 @@ Document 02, job 3: kef "shall use no scratch memory and relabel the run where i
 passed, those behind name the kept loop, those ahead the killed one, and besides only the killed edge's loop words
 differ." It is proved of the source; here each store of the machine's code to links and points is caught
 (tests/driver/stores.c), and the sentence is held against every word of the table behind each of them, up to the last of
-the run. Read as it is proved: besides nothing differs, the killed edge's loop words neither. Scratch memory is looked
+the run. Read as it is proved: besides nothing differs, the killed edge's loop words neither. The words of the edge's two
+vertices, which kef takes one off (job 5), may go down before the walk or behind it, not amid. Scratch memory is looked
 for in stack_use.py.
 
 COUNT random tables of each situation (60 by default) besides loops of 3 to 1,000 half-edges. Where stores cannot be
@@ -22,7 +23,8 @@ import wire
 from cases import operator_case
 from generate import seeded
 from kef_met import RESTS
-from kef_properties import WRONG_WALKS, loop_place, loop_word, mate_relabelled, run_behind, some_kefs
+from kef_properties import (WRONG_WALKS, edge_vertices, loop_place, loop_word, mate_relabelled, run_behind,
+                            some_kefs)
 from layout import Table, mate
 from library import archive, ask, build_driver, library_given
 from stack_use import compare_stacks
@@ -89,6 +91,25 @@ def run_of(table, k):
     return [loop_place(table, half) for half in run_behind(table, k)], loop_word(table, mate(k))
 
 
+def lowered(table, k):
+    """What the words of the edge's vertices become, by place; two less where the two are one."""
+    places = [table.place("vertex", vertex) for vertex in edge_vertices(table, k)]
+    return {place: table.links[place] - places.count(place) for place in places}
+
+
+def from_the_walk_on(before, lower, stores):
+    """The words that the walk finds, and the stores from there on: whole moments in front that store to the words of
+    the edge's vertices alone are no part of it. None where these words are neither as before nor as they become."""
+    rest, words = list(stores), list(before)
+    for together in moments(stores):
+        if any(store.place not in lower for store in together):
+            break
+        rest = rest[len(together):]
+        words = replayed(words, together)
+    found = {place: words[place] for place in lower}
+    return (words, rest) if found in (lower, {place: before[place] for place in lower}) else None
+
+
 def along(run, stores):
     """Which of the run's loop words are stored to, in the order of the stores."""
     among = set(run)
@@ -103,10 +124,12 @@ def watch_one(tally, kef, answer):
     tally.equal(f"accepted: {name}", got.numbers[:3], (0, 0, 1))
     if not watches:
         return False
-    before = words_of(kef.case)
-    run, kept = run_of(Table(kef.case.links, kef.case.points), kef.k)
+    table, before = Table(kef.case.links, kef.case.points), words_of(kef.case)
+    run, kept = run_of(table, kef.k)
     tally.equal(f"each of the run stored to once, in the order of next: {name}", along(run, stores), run)
-    tally.equal(f"the sentence behind each store: {name}", broken(before, run, kept, stores), None)
+    walk = from_the_walk_on(before, lowered(table, kef.k), stores)
+    if tally.holds(f"the vertices' words before the walk: {name}", walk is not None):
+        tally.equal(f"the sentence behind each store: {name}", broken(walk[0], run, kept, walk[1]), None)
     tally.equal(f"no point stored to: {name}", [s for s in stores if s.place >= len(kef.case.links)], [])
     tally.equal(f"the stores make the table: {name}", replayed(before, stores), words_of(model))
     return True
