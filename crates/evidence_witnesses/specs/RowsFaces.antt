@@ -16,14 +16,14 @@ table1 =
 -- capacities 1 1 1 1 2: mvsf 1 1 1 1 1 2 3; mev 1 0 1 2 0 4 5 6
 abbrev table2 : Table
 table2 =
-    table (1 ∷ 1 ∷ 1 ∷ 1 ∷ 2 ∷ 1 ∷ 1 ∷ 1 ∷ 1 ∷ 1 ∷ 0 ∷ 1 ∷ 1 ∷ 2 ∷ 2 ∷ 2 ∷ 1 ∷ 1 ∷ 1 ∷ 1 ∷ 1 ∷ [])
+    table (1 ∷ 1 ∷ 1 ∷ 1 ∷ 2 ∷ 1 ∷ 1 ∷ 1 ∷ 1 ∷ 1 ∷ 0 ∷ 1 ∷ 1 ∷ 2 ∷ 2 ∷ 2 ∷ 1 ∷ 1 ∷ 1 ∷ 2 ∷ 2 ∷ [])
     (pos 1 ∷ pos 2 ∷ pos 3 ∷ pos 4 ∷ pos 5 ∷ pos 6 ∷ [])
 
 -- capacities 2 2 3 1 2: mvsf 1 1 1 1 1 2 3; mvsf 2 2 2 2 4 5 6; kfmrh 1 2; mef 1 0 0 1 2 3 0
 abbrev table3 : Table
 table3 =
     table (2 ∷ 2 ∷ 3 ∷ 1 ∷ 2 ∷ 1 ∷ 0 ∷ 1 ∷ 1 ∷ 1 ∷ 3 ∷ 1 ∷ 1 ∷ 0 ∷ 1 ∷ 0 ∷ 2 ∷ 2 ∷ 2 ∷ 0 ∷ 1 ∷ 1 ∷ 1 ∷ 1 ∷ 1 ∷ 3 ∷ 2 ∷ 2
-    ∷ 1 ∷ 1 ∷ [])
+    ∷ 3 ∷ 1 ∷ [])
     (pos 1 ∷ pos 2 ∷ pos 3 ∷ pos 4 ∷ pos 5 ∷ pos 6 ∷ [])
 
 -- capacities 1 1 1 1 1: mvsf 1 1 1 1 1 2 3
@@ -41,28 +41,28 @@ table5 =
 -- capacities 2 2 2 1 1: mvsf 1 1 1 1 1 2 3; mef 1 0 0 1 2 2 0; kfmrh 1 2
 abbrev table6 : Table
 table6 =
-    table (2 ∷ 2 ∷ 2 ∷ 1 ∷ 1 ∷ 1 ∷ 0 ∷ 1 ∷ 1 ∷ 0 ∷ 0 ∷ 1 ∷ 1 ∷ 0 ∷ 1 ∷ 2 ∷ 0 ∷ 1 ∷ 1 ∷ 1 ∷ 1 ∷ 1 ∷ 2 ∷ 2 ∷ 2 ∷ 1 ∷ [])
+    table (2 ∷ 2 ∷ 2 ∷ 1 ∷ 1 ∷ 1 ∷ 0 ∷ 1 ∷ 1 ∷ 0 ∷ 0 ∷ 1 ∷ 1 ∷ 0 ∷ 1 ∷ 2 ∷ 0 ∷ 1 ∷ 1 ∷ 1 ∷ 1 ∷ 1 ∷ 2 ∷ 2 ∷ 2 ∷ 3 ∷ [])
     (pos 1 ∷ pos 2 ∷ pos 3 ∷ [])
 
 -- capacities 2 2 3 1 2: mvsf 1 1 1 1 1 2 3; mvsf 2 2 2 2 4 5 6; kfmrh 1 2; mef 2 0 0 1 2 3 0
 abbrev table7 : Table
 table7 =
     table (2 ∷ 2 ∷ 3 ∷ 1 ∷ 2 ∷ 1 ∷ 0 ∷ 1 ∷ 1 ∷ 1 ∷ 3 ∷ 1 ∷ 0 ∷ 1 ∷ 1 ∷ 1 ∷ 0 ∷ 2 ∷ 2 ∷ 0 ∷ 2 ∷ 2 ∷ 1 ∷ 1 ∷ 2 ∷ 3 ∷ 2 ∷ 2
-    ∷ 1 ∷ 1 ∷ [])
+    ∷ 1 ∷ 3 ∷ [])
     (pos 1 ∷ pos 2 ∷ pos 3 ∷ pos 4 ∷ pos 5 ∷ pos 6 ∷ [])
 
 -- capacities 2 2 3 1 2: mvsf 1 1 1 1 1 2 3; mef 1 0 0 1 2 2 0; kfmrh 1 2; mvsf 2 2 3 2 4 5 6
 abbrev table8 : Table
 table8 =
     table (2 ∷ 2 ∷ 3 ∷ 1 ∷ 2 ∷ 1 ∷ 1 ∷ 1 ∷ 1 ∷ 2 ∷ 3 ∷ 1 ∷ 1 ∷ 0 ∷ 1 ∷ 2 ∷ 0 ∷ 2 ∷ 0 ∷ 2 ∷ 1 ∷ 1 ∷ 1 ∷ 1 ∷ 1 ∷ 2 ∷ 2 ∷ 2
-    ∷ 1 ∷ 1 ∷ [])
+    ∷ 3 ∷ 1 ∷ [])
     (pos 1 ∷ pos 2 ∷ pos 3 ∷ pos 4 ∷ pos 5 ∷ pos 6 ∷ [])
 
 -- capacities 1 2 3 1 2: mvsf 1 1 1 1 1 2 3; mev 1 0 1 2 0 9 0 0; kemr 1 2; mef 2 0 0 1 2 3 0
 abbrev table9 : Table
 table9 =
     table (1 ∷ 2 ∷ 3 ∷ 1 ∷ 2 ∷ 1 ∷ 1 ∷ 1 ∷ 1 ∷ 3 ∷ 1 ∷ 0 ∷ 1 ∷ 1 ∷ 1 ∷ 0 ∷ 2 ∷ 2 ∷ 0 ∷ 2 ∷ 2 ∷ 1 ∷ 1 ∷ 2 ∷ 3 ∷ 2 ∷ 2 ∷ 1
-    ∷ 1 ∷ [])
+    ∷ 3 ∷ [])
     (pos 1 ∷ pos 2 ∷ pos 3 ∷ pos 9 ∷ pos 0 ∷ pos 0 ∷ [])
 
 -- each with the clause that fails
