@@ -34,15 +34,14 @@ def changed_table(rng):
 
 def change_situations(change, answer):
     """What was changed, and what is answered to it: 0, or the rule behind refusal 2."""
-    state = "used" if change.before else "free"
-    yield f"changed to {change.how}" if change.how in ("0", "1", "65,535") else f"changed by {change.how}"
-    yield f"changed {state}"
-    yield f"changed: rule {answer[1]}" if answer[0] else "changed: sound all the same"
+    yield f"changed: {change.how}"
+    yield f"changed: at a vertex {'in use' if change.before else 'that is free'}"
+    yield f"changed: rule {answer[1]}" if answer[0] else "changed: to what it was, sound"
 
 
-WANTED_CHANGES = ["changed to 0", "changed to 1", "changed to 65,535", "changed by one more", "changed by one less"]
-WANTED_RULES = ["changed: sound all the same", "changed: rule 1", "changed: rule 2", "changed: rule 5",
-                "changed used", "changed free"]
+WANTED_CHANGES = [f"changed: {how}" for how in CHANGES]
+WANTED_RULES = ["changed: to what it was, sound", "changed: rule 1", "changed: rule 2", "changed: rule 5",
+                "changed: at a vertex in use", "changed: at a vertex that is free"]
 
 
 # The same table lent to each call that looks at one
