@@ -1,9 +1,9 @@
 """The rows of crates/evidence_rows: operators on small tables, and what the model says they leave.
 
     python3 tests/model/rows.py           writes crates/evidence_rows/specs/Rows*.antt
-    python3 tests/model/rows.py --check   compares these files, layout aside, with what it would write, and the rows of
-                                          crates/evidence_cases/specs/Shortened.antt and crates/table/specs/Examples.antt,
-                                          which are written by hand, with the model
+    python3 tests/model/rows.py --check   compares these files, layout aside, with what it would write, and with the
+                                          model the rows of crates/evidence_cases/specs/Shortened.antt and of
+                                          crates/table/specs/Examples.antt, which are written by hand
 
 A table is said by the script that leads to it, a row by its operator and the refusal that
 document 01 settles; words, points and inverses are the model's. While the rows are made

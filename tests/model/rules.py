@@ -100,7 +100,7 @@ def orbit(start, step):
 
 
 def rule_5(table):
-    """Each vertex is lone in exactly one loop, or its half-edges are one cycle; its word is 1 and as many as they are."""
+    """Each vertex is lone in exactly one loop, or its half-edges are one cycle; its word is 1 plus their number."""
     halves, vertices = table.used("half"), table.used("vertex")
     starting = {vertex: set() for vertex in vertices}
     lone_in = {vertex: 0 for vertex in starting}

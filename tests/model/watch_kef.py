@@ -4,9 +4,9 @@ Document 02, job 3: kef "shall use no scratch memory and relabel the run where i
 passed, those behind name the kept loop, those ahead the killed one, and besides only the killed edge's loop words
 differ." It is proved of the source; here each store of the machine's code to links and points is caught
 (tests/driver/stores.c), and the sentence is held against every word of the table behind each of them, up to the last of
-the run. Read as it is proved: besides nothing differs, the killed edge's loop words neither. The words of the edge's two
-vertices, which kef takes one off (job 5), may go down before the walk or behind it, not amid. Scratch memory is looked
-for in stack_use.py.
+the run. Read as it is proved: besides nothing differs, the killed edge's loop words neither. The words of the edge's
+two vertices, which kef takes one off (job 5), may go down before the walk or behind it, not amid. Scratch memory is
+looked for in stack_use.py.
 
 COUNT random tables of each situation (60 by default) besides loops of 3 to 1,000 half-edges. Where stores cannot be
 watched (they can on Linux on x86-64), that is said and only the answers are counted. Prints 'N passed, M failed' as its
