@@ -1,5 +1,5 @@
-/* What it costs to tell how many edges meet at a corner that was picked: one read of its vertex's word, or a walk around
- * the vertex by next of the mate, which is what was to be done before the word said it.
+/* What it costs to tell how many edges meet at a corner that was picked: one read of its vertex's word, or a walk
+ * around the vertex by next of the mate, which is what was to be done before the word said it.
  *
  *   picking [-w WORD]
  *     -w  only rows with this word in their name

@@ -294,8 +294,8 @@ impl Table {
     }
 
     /// How many half-edges start at vertex `v`: at a corner of a part, how many edges meet there, an edge from a vertex
-    /// to itself counted twice; 0 where `v` is the lone vertex of a loop. `None` for a free vertex and for a number that
-    /// the table does not have.
+    /// to itself counted twice; 0 where `v` is the lone vertex of a loop. `None` for a free vertex and for a number
+    /// that the table does not have.
     ///
     /// This is one read of the vertex's word, which is 1 more, and no walk. The table is not checked: what a table of
     /// words from elsewhere says of a vertex is right where [`Table::check`] finds nothing.
