@@ -23,8 +23,8 @@ import wire
 from cases import operator_case
 from generate import seeded
 from kef_met import RESTS
-from kef_properties import (WRONG_WALKS, edge_vertices, loop_place, loop_word, mate_relabelled, run_behind,
-                            some_kefs)
+from kef_properties import WRONG_WALKS, edge_vertices, loop_place, loop_word, mate_relabelled, run_behind, some_kefs
+from kef_properties import walk as walk_right
 from layout import Table, mate
 from library import archive, ask, build_driver, library_given
 from stack_use import compare_stacks
@@ -150,19 +150,53 @@ def watch_kefs(driver, tally, kefs):
 BEHIND_THE_RUN = (mate_relabelled,)
 
 
+def told(table, k, walk):
+    """The stores of one of the model's walks, as the driver tells them."""
+    now, stores = Table(list(table.links), table.points), []
+    for place, word in walk(now, k):
+        stores.append(Store(len(stores), place, now.links[place], word))
+        now.links[place] = word
+    return stores
+
+
+def taken(table, k, stores):
+    """Whether all that is looked for up to the last of the run is found."""
+    run, kept = run_of(table, k)
+    walk = from_the_walk_on(table.links, lowered(table, k), stores)
+    return walk is not None and broken(walk[0], run, kept, walk[1]) is None and along(run, stores) == run
+
+
 def refuse_wrong_walks(tally, rng, count):
     """The model's wrong walks, told as the driver tells stores, are each refused by the sentence or by the order."""
     for table, k in some_kefs(rng, count):
-        run, kept = run_of(table, k)
+        length = len(run_behind(table, k))
         for walk, (needed, _, _) in WRONG_WALKS.items():
-            if walk in BEHIND_THE_RUN or len(run) < max(needed, 1):
-                continue
-            now, stores = Table(list(table.links), table.points), []
-            for place, word in walk(now, k):
-                stores.append(Store(len(stores), place, now.links[place], word))
-                now.links[place] = word
-            found = broken(table.links, run, kept, stores) is None and along(run, stores) == run
-            tally.holds(f"{walk.__name__} is refused: kef {k} on {table.links}", not found)
+            if walk not in BEHIND_THE_RUN and length >= max(needed, 1):
+                found = taken(table, k, told(table, k, walk))
+                tally.holds(f"{walk.__name__} is refused: kef {k} on {table.links}", not found)
+
+
+def with_words(before, amid):
+    """The right walk, with so many of the two vertices' words lowered before it, and so many behind its first store."""
+    def stores(table, k):
+        words = [table.place("vertex", vertex) for vertex in edge_vertices(table, k)]
+        yield from ((place, table.links[place] - 1) for place in words[:before])
+        for passed, store in enumerate(walk_right(table, k)):
+            yield store
+            yield from ((place, table.links[place] - 1) for place in words[before:before + amid] if passed == 0)
+        yield from ((place, table.links[place] - 1) for place in words[before + amid:])
+    return stores
+
+
+def refuse_words_amid(tally, rng, count):
+    """The words of the edge's vertices may go down together, in front of the walk or behind it."""
+    for table, k in some_kefs(rng, count):
+        if len(run_behind(table, k)) < 2:
+            continue
+        for before, amid in ((2, 0), (0, 0), (1, 0), (1, 1), (0, 1), (0, 2)):
+            found = taken(table, k, told(table, k, with_words(before, amid)))
+            name = f"words, {before} before and {amid} amid: kef {k} on {table.links}"
+            tally.equal(name, found, before != 1 and amid == 0)
 
 
 def watch_others(driver, tally, rng, count):
@@ -182,6 +216,7 @@ def watch_others(driver, tally, rng, count):
 
 def watch_all(tally, driver, rng, count):
     refuse_wrong_walks(tally, rng, OTHERS)
+    refuse_words_amid(tally, rng, OTHERS)
     to_points, watches = watch_others(driver, tally, rng, OTHERS)
     met = watch_kefs(driver, tally, random_kefs(rng, count) + long_kefs(rng))
     if not watches:
