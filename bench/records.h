@@ -25,7 +25,7 @@ typedef struct {
  * first, which is still within links: the capacities stand there, or the records of the kind before. */
 typedef struct {
     uint16_t *links;
-    uint16_t *solid, *vertex;
+    uint16_t *solid, *vertex; /* a vertex: 0 where it is free, else 1 plus the half-edges that start there */
     Face *face;
     Loop *loop;
     HalfEdge *half;

@@ -46,7 +46,7 @@ static Records records(const Table *t) { return records_of(t->links, t->points);
 void put_vertex(Table *t, unsigned v) {
     Records r = records(t);
     int32_t n = (int32_t)v;
-    r.vertex[v] = 1;
+    if (!r.vertex[v]) r.vertex[v] = 1;
     r.point[v - 1] = (Point){97 * n % 9000, -(31 * n % 9000), n % 500};
 }
 
@@ -62,6 +62,8 @@ void put_edge(Table *t, unsigned e, unsigned from, unsigned to) {
     put_vertex(t, to);
     r.half[2 * e - 1].start = from;
     r.half[2 * e].start = to;
+    r.vertex[from]++;
+    r.vertex[to]++;
 }
 
 void put_loop(Table *t, unsigned f, unsigned l, const unsigned *halves, unsigned n) {

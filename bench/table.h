@@ -23,11 +23,11 @@ void free_table(Table t);
 void copy_table(Table *to, const Table *from);
 int same_table(const Table *a, const Table *b);
 
-/* Vertex v in use, somewhere: the kernel does not look at the place. */
+/* Vertex v in use, somewhere: the kernel does not look at the place. Nothing starts there before an edge is put. */
 void put_vertex(Table *t, unsigned v);
 /* Solid s, which may be put already, has the face f with this outer loop. */
 void put_face(Table *t, unsigned s, unsigned f, unsigned outer);
-/* Edge e and its two ends: half-edge 2e - 1 starts at `from`, 2e at `to`. */
+/* Edge e, which is put once, and its two ends: half-edge 2e - 1 starts at `from`, 2e at `to`. */
 void put_edge(Table *t, unsigned e, unsigned from, unsigned to);
 /* Loop l of face f: these half-edges, each followed by the next one and the last by the first. */
 void put_loop(Table *t, unsigned f, unsigned l, const unsigned *halves, unsigned n);

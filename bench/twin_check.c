@@ -34,7 +34,7 @@ static int ranges(const Records *t) {
         unsigned used = t->half[k].start != 0;
         bad |= bad_half(t, &t->half[k], used) | bad_half(t, &t->half[k + 1], used);
     }
-    for (unsigned v = 1; v <= t->vertices; v++) bad |= (t->vertex[v] > 1) | bad_point(&t->point[v - 1], t->vertex[v]);
+    for (unsigned v = 1; v <= t->vertices; v++) bad |= bad_point(&t->point[v - 1], t->vertex[v] != 0);
     return !bad;
 }
 
@@ -96,19 +96,21 @@ static int loops_are_cycles(const Records *t) {
     return !bad && passed == halves_in_use(t);
 }
 
-/* One walk from one half-edge of each vertex; together they must pass all half-edges. */
+/* One walk from one half-edge of each vertex; together they must pass all half-edges, and each as many as the word of
+ * its vertex says. */
 static int vertices_are_cycles(const Records *t) {
     uint16_t from[CAPACITY + 1] = {0}, lone[CAPACITY + 1] = {0};
     unsigned bad = 0, passed = 0;
     for (unsigned k = 2 * t->edges; k >= 1; k--) from[t->half[k].start] = k;
     for (unsigned l = 1; l <= t->loops; l++) lone[t->loop[l].lone]++;
     for (unsigned v = 1; v <= t->vertices; v++) {
-        unsigned first = from[v];
-        bad |= t->vertex[v] && lone[v] != !first;
-        for (unsigned k = first; k; passed++) {
+        unsigned first = from[v], starts = 0;
+        for (unsigned k = first; k; starts++) {
             unsigned next = t->half[mate(k)].next;
             k = next == first ? 0 : next;
         }
+        bad |= t->vertex[v] && (lone[v] != !first || t->vertex[v] != 1 + starts);
+        passed += starts;
     }
     return !bad && passed == halves_in_use(t);
 }

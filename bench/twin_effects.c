@@ -10,14 +10,19 @@ static void tie(const Records *t, unsigned a, unsigned b) {
 }
 static void free_edge(const Records *t, unsigned k) { t->half[k] = t->half[mate(k)] = (HalfEdge){0, 0, 0, 0}; }
 
-static void put_vertex(const Records *t, unsigned v, const int32_t *c) {
-    t->vertex[v] = 1;
+/* Vertex v, at which so many half-edges start. */
+static void put_vertex(const Records *t, unsigned v, unsigned starts, const int32_t *c) {
+    t->vertex[v] = 1 + starts;
     t->point[v - 1] = (Point){c[0], c[1], c[2]};
 }
 static void free_vertex(const Records *t, unsigned v) {
     t->vertex[v] = 0;
     t->point[v - 1] = (Point){0, 0, 0};
 }
+
+/* An edge comes between vertices that stay, or goes; they may be one. */
+static void more_starts(const Records *t, unsigned u, unsigned v) { t->vertex[u]++, t->vertex[v]++; }
+static void less_starts(const Records *t, unsigned u, unsigned v) { t->vertex[u]--, t->vertex[v]--; }
 
 /* Loop l loses its last half-edge. */
 static void become_lone(const Records *t, unsigned l, unsigned v) {
@@ -51,7 +56,7 @@ static void mvsf(const Records *t, unsigned s, unsigned f, unsigned l, unsigned 
     t->solid[s] = 1;
     t->face[f] = (Face){s, l};
     t->loop[l] = (Loop){f, 0, v};
-    put_vertex(t, v, point);
+    put_vertex(t, v, 0, point);
 }
 
 unsigned twin_face_in(const Records *t, unsigned s) {
@@ -83,12 +88,14 @@ static void mev(const Records *t, unsigned l, unsigned h, unsigned k, unsigned v
         t->half[h].prev = m;
         t->loop[l].first = least(t->loop[l].first, least(k, m));
     }
-    put_vertex(t, v, point);
+    t->vertex[t->half[k].start]++;
+    put_vertex(t, v, 1, point);
 }
 
 static void kev(const Records *t, unsigned k) {
     unsigned m = mate(k), l = t->half[k].loop, n = t->half[m].next, start = t->half[k].start, first = t->loop[l].first;
     free_vertex(t, t->half[m].start);
+    t->vertex[start]--;
     if (n != k) tie(t, t->half[k].prev, n);
     free_edge(t, k);
     if (n == k) become_lone(t, l, start);
@@ -141,6 +148,7 @@ static void mef(const Records *t, const int32_t *args) {
     if (h1 != h2) mef_runs(t, l, h1, h2, a, l2);
     else if (w < 2) mef_alone(t, l, h1, a, l2);
     else mef_whole(t, l, h1, a, l2);
+    more_starts(t, t->half[a].start, t->half[mate(a)].start);
 }
 
 static void kef(const Records *t, unsigned k) {
@@ -152,6 +160,7 @@ static void kef(const Records *t, unsigned k) {
     tie(t, other.prev, alone ? other.next : dead.next);
     tie(t, dead.prev, other_alone ? dead.next : other.next);
     free_edge(t, k);
+    less_starts(t, dead.start, other.start);
     if (alone && other_alone) become_lone(t, l, dead.start);
     else if (first != m) t->loop[l].first = least(first, taken);
     else if (other_alone || taken < first) t->loop[l].first = taken;
@@ -168,6 +177,7 @@ static void kemr(const Records *t, unsigned k, unsigned l2) {
     if (there.next != k) tie(t, here.prev, there.next);
     t->loop[l2] = here.next == m ? (Loop){t->loop[l].face, 0, there.start} : (Loop){t->loop[l].face, taken, 0};
     free_edge(t, k);
+    less_starts(t, here.start, there.start);
     if (there.next == k) become_lone(t, l, here.start);
     else if (t->half[first].loop != l) t->loop[l].first = least_above(t, l, there.next, first);
 }
@@ -185,6 +195,7 @@ static void mekr(const Records *t, unsigned l, unsigned h1, unsigned l2, unsigne
     t->loop[l].first = first;
     t->loop[l].lone = 0;
     t->loop[l2] = (Loop){0, 0, 0};
+    more_starts(t, v1, v2);
 }
 
 static void kfmrh(const Records *t, unsigned f1, unsigned f2) {
@@ -231,7 +242,7 @@ static void semv(const Records *t, unsigned k, unsigned n, unsigned v, const int
     t->half[km].start = v;
     t->loop[l].first = least(t->loop[l].first, n);
     t->loop[o].first = least(t->loop[o].first, nm);
-    put_vertex(t, v, point);
+    put_vertex(t, v, 2, point); /* at the ends one goes and one comes */
 }
 
 static void jekv(const Records *t, unsigned k) {

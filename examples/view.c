@@ -14,10 +14,15 @@
 #include "zoghvari.h"
 
 /* The records that are looked at, by number. A face: its solid, its outer loop. A loop: its face, its first half-edge,
- * its lone vertex. A half-edge: its start, its loop, the next one, the one before. */
+ * its lone vertex. A half-edge: its start, its loop, the next one, the one before. A vertex: 0 where it is free, else 1
+ * plus the number of half-edges that start there. */
 static const uint16_t *face(const Table *t, unsigned f) { return t->links + 5 + N + 2 * (f - 1); }
 static const uint16_t *loop(const Table *t, unsigned l) { return face(t, N + 1) + 3 * (l - 1); }
 static const uint16_t *half(const Table *t, unsigned k) { return loop(t, N + 1) + 4 * (k - 1); }
+static const uint16_t *vertex(const Table *t, unsigned v) { return half(t, 2 * N + 1) + (v - 1); }
+
+/* How many half-edges start at a vertex in use: one read, and no walk around it. */
+static unsigned valence(const Table *t, unsigned v) { return vertex(t, v)[0] - 1u; }
 
 /* A corner is a half-edge of a loop, or 0 where the loop is lone; the vertex there, and the corner behind it. */
 static unsigned vertex_at(const Table *t, unsigned l, unsigned h) { return h ? half(t, h)[0] : loop(t, l)[2]; }
@@ -51,15 +56,18 @@ static ZoghvariRan run(Table *t, const uint8_t *script, size_t length) {
     return zoghvari_run(t->links, LINKS, t->points, POINTS, t->log, LOG, REDO, &t->session, script, length);
 }
 
-/* Ring l2 joined to the outer loop of its face: mekr l h1 l2 h2 e w. Answers whether it was. */
+/* Ring l2 joined to the outer loop of its face: mekr l h1 l2 h2 e w. Tells how many half-edges start at the two corners
+ * afterwards, and answers whether it was joined. */
 static int join(Table *t, unsigned l2) {
     unsigned l = face(t, loop(t, l2)[0])[1], h, h2, e = 1;
     while (e <= N && half(t, 2 * e)[0]) e++; /* the least free edge; N + 1, where there is none, is refused */
     nearest(t, l, l2, &h, &h2);
+    const unsigned v = vertex_at(t, l, h), w = vertex_at(t, l2, h2);
     ZoghvariOperator mekr = {8, 6, {l, h, l2, h2, e, 0}};
     uint8_t script[19];
     ZoghvariRan r = run(t, script, zoghvari_write(mekr, script, sizeof script).length);
     printf("# mekr %u %u %u %u %u 0: refusal %u\n", l, h, l2, h2, e, r.refusal);
+    printf("# corners: %u half-edges at vertex %u, %u at vertex %u\n", valence(t, v), v, valence(t, w), w);
     return r.refusal == 0;
 }
 

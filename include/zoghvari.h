@@ -23,6 +23,12 @@
     ((size_t)5 + (size_t)(s) + 2 * (size_t)(f) + 3 * (size_t)(l) + 8 * (size_t)(e) + (size_t)(v))
 #define ZOGHVARI_POINTS_LENGTH(v) (3 * (size_t)(v))
 
+/* The word of a vertex: 0 where it is free, else 1 plus the number of half-edges that start there, so 1 where it is the
+ * lone vertex of a loop. Of a table that is sound one read tells how many edges meet at a corner; an edge from a vertex
+ * to itself counts twice. The words of the vertices are the last ones of links: that of vertex v stands 5 + s + 2f + 3l
+ * + 8e + (v - 1) words into links, s, f, l, e being the capacities. All operators keep it; a table with another word
+ * breaks rule 5. */
+
 #ifdef __cplusplus
 extern "C" {
 #endif

@@ -27,6 +27,11 @@ impl Capacities {
         3 * self.vertices as usize
     }
 
+    /// Where the word of vertex `v` stands in the links, for a number from 1 to the capacity.
+    const fn vertex_place(self, v: usize) -> usize {
+        self.links_length() - self.vertices as usize + v - 1
+    }
+
     fn numbers(self) -> [u16; 5] {
         [self.solids, self.faces, self.loops, self.edges, self.vertices]
     }
@@ -286,6 +291,35 @@ impl Table {
         let mut text = vec![0; asked.length];
         let answer = sys::obj(&self.links, &self.points, solid, &mut text);
         Refusal::of(answer.refusal, answer.rule).map_or(Ok(text), Err)
+    }
+
+    /// How many half-edges start at vertex `v`: at a corner of a part, how many edges meet there, an edge from a vertex
+    /// to itself counted twice; 0 where `v` is the lone vertex of a loop. `None` for a free vertex and for a number
+    /// that the table does not have.
+    ///
+    /// This is one read of the vertex's word, which is 1 more, and no walk. The table is not checked: what a table of
+    /// words from elsewhere says of a vertex is right where [`Table::check`] finds nothing.
+    ///
+    /// ```
+    /// # fn main() -> Result<(), zoghvari::Refusal> {
+    /// use zoghvari::{script_bytes, Capacities, Operator, Table};
+    ///
+    /// let mut table = Table::new(Capacities::all(8), 256)?;
+    /// table.run(&script_bytes(&[Operator::new(1, &[1, 1, 1, 1, 0, 0, 0])])?);
+    /// assert_eq!(table.valence(1), Some(0)); // a lone vertex
+    /// table.run(&script_bytes(&[Operator::new(3, &[1, 0, 1, 2, 0, 100, 0, 0])])?);
+    /// assert_eq!((table.valence(1), table.valence(2)), (Some(1), Some(1)));
+    /// assert_eq!((table.valence(3), table.valence(9)), (None, None));
+    /// # Ok(())
+    /// # }
+    /// ```
+    pub fn valence(&self, v: usize) -> Option<usize> {
+        let &[solids, faces, loops, edges, vertices, ..] = self.links.as_slice() else { return None };
+        if v == 0 || v > usize::from(vertices) {
+            return None;
+        }
+        let place = Capacities { solids, faces, loops, edges, vertices }.vertex_place(v);
+        usize::from(*self.links.get(place)?).checked_sub(1)
     }
 
     pub fn links(&self) -> &[u16] {

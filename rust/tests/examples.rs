@@ -33,6 +33,7 @@ fn c_an_edge() {
     let table = after(&[&B, &C]);
     assert_eq!(table.links()[10..13], [1, 1, 0]);
     assert_eq!(table.links()[16..24], [1, 1, 2, 2, 2, 1, 1, 1]);
+    assert_eq!(table.links()[32..], [2, 2]);
     assert_eq!(table.points()[3..], [100, 0, 0]);
     assert_eq!(live(&table), [0x04, 0x01, 0x02, 0x01]);
 }
@@ -43,6 +44,7 @@ fn d_a_second_face() {
     assert_eq!(table.links()[10..16], [1, 2, 0, 2, 1, 0]);
     let loops: Vec<u16> = table.links()[16..32].chunks(4).map(|half| half[1]).collect();
     assert_eq!(loops, [2, 1, 1, 2]);
+    assert_eq!(table.links()[32..], [3, 3]);
     assert_eq!(live(&table), [0x06, 0x04, 0x04, 0x01, 0x02, 0x01]);
     assert_eq!(table.check(), Ok(()));
 }

@@ -116,6 +116,8 @@ static void no_buffer(void) {
     ran("solid", zoghvari_run(words, WORDS, numbers, NUMBERS, log_bytes, LOG, 0, s, solid, sizeof solid), 0, 1, 62);
     equal("obj of a lone loop", zoghvari_obj(words, WORDS, numbers, NUMBERS, 1, NULL, 0).refusal, 12);
     ran("sides", zoghvari_run(words, WORDS, numbers, NUMBERS, log_bytes, LOG, 0, s, sides, sizeof sides), 0, 3, 56);
+    for (int v = 1; v <= 3; v++) /* two sides meet at each corner; the place as the header says it, s, f, l, e in turn */
+        equal("the word of a vertex", words[5 + 1 + 2 * 2 + 3 * 2 + 8 * 3 + (v - 1)], 1 + 2);
     equal("obj of no solid", zoghvari_obj(words, WORDS, numbers, NUMBERS, 0, NULL, 0).refusal, 5);
     ZoghvariText asked = zoghvari_obj(words, WORDS, numbers, NUMBERS, 1, NULL, 0);
     equal("obj without a buffer", asked.refusal, 13);

@@ -53,8 +53,13 @@ def edit_example(tally, folder, kernel):
     tally.equal("before the edits and where undo and redo end between", told["before"], told["undone"])
     tally.equal("behind the edits and behind their redo", told["edited"], told["redone"])
     first = script_bytes([operator("mvsf", 1, 1, 1, 1, 0, 0, 0), operator("mev", 1, 0, 1, 2, 0, 1000, 0, 0)])
-    ran, table = run_fresh([8] * 5, first)
-    tally.equal("two operators too far, by the model", (ran.refusal, told["too_far"]), (0, digest_of(table)))
+    side = script_bytes([operator("mev", 1, 2, 2, 3, 0, 1000, 1000, 0), operator("mef", 1, 1, 4, 3, 2, 2, 0)])
+    # Of the edits those that are accepted.
+    more = script_bytes([operator("semv", 1, 4, 4, 0, 500, -200, 0), operator("mef", 2, 7, 6, 5, 3, 3, 0),
+                         operator("mev", 1, 5, 6, 5, 0, 300, 300, 0), operator("kemr", 11, 4)])
+    for name, script in (("too_far", first), ("before", first + side), ("edited", first + side + more)):
+        ran, table = run_fresh([8] * 5, script)
+        tally.equal(f"the digest {name}, by the model", (ran.refusal, told[name]), (0, digest_of(table)))
     tally.equal("edits, triangle and what was too far differ", len(set(told.values())), 3)
 
 

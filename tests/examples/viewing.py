@@ -1,15 +1,18 @@
 """What the examples show of OBJ text: the insert as a script and as a text, the example in C, the pictures."""
 
 import os
+import re
 
 import draw_obj
 import insert
 import library
 from files import ROOT, output_of, read
 from geometry import flat, six_volumes
-from kernel import program
-from parts import script_of
+from kernel import Session, program, run
+from layout import cleared_table
+from parts import CAPACITIES, script_of
 from rules import check
+from script import operator, script_bytes
 from generate import table_of
 
 PROGRAM = os.path.join(ROOT, "target", "bin", "zoghvari_obj")
@@ -53,12 +56,29 @@ def view_example(tally, folder, kernel, volume):
     wanted, text = read("examples/view.expected"), read("examples/insert.obj")
     tally.equal("examples/view.c, the pocket", output_of([view], read("examples/pocket.script", "rb")), (0, wanted))
     bodies(tally, "view.expected", wanted, volume)
+    picked_corners(tally, wanted)
     bodies(tally, "insert.obj", text, INSERT)
     data, said = read("examples/insert.script", "rb"), "# build: refusal 0 done 19 used 185 of 185\n"
     said += "# solid 1: refusal 13 length 323\n"
     tally.equal("examples/view.c, the insert", output_of([view], data), (0, said + text))
     said = "# build: refusal 0 done 1 used 8 of 8\n# solid 1: refusal 12 length 0\n"
     tally.equal("examples/view.c, one vertex", output_of([view], bytes((1, 1, 1, 1, 1, 0, 0, 0))), (1, said))
+
+
+def picked_corners(tally, text):
+    """How many half-edges start at the ends of each edge that joins a ring: those told, and those the model counts."""
+    table, log = cleared_table(CAPACITIES), bytearray(1 << 16)
+    session = Session(len(log))
+    run(table.links, table.points, log, b"", session, read("examples/pocket.script", "rb"))
+    told = re.findall(r"# mekr ([\d ]+): refusal 0\n# corners: (\d+) half-edges at vertex (\d+), (\d+) at vertex (\d+)",
+                      text)
+    tally.equal("corners told in view.expected", len(told), 3)
+    for operands, *corners in told:
+        mekr = script_bytes([operator("mekr", *map(int, operands.split()))])
+        tally.equal("a ring joined", run(table.links, table.points, log, b"", session, mekr)[:3], (0, 0, 1))
+        started = [words[0] for words in table.used("half").values()]
+        for valence, vertex in (corners[:2], corners[2:]):
+            tally.equal(f"half-edges at vertex {vertex}", int(valence), started.count(int(vertex)))
 
 
 def pictures(tally):

@@ -3,8 +3,11 @@
 A loop is a Python list of its half-edges in order (empty for a lone loop), so next,
 previous, each half-edge's loop and first are never stored: writing the table back
 derives them. An operator here cannot forget a link, it can only be wrong about
-lists, which is what makes this model able to disagree with pointer surgery.
+lists, which is what makes this model able to disagree with pointer surgery. The words
+of the vertices are not stored either: they are counted each time.
 """
+
+from collections import Counter
 
 from layout import Table, mate
 
@@ -87,8 +90,10 @@ class Boundary:
             table.put_record("face", face, (solid, self.face_outer[face]))
         for loop, cycle in self.cycles.items():
             self.write_loop(table, loop, cycle)
+        # By document 02 (job 5): "1 plus the number of half-edges starting there; 0 is still free".
+        starting = Counter(self.start.values())
         for vertex in table.numbers("vertex"):
-            table.put_record("vertex", vertex, (1 if vertex in self.points else 0,))
+            table.put_record("vertex", vertex, (1 + starting[vertex] if vertex in self.points else 0,))
             table.put_point(vertex, self.points.get(vertex, (0, 0, 0)))
 
     def write_loop(self, table, loop, cycle):

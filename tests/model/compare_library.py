@@ -17,6 +17,8 @@ MODE  entries    COUNT cases each of clearing, checking, counting, reading and w
                  redone; besides some on loops of 4,000 and of all that a table can hold
       redo       COUNT histories of 1 to 12 calls on one session, with strange logs and starts; half as many undos and
                  redos taken back; half as many lists of scripts undone with just the room for it, or a byte less
+      words      COUNT sound tables with one vertex word changed: the check's answer to each, and that of another call;
+                 from 1,000 on every operator that a sound table of capacities 1 or 2 accepts
       all        every mode, with a count of its own (the default)
 
 Every answer and every byte of links, points, both logs, script and session afterwards must be equal; a crash or a hang
@@ -42,10 +44,13 @@ from promise import WANTED as WANTED_ROOMS, a_byte_less, just_enough, more, tell
 from redo_met import WANTED as WANTED_HISTORIES
 from redo_promise import WANTED as WANTED_TRIPS, keep_exchange, keep_promise as keep_trips, trip_case
 from rules import check
+from small_tables import ACCEPTED, operator_cases
 from takedown_cases import LISTED, LISTED_TOO, listed_trials, takedown_trial
 from takedown_met import WANTED, case_situations
 from takedown_promise import keep_promise, model_answer
 from tally import Tally
+from valence_cases import (OTHERS, WANTED_CHANGES, WANTED_RULES, change_situations, changed_table, check_case,
+                           other_case)
 from wavefront_cases import coordinate_cases, large_cases, obj_case, small_cases
 from wavefront_met import WANTED as WANTED_TEXTS, obj_situations
 from wavefront_promise import keep_promise as keep_text_promise
@@ -59,6 +64,8 @@ ENOUGH, PLENTY = 2_000, 10_000
 ENOUGH_OF_THREE = 4_000
 # Of kefs fewer are enough: each is made for what it has to meet.
 KEFS_ENOUGH = 500
+# From so many changed words on the small tables are asked too; from so many on each kind of change is met so often.
+WORDS_MANY, WORDS_ENOUGH, CHANGED_OFTEN = 1_000, 3_000, 200
 # So often histories have to be refused by each number, and half as often to meet each situation.
 OFTEN = 8
 
@@ -248,10 +255,37 @@ def asked_of_each(driver, tally, met, kind, carried):
     return good
 
 
+def words(driver, tally, met, rng, count):
+    """One vertex word changed, by the check and by another call; then small tables, where a slip can be read."""
+    for size in portions(count):
+        compare_changes(driver, tally, met, rng, [changed_table(rng) for _ in range(size)])
+    if count >= WORDS_MANY:
+        cases = operator_cases()
+        tally.equal("operators that small tables accept", len(cases), ACCEPTED)
+        for place in range(0, len(cases), PORTION):
+            compare(driver, tally, met, cases[place:place + PORTION])
+        met.want_codes(tally, {"run": [0, 2]})
+    if count >= WORDS_ENOUGH:
+        met.want_situations(tally, WANTED_CHANGES, CHANGED_OFTEN)
+        met.want_situations(tally, WANTED_RULES)
+        for kind in OTHERS:
+            met.want_rules(tally, wire.KIND_NAMES[kind], [1, 2, 5])
+
+
+def compare_changes(driver, tally, met, rng, changes):
+    """What the check answers, and another call that is lent the same table."""
+    compare(driver, tally, met, [other_case(rng, change) for change in changes])
+    for change, answer in zip(changes, ask(driver, [check_case(change) for change in changes])):
+        wanted = wire.answer_case(check_case(change))
+        if tally.equal(f"check: {change}", answer, wanted):
+            met.add(check_case(change), wanted)
+            met.situations.update(change_situations(change, wanted.numbers))
+
+
 # Name, comparison, and the count with which the gate runs it.
 MODES = {"entries": (entries, 500), "operators": (operators, 3_000), "runs": (runs, 4_500), "promise": (promise, 2_000),
          "padded": (padded, 4_500), "numbers": (numbers, 2_000), "takedown": (takedown, 5_000),
-         "obj": (obj, 5_000), "kef": (kef, 500), "redo": (redo, 4_000)}
+         "obj": (obj, 5_000), "kef": (kef, 500), "redo": (redo, 4_000), "words": (words, 3_000)}
 
 
 def run_mode(driver, name, count, seed):

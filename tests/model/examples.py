@@ -13,9 +13,9 @@ D = bytes.fromhex("0501010202020200")
 
 WORDS_B = [1, 2, 2, 2, 2] + [1] + [1, 1] + [0, 0] + [1, 0, 1] + [0, 0, 0] + [0] * 16 + [1, 0]
 WORDS_C = [1, 2, 2, 2, 2] + [1] + [1, 1] + [0, 0] + [1, 1, 0] + [0, 0, 0] \
-    + [1, 1, 2, 2] + [2, 1, 1, 1] + [0] * 8 + [1, 1]
+    + [1, 1, 2, 2] + [2, 1, 1, 1] + [0] * 8 + [2, 2]
 WORDS_D = [1, 2, 2, 2, 2] + [1] + [1, 1] + [1, 2] + [1, 2, 0] + [2, 1, 0] \
-    + [1, 2, 4, 4] + [2, 1, 3, 3] + [1, 1, 2, 2] + [2, 2, 1, 1] + [1, 1]
+    + [1, 2, 4, 4] + [2, 1, 3, 3] + [1, 1, 2, 2] + [2, 2, 1, 1] + [3, 3]
 
 
 class Desk:
@@ -132,7 +132,7 @@ BREAKERS = {
     1: ([1, 1, 1, 1, 1] + [1] + [1, 1] + [1, 0, 1] + [0] * 8 + [1], [50_001, 0, 0]),
     2: ([1, 1, 1, 1, 1] + [1] + [0, 0] + [0, 0, 0] + [0] * 8 + [0], [0, 0, 0]),
     3: ([1, 1, 1, 1, 1] + [1] + [1, 1] + [1, 0, 0] + [0] * 8 + [0], [0, 0, 0]),
-    4: ([1, 1, 1, 1, 2] + [1] + [1, 1] + [1, 2, 0] + [1, 1, 2, 2] + [2, 1, 1, 1] + [1, 1], [0] * 6),
+    4: ([1, 1, 1, 1, 2] + [1] + [1, 1] + [1, 2, 0] + [1, 1, 2, 2] + [2, 1, 1, 1] + [2, 2], [0] * 6),
     5: ([1, 1, 1, 1, 1] + [0] + [0, 0] + [0, 0, 0] + [0] * 8 + [1], [0, 0, 0]),
     6: ([1, 2, 2, 1, 2] + [1] + [1, 1] + [1, 2] + [1, 0, 1] + [2, 0, 2] + [0] * 8 + [1, 1], [0] * 6),
 }
@@ -159,7 +159,10 @@ def each_rule_alone(tally):
 # Edits to the words of example d (places in links, new words) and the rule they break.
 # 5 solid; 6-9 faces; 10-15 loops; 16-31 half-edges; 32-33 vertices.
 EDITS_OF_D = [
-    ("solid mark 2", {5: 2}, 1), ("vertex mark 2", {32: 2}, 1),
+    ("solid mark 2", {5: 2}, 1), ("solid mark 2 before a wrong vertex word", {5: 2, 32: 2}, 1),
+    ("vertex word 2 for 3", {32: 2}, 5), ("vertex word 4 for 3", {33: 4}, 5), ("vertex word 1 for 3", {32: 1}, 5),
+    ("vertex word 65,535 for 3", {33: 65_535}, 5), ("both vertex words wrong", {32: 2, 33: 4}, 5),
+    ("a wrong vertex word behind rule 4", {32: 2, 11: 3}, 4),
     ("face names solid 2 of 1", {6: 2}, 1), ("face names loop 3 of 2", {7: 3}, 1),
     ("used face without outer loop", {7: 0}, 1), ("free face with outer loop", {8: 0}, 1),
     ("loop names face 3 of 2", {10: 3}, 1), ("loop's first 5 of 4", {11: 5}, 1),
@@ -167,6 +170,7 @@ EDITS_OF_D = [
     ("start 3 of 2", {16: 3}, 1), ("half-edge in loop 0", {17: 0}, 1), ("next 0", {18: 0}, 1),
     ("previous 5 of 4", {19: 5}, 1), ("one half free", {20: 0, 21: 0, 22: 0, 23: 0}, 1),
     ("free vertex with a point", {33: 0}, 1), ("vertex in no use", {32: 0}, 2),
+    ("vertex in no use, its point 0", {33: 0, "point": 0}, 2),
     ("solid free but named", {5: 0}, 2), ("outer loop of another face", {9: 1}, 2),
     ("first and lone vertex", {12: 1}, 3), ("neither first nor lone", {11: 0}, 3),
     ("first not the least", {11: 3}, 4), ("first of another loop", {11: 1}, 4),
@@ -175,7 +179,7 @@ EDITS_OF_D = [
     ("lone loop that is named", {11: 0, 12: 1}, 4),
     ("both next and previous itself", {18: 1, 19: 1, 30: 4, 31: 4}, 4),
     ("two cycles in one loop", {17: 1, 29: 1, 13: 2, 14: 0, 15: 2, 11: 1}, 4),
-    ("vertex with two cycles", {20: 1, 28: 1, 33: 0, "point": 0}, 5),
+    ("vertex with two cycles", {20: 1, 28: 1, 32: 5, 33: 0, "point": 0}, 5),
 ]
 # The same for example c, whose second face, second loop, edge 2 are free; and for b.
 EDITS_OF_C = [
@@ -185,7 +189,8 @@ EDITS_OF_C = [
 ]
 EDITS_OF_B = [
     ("lone vertex free", {12: 2}, 2), ("solid in use without a face", {6: 0, 7: 0, 10: 0, 12: 0, 32: 0}, 2),
-    ("vertex idle", {33: 1}, 5), ("unlinked face", {8: 1, 9: 2, 13: 2, 15: 2, 33: 1}, 6),
+    ("vertex idle", {33: 1}, 5), ("vertex idle with word 2", {33: 2}, 5), ("idle with word 65,535", {33: 65_535}, 5),
+    ("lone vertex with word 2", {32: 2}, 5), ("lone vertex with word 0", {32: 0}, 2), ("unlinked face", {8: 1, 9: 2, 13: 2, 15: 2, 33: 1}, 6),
     ("ring lone at the same vertex", {13: 1, 15: 1}, 5), ("sound lone ring", {13: 1, 15: 2, 33: 1}, 0),
 ]
 

@@ -9,6 +9,7 @@ from operators import carry_out
 from properties import words_of
 from rules import check
 from script import describe
+from small_tables import listed_tables
 
 
 def record_choices(capacities, kind):
@@ -29,13 +30,14 @@ def sound_tables(capacities):
     s, f, l, e, v = capacities
     kinds, found = ("face",) * f + ("loop",) * l + ("edge",) * e, set()
     for records in itertools.product(*(record_choices(capacities, kind) for kind in kinds)):
-        # A solid or vertex that nothing names breaks rule 2 or 5, so marks follow from names.
+        # A solid or vertex that nothing names breaks rule 2 or 5, and so does a named one with word 0 or with a wrong
+        # one, so marks and words follow from names.
         solids = {record[0] for record in records[:f]}
-        vertices = {record[2] for record in records[f:f + l]}
-        vertices |= {start for record in records[f + l:] for start in record[::4]}
+        starts = [start for record in records[f + l:] for start in record[::4]]
+        vertices = {record[2] for record in records[f:f + l]} | set(starts)
         links = list(capacities) + [int(n in solids) for n in range(1, s + 1)]
         links += [word for record in records for word in record]
-        links += [int(n in vertices) for n in range(1, v + 1)]
+        links += [1 + starts.count(n) if n in vertices else 0 for n in range(1, v + 1)]
         if check(links, [0] * (3 * v)) == (0, 0):
             found.add(tuple(links))
     return found
@@ -72,13 +74,15 @@ def all_small_tables(tally, _rng, scale):
     for capacities in sizes:
         sound = sound_tables(capacities)
         tally.equal(f"sound tables are those reached {capacities}", sound, reached_tables(capacities))
+        tally.equal(f"sound tables are those listed {capacities}", sound, listed_tables(capacities))
         # Empty, a lone vertex 1 or 2, an edge from 1 to 2 or from 2 to 1.
         if capacities == (1, 1, 1, 1, 2):
             tally.equal("number of sound tables", len(sound), 5)
     # The face with a hole (example e) is made by way of a second face.
     capacities = (1, 1, 2, 1, 2)
-    tally.equal(f"sound tables are those reached {capacities}", sound_tables(capacities),
-                reached_with_a_face_more(capacities))
+    sound = sound_tables(capacities)
+    tally.equal(f"sound tables are those reached {capacities}", sound, reached_with_a_face_more(capacities))
+    tally.equal(f"sound tables are those listed {capacities}", sound, listed_tables(capacities))
 
 
 def inverse_is_the_only_one(tally, rng, scale):

@@ -201,6 +201,11 @@ def renumbered(rng, b, capacities):
     for edge, to in e.items():
         h[2 * edge - 1] = 2 * to - rng.randint(0, 1)
         h[2 * edge] = mate(h[2 * edge - 1])
+    return renamed(b, capacities, s, f, l, h, v)
+
+
+def renamed(b, capacities, s, f, l, h, v):
+    """The table with other numbers for its solids, faces, loops, half-edges and vertices."""
     other = Boundary(cleared_table(capacities))
     other.solids = {s[n] for n in b.solids}
     other.face_solid = {f[n]: s[to] for n, to in b.face_solid.items()}
@@ -258,7 +263,8 @@ def damage_word(rng, links, points):
 def bent_structure(rng):
     """A table with whole records, cycles and first, but items put where they do not belong.
 
-    Words alone hardly ever break rules 4 to 6, since rules 1 and 2 break first.
+    Words alone hardly ever break rules 4 and 6, since rules 1 and 2 break first, and of rule 5 only what it says of a
+    vertex word.
     """
     b = grown(rng, random_capacities(rng), rng.choice((5, 9, 14, 25)))
     for bend_one in rng.sample(BENDS, rng.choice((1, 1, 2))):

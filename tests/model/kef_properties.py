@@ -5,7 +5,8 @@
 
 The run is the rest of k's loop, from next of k up to before k. The document leaves it open whether the killed edge's
 two loop words have changed by then; ours have not, so besides nothing differs. Both readings are asked of the walk, and
-wrong walks show what either of them refuses.
+wrong walks show what either of them refuses. The words of the edge's two vertices, which kef takes one off (job 5), are
+no part of the walk.
 """
 
 from collections import Counter, namedtuple
@@ -21,8 +22,8 @@ from script import operator, operator_bytes
 from takedown import LONGEST_OPERATOR
 from takedown_tables import capacities_with, some_body
 
-# Which words of a half-edge's record are meant; its start is the word before them.
-LOOP, NEXT, PREVIOUS = 1, 2, 3
+# The words of a half-edge's record.
+START, LOOP, NEXT, PREVIOUS = range(4)
 
 # Where the sentence fails: after how many half-edges of the run, in which clause, and at which place in links.
 Fault = namedtuple("Fault", "passed clause place")
@@ -44,6 +45,11 @@ def loop_word(table, half):
 
 def following(table, half):
     return table.record("half", half)[NEXT]
+
+
+def edge_vertices(table, k):
+    """The two vertices of k's edge, which may be one."""
+    return [table.record("half", half)[START] for half in (k, mate(k))]
 
 
 def run_behind(table, k):
@@ -138,11 +144,13 @@ def left_by_kef(table, k):
 
 
 def spliced_places(table, k):
-    """The words that kef may change beside those of the run: killed records, the kept loop, and where the ends meet."""
+    """The words that kef may change beside those of the run: killed records, the kept loop, the words of the edge's
+    vertices, and where the ends meet."""
     m = mate(k)
     kept, loop = loop_word(table, m), loop_word(table, k)
-    killed = [("half", k), ("half", m), ("loop", loop), ("face", table.record("loop", loop)[0]), ("loop", kept)]
-    places = {table.place(*item) + word for item in killed for word in range(len(table.record(*item)))}
+    changed = [("half", k), ("half", m), ("loop", loop), ("face", table.record("loop", loop)[0]), ("loop", kept)]
+    changed += [("vertex", vertex) for vertex in edge_vertices(table, k)]
+    places = {table.place(*item) + word for item in changed for word in range(len(table.record(*item)))}
     ends = [(table.record("half", half)[NEXT], table.record("half", half)[PREVIOUS]) for half in (k, m)]
     return places | {place for after, before in ends
                      for place in (word_place(table, after, PREVIOUS), word_place(table, before, NEXT))}

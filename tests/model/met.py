@@ -53,8 +53,8 @@ class Met:
         if counts:
             print(f"  {name}: " + ", ".join(f"{number}: {counts[number]}" for number in sorted(counts)))
 
-    def want_rules(self, tally, kind):
-        tally.equal(f"rules named by {kind}", sorted(rule for of, rule in self.rules if of == kind), [1, 2, 3, 4, 5, 6])
+    def want_rules(self, tally, kind, rules=(1, 2, 3, 4, 5, 6)):
+        tally.equal(f"rules named by {kind}", sorted(rule for of, rule in self.rules if of == kind), list(rules))
 
     def want_situations(self, tally, names, least=1):
         for name in names:

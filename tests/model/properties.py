@@ -162,7 +162,16 @@ def allowed_changes(before, after, op):
         allowed.add(("face", before.record("loop", op.args[0])[0]))
     if name in ("mev", "kev", "mef", "kef", "kemr", "mekr", "semv", "jekv"):
         allowed |= edge_surroundings(before, op) | edge_surroundings(after, op)
+    # semv and jekv leave as many half-edges at the ends of the edge as there were.
+    if name not in ("semv", "jekv"):
+        allowed |= ends_of_an_edge(before, after)
     return allowed
+
+
+def ends_of_an_edge(before, after):
+    """The vertices at which half-edges that are born or killed start."""
+    here, there = before.used("half"), after.used("half")
+    return {("vertex", (here.get(h) or there.get(h))[0]) for h in set(here) ^ set(there)}
 
 
 def outer_of(table, op):

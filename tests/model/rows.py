@@ -1,8 +1,9 @@
 """The rows of crates/evidence_rows: operators on small tables, and what the model says they leave.
 
     python3 tests/model/rows.py           writes crates/evidence_rows/specs/Rows*.antt
-    python3 tests/model/rows.py --check   compares these files, layout aside, with what it would write, and the rows of
-                                          crates/evidence_cases/specs/Shortened.antt with the model
+    python3 tests/model/rows.py --check   compares these files, layout aside, with what it would write, and with the
+                                          model the rows of crates/evidence_cases/specs/Shortened.antt and of
+                                          crates/table/specs/Examples.antt, which are written by hand
 
 A table is said by the script that leads to it, a row by its operator and the refusal that
 document 01 settles; words, points and inverses are the model's. While the rows are made
@@ -34,6 +35,9 @@ FOLDER = os.path.join(CRATES, "evidence_rows", "specs")
 # Bytes, their shortest form, and whether they are shortest.
 SHORTENED = os.path.join(CRATES, "evidence_cases", "specs", "Shortened.antt")
 SAMPLE = re.compile(r"\bsample \(([^()]*)\) \(([^()]*)\) (true|false)")
+# Links, points, and what the check answers of them.
+CHECKED = os.path.join(CRATES, "table", "specs", "Examples.antt")
+CHECKED_ROW = re.compile(r"\brow \(([^()]*)\) (zeroPoints|\([^()]*\)) (\d+) (\d+)")
 
 # Tables and misuses
 
@@ -215,6 +219,18 @@ def compare_shortened(tally):
                     (shorten(data), "true" if shortest(data) else "false"))
 
 
+def compare_checked(tally):
+    """The smallest tables for each way to break a rule: the rule, by the model."""
+    text = read(CHECKED)
+    found = CHECKED_ROW.findall(text)
+    tally.equal("each row is looked at", len(found), len(re.findall(r"\brow \(", text)))
+    tally.equal("each rule is there", {rule for _, _, _, rule in found}, set("0123456"))
+    for links, points, refusal, rule in found:
+        words = [int(word) for word in re.findall(r"\d+", links)]
+        place = [0] * 6 if points == "zeroPoints" else [int(word) for word in re.findall(r"pos (\d+)", points)]
+        tally.equal(f"check of {words} {place}", check(words, place), (int(refusal), int(rule)))
+
+
 def write(files):
     for name, text in files.items():
         with open(os.path.join(FOLDER, name), "w", encoding="utf-8") as file:
@@ -227,6 +243,7 @@ def main(arguments):
     if arguments == ["--check"]:
         compare(tally, files)
         compare_shortened(tally)
+        compare_checked(tally)
     elif tally.failed == 0:
         write(files)
     print(f"{tally.passed} passed, {tally.failed} failed")

@@ -1,4 +1,4 @@
-"""The check and the counts of document 01, section "Sound tables".
+"""The check and the counts of document 01, section "Sound tables", with the vertex word of document 02 (job 5).
 
 Each rule is a function of its own that assumes only the rules before it, so that a
 test can ask for one rule at a time.
@@ -17,9 +17,11 @@ MAY_BE_ZERO = {("loop", 1), ("loop", 2)}
 
 
 def rule_1(table):
-    """Ranges, zero words of free records, both halves of an edge used or neither."""
-    marks = [table.record(kind, n)[0] for kind in ("solid", "vertex") for n in table.numbers(kind)]
-    if any(mark not in (0, 1) for mark in marks):
+    """Ranges, zero words of free records, both halves of an edge used or neither.
+
+    Of a vertex word only whether it is 0 matters here: "Rule 5 of soundness tests it, rule 1 no longer does".
+    """
+    if any(table.record("solid", n)[0] not in (0, 1) for n in table.numbers("solid")):
         return False
     for kind, named in NAMES.items():
         if not all(record_in_range(table, kind, n, named) for n in table.numbers(kind)):
@@ -98,9 +100,9 @@ def orbit(start, step):
 
 
 def rule_5(table):
-    """Each vertex is lone in exactly one loop, or its half-edges are one cycle."""
-    halves = table.used("half")
-    starting = {vertex: set() for vertex in table.used("vertex")}
+    """Each vertex is lone in exactly one loop, or its half-edges are one cycle; its word is 1 plus their number."""
+    halves, vertices = table.used("half"), table.used("vertex")
+    starting = {vertex: set() for vertex in vertices}
     lone_in = {vertex: 0 for vertex in starting}
     for half, words in halves.items():
         starting[words[0]].add(half)
@@ -108,6 +110,8 @@ def rule_5(table):
         if lone != 0:
             lone_in[lone] += 1
     for vertex, group in starting.items():
+        if vertices[vertex] != (1 + len(group),):
+            return False
         if not group:
             if lone_in[vertex] != 1:
                 return False

@@ -20,6 +20,8 @@ from redo_properties import REDO_PROPERTIES
 from takedown_examples import TAKEDOWN_EXAMPLES
 from takedown_properties import TAKEDOWN_PROPERTIES
 from tally import Tally
+from valence_examples import VALENCE_EXAMPLES
+from valence_properties import VALENCE_PROPERTIES
 from wavefront_examples import WAVEFRONT_EXAMPLES
 from wavefront_properties import WAVEFRONT_PROPERTIES
 
@@ -29,11 +31,11 @@ def main(arguments):
     seed = int(arguments[1]) if len(arguments) > 1 else 1
     tally = Tally()
     for example in (EXAMPLES + OPERATOR_EXAMPLES + PADDED_EXAMPLES + TAKEDOWN_EXAMPLES + WAVEFRONT_EXAMPLES
-                    + REDO_EXAMPLES):
+                    + REDO_EXAMPLES + VALENCE_EXAMPLES):
         example(tally)
     print(f"examples: {tally.passed} checks")
     properties = (PROPERTIES + EXHAUSTIVE + TAKEDOWN_PROPERTIES + PADDED_PROPERTIES + WAVEFRONT_PROPERTIES
-                  + KEF_PROPERTIES + REDO_PROPERTIES)
+                  + KEF_PROPERTIES + REDO_PROPERTIES + VALENCE_PROPERTIES)
     for number, prop in enumerate(properties):
         before, began = tally.passed, time.process_time()
         # A seed of its own, so that one property's cases do not hang on another's.

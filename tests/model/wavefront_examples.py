@@ -24,7 +24,7 @@ def coordinates(tally):
 # at the vertices 2, 4, 5; face 4 has loop 1, whose half-edges 1, 8, 5 start at 4, 2, 5.
 TWO_SOLIDS = [3, 4, 3, 4, 5] + [1, 0, 1] + [3, 3] + [0, 0] + [1, 2] + [3, 1] + [4, 1, 0] + [3, 0, 1] + [1, 2, 0] \
     + [4, 1, 8, 5] + [2, 3, 6, 7] + [0] * 8 + [5, 1, 1, 8] + [4, 3, 7, 2] + [5, 3, 2, 6] + [2, 1, 5, 1] \
-    + [1, 1, 0, 1, 1]
+    + [1, 3, 0, 3, 3]
 TWO_POINTS = [7, 7, 7] + [-5, 0, 50_000] + [0, 0, 0] + [-50_000, 99, 100] + [1, -100, -101]
 # The vertices 2, 4, 5 are counted 1, 2, 3; backwards the half-edges are 2, 7, 6 and 1, 5, 8.
 TRIANGLE_TEXT = b"v -0.05 0.00 500.00\nv -500.00 0.99 1.00\nv 0.01 -1.00 -1.01\nf 1 3 2\nf 2 3 1\n"

@@ -11,7 +11,7 @@ use Rattle.check_shells.specs.Shells.{within, joins, linkedBy, facesLink
 -- document 01, example d: two faces share edge 2, and edge 1 too
 abbrev linkedPair : List ℕ
 linkedPair = 1 ∷ 2 ∷ 2 ∷ 2 ∷ 2 ∷ 1 ∷ 1 ∷ 1 ∷ 1 ∷ 2 ∷ 1 ∷ 2 ∷ 0 ∷ 2 ∷ 1 ∷ 0 ∷ 1 ∷ 2 ∷ 4 ∷ 4 ∷ 2 ∷ 1 ∷ 3 ∷ 3 ∷ 1 ∷ 1 ∷ 2
-    ∷ 2 ∷ 2 ∷ 2 ∷ 1 ∷ 1 ∷ 1 ∷ 1 ∷ []
+    ∷ 2 ∷ 2 ∷ 2 ∷ 1 ∷ 1 ∷ 3 ∷ 3 ∷ []
 
 -- the same faces, each with its isolated vertex and no edge
 abbrev lonePair : List ℕ

@@ -37,7 +37,7 @@ use Rattle.evidence_fuel.specs.Inverse.{SmallOperator, inverse-small}
 abbrev links : List ℕ
 links =
     1 ∷ 2 ∷ 2 ∷ 2 ∷ 2 ∷ 1 ∷ 1 ∷ 1 ∷ 1 ∷ 2 ∷ 1 ∷ 2 ∷ 0 ∷ 2 ∷ 1 ∷ 0 ∷ 1 ∷ 2 ∷ 4 ∷ 4 ∷ 2 ∷ 1 ∷ 3 ∷ 3 ∷ 1 ∷ 1 ∷ 2 ∷ 2 ∷ 2
-    ∷ 2 ∷ 1 ∷ 1 ∷ 1 ∷ 1 ∷ []
+    ∷ 2 ∷ 1 ∷ 1 ∷ 3 ∷ 3 ∷ []
 
 abbrev points : List ℤ
 points = pos 0 ∷ pos 0 ∷ pos 0 ∷ pos 100 ∷ pos 0 ∷ pos 0 ∷ []

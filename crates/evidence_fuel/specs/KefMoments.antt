@@ -33,7 +33,7 @@ use Rattle.promises.specs.Checked.{checked-good}
 abbrev linksWith : ℕ → ℕ → ℕ → List ℕ
 linksWith a b c =
     1 ∷ 2 ∷ 2 ∷ 3 ∷ 3 ∷ 1 ∷ 1 ∷ 1 ∷ 1 ∷ 2 ∷ 1 ∷ 2 ∷ 0 ∷ 2 ∷ 1 ∷ 0 ∷ 1 ∷ a ∷ 3 ∷ 6 ∷ 2 ∷ 1 ∷ 5 ∷ 4 ∷ 2 ∷ b ∷ 6 ∷ 1
-    ∷ 3 ∷ 1 ∷ 2 ∷ 5 ∷ 1 ∷ 1 ∷ 4 ∷ 2 ∷ 3 ∷ c ∷ 1 ∷ 3 ∷ 1 ∷ 1 ∷ 1 ∷ []
+    ∷ 3 ∷ 1 ∷ 2 ∷ 5 ∷ 1 ∷ 1 ∷ 4 ∷ 2 ∷ 3 ∷ c ∷ 1 ∷ 3 ∷ 3 ∷ 3 ∷ 3 ∷ []
 
 -- all of loop 2
 abbrev links : List ℕ

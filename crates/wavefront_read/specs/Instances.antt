@@ -34,7 +34,7 @@ triangleLinks =
     ∷ 1 ∷ 1 ∷ 3 ∷ 5 ∷ 2 ∷ 2 ∷ 6 ∷ 4
     ∷ 2 ∷ 1 ∷ 5 ∷ 1 ∷ 3 ∷ 2 ∷ 2 ∷ 6
     ∷ 3 ∷ 1 ∷ 1 ∷ 3 ∷ 1 ∷ 2 ∷ 4 ∷ 2
-    ∷ 1 ∷ 1 ∷ 1 ∷ []
+    ∷ 3 ∷ 3 ∷ 3 ∷ []
 
 abbrev pub trianglePoints : List ℤ
 trianglePoints = pos 0 ∷ pos 0 ∷ pos 0 ∷ pos 12345 ∷ pos 0 ∷ pos 0 ∷ pos 0 ∷ negsuc 49 ∷ pos 7 ∷ []
