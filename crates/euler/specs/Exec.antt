@@ -121,9 +121,9 @@ linksBy sh x a =
 unfoldable pub marksAfter : Shape → List ℕ → Operator → List ℕ
 marksAfter sh x o = getD (linksBy sh x (itemOf o)) (o .code) x
 
--- the links afterwards: first one less at the vertices that half-edges leave, last one more where they have come
+-- the links afterwards: last of all, one less at the vertices that half-edges have left, one more where they have come
 unfoldable pub linksAfter : Shape → List ℕ → Operator → List ℕ
-linksAfter sh x o = moreStarts sh (marksAfter sh (lessStarts sh x o) o) o
+linksAfter sh x o = moreStarts sh o (lessStarts sh x o (marksAfter sh x o))
 
 -- the vertex that an operator kills: of kvsf, kev and jekv; 0 for the others
 abbrev pub killed : Shape → List ℕ → (ℕ → ℕ) → List ℕ

@@ -1,6 +1,6 @@
--- The vertex words. That of a vertex in use is 1 plus the number of half-edges that start there (document 02, job 5), so
--- an operator takes one off where a half-edge leaves and adds one where a half-edge comes: which vertices these are, by
--- code.
+-- The vertex words. That of a vertex in use is 1 plus the number of half-edges that start there (document 02, job 5).
+-- So an operator takes one off where a half-edge has left and adds one where a half-edge has come: which vertices these
+-- are, by code. Words change behind all other steps: amid kef's walk nothing differs but loop words (job 3).
 use Prim.Native.Nat.{ℕ, _+_, _-_}
 use mathlib.Core.List.{List, [], _∷_}
 use lib.Dec.{ltb}
@@ -10,6 +10,7 @@ use Rattle.script.specs.declared.Operator.{Operator}
 use Rattle.layout.specs.declared.shape.Shape.{Shape}
 use Rattle.layout.specs.Layout.{startOf, nextOf, vertexUsed, setVertexUsed}
 use Rattle.layout.specs.Mate.{mate}
+use Rattle.euler.specs.declared.records.Two.{Two}
 use Rattle.euler.specs.Surgery.{itemOf, halfBy}
 
 -- ---- one word
@@ -25,10 +26,6 @@ oneLess sh x v = setVertexUsed sh x v (vertexUsed sh x v - 1)
 -- ---- by code: lists from code 0, which is none, to 13; `a` are the operands as items
 
 -- two vertices, which may be one
-pub record Two : Type 0 where
-  pub one : ℕ
-  pub other : ℕ
-
 abbrev pub two : ℕ → ℕ → Two
 two u v = record { one = u; other = v }
 
@@ -68,10 +65,10 @@ lessAt sh x t = oneLess sh (oneLess sh x (t .one)) (t .other)
 abbrev pub moreAt : Shape → List ℕ → Two → List ℕ
 moreAt sh x t = oneMore sh (oneMore sh x (t .one)) (t .other)
 
--- one less where half-edges leave
-unfoldable pub lessStarts : Shape → List ℕ → Operator → List ℕ
-lessStarts sh x o = lessAt sh x (leaveOf sh x o)
+-- y, which o has made of x, with one less where half-edges have left; the vertices are read in x, where they still are
+unfoldable pub lessStarts : Shape → List ℕ → Operator → List ℕ → List ℕ
+lessStarts sh x o y = lessAt sh y (leaveOf sh x o)
 
--- one more where half-edges have come
-unfoldable pub moreStarts : Shape → List ℕ → Operator → List ℕ
-moreStarts sh x o = moreAt sh x (comeOf sh x o)
+-- y with one more where half-edges have come
+unfoldable pub moreStarts : Shape → Operator → List ℕ → List ℕ
+moreStarts sh o y = moreAt sh y (comeOf sh y o)

@@ -16,10 +16,10 @@ more-none sh x = refl
 
 -- an operator of code k, where the list by code has none
 module _ (sh : Shape) (x : List ℕ) (o : Operator) (k : ℕ) (e : o .code ≡ k) where
-  pub less-kept : getD (leaveBy sh x (itemOf o)) k none ≡ none → lessStarts sh x o ≡ x
+  pub less-kept : getD (leaveBy sh x (itemOf o)) k none ≡ none → (y : List ℕ) → lessStarts sh x o y ≡ y
   unfolding lessStarts
-  less-kept z = rw (e, z) (less-none sh x)
+  less-kept z y = rw (e, z) (less-none sh y)
 
-  pub more-kept : getD (comeBy sh x (itemOf o)) k none ≡ none → moreStarts sh x o ≡ x
+  pub more-kept : getD (comeBy sh x (itemOf o)) k none ≡ none → moreStarts sh o x ≡ x
   unfolding moreStarts
   more-kept z = rw (e, z) (more-none sh x)

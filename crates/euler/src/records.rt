@@ -14,6 +14,12 @@ use layout::shape::Shape;
 use script::Operator;
 use script::operand;
 
+// Two vertices, which may be one; 0 is none.
+pub struct Two {
+    pub one: usize,
+    pub other: usize,
+}
+
 // a where the test holds, else b.
 pub fn choose(test: bool, a: usize, b: usize) -> usize
     requires { ⌜ (a < 65536) × (b < 65536) ⌝ }

@@ -15,7 +15,8 @@ use Rattle.layout.specs.Mate.{mate}
 use Rattle.euler.specs.ByCode.{by-none}
 use Rattle.euler.specs.Surgery.{itemIn, halfBy}
 use Rattle.euler.specs.Exec.{operatorBy}
-use Rattle.euler.specs.Valence.{oneLess, oneMore, Two, two, none, ends, leaveBy, comeBy, lessAt, moreAt, lessStarts}
+use Rattle.euler.specs.declared.records.Two.{Two}
+use Rattle.euler.specs.Valence.{oneLess, oneMore, two, none, ends, leaveBy, comeBy, lessAt, moreAt, lessStarts}
 use Rattle.euler.specs.Valence.{moreStarts}
 
 -- ---- one word, n at vertex v

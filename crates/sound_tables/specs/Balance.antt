@@ -15,7 +15,8 @@ use Rattle.layout.specs.declared.shape.Shape.{Shape}
 use Rattle.layout.specs.Mate.{mate}
 use Rattle.layout.specs.Fields.{Start, VertexUsed, Columns}
 use Rattle.check_items.specs.Rules.{startsAt}
-use Rattle.euler.specs.Valence.{Two, none, ends, leaveOf, comeOf}
+use Rattle.euler.specs.declared.records.Two.{Two}
+use Rattle.euler.specs.Valence.{none, ends, leaveOf, comeOf}
 use Rattle.euler.specs.Exec.{marksAfter}
 use Rattle.sound_tables.specs.Mates.{mate-other}
 use Rattle.sound_tables.specs.Sound.{In, HalfUsed, Sound}

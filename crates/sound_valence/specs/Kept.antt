@@ -16,7 +16,8 @@ use Rattle.codec.specs.Operands.{oldHalf, newLoop, coordinate, pattern, rows}
 use Rattle.layout.specs.declared.shape.Shape.{Shape}
 use Rattle.layout.specs.Fields.{Start, VertexUsed}
 use Rattle.check_items.specs.Rules.{startsAt}
-use Rattle.euler.specs.Valence.{Two, none, leaveOf, comeOf, lessAt, moreAt, lessStarts, moreStarts}
+use Rattle.euler.specs.declared.records.Two.{Two}
+use Rattle.euler.specs.Valence.{none, leaveOf, comeOf, lessAt, moreAt, lessStarts, moreStarts}
 use Rattle.euler.specs.Inverses.{inverse-eight}
 use Rattle.euler.specs.Surgery.{itemOf}
 use Rattle.euler.specs.Exec.{limits, refusalOf, marksAfter, linksAfter, killedVertex, pointsAfter, inverse}

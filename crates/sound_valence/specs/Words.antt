@@ -15,7 +15,8 @@ use Rattle.laws.specs.Columns.{Chained}
 use Rattle.layout.specs.declared.shape.Shape.{Shape}
 use Rattle.layout.specs.Layout.{setVertexUsed}
 use Rattle.layout.specs.Fields.{Field, VertexUsed, capOf, sameField, same-field, groups}
-use Rattle.euler.specs.Valence.{Two, oneLess, oneMore, lessAt, moreAt}
+use Rattle.euler.specs.declared.records.Two.{Two}
+use Rattle.euler.specs.Valence.{oneLess, oneMore, lessAt, moreAt}
 use Rattle.sound_tables.specs.Cells.{shows-own, shows-put, shows-ext}
 use Rattle.sound_tables.specs.Sound.{In, SameElse}
 use Rattle.sound_tables.specs.Good.{own}
