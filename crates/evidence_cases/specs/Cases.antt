@@ -30,6 +30,8 @@ use Rattle.euler.specs.EdgeOperators.{mevLinks, kevTest, kevLinks, mefTest, mef
 use Rattle.euler.specs.FaceOperators.{mvsfLinks, kvsfTest, kvsfLinks, kfmrhTest, kfmrhLinks, linkedAfter, mfkrhTest}
 use Rattle.euler.specs.FaceOperators.{mfkrhLinks, rmovTest}
 use Rattle.euler.specs.Exec.{admitOf, useRefusals, useRefusal, useWord, condition, linksAfter, pointsAfter}
+use Rattle.euler.specs.Exec.{marksAfter}
+use Rattle.euler.specs.Valence.{lessStarts, moreStarts}
 use Rattle.euler.specs.Exec.{killedVertex, inverse}
 use Rattle.runs.specs.Run.{admitRead, inverseBytes, carryRefusal, runRefusal, stepped, runFrom, entry, runOf}
 use Rattle.runs.specs.Move.{partOf, moveOf}
@@ -58,7 +60,7 @@ unfolding doAll sessionClear sessionRun sessionUndo sessionRedo sessionInvert cl
     allTo leastFrom sumTo meets linkedb rounds pass across mate within joins linkedBy third second first readNumber
     groups pattern rows inRanges inRange zig zag wire unwire readOperand readOperands readBehind operandBytes
     operandsBytes operatorBytes operatorRefusal putBytes admitRead inverseBytes carryRefusal runRefusal stepped
-    runFrom admitOf useRefusals useRefusal useWord condition linksAfter pointsAfter killedVertex inverse corner edgeIn
+    runFrom admitOf useRefusals useRefusal useWord condition linksAfter marksAfter lessStarts moreStarts pointsAfter killedVertex inverse corner edgeIn
     edgeOut relabel seek renew sweep mvsfLinks kvsfTest kvsfLinks mevLinks kevTest kevLinks mefTest mefLinks kefTest
     kefLinks kfmrhTest kfmrhLinks linkedAfter mfkrhTest mfkrhLinks rmovTest anyTo digits decimal passingTo ownVertex
     hundredths millimetres concatMap vertexLine lap backwards cornerWord faceLine objText noRingNorLone threeSided

@@ -31,6 +31,8 @@ use Rattle.euler.specs.EdgeOperators.{mevLinks, kevTest, kevLinks, mefTest, mef
 use Rattle.euler.specs.FaceOperators.{mvsfLinks, kvsfTest, kvsfLinks, kfmrhTest, kfmrhLinks, linkedAfter, mfkrhTest}
 use Rattle.euler.specs.FaceOperators.{mfkrhLinks}
 use Rattle.euler.specs.Exec.{admitOf, useRefusals, useRefusal, useWord, condition, linksAfter, pointsAfter}
+use Rattle.euler.specs.Exec.{marksAfter}
+use Rattle.euler.specs.Valence.{lessStarts, moreStarts}
 use Rattle.euler.specs.Exec.{killedVertex, inverse}
 use Rattle.runs.specs.Run.{Leaves, stepOf, carryOf, admitRead, inverseBytes, carryRefusal, runRefusal, stepped}
 use Rattle.runs.specs.Run.{runFrom, entry, runOf}
@@ -101,7 +103,7 @@ unfolding sessionRun sessionUndo sessionRedo runOf moveOf partOf entry checkOf s
     meets linkedb rounds pass across mate within joins linkedBy third second first readNumber groups pattern rows
     inRanges inRange zig zag wire unwire readOperand readOperands readBehind readOperator operandBytes operandsBytes
     operatorBytes operatorRefusal putBytes admitRead inverseBytes carryRefusal carryOf stepOf runRefusal stepped
-    runFrom admitOf useRefusals useRefusal useWord condition linksAfter pointsAfter killedVertex inverse corner edgeIn
+    runFrom admitOf useRefusals useRefusal useWord condition linksAfter marksAfter lessStarts moreStarts pointsAfter killedVertex inverse corner edgeIn
     edgeOut relabel seek renew sweep mvsfLinks kvsfTest kvsfLinks mevLinks kevTest kevLinks mefTest mefLinks kefTest
     kefLinks kfmrhTest kfmrhLinks linkedAfter mfkrhTest mfkrhLinks
 made = (refl, refl, refl, refl, refl, refl, refl, refl, refl, refl)

@@ -23,6 +23,8 @@ use Rattle.euler.specs.FaceOperators.{mvsfLinks, kvsfTest, kvsfLinks, kfmrhTest
 use Rattle.euler.specs.FaceOperators.{mfkrhLinks, rmovTest, rmovLinks}
 use Rattle.euler.specs.Exec.{Table, Executed, exec, refusalOf, admitOf, rangeRefusal, useRefusals, useRefusal, useWord}
 use Rattle.euler.specs.Exec.{condition, linksAfter, pointsAfter, killedVertex, inverse}
+use Rattle.euler.specs.Exec.{marksAfter}
+use Rattle.euler.specs.Valence.{lessStarts, moreStarts}
 
 -- a table and an operator on it, and what is left: the refusal, the operator that undoes it, links and points
 pub record Row : Type 0 where
@@ -63,7 +65,7 @@ bothWays (r ∷ rs) = r ∷ back r ∷ bothWays rs
 -- what the definition leaves for a row, by the shape that the first five words say
 unfoldable pub leaves : Row → Executed
 unfolding exec refusalOf admitOf rangeRefusal pattern rows inRanges inRange wire zig useRefusals useRefusal useWord
-    condition linksAfter pointsAfter killedVertex inverse corner edgeIn edgeOut relabel seek renew mate sumTo leastFrom
+    condition linksAfter marksAfter lessStarts moreStarts pointsAfter killedVertex inverse corner edgeIn edgeOut relabel seek renew mate sumTo leastFrom
     sweep mvsfLinks kvsfTest kvsfLinks mevLinks kevTest kevLinks mefTest mefLinks kefTest kefLinks kemrTest kemrLinks
     mekrTest mekrLinks kfmrhTest kfmrhLinks linkedAfter mfkrhTest mfkrhLinks semvLinks jekvTest jekvLinks rmovTest
     rmovLinks within joins linkedBy across pass rounds linkedb

@@ -31,6 +31,8 @@ use Rattle.euler.specs.Surgery.{corner, edgeIn, edgeOut, relabel, seek, renew}
 use Rattle.euler.specs.EdgeOperators.{kevLinks, kefLinks, kemrLinks, mekrLinks}
 use Rattle.euler.specs.FaceOperators.{kvsfLinks, mfkrhLinks, rmovLinks}
 use Rattle.euler.specs.Exec.{linksAfter, pointsAfter, killedVertex, inverse}
+use Rattle.euler.specs.Exec.{marksAfter}
+use Rattle.euler.specs.Valence.{lessStarts, moreStarts}
 use Rattle.runs.specs.Run.{state, inverseBytes, stepped, entry}
 use Rattle.inversion.specs.Promise.{Euler}
 use Rattle.takedown.specs.Inversion.{Inverted, ofSolid, crossedHalf, onRun, crossed, act, makeOuter, moveRings, turnB}
@@ -131,7 +133,7 @@ unfolding invertOf invertBy turned turnB moveRings makeOuter act crossed onRun e
     faceNames loopNames halfNames loopEither halfLinks firstNames halfInLoop vertexEither halfAtVertex halfSides
     faceLinked allTo anyTo leastFrom sumTo meets linkedb rounds pass across mate within joins linkedBy third second
     first readNumber groups pattern rows inRanges inRange zig zag wire unwire operandBytes operandsBytes operatorBytes
-    putBytes inverseBytes stepped linksAfter pointsAfter killedVertex inverse corner edgeIn edgeOut relabel seek renew
+    putBytes inverseBytes stepped linksAfter marksAfter lessStarts moreStarts pointsAfter killedVertex inverse corner edgeIn edgeOut relabel seek renew
     sweep kvsfLinks kevLinks kefLinks kemrLinks mekrLinks mfkrhLinks rmovLinks
 rows-hold = refl
 

@@ -26,6 +26,8 @@ use Rattle.euler.specs.Surgery.{corner, edgeIn, edgeOut, relabel, seek, renew}
 use Rattle.euler.specs.EdgeOperators.{mevLinks, kevTest, kevLinks, mefTest, mefLinks, kefTest, kefLinks}
 use Rattle.euler.specs.FaceOperators.{mvsfLinks, kvsfTest, kvsfLinks}
 use Rattle.euler.specs.Exec.{admitOf, useRefusals, useRefusal, useWord, condition, linksAfter, pointsAfter}
+use Rattle.euler.specs.Exec.{marksAfter}
+use Rattle.euler.specs.Valence.{lessStarts, moreStarts}
 use Rattle.euler.specs.Exec.{killedVertex, inverse}
 use Rattle.runs.specs.Run.{admitRead, inverseBytes, carryRefusal, stepped, runRefusal, runFrom, entry, runOf}
 use Rattle.runs.specs.Move.{partOf, moveOf}
@@ -80,6 +82,6 @@ unfolding checkOf sizesFit brokenRule rule1 rule2 rule3 rule4 rule5 rule6 solidR
     readNumber groups pattern rows inRanges inRange zig zag wire unwire readOperand readOperands readBehind readOperator
     operandBytes operandsBytes operatorBytes putBytes corner edgeIn edgeOut relabel seek renew mvsfLinks kvsfTest
     kvsfLinks mevLinks kevTest kevLinks mefTest mefLinks kefTest kefLinks admitOf useRefusals useRefusal useWord
-    condition linksAfter pointsAfter killedVertex inverse sweep admitRead inverseBytes carryRefusal stepped runRefusal
+    condition linksAfter marksAfter lessStarts moreStarts pointsAfter killedVertex inverse sweep admitRead inverseBytes carryRefusal stepped runRefusal
     runFrom entry runOf editAll partOf moveOf sessionRun sessionUndo sessionRedo
 begin-undone = (refl, refl, refl, refl, refl)

@@ -119,8 +119,8 @@ module _ {sh : Shape} {x y : List ℕ} {p q : List ℤ} (g : Marked sh x p) (h :
 -- kemr leaves tables that differ in vertex words alone
 pub kemr-aside : (sh : Shape) (x y : List ℕ) (p q : List ℤ) (o : Operator) → Marked sh x p → Marked sh y q
     → SameElse sh (own sh x) (own sh y) → length (o .args) ≡ 8 → o .code ≡ 7 → refusalOf sh x o ≡ 0
-    → refusalOf sh y o ≡ 0 → SameElse sh (own sh (marksAfter sh x o)) (own sh (marksAfter sh y o))
-kemr-aside sh x y p q o g h e len code a b =
+    → SameElse sh (own sh (marksAfter sh x o)) (own sh (marksAfter sh y o))
+kemr-aside sh x y p q o g h e len code a =
     let f = kemr-facts sh x o (g .capacities) len code a in
     subst (λ r. SameElse sh (own sh (marksAfter sh x r)) (own sh (marksAfter sh y r))) (sym (f .is))
     (aside-at g h e (f .span))

@@ -23,7 +23,8 @@ use Rattle.euler.specs.EdgeOperators.{mevLinks, kevLinks, mefLinks, kefLinks, k
 use Rattle.euler.specs.FaceOperators.{mvsfLinks, kvsfLinks, kfmrhLinks, mfkrhLinks, rmovLinks, ringFace}
 use Rattle.euler.specs.EdgeOperators.{semvLinks, jekvLinks}
 use Rattle.euler.specs.Steps.{does, after}
-use Rattle.euler.specs.Exec.{limits, linksBy, linksAfter, refusalOf}
+use Rattle.euler.specs.Valence.{leaveOf, comeOf, lessAt, lessStarts, moreStarts}
+use Rattle.euler.specs.Exec.{limits, linksBy, marksAfter, linksAfter, refusalOf}
 use Rattle.sound_tables.specs.Sound.{In}
 use Rattle.sound_tables.specs.Accepted.{by-thirteen, limitOf}
 use Rattle.sound_tables.specs.Good.{Good}
@@ -31,7 +32,7 @@ use Rattle.euler_counts.specs.Counts.{movedLoops, movedLoop}
 use Rattle.sound_counts.specs.Stays.{InOrder, in-order, Stays, store-stays, free-stays, solid-stays}
 use Rattle.sound_counts.specs.Stays.{other-stays, put-half-stays, put-face-stays, put-loop-stays, tie-stays}
 use Rattle.sound_counts.specs.Stays.{between-stays, edge-in-stays, edge-out-stays, relabel-stays, renew-stays}
-use Rattle.sound_counts.specs.Stays.{sweep-stays, clear-half-stays}
+use Rattle.sound_counts.specs.Stays.{sweep-stays, clear-half-stays, less-stays, more-stays}
 use Rattle.sound_tables.specs.Caps.{least-cap, loop-cap, face-cap, solid-cap, outer-cap, operand-cap}
 
 -- from x to y no loop but m changes its face, and m is at most the number of loops
@@ -45,6 +46,14 @@ module _ {sh : Shape} (b : InOrder sh) {l : ℕ} (i : In (sh .loops) l) (x : Lis
   -- nothing has happened yet
   start : Stays sh l x x
   start = record { same = refl }
+
+  -- behind each of them: the vertex words
+  words-stay : {y : List ℕ} (o : Operator) → Stays sh l x y → Stays sh l x (moreStarts sh o (lessStarts sh x o y))
+  unfolding lessStarts moreStarts
+  words-stay {y} o s =
+      let t = leaveOf sh x o in
+      let c = comeOf sh (lessAt sh y t) o in
+      more-stays b i (c .other) (more-stays b i (c .one) (less-stays b i (t .other) (less-stays b i (t .one) s)))
 
   -- 1: its loop m is new
   mvsf-stays : (s f m v : ℕ) → s ≤ sh .solids → f ≤ sh .faces → l ≢ m → Stays sh l x (mvsfLinks sh x s f m v)
@@ -163,17 +172,22 @@ module _ {sh : Shape} (b : InOrder sh) {l : ℕ} (i : In (sh .loops) l) (x : Lis
 
 module _ (sh : Shape) (x : List ℕ) (p : List ℤ) (o : Operator) (g : Good sh x p) (len : length (o .args) ≡ 8)
     (h : refusalOf sh x o ≡ 0) where
+  -- the order of the records
+  order : InOrder sh
+  order = in-order sh (length x) (g .fit)
+
   -- what the operator does, read off the lists at its code
   by-code : (n : ℕ) → o .code ≡ n
       → Moves sh x (getD (linksBy sh x (itemOf o)) n x) (getD (movedLoops sh x (itemOf o)) n 0)
       → Moves sh x (linksAfter sh x o) (movedLoop sh x o)
-  unfolding linksAfter movedLoop
+  unfolding linksAfter marksAfter movedLoop
   by-code n e r =
-      subst (λ k. Moves sh x (getD (linksBy sh x (itemOf o)) k x) (getD (movedLoops sh x (itemOf o)) k 0)) (sym e) r
-
-  -- the order of the records
-  order : InOrder sh
-  order = in-order sh (length x) (g .fit)
+      let s = subst (λ k. Moves sh x (getD (linksBy sh x (itemOf o)) k x) (getD (movedLoops sh x (itemOf o)) k 0))
+      (sym e) r in
+      record {
+        cap = s .cap;
+        others = λ l i d. words-stay order i x o (s .others l i d);
+      }
 
   -- an operator that moves no loop
   still : {y : List ℕ} → ((l : ℕ) → In (sh .loops) l → Stays sh l x y) → Moves sh x y 0

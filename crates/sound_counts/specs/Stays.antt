@@ -4,20 +4,21 @@ use mathlib.Core.Path.{_≡_, refl, sym, ap, _∙_, subst}
 use mathlib.Core.Logic.{_≢_, _⊎_, inl, inr, ⊎-elim}
 use mathlib.Core.Bool.{Bool, true, false, not, _&&_, false≢true}
 use mathlib.Core.List.{List, [], _∷_}
-use Prim.Native.Nat.{ℕ, zero, suc, _+_, _*_, _≤_, _<_}
+use Prim.Native.Nat.{ℕ, zero, suc, _+_, _-_, _*_, _≤_, _<_}
 use native.Mathlib.Omega.{arith}
-use lib.Dec.{eqb, leb, leb→le, lit≤}
+use lib.Dec.{eqb, leb, ltb, leb→le, lit≤}
 use lib.Seq.{getD-set-other}
 use borrow.Author.Tests.{not-true}
 use Rattle.laws.specs.Bools.{pick, pick-ind, true-T, T-true, and-T, le?, eqb-same}
 use Rattle.laws.specs.Columns.{sweep, Chained, in-kind, word-apart}
 use Rattle.layout.specs.declared.shape.Shape.{Shape}
 use Rattle.layout.specs.Fields.{Field, SolidUsed, Solid, Outer, Face, First, Isolated, Loop, loopKind, groupOf, wordOf}
-use Rattle.layout.specs.Fields.{halfKind, groups, groupAt, capOf, put, sweepField, sameField, field-in}
-use Rattle.layout.specs.Layout.{loopFace, nextOf, setSolidUsed, setLoopFace, setLoop}
+use Rattle.layout.specs.Fields.{VertexUsed, halfKind, groups, groupAt, capOf, put, sweepField, sameField, field-in}
+use Rattle.layout.specs.Layout.{loopFace, nextOf, vertexUsed, setSolidUsed, setLoopFace, setLoop}
 use Rattle.layout.specs.Writes.{Write, writes, cleared}
 use Rattle.euler.specs.Surgery.{halfRecord, tied, seated, edgeWrites, noEdgeWrites, tie, between, putHalf, putFace}
 use Rattle.euler.specs.Surgery.{putLoop, edgeIn, edgeOut, relabel, renew}
+use Rattle.euler.specs.Valence.{oneLess, oneMore}
 use Rattle.sound_tables.specs.Cells.{end, chain-apart}
 use Rattle.sound_tables.specs.Sound.{In}
 
@@ -121,6 +122,15 @@ module _ {sh : Shape} (b : InOrder sh) {l : ℕ} (i : In (sh .loops) l) {x : Lis
   -- to the face of another loop
   pub other-stays : {y : List ℕ} (k v : ℕ) → l ≢ k → Stays sh l x y → Stays sh l x (setLoopFace sh y k v)
   other-stays k v d = store-stays Face k v (inr (lit≤ tt)) (inr d)
+
+  -- to a vertex word: one less
+  pub less-stays : {y : List ℕ} (v : ℕ) → Stays sh l x y → Stays sh l x (oneLess sh y v)
+  less-stays {y} v = free-stays VertexUsed v (vertexUsed sh y v - 1) refl
+
+  -- and one more
+  pub more-stays : {y : List ℕ} (v : ℕ) → Stays sh l x y → Stays sh l x (oneMore sh y v)
+  more-stays {y} v s = pick-ind (Stays sh l x) (ltb (vertexUsed sh y v) 65535) _ y
+      (free-stays VertexUsed v (vertexUsed sh y v + 1) refl s) s
 
   -- ---- whole records, an edge in, an edge out
 

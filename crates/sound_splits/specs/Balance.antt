@@ -1,7 +1,9 @@
 -- The pair semv and jekv: where half-edges come and go and which vertices are made and killed (`Balanced`). Two more
--- start at the vertex that divides, elsewhere as many as before.
+-- start at the vertex that divides, elsewhere as many as before. And jekv on two tables that differ in vertex words
+-- alone.
 use mathlib.Core.Path.{_≡_, refl, sym, ap, _∙_, subst}
 use mathlib.Core.Logic.{_≢_, inl, inr}
+use mathlib.Core.Bool.{false, false≢true}
 use mathlib.Core.List.{List}
 use Prim.Native.Nat.{ℕ, _+_, _*_, _≤_}
 use native.Mathlib.Omega.{arith}
@@ -16,14 +18,18 @@ use Rattle.bounds.specs.Bounds.{mostHalves}
 use Rattle.script.specs.declared.Operator.{Operator}
 use Rattle.layout.specs.declared.shape.Shape.{Shape}
 use Rattle.layout.specs.Mate.{mate}
-use Rattle.layout.specs.Fields.{Start, Next, VertexUsed, Columns}
+use Rattle.layout.specs.Fields.{Field, Start, Next, Prev, VertexUsed, Columns, sameField, by-fields}
 use Rattle.euler.specs.Valence.{two, none, leaveOf, comeOf}
 use Rattle.euler.specs.Exec.{refusalOf, marksAfter}
 use Rattle.sound_tables.specs.Cells.{Shows}
-use Rattle.sound_tables.specs.Sound.{In}
+use Rattle.sound_tables.specs.Sound.{In, SameElse}
 use Rattle.sound_tables.specs.Good.{own, Marked, marked-shows}
+use Rattle.sound_tables.specs.Aside.{mixed, mixed-else, mixed-shows, mixed-sound}
 use Rattle.sound_tables.specs.Balance.{UsedOrNone, Balanced, one-changed, many-same, two-changed, times-none}
-use Rattle.sound_splits.specs.Relation.{Split, n≢b, n≢m, b≢m}
+use Rattle.sound_splits.specs.Relation.{moved, Split, n≢b, n≢m, b≢m}
+use Rattle.sound_splits.specs.CycleMoves.{swapFor}
+use Rattle.sound_splits.specs.JekvColumns.{Joint, jekvColumns, jekv-split}
+use Rattle.sound_splits.specs.Shown.{jekv-shows}
 use Rattle.sound_splits.specs.Accepted.{semvOf, jekvOf, semv-facts, semv-links, jekv-facts}
 use Rattle.sound_splits.specs.Accepted.{tested-joint, jekv-links}
 use Rattle.sound_splits.specs.Exact.{divided, y-shows, rejoined, ky-shows}
@@ -145,3 +151,69 @@ jekv-balanced sh x p o g len e h =
     (joining a (marked-shows g)
     (shows-same (jekv-links sh x k n (g .capacities) j (a .place .n-in .0)) (ky-shows g j))
     leave refl)
+
+-- ---- jekv on tables that differ in vertex words alone
+
+-- the columns after jekv
+abbrev joinedUp : Shape → Columns → ℕ → ℕ → Columns
+joinedUp sh d k n = jekvColumns sh d k n (swapFor n k (d Prev (mate n)))
+
+module _ {sh : Shape} {x y : List ℕ} {p q : List ℤ} (g : Marked sh x p) (h : Marked sh y q)
+    (e : SameElse sh (own sh x) (own sh y)) {k n : ℕ} (j : Joint sh (own sh x) k n) where
+  -- n is a joint in the columns of x with the vertex words of y
+  mixed-joint : Joint sh (mixed sh x y) k n
+  mixed-joint = record { k-used = j .k-used; next-k = j .next-k; n≢k = j .n≢k; n≢m = j .n≢m; next-b = j .next-b }
+
+  -- and in y
+  joint-y : Joint sh (own sh y) k n
+  joint-y = record {
+    k-used = (j .k-used .0, j .k-used .1, λ z. j .k-used .2 (sym (e Start refl k (j .k-used .1)) ∙ z));
+    next-k = e Next refl k (j .k-used .1) ∙ j .next-k;
+    n≢k = j .n≢k;
+    n≢m = j .n≢m;
+    next-b = e Next refl (mate n) (rejoined g j .place .b-in .1) ∙ j .next-b;
+  }
+
+  -- what jekv makes of the columns differs in vertex words alone
+  columns-aside : (F : Field) → sameField VertexUsed F ≡ false → (i : ℕ)
+      → joinedUp sh (mixed sh x y) k n F i ≡ joinedUp sh (own sh x) k n F i
+  columns-aside =
+      let a = jekv-split (mixed-sound h e) mixed-joint in
+      by-fields moved (λ F. sameField VertexUsed F ≡ false → (i : ℕ)
+      → joinedUp sh (mixed sh x y) k n F i ≡ joinedUp sh (own sh x) k n F i) (
+        λ t i. refl,
+        (
+          λ t i. refl,
+          (
+            λ t. absurd (false≢true (sym t)),
+            (
+              λ t i. refl,
+              (
+                λ t i. refl,
+                (
+                  λ t i. refl,
+                  (λ t i. refl, tt),
+                ),
+              ),
+            ),
+          ),
+        ),
+      )
+      (λ F o t i. sym (a .others F o i) ∙ mixed-else sh x y F t i ∙ rejoined g j .others F o i)
+
+  -- jekv does the same to both
+  links-aside : SameElse sh (own sh (marksAfter sh x (jekvOf k))) (own sh (marksAfter sh y (jekvOf k)))
+  links-aside F t i l =
+      let n1 = rejoined g j .place .n-in .0 in
+      rw (jekv-links sh x k n (g .capacities) j n1, jekv-links sh y k n (h .capacities) joint-y n1)
+      (jekv-shows (mixed-shows h e) (mixed-sound h e) mixed-joint .at F i l ∙ columns-aside F t i
+      ∙ sym (ky-shows g j .at F i l))
+
+-- jekv leaves tables that differ in vertex words alone
+pub jekv-aside : (sh : Shape) (x y : List ℕ) (p q : List ℤ) (o : Operator) → Marked sh x p → Marked sh y q
+    → SameElse sh (own sh x) (own sh y) → length (o .args) ≡ 8 → o .code ≡ 12 → refusalOf sh x o ≡ 0
+    → SameElse sh (own sh (marksAfter sh x o)) (own sh (marksAfter sh y o))
+jekv-aside sh x y p q o g h e len code r =
+    let f = jekv-facts sh x o (g .capacities) len code r in
+    subst (λ t. SameElse sh (own sh (marksAfter sh x t)) (own sh (marksAfter sh y t))) (sym (f .is))
+    (links-aside g h e (tested-joint sh x (f .k) (f .half) (f .test)))

@@ -2,7 +2,6 @@
 -- two tables that differ in vertex words alone.
 use mathlib.Core.Path.{_≡_, refl, sym, ap, _∙_, subst}
 use mathlib.Core.Logic.{inl, inr, ⊎-elim}
-use mathlib.Core.Bool.{Bool, true, false}
 use mathlib.Core.List.{List, [], _∷_}
 use Prim.Native.Nat.{ℕ, _*_, _≤_}
 use native.Mathlib.Omega.{arith}
@@ -10,20 +9,20 @@ use lib.Dec.{eqb}
 use lib.IntN.{ℤ}
 use lib.ListN.{length}
 use borrow.Author.Tests.{le-leb}
-use Rattle.laws.specs.Bools.{pick, split}
+use Rattle.laws.specs.Bools.{split}
 use Rattle.laws.specs.Search.{least-ext}
-use Rattle.laws.specs.Update.{upd, upd-at, upd-off}
+use Rattle.laws.specs.Update.{upd-at, upd-off}
 use Rattle.bounds.specs.Bounds.{mostHalves}
 use Rattle.script.specs.declared.Operator.{Operator}
 use Rattle.layout.specs.declared.shape.Shape.{Shape}
 use Rattle.layout.specs.Mate.{mate}
-use Rattle.layout.specs.Fields.{Field, First, Isolated, Start, Loop, Next, Prev, VertexUsed, Columns, capOf, sameField}
-use Rattle.layout.specs.Writes.{Write, write, changes}
+use Rattle.layout.specs.Fields.{Field, First, Isolated, Start, Loop, Next, Prev, VertexUsed, Columns, capOf}
+use Rattle.layout.specs.Writes.{write, changes}
 use Rattle.euler.specs.Surgery.{noEdgeWrites}
 use Rattle.euler.specs.Valence.{ends, leaveOf, comeOf}
 use Rattle.euler.specs.Exec.{refusalOf, marksAfter}
-use Rattle.sound_tables.specs.Cells.{upd-near}
 use Rattle.sound_tables.specs.Sound.{In, HalfUsed, firstOf, SameElse}
+use Rattle.sound_tables.specs.WriteLaws.{near}
 use Rattle.sound_tables.specs.Good.{own, Marked}
 use Rattle.sound_tables.specs.Balance.{Mark, Balanced, made-balanced, killed-balanced}
 use Rattle.sound_spurs.specs.Relation.{Spur, spurOf, in-b}
@@ -35,16 +34,6 @@ use Rattle.sound_spurs.specs.MevAccepted.{mevPoints, mev-place, mev-show
 use Rattle.sound_spurs.specs.KevAccepted.{kevOf, kev-facts, kev-links, kev-shows}
 
 -- ---- kev on tables that differ in vertex words alone
-
--- writes look at their own entries alone
-near : (ws : List Write) (c d : Columns) (F : Field) (n : ℕ) → c F n ≡ d F n → changes ws c F n ≡ changes ws d F n
-near [] c d F n e = e
-near (w ∷ ws) c d F n e = near ws _ _ F n (go (sameField (w .field) F))
-  where
-    -- by whether the first is to the field F
-    go : (b : Bool) → pick b (upd (c F) (w .item) (w .value)) (c F) n ≡ pick b (upd (d F) (w .item) (w .value)) (d F) n
-    go true = upd-near (c F) (d F) (w .item) (w .value) n e
-    go false = e
 
 module _ {sh : Shape} {x y : List ℕ} {p q : List ℤ} (g : Marked sh x p) (h : Marked sh y q)
     (e : SameElse sh (own sh x) (own sh y)) {k : ℕ} (uk : HalfUsed sh (own sh x) k)
@@ -112,10 +101,10 @@ module _ {sh : Shape} {x y : List ℕ} {p q : List ℤ} (g : Marked sh x p) (h :
 -- kev leaves tables that differ in vertex words alone
 pub kev-aside : (sh : Shape) (x y : List ℕ) (p q : List ℤ) (o : Operator) → Marked sh x p → Marked sh y q
     → SameElse sh (own sh x) (own sh y) → length (o .args) ≡ 8 → o .code ≡ 4 → refusalOf sh x o ≡ 0
-    → refusalOf sh y o ≡ 0 → SameElse sh (own sh (marksAfter sh x o)) (own sh (marksAfter sh y o))
-kev-aside sh x y p q o g h e len code rx ry =
-    let f = kev-facts sh x o (g .capacities) len code rx in
-    subst (λ r. SameElse sh (own sh (marksAfter sh x r)) (own sh (marksAfter sh y r))) (sym (f .is))
+    → SameElse sh (own sh (marksAfter sh x o)) (own sh (marksAfter sh y o))
+kev-aside sh x y p q o g h e len code r =
+    let f = kev-facts sh x o (g .capacities) len code r in
+    subst (λ t. SameElse sh (own sh (marksAfter sh x t)) (own sh (marksAfter sh y t))) (sym (f .is))
     (links-aside g h e (f .used) (f .next))
 
 -- ---- kev

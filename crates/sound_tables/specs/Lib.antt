@@ -18,6 +18,7 @@ pub mod PointLists
 pub mod Good
 pub mod Caps
 pub mod Balance
+pub mod Aside
 pub mod CornerTest
 pub mod Undone
 pub mod EdgesAcross

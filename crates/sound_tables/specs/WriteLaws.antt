@@ -95,7 +95,7 @@ change-near c d G k v F n e = go (sameField G F)
     go false = e
 
 -- so does a list of them
-near : (ws : List Write) (c d : Columns) (F : Field) (n : ℕ) → c F n ≡ d F n → changes ws c F n ≡ changes ws d F n
+pub near : (ws : List Write) (c d : Columns) (F : Field) (n : ℕ) → c F n ≡ d F n → changes ws c F n ≡ changes ws d F n
 near [] c d F n e = e
 near (w ∷ ws) c d F n e = near ws _ _ F n (change-near c d (w .field) (w .item) (w .value) F n e)
 

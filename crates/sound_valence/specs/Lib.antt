@@ -2,3 +2,4 @@ pub mod Words
 pub mod Alike
 pub mod Marks
 pub mod Kept
+pub mod Undo
