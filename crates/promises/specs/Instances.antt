@@ -1,7 +1,7 @@
 -- An instance by computation, so that the promise is seen to speak of runs that do something: from an empty table, a
 -- script with examples b and c of document 01, then one with example d and an operator that is refused; six bytes of
 -- log, two more behind the start.
-use mathlib.Core.Path.{_≡_, refl}
+use mathlib.Core.Path.{_≡_, refl, ap, _∙_}
 use mathlib.Core.List.{List, [], _∷_}
 use Prim.Native.Nat.{ℕ}
 use lib.IntN.{pos}
@@ -32,8 +32,8 @@ use Rattle.euler.specs.Exec.{killedVertex, inverse}
 use Rattle.runs.specs.Run.{admitRead, inverseBytes, carryRefusal, stepped, runRefusal, runFrom, entry, runOf}
 use Rattle.runs.specs.Move.{partOf, moveOf}
 use Rattle.sessions.specs.Session.{starts, sessionRun, sessionUndo, sessionRedo}
-use Rattle.sessions.specs.Editing.{Editing, redoneFrom}
-use Rattle.promises.specs.Edits.{editAll}
+use Rattle.sessions.specs.Editing.{Editing, undoneFrom, redoneFrom}
+use Rattle.promises.specs.Edits.{Edits, editAll}
 use Rattle.promises.specs.Promises.{undoneAll}
 
 -- an empty table of capacities 1, 2, 2, 2, 2, a log, and a redo log with something in it
@@ -64,18 +64,30 @@ abbrev filled : List ℕ
 filled = 99 ∷ 99 ∷ 1 ∷ 1 ∷ 1 ∷ 1 ∷ 1 ∷ 0 ∷ 0 ∷ 0 ∷ 3 ∷ 1 ∷ 0 ∷ 1 ∷ 2 ∷ 0 ∷ 200 ∷ 1 ∷ 0 ∷ 0 ∷ 5 ∷ 1 ∷ 1 ∷ 2 ∷ 2 ∷ 2 ∷ 2 ∷
     0 ∷ []
 
--- what the runs leave
+-- what the runs leave: the inverses of the three operators stand in the log, newest first, the redo log is emptied, and
+-- two half-edges start at each vertex
 abbrev ran : Editing
-ran = editAll begin scripts .last
+ran = record {
+  links = 1 ∷ 2 ∷ 2 ∷ 2 ∷ 2 ∷ 1 ∷ 1 ∷ 1 ∷ 1 ∷ 2 ∷ 1 ∷ 2 ∷ 0 ∷ 2 ∷ 1 ∷ 0 ∷ 1 ∷ 2 ∷ 4 ∷ 4 ∷ 2 ∷ 1 ∷ 3 ∷ 3 ∷ 1 ∷ 1 ∷ 2 ∷ 2 ∷ 2 ∷ 2 ∷ 1 ∷ 1 ∷ 3 ∷ 3 ∷ [];
+  points = pos 0 ∷ pos 0 ∷ pos 0 ∷ pos 100 ∷ pos 0 ∷ pos 0 ∷ [];
+  log = 6 ∷ 4 ∷ 4 ∷ 1 ∷ 2 ∷ 1 ∷ 17 ∷ 18 ∷ [];
+  redo = replicate 28 99;
+  session = starts 0 28;
+}
 
--- three operators are done, their inverses stand in the log, newest first, and the redo log is emptied; undo by three
--- gives back what there was; and redo by three what the runs left
-pub begin-undone : (editAll begin scripts .done ≡ 3) × (ran .log ≡ 6 ∷ 4 ∷ 4 ∷ 1 ∷ 2 ∷ 1 ∷ 17 ∷ 18 ∷ [])
-    × (ran .session ≡ starts 0 28)
-    × (undoneAll begin scripts
-    ≡ record { links = begin .links; points = begin .points; log = ran .log; redo = filled; session = starts 6 2 })
-    × (redoneFrom (undoneAll begin scripts) 3
-    ≡ record { links = ran .links; points = ran .points; log = ran .log; redo = filled; session = ran .session })
+-- and what undo by three leaves of that
+abbrev back : Editing
+back =
+    record { links = begin .links; points = begin .points; log = ran .log; redo = filled; session = starts 6 2 }
+
+-- and what redo by three leaves of that
+abbrev again : Editing
+again =
+    record { links = ran .links; points = ran .points; log = ran .log; redo = filled; session = ran .session }
+
+-- the three calls by computation
+pub begin-calls : (editAll begin scripts ≡ record { done = 3; last = ran }) × (undoneFrom ran 3 ≡ back)
+    × (redoneFrom back 3 ≡ again)
 unfolding checkOf sizesFit brokenRule rule1 rule2 rule3 rule4 rule5 rule6 solidRange faceRange loopRange halfRange
     vertexRange solidNames faceNames loopNames halfNames loopEither halfLinks firstNames halfInLoop vertexEither
     halfAtVertex halfSides faceLinked allTo leastFrom sumTo meets linkedb rounds pass across mate third second first
@@ -84,4 +96,12 @@ unfolding checkOf sizesFit brokenRule rule1 rule2 rule3 rule4 rule5 rule6 solidR
     kvsfLinks mevLinks kevTest kevLinks mefTest mefLinks kefTest kefLinks admitOf useRefusals useRefusal useWord
     condition linksAfter marksAfter lessStarts moreStarts pointsAfter killedVertex inverse sweep admitRead inverseBytes carryRefusal stepped runRefusal
     runFrom entry runOf editAll partOf moveOf sessionRun sessionUndo sessionRedo
-begin-undone = (refl, refl, refl, refl, refl)
+begin-calls = (refl, refl, refl)
+
+-- undo by three gives back what there was
+pub begin-undone : undoneAll begin scripts ≡ back
+begin-undone = ap (λ (r : Edits). undoneFrom (r .last) (r .done)) (begin-calls .0) ∙ begin-calls .1
+
+-- and redo by three what the runs left
+pub begin-redone : redoneFrom (undoneAll begin scripts) 3 ≡ again
+begin-redone = ap (λ (e : Editing). redoneFrom e 3) begin-undone ∙ begin-calls .2

@@ -140,8 +140,12 @@ module _ {sh : Shape} {x : List ℕ} {p : List ℤ} (o : Operator) (g : Good sh 
   -- no word is full
   pub low-x : (w : ℕ) → In (sh .vertices) w → own sh x VertexUsed w < 65534
   low-x w i = split (own sh x VertexUsed w) 0 (λ f. omega (arith, f))
-      (λ d. omega (arith, g .valent w i d, count-le (2 * sh .edges) (λ k. eqb (own sh x Start k) w),
-      g .capacities .edges .1))
+      (λ d. omega (
+        arith,
+        g .valent w i d,
+        count-le (2 * sh .edges) (λ k. eqb (own sh x Start k) w),
+        g .capacities .edges .1,
+      ))
 
   -- the same vertices are in use
   used-less : SameUsed sh (own sh x) (own sh x′)
@@ -302,8 +306,8 @@ module _ {sh : Shape} {x : List ℕ} {p : List ℤ} (o : Operator) (g : Good sh 
       ⊎-elim
       (λ e. split (own sh x VertexUsed w) 0
       (λ f. absurd (d (more .word w i ∙ (
-        let z : own sh m VertexUsed w ≡ 0 = e ∙ less .word w i ∙ omega (arith, f) in
-        omega (arith, z, free-come w (i .0) z)
+      let z : own sh m VertexUsed w ≡ 0 = e ∙ less .word w i ∙ omega (arith, f) in
+      omega (arith, z, free-come w (i .0) z)
       ))))
       (λ n. omega (arith, s, e, more .word w i, less .word w i, g .valent w i n, few w i, sums w (i .0))))
       (⊎-elim
