@@ -5,9 +5,9 @@ pub mod Steps
 pub mod EdgeOperators
 pub mod FaceOperators
 pub mod Valence
-pub mod ValenceLaws
 pub mod Exec
 pub mod Inverses
+pub mod ValenceLaws
 pub mod ByCode
 pub mod AdmitLaws
 pub mod RecordLaws

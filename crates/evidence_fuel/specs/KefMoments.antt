@@ -24,7 +24,7 @@ use Rattle.table.specs.Check.{checkOf}
 use Rattle.euler.specs.Surgery.{passed, relabel, relabelRun}
 use Rattle.euler.specs.EdgeOperators.{kefTest}
 use Rattle.euler.specs.Exec.{refusalOf, admitOf, rangeRefusal, useRefusals, useRefusal, useWord, condition}
-use Rattle.sound_tables.specs.Good.{Good}
+use Rattle.sound_tables.specs.Good.{Good, marked}
 use Rattle.sound_tables.specs.Walking.{Steps, steps-one}
 use Rattle.sound_cuts.specs.KefAmid.{KefInPlace, amidKef, kef-in-place}
 use Rattle.promises.specs.Checked.{checked-good}
@@ -57,7 +57,7 @@ good = checked-good links points refl
 pub kef-6 : KefInPlace shape links 6
 unfolding refusalOf admitOf rangeRefusal pattern rows inRanges inRange wire zig useRefusals useRefusal useWord condition
     kefTest sumTo mate
-kef-6 = kef-in-place good 6 refl
+kef-6 = kef-in-place (marked good) 6 refl
 
 -- the run is 1, 3
 run-6 : Steps (nextOf shape links) 1 6 2

@@ -12,21 +12,21 @@ use Rattle.laws.specs.Update.{upd, upd-at, upd-same, upd-off, relabel-at, relab
 use Rattle.layout.specs.declared.shape.Shape.{Shape}
 use Rattle.layout.specs.Mate.{mate}
 use Rattle.euler.specs.Exec.{linksAfter}
-use Rattle.layout.specs.Fields.{Columns, SolidUsed, Solid, Outer, Face, Start, Loop, Next, Prev}
+use Rattle.layout.specs.Fields.{Columns, SolidUsed, Solid, Outer, Face, Start, Loop, Next, Prev, VertexUsed}
 use Rattle.sound_tables.specs.Mates.{mate-other}
 use Rattle.sound_tables.specs.EdgeIn.{next-prev}
 use Rattle.sound_tables.specs.Sound.{In, HalfUsed, side}
 use Rattle.sound_tables.specs.Cells.{Shows}
+use Rattle.sound_tables.specs.WriteLaws.{withColumn}
 use Rattle.sound_tables.specs.Walking.{run-other}
 use Rattle.sound_tables.specs.Good.{Good, own}
 use Rattle.sound_spurs.specs.KevSound.{Left, kevColumns}
-use Rattle.sound_spurs.specs.KevAccepted.{kevList, kev-shows}
-use Rattle.sound_bridges.specs.KemrColumns.{kemrList, Span, walk}
+use Rattle.sound_bridges.specs.KemrColumns.{Span, walk}
 use Rattle.sound_cuts.specs.KefPlace.{spotAt}
 use Rattle.sound_cuts.specs.Relation.{tieP, tieN, tieP′, tieN′}
 use Rattle.sound_holes.specs.MfkrhSound.{RingFace}
-use Rattle.takedown.specs.Inversion.{mfkrh, kef}
-use Rattle.inversion.specs.KevLaws.{kev-law}
+use Rattle.takedown.specs.Inversion.{mfkrh, kef, kev, kemr}
+use Rattle.inversion.specs.KevLaws.{kev-law, kev-shown}
 use Rattle.inversion.specs.KefLaws.{kef-shown, kef-law}
 use Rattle.inversion.specs.KemrTurn.{v as kemr-shown, b as kemr-bridged, mark-same, solid-same, face-same}
 use Rattle.inversion.specs.KemrTurn.{face-new, start-kept}
@@ -44,25 +44,26 @@ pub record Goes (sh : Shape) (x y : List ℕ) (h : ℕ) : Type 0 where
 
 module _ {sh : Shape} {x : List ℕ} {p : List ℤ} (g : Good sh x p) {k : ℕ} (uk : HalfUsed sh (own sh x) k)
     (nk : own sh x Next k ≡ mate k) where
-  used : (i : ℕ) → HalfUsed sh (own sh (kevList sh x k)) i → HalfUsed sh (own sh x) i × (i ≢ k) × (i ≢ mate k)
+  used : (i : ℕ) → HalfUsed sh (own sh (linksAfter sh x (kev k))) i → HalfUsed sh (own sh x) i × (i ≢ k) × (i ≢ mate k)
   used i w = let c = kev-law g uk nk in (
     (w .0, w .1, λ z. w .2 (c .start-kept i (w .0, w .1) z)),
-    λ e. w .2 (ap (own sh (kevList sh x k) Start) e
+    λ e. w .2 (ap (own sh (linksAfter sh x (kev k)) Start) e
         ∙ c .gone-k),
-    λ e. w .2 (ap (own sh (kevList sh x k) Start) e ∙ c .gone-b),
+    λ e. w .2 (ap (own sh (linksAfter sh x (kev k)) Start) e ∙ c .gone-b),
   )
 
   module _ {I : ℕ} (left : Left (own sh x) k I) where
-    v : Shows sh (kevList sh x k) (kevColumns sh (own sh x) k I)
-    v = kev-shows g uk nk left
+    v : Shows sh (linksAfter sh x (kev k)) (withColumn (kevColumns sh (own sh x) k I) VertexUsed
+        (own sh (linksAfter sh x (kev k)) VertexUsed))
+    v = kev-shown g uk nk left
 
-    loop-at : (i : ℕ) → HalfUsed sh (own sh (kevList sh x k)) i → own sh (kevList sh x k) Loop i ≡ own sh x Loop i
+    loop-at : (i : ℕ) → HalfUsed sh (own sh (linksAfter sh x (kev k))) i → own sh (linksAfter sh x (kev k)) Loop i ≡ own sh x Loop i
     loop-at i w = let u = used i w in v .at Loop i (w .1) ∙ upd-off _ 0 (u .2) ∙ upd-off _ 0 (u .1)
 
-    outer-at : (n : ℕ) → In (sh .faces) n → own sh (kevList sh x k) Outer n ≡ own sh x Outer n
+    outer-at : (n : ℕ) → In (sh .faces) n → own sh (linksAfter sh x (kev k)) Outer n ≡ own sh x Outer n
     outer-at n i = v .at Outer n (i .1)
 
-    goes-at : Goes sh x (kevList sh x k) k
+    goes-at : Goes sh x (linksAfter sh x (kev k)) k
     goes-at =
         let c = kev-law g uk nk in
         record {
@@ -85,50 +86,50 @@ module _ {sh : Shape} {x : List ℕ} {p : List ℤ} (g : Good sh x p) {k : ℕ} 
               let u = used i w in
               let h = g .sound .half i (w .0, w .1) (u .0 .2) in
               let s = g .sound .solids .side-in i (u .0) in
-              ap (λ l. own sh (kevList sh x k) Solid (own sh (kevList sh x k) Face l)) (loop-at i w)
-              ∙ ap (own sh (kevList sh x k) Solid) (c .face (own sh x Loop i) (h .loop-in))
+              ap (λ l. own sh (linksAfter sh x (kev k)) Solid (own sh (linksAfter sh x (kev k)) Face l)) (loop-at i w)
+              ∙ ap (own sh (linksAfter sh x (kev k)) Solid) (c .face (own sh x Loop i) (h .loop-in))
               ∙ c .solid (side (own sh x) i) (s .0, s .1);
         }
 
   -- whichever way the loop is left
-  pub kev-goes : Goes sh x (kevList sh x k) k
+  pub kev-goes : Goes sh x (linksAfter sh x (kev k)) k
   kev-goes = split (own sh x Next (mate k)) k (λ e. goes-at {I = own sh x Start k} (inl (e, refl)))
       (λ d. goes-at {I = 0} (inr (d, refl)))
 
-  pub kev-loop : (i : ℕ) → HalfUsed sh (own sh (kevList sh x k)) i → own sh (kevList sh x k) Loop i ≡ own sh x Loop i
+  pub kev-loop : (i : ℕ) → HalfUsed sh (own sh (linksAfter sh x (kev k))) i → own sh (linksAfter sh x (kev k)) Loop i ≡ own sh x Loop i
   kev-loop = split (own sh x Next (mate k)) k (λ e. loop-at {I = own sh x Start k} (inl (e, refl)))
       (λ d. loop-at {I = 0} (inr (d, refl)))
 
-  pub kev-outer : (n : ℕ) → In (sh .faces) n → own sh (kevList sh x k) Outer n ≡ own sh x Outer n
+  pub kev-outer : (n : ℕ) → In (sh .faces) n → own sh (linksAfter sh x (kev k)) Outer n ≡ own sh x Outer n
   kev-outer = split (own sh x Next (mate k)) k (λ e. outer-at {I = own sh x Start k} (inl (e, refl)))
       (λ d. outer-at {I = 0} (inr (d, refl)))
 
 -- ---- kemr
 
 module _ {sh : Shape} {x : List ℕ} {p : List ℤ} (g : Good sh x p) {k l2 : ℕ} (o : Span sh (own sh x) k l2) where
-  used₂ : (i : ℕ) → HalfUsed sh (own sh (kemrList sh x k l2)) i → HalfUsed sh (own sh x) i × (i ≢ k) × (i ≢ mate k)
+  used₂ : (i : ℕ) → HalfUsed sh (own sh (linksAfter sh x (kemr k l2))) i → HalfUsed sh (own sh x) i × (i ≢ k) × (i ≢ mate k)
   used₂ i w =
       let b = kemr-bridged g o in
       let v = kemr-shown g o in (
         (w .0, w .1, λ q. w .2 (start-kept g o i (w .0, w .1) q)),
-        λ e. w .2 (ap (own sh (kemrList sh x k l2) Start) e ∙ v .at Start k (o .half .1) ∙ b .ends .zero-k .s),
-        λ e. w .2 (ap (own sh (kemrList sh x k l2) Start) e
+        λ e. w .2 (ap (own sh (linksAfter sh x (kemr k l2)) Start) e ∙ v .at Start k (o .half .1) ∙ b .ends .zero-k .s),
+        λ e. w .2 (ap (own sh (linksAfter sh x (kemr k l2)) Start) e
             ∙ v .at Start (mate k) (g .sound .rules .mate-in k (o .half) .1) ∙ b .ends .zero-a .s),
       )
 
   -- a half-edge names its loop or the new ring, and then its loop was that of k
-  pub kemr-loop : (i : ℕ) → HalfUsed sh (own sh (kemrList sh x k l2)) i
-      → (own sh (kemrList sh x k l2) Loop i ≡ own sh x Loop i)
-      ⊎ ((own sh (kemrList sh x k l2) Loop i ≡ l2) × (own sh x Loop i ≡ own sh x Loop k))
+  pub kemr-loop : (i : ℕ) → HalfUsed sh (own sh (linksAfter sh x (kemr k l2))) i
+      → (own sh (linksAfter sh x (kemr k l2)) Loop i ≡ own sh x Loop i)
+      ⊎ ((own sh (linksAfter sh x (kemr k l2)) Loop i ≡ l2) × (own sh x Loop i ≡ own sh x Loop k))
   kemr-loop i w =
       let b = kemr-bridged g o in
       let e = kemr-shown g o .at Loop i (w .1) in
       let u = used₂ i w in
-      split (own sh (kemrList sh x k l2) Loop i) l2
+      split (own sh (linksAfter sh x (kemr k l2)) Loop i) l2
       (λ q. inr (q, b .loop-2 i (w .0, w .1) (sym e ∙ q)))
       (λ q. inl (e ∙ sym (b .loop-o i (u .1) (u .2) (λ d. q (e ∙ d)))))
 
-  pub kemr-goes : Goes sh x (kemrList sh x k l2) k
+  pub kemr-goes : Goes sh x (linksAfter sh x (kemr k l2)) k
   kemr-goes = record {
     edge = record {
       half = o .half;
@@ -156,16 +157,16 @@ module _ {sh : Shape} {x : List ℕ} {p : List ℤ} (g : Good sh x p) {k l2 : �
         let u = used₂ i w in
         let h = g .sound .half i (w .0, w .1) (u .0 .2) in
         let s = g .sound .solids .side-in i (u .0) in
-        ap (own sh (kemrList sh x k l2) Solid) (faces i w (h .loop-in) (h .loop-used))
+        ap (own sh (linksAfter sh x (kemr k l2)) Solid) (faces i w (h .loop-in) (h .loop-used))
         ∙ solid-same g o (side (own sh x) i) (s .0, s .1);
   }
     where
-      faces : (i : ℕ) → HalfUsed sh (own sh (kemrList sh x k l2)) i → In (sh .loops) (own sh x Loop i)
-          → own sh x Face (own sh x Loop i) ≢ 0 → side (own sh (kemrList sh x k l2)) i ≡ side (own sh x) i
+      faces : (i : ℕ) → HalfUsed sh (own sh (linksAfter sh x (kemr k l2))) i → In (sh .loops) (own sh x Loop i)
+          → own sh x Face (own sh x Loop i) ≢ 0 → side (own sh (linksAfter sh x (kemr k l2))) i ≡ side (own sh x) i
       faces i w j d = ⊎-elim
-          (λ e. ap (own sh (kemrList sh x k l2) Face) e
+          (λ e. ap (own sh (linksAfter sh x (kemr k l2)) Face) e
           ∙ face-same g o (own sh x Loop i) j (λ q. d (ap (own sh x Face) q ∙ o .free)))
-          (λ e. ap (own sh (kemrList sh x k l2) Face) (e .0) ∙ face-new g o ∙ ap (own sh x Face) (sym (e .1)))
+          (λ e. ap (own sh (linksAfter sh x (kemr k l2)) Face) (e .0) ∙ face-new g o ∙ ap (own sh x Face) (sym (e .1)))
           (kemr-loop i w)
 
 -- ---- kef

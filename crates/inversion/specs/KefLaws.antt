@@ -8,11 +8,12 @@ use lib.IntN.{ℤ}
 use Rattle.laws.specs.Update.{upd-same, upd-off}
 use Rattle.layout.specs.declared.shape.Shape.{Shape}
 use Rattle.layout.specs.Mate.{mate}
-use Rattle.euler.specs.Exec.{refusalOf, linksAfter, inverse}
+use Rattle.euler.specs.Exec.{refusalOf, marksAfter, linksAfter, inverse}
 use Rattle.layout.specs.Fields.{SolidUsed, Solid, Face, Start, Loop, VertexUsed}
 use Rattle.sound_tables.specs.Mates.{mate-other}
 use Rattle.sound_tables.specs.Sound.{In, side, Sound}
 use Rattle.sound_tables.specs.Cells.{Shows}
+use Rattle.sound_tables.specs.WriteLaws.{withColumn}
 use Rattle.sound_tables.specs.Good.{Good, own, good-shows}
 use Rattle.sound_cuts.specs.Relation.{Cut}
 use Rattle.sound_cuts.specs.KefShown.{mend-shows}
@@ -20,10 +21,12 @@ use Rattle.sound_cuts.specs.KefSound.{mend-sound}
 use Rattle.sound_cuts.specs.KefPlace.{spotAt, mendColumns, KefPlace}
 use Rattle.sound_cuts.specs.KefRelation.{kef-cut, kef-only, kef-first}
 use Rattle.sound_cuts.specs.KefAccepted.{kef-links, kef-accepted}
+use Rattle.sound_valence.specs.Kept.{links-shown}
 use Rattle.takedown.specs.Inversion.{kef}
 use Rattle.inversion.specs.Path.{joinsIn}
 use Rattle.inversion.specs.Counts.{solids, faces, loops, edges, vertices}
 use Rattle.inversion.specs.Same.{words-same, words-fewer, solids-is, faces-is, loops-is, vertices-is}
+use Rattle.inversion.specs.Same.{vertices-by-marks}
 use Rattle.inversion.specs.EdgeOut.{edge-fewer}
 
 -- the table afterwards, as it is counted
@@ -65,10 +68,15 @@ module _ {sh : Shape} {x : List ℕ} {p : List ℤ} (g : Good sh x p) {k : ℕ} 
   place-accepted = kef-accepted cut mended (g .sound) (good-shows g) (g .capacities)
 
   -- the columns afterwards
-  pub kef-shown : Shows sh (linksAfter sh x (kef k)) (mendColumns sh (own sh x) (spotAt (own sh x) k))
-  kef-shown = subst (λ l. Shows sh l (mendColumns sh (own sh x) (spotAt (own sh x) k)))
+  marks-shown : Shows sh (marksAfter sh x (kef k)) (mendColumns sh (own sh x) (spotAt (own sh x) k))
+  marks-shown = subst (λ l. Shows sh l (mendColumns sh (own sh x) (spotAt (own sh x) k)))
       (sym (kef-links cut mended (g .sound) (good-shows g) (g .capacities)))
       (mend-shows cut mended (g .sound) (good-shows g))
+
+  -- with the words of vertices
+  pub kef-shown : Shows sh (linksAfter sh x (kef k)) (withColumn (mendColumns sh (own sh x) (spotAt (own sh x) k))
+      VertexUsed (own sh (linksAfter sh x (kef k)) VertexUsed))
+  kef-shown = links-shown (kef k) g refl place-accepted marks-shown
 
   pub kef-law : KefLaw sh x (linksAfter sh x (kef k)) k
   kef-law =
@@ -106,6 +114,6 @@ module _ {sh : Shape} {x : List ℕ} {p : List ℤ} (g : Good sh x p) {k : ℕ} 
         fewer-edges = edge-fewer sh x _ k (w .used .0, w .used .1) (w .used .2) (um .2) (v .at Start k (w .used .1)
             ∙ upd-same _ k 0) (v .at Start (mate k) (um .1) ∙ upd-off _ 0 (λ e. km (sym e))
             ∙ upd-same _ (mate k) 0) other;
-        same-vertices = vertices-is sh _ ∙ words-same (sh .vertices) _ _ (λ n i. v .at VertexUsed n (i .1))
-            ∙ sym (vertices-is sh x);
+        same-vertices = vertices-by-marks (kef k) g refl place-accepted ∙ vertices-is sh _
+            ∙ words-same (sh .vertices) _ _ (λ n i. marks-shown .at VertexUsed n (i .1)) ∙ sym (vertices-is sh x);
       }

@@ -1,13 +1,14 @@
 -- rmov as the take-down uses it: a ring becomes the outer loop of its face; a ring moves to a face across an edge of
 -- the outer loop.
-use mathlib.Core.Path.{_≡_, refl, sym, subst}
+use mathlib.Core.Path.{_≡_, refl, sym, _∙_, subst}
 use mathlib.Core.Logic.{_≢_}
 use mathlib.Core.List.{List, [], _∷_}
 use Prim.Native.Nat.{ℕ}
 use lib.IntN.{ℤ}
 use Rattle.layout.specs.declared.shape.Shape.{Shape}
 use Rattle.layout.specs.Fields.{change, Outer, Face}
-use Rattle.euler.specs.Exec.{refusalOf, linksAfter, inverse}
+use Rattle.euler.specs.Exec.{refusalOf, marksAfter, linksAfter, inverse}
+use Rattle.euler.specs.ValenceLaws.{still-links}
 use Rattle.sound_tables.specs.Cells.{Shows, shows-put}
 use Rattle.sound_tables.specs.Good.{Good, own, good-shows}
 use Rattle.sound_rings.specs.Sound.{Ring}
@@ -21,15 +22,19 @@ pub rmov-joins : (sh : Shape) (x : List ℕ) (p : List ℤ) (l f : ℕ) → join
 unfolding inverse
 rmov-joins sh x p l f = refl
 
+-- no vertex word changes
+rmov-links : (sh : Shape) (x : List ℕ) (l f : ℕ) → linksAfter sh x (rmov l f) ≡ marksAfter sh x (rmov l f)
+rmov-links sh x l f = still-links sh x (rmov l f) 13 refl (λ y. refl) (λ y. refl)
+
 module _ {sh : Shape} {x : List ℕ} {p : List ℤ} (g : Good sh x p) {l f : ℕ} (r : Ring sh (own sh x) l f) where
   -- in its own face
   pub swap-shows : f ≡ own sh x Face l → Shows sh (linksAfter sh x (rmov l f)) (change (own sh x) Outer f l)
-  swap-shows e = subst (λ y. Shows sh y (change (own sh x) Outer f l)) (sym (swap-links sh x l f (g .capacities) r e))
+  swap-shows e = subst (λ y. Shows sh y (change (own sh x) Outer f l)) (sym (rmov-links sh x l f ∙ swap-links sh x l f (g .capacities) r e))
       (shows-put (good-shows g) Outer f l (r .face-in .0) (r .face-in .1))
 
   -- to another face
   pub move-shows : f ≢ own sh x Face l → Shows sh (linksAfter sh x (rmov l f)) (change (own sh x) Face l f)
-  move-shows d = subst (λ y. Shows sh y (change (own sh x) Face l f)) (sym (move-links sh x l f (g .capacities) r d))
+  move-shows d = subst (λ y. Shows sh y (change (own sh x) Face l f)) (sym (rmov-links sh x l f ∙ move-links sh x l f (g .capacities) r d))
       (shows-put (good-shows g) Face l f (r .loop-in .0) (r .loop-in .1))
 
 -- the table stays good

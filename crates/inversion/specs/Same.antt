@@ -7,16 +7,20 @@ use Prim.Native.Nat.{ℕ, zero, suc, _+_, _*_, _≤_}
 use native.Mathlib.Omega.{arith}
 use lib.Dec.{eqb, eqb→eq}
 use lib.IntN.{ℤ}
+use lib.ListN.{length}
 use Rattle.laws.specs.Bools.{split, same?, true-T, eqb-same, eqb-other}
 use Rattle.laws.specs.Search.{least-ext}
 use Rattle.laws.specs.Sums.{sumTo, bit, countTo, sum-ext}
+use Rattle.script.specs.declared.Operator.{Operator}
 use Rattle.layout.specs.declared.shape.Shape.{Shape}
 use Rattle.euler.specs.Queries.{facesIn}
+use Rattle.euler.specs.Exec.{refusalOf, marksAfter, linksAfter}
 use Rattle.table.specs.Count.{itemUsed}
 use Rattle.layout.specs.Fields.{SolidUsed, Solid, Face, Start, VertexUsed}
 use Rattle.layout.specs.Items.{some, faceIn}
 use Rattle.sound_tables.specs.Sound.{In}
 use Rattle.sound_tables.specs.Good.{Good, own}
+use Rattle.sound_valence.specs.Kept.{links-used}
 use Rattle.takedown.specs.Inversion.{solidAt, freeFace, freeLoop, freeEdge}
 use Rattle.inversion.specs.OfSolid.{least-some, least-there}
 use Rattle.inversion.specs.Counts.{solids, faces, loops, edges, vertices, isStray, strays, count-same}
@@ -80,6 +84,19 @@ module _ (sh : Shape) (x : List ℕ) where
   pub vertices-is : vertices sh x ≡ words (sh .vertices) (own sh x VertexUsed)
   unfolding itemUsed
   vertices-is = refl
+
+-- words that are 0 in the same places
+words-alike : (n : ℕ) (f g : ℕ → ℕ) → ((k : ℕ) → In n k → (f k ≡ 0 → g k ≡ 0) × (g k ≡ 0 → f k ≡ 0))
+    → words n f ≡ words n g
+words-alike n f g h = count-same n (λ k. some (f k)) (λ k. some (g k)) (λ k a b. split (f k) 0
+    (λ z. let y = h k (a, b) .0 z in rw (eqb-same z, eqb-same y))
+    (λ d. rw (eqb-other d, eqb-other (λ y. d (h k (a, b) .1 y)))))
+
+-- vertices are counted whatever their words are
+pub vertices-by-marks : {sh : Shape} {x : List ℕ} {p : List ℤ} (o : Operator) → Good sh x p → length (o .args) ≡ 8
+    → refusalOf sh x o ≡ 0 → vertices sh (linksAfter sh x o) ≡ vertices sh (marksAfter sh x o)
+vertices-by-marks {sh} {x} o g len h =
+    vertices-is sh _ ∙ words-alike (sh .vertices) _ _ (links-used o g len h) ∙ sym (vertices-is sh _)
 
 -- ---- the same solids and faces
 

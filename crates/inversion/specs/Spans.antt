@@ -17,8 +17,7 @@ use Rattle.sound_tables.specs.Sound.{In, HalfUsed}
 use Rattle.sound_tables.specs.Names.{loop-unnamed}
 use Rattle.sound_tables.specs.Good.{Good, own}
 use Rattle.sound_bridges.specs.Runs.{met?}
-use Rattle.sound_bridges.specs.KemrColumns.{kemrList, walk}
-use Rattle.sound_bridges.specs.KemrAccepted.{kemr-links}
+use Rattle.sound_bridges.specs.KemrColumns.{walk}
 use Rattle.takedown.specs.Inversion.{solidAt, freeLoop, edgesLeft, inRing, ringHalf, spurHalf, crossedHalf, kemr}
 use Rattle.inversion.specs.Turn.{Ready}
 use Rattle.inversion.specs.OfSolid.{one-loop}
@@ -33,20 +32,13 @@ module _ {sh : Shape} {x : List ℕ} {p : List ℤ} (g : Good sh x p) (ready : R
     (one : facesIn sh x (solidAt sh x) ≡ 1)
     (left : edgesLeft sh x (solidAt sh x) ≡ true) (none : ringHalf sh x (solidAt sh x) ≡ 0)
     (no-spur : spurHalf sh x (solidAt sh x) ≡ 0) where
-  is-list : kemrList sh x (crossedHalf sh x (solidAt sh x)) (freeLoop sh x)
-      ≡ linksAfter sh x (kemr (crossedHalf sh x (solidAt sh x)) (freeLoop sh x))
-  is-list = sym (kemr-links sh x (g .capacities) (span g ready sn one left none no-spur))
-
   -- a half-edge names its loop, or the new ring
   ring-name : (i : ℕ)
       → HalfUsed sh (own sh (linksAfter sh x (kemr (crossedHalf sh x (solidAt sh x)) (freeLoop sh x)))) i
       → (own sh (linksAfter sh x (kemr (crossedHalf sh x (solidAt sh x)) (freeLoop sh x))) Loop i ≡ own sh x Loop i)
       ⊎ ((own sh (linksAfter sh x (kemr (crossedHalf sh x (solidAt sh x)) (freeLoop sh x))) Loop i ≡ freeLoop sh x)
       × (own sh x Loop i ≡ own sh x Loop (crossedHalf sh x (solidAt sh x))))
-  ring-name = subst (λ l. (i : ℕ) → HalfUsed sh (own sh l) i → (own sh l Loop i ≡ own sh x Loop i)
-      ⊎ ((own sh l Loop i ≡ freeLoop sh x) × (own sh x Loop i ≡ own sh x Loop (crossedHalf sh x (solidAt sh x)))))
-      is-list
-      (kemr-loop g (span g ready sn one left none no-spur))
+  ring-name = kemr-loop g (span g ready sn one left none no-spur)
 
   pub kemr-spans : {q : List ℤ} → Good sh (linksAfter sh x (kemr (crossedHalf sh x (solidAt sh x)) (freeLoop sh x))) q
       → Spans sh (linksAfter sh x (kemr (crossedHalf sh x (solidAt sh x)) (freeLoop sh x))) (solidAt sh x) (freeLoop sh
@@ -72,7 +64,7 @@ module _ {sh : Shape} {x : List ℕ} {p : List ℤ} (g : Good sh x p) (ready : R
       let c = kemr-goes-on g ready sn one left none no-spur .edge .used i u in
       ⊎-elim (λ m. m)
       (λ m. absurd (loop-unnamed (g .sound) (freeLoop sh x) (o .ring-in) (o .free) i (u .0, u .1)
-      (sym (ap (λ l. own sh l Loop i) (sym is-list) ∙ rest-loop g o i m (u .0, u .1) (c .1) (c .2)) ∙ e)))
+      (sym (rest-loop g o i m (u .0, u .1) (c .1) (c .2)) ∙ e)))
       (met? (own sh x Next) (walk (g .sound) o .0) (own sh x Next (crossedHalf sh x (solidAt sh x))) i)
 
 -- ---- the ring turn behind it

@@ -12,23 +12,26 @@ use Rattle.layout.specs.declared.shape.Shape.{Shape}
 use Rattle.layout.specs.Mate.{mate}
 use Rattle.layout.specs.MateLaws.{mate-odd}
 use Rattle.euler.specs.Queries.{facesIn}
-use Rattle.euler.specs.Exec.{linksAfter, inverse}
+use Rattle.euler.specs.Exec.{refusalOf, marksAfter, linksAfter, inverse}
 use Rattle.layout.specs.Fields.{Loop, SolidUsed, Solid, Outer, Face, First, Isolated, Start, Next, VertexUsed}
 use Rattle.layout.specs.Items.{isRing, faceIn}
 use Rattle.sound_tables.specs.Sound.{In, HalfUsed}
 use Rattle.sound_tables.specs.Names.{free-zero}
 use Rattle.sound_tables.specs.Cells.{Shows}
-use Rattle.sound_tables.specs.Good.{Good, own}
-use Rattle.sound_spurs.specs.KevAccepted.{kevList, kevPoints, kev-links, kev-points, kev-accepted}
+use Rattle.sound_tables.specs.WriteLaws.{withColumn}
+use Rattle.sound_tables.specs.Good.{Good, own, marked}
+use Rattle.sound_spurs.specs.KevAccepted.{kevPoints, kev-points, kev-accepted}
 use Rattle.sound_bridges.specs.Relation.{Bridge, Ends, Bridged}
-use Rattle.sound_bridges.specs.MekrColumns.{mekrList, mekrColumns, up-bridged}
-use Rattle.sound_bridges.specs.MekrShown.{mekr-shows, mekr-good}
+use Rattle.sound_bridges.specs.MekrColumns.{mekrColumns, up-bridged}
+use Rattle.sound_bridges.specs.MekrShown.{mekr-shows}
 use Rattle.sound_bridges.specs.MekrAccepted.{MekrFacts, mekr-accepted, mekr-links, mekr-points}
+use Rattle.sound_valence.specs.Kept.{links-shown}
+use Rattle.sound_operators.specs.Theorems.{all-hold}
 use Rattle.takedown.specs.Inversion.{solidAt, freeEdge, edgesLeft, isRingOf, ringOf, mekr, kev}
 use Rattle.inversion.specs.Path.{path-good, Path, there, first, acted, joinsIn}
 use Rattle.inversion.specs.Counts.{solids, faces, loops, edges, vertices, isStray, strays, count-le-by}
 use Rattle.inversion.specs.Same.{words-same, words-fewer, solids-is, faces-is, loops-is, vertices-is}
-use Rattle.inversion.specs.Same.{free-face-same, stray-same, face-or-none}
+use Rattle.inversion.specs.Same.{free-face-same, stray-same, face-or-none, vertices-by-marks}
 use Rattle.inversion.specs.EdgeOut.{edge-fewer}
 use Rattle.inversion.specs.OfSolid.{least-some, least-there, both}
 use Rattle.inversion.specs.Root.{root-is, outer-in, outer-face, lone-loop, no-ring}
@@ -120,16 +123,24 @@ module _ {sh : Shape} {x : List ℕ} {p : List ℤ} (g : Good sh x p) {o l e u1 
 
   -- the table between
   abbrev x₁ : List ℕ
-  x₁ = mekrList sh x bridge
+  x₁ = linksAfter sh x (mekr o l e)
 
-  links₁ : linksAfter sh x (mekr o l e) ≡ mekrList sh x bridge
-  links₁ = mekr-links sh x (g .capacities) r (2 * e - 1) refl ∙ rw (i1, i2)
+  accepted₁ : refusalOf sh x (mekr o l e) ≡ 0
+  accepted₁ = mekr-accepted sh x (g .capacities) r
 
-  good₁ : Good sh (mekrList sh x bridge) p
-  good₁ = mekr-good g ends
+  good₁ : Good sh (linksAfter sh x (mekr o l e)) p
+  good₁ = subst (Good sh (linksAfter sh x (mekr o l e))) (mekr-points sh x (g .capacities) r p)
+      (all-hold sh x p (mekr o l e) g refl accepted₁ .0)
 
-  v : Shows sh (mekrList sh x bridge) (mekrColumns sh (own sh x) bridge)
-  v = mekr-shows g ends
+  -- its columns
+  marks-shown : Shows sh (marksAfter sh x (mekr o l e)) (mekrColumns sh (own sh x) bridge)
+  marks-shown = subst (λ t. Shows sh t (mekrColumns sh (own sh x) bridge))
+      (sym (mekr-links sh x (g .capacities) r (2 * e - 1) refl ∙ rw (i1, i2))) (mekr-shows (marked g) ends)
+
+  -- with the words of vertices
+  v : Shows sh (linksAfter sh x (mekr o l e)) (withColumn (mekrColumns sh (own sh x) bridge) VertexUsed
+      (own sh (linksAfter sh x (mekr o l e)) VertexUsed))
+  v = links-shown (mekr o l e) g refl accepted₁ marks-shown
 
   b : Bridged sh (own sh x) (mekrColumns sh (own sh x) bridge) bridge
   b = up-bridged ends
@@ -145,11 +156,11 @@ module _ {sh : Shape} {x : List ℕ} {p : List ℤ} (g : Good sh x p) {o l e u1 
   next₁ : own sh x₁ Next (2 * e - 1) ≡ mate (2 * e - 1)
   next₁ = v .at Next (2 * e - 1) (range .0 .1) ∙ b .next-k
 
-  law : KevLaw sh x₁ (kevList sh x₁ (2 * e - 1)) (2 * e - 1)
+  law : KevLaw sh x₁ (linksAfter sh x₁ (kev (2 * e - 1))) (2 * e - 1)
   law = kev-law good₁ used₁ next₁
 
   abbrev y : List ℕ
-  y = kevList sh x₁ (2 * e - 1)
+  y = linksAfter sh x₁ (kev (2 * e - 1))
 
   -- ---- what is counted
 
@@ -188,8 +199,8 @@ module _ {sh : Shape} {x : List ℕ} {p : List ℤ} (g : Good sh x p) {o l e u1 
       let cl : suc (loops sh x₁) ≡ loops sh x = ap suc (loops-is sh _)
       ∙ words-fewer (sh .loops) _ _ l (r .ring-in) (v .at Face l (r .ring-in .1)
       ∙ b .face-2) (r .ring-used) (λ n i d. v .at Face n (i .1) ∙ b .face-o n d) ∙ sym (loops-is sh x) in
-      let cv : vertices sh x₁ ≡ vertices sh x = vertices-is sh _
-      ∙ words-same (sh .vertices) _ _ (λ n i. v .at VertexUsed n (i .1) ∙ b .others VertexUsed refl n)
+      let cv : vertices sh x₁ ≡ vertices sh x = vertices-by-marks (mekr o l e) g refl accepted₁ ∙ vertices-is sh _
+      ∙ words-same (sh .vertices) _ _ (λ n i. marks-shown .at VertexUsed n (i .1) ∙ b .others VertexUsed refl n)
       ∙ sym (vertices-is sh x) in
       let K = law in
       record {
@@ -219,17 +230,13 @@ module _ {sh : Shape} {x : List ℕ} {p : List ℤ} (g : Good sh x p) {o l e u1 
     loop = inl (least-there (sh .loops) (λ n. eqb (own sh y Face n) 0) l (r .ring-in) (eqb-same face-gone));
   }
 
-  -- the table afterwards
-  pub bridge-links : linksAfter sh (linksAfter sh x (mekr o l e)) (kev (2 * e - 1)) ≡ y
-  bridge-links = ap (λ t. linksAfter sh t (kev (2 * e - 1))) links₁ ∙ kev-links good₁ used₁ next₁
-
   pub bridge-path : Path sh y (kevPoints sh x₁ p (2 * e - 1)) (mekr o l e ∷ kev (2 * e - 1) ∷ []) x p
   bridge-path =
       let rest : Path sh y (kevPoints sh x₁ p (2 * e - 1)) (kev (2 * e - 1) ∷ []) x₁ p =
-      first (kev (2 * e - 1)) refl (kev-accepted good₁ used₁ next₁)
-      (there (kev-links good₁ used₁ next₁) (kev-points good₁ used₁ next₁)) in
-      first {os = kev (2 * e - 1) ∷ []} {p = p} (mekr o l e) refl (mekr-accepted sh x (g .capacities) r)
-      (rw (links₁, mekr-points sh x (g .capacities) r p) rest)
+      first (kev (2 * e - 1)) refl (kev-accepted (marked good₁) used₁ next₁)
+      (there refl (kev-points (marked good₁) used₁ next₁)) in
+      first {os = kev (2 * e - 1) ∷ []} {p = p} (mekr o l e) refl accepted₁
+      (rw (mekr-points sh x (g .capacities) r p) rest)
 
   -- what is known of it
   pub bridge-bare : Bare sh x y l
@@ -306,9 +313,7 @@ module _ {sh : Shape} {x : List ℕ} {p : List ℤ} (g : Good sh x p) (ready : R
   turn-bare =
       let a = lone-of (own sh x Outer (faceIn sh x (solidAt sh x))) (outer-in g sn) (outer-face g sn) in
       let c = lone-of (ringOf sh x (faceIn sh x (solidAt sh x))) (found .0) (found .1) in
-      subst (λ t. Bare sh x t (ringOf sh x (faceIn sh x (solidAt sh x))))
-      (sym (bridge-links g facts refl (a .1) (a .2) refl (c .1) (c .2)))
-      (bridge-bare g facts refl (a .1) (a .2) refl (c .1) (c .2))
+      bridge-bare g facts refl (a .1) (a .2) refl (c .1) (c .2)
 
   pub turn-bridge : TurnMade sh x p
   unfolding acted

@@ -10,14 +10,14 @@ use lib.IntN.{ℤ}
 use Rattle.laws.specs.Bools.{true-T}
 use Rattle.layout.specs.declared.shape.Shape.{Shape}
 use Rattle.euler.specs.Queries.{facesIn}
-use Rattle.euler.specs.Exec.{inverse}
+use Rattle.euler.specs.Exec.{linksAfter, inverse}
 use Rattle.layout.specs.Fields.{Solid, Face, Loop}
 use Rattle.layout.specs.Items.{faceIn}
 use Rattle.sound_tables.specs.Sound.{In, side}
 use Rattle.sound_tables.specs.Labels.{label-only, one-many}
 use Rattle.sound_tables.specs.Good.{Good, own}
-use Rattle.sound_bridges.specs.KemrColumns.{kemrList, Span}
-use Rattle.sound_bridges.specs.KemrAccepted.{kemr-accepted, kemr-links, kemr-points}
+use Rattle.sound_bridges.specs.KemrColumns.{Span}
+use Rattle.sound_bridges.specs.KemrAccepted.{kemr-accepted, kemr-points}
 use Rattle.takedown.specs.Inversion.{solidAt, freeLoop, edgesLeft, isCrossed, crossedHalf, crossed, ofSolid, ringHalf}
 use Rattle.takedown.specs.Inversion.{spurHalf, kemr}
 use Rattle.inversion.specs.Path.{there, first, acted, joinsIn}
@@ -78,11 +78,11 @@ module _ {sh : Shape} {x : List ℕ} {p : List ℤ} (g : Good sh x p) (ready : R
   root = only-root g sn one (crossedHalf sh x (solidAt sh x)) (found .0)
 
   -- then a ring has a half-edge with its mate in another loop
-  pub ring : RingAt sh (kemrList sh x (crossedHalf sh x (solidAt sh x)) (freeLoop sh x))
+  pub ring : RingAt sh (linksAfter sh x (kemr (crossedHalf sh x (solidAt sh x)) (freeLoop sh x)))
   ring =
       let e = solid-at-same sh x _ (mark-same g span) in
-      subst (λ s. (s ≢ 0) × (facesIn sh (kemrList sh x (crossedHalf sh x (solidAt sh x)) (freeLoop sh x)) s ≡ 1)
-      × (ringHalf sh (kemrList sh x (crossedHalf sh x (solidAt sh x)) (freeLoop sh x)) s ≢ 0)) (sym e) (
+      subst (λ s. (s ≢ 0) × (facesIn sh (linksAfter sh x (kemr (crossedHalf sh x (solidAt sh x)) (freeLoop sh x))) s ≡ 1)
+      × (ringHalf sh (linksAfter sh x (kemr (crossedHalf sh x (solidAt sh x)) (freeLoop sh x))) s ≢ 0)) (sym e) (
         sn,
         faces-in-same sh x _ (solid-same g span) (solidAt sh x) ∙ one,
         kemr-ring g span (solidAt sh x) (found .0 .1) root sn (crossed-at sh x _ (found .1)),
@@ -100,11 +100,11 @@ module _ {sh : Shape} {x : List ℕ} {p : List ℤ} (g : Good sh x p) (ready : R
       let nj = no-join sh x p (crossedHalf sh x (solidAt sh x)) (freeLoop sh x) in
       record {
         os = kemr (crossedHalf sh x (solidAt sh x)) (freeLoop sh x) ∷ [];
-        y = kemrList sh x (crossedHalf sh x (solidAt sh x)) (freeLoop sh x);
+        y = linksAfter sh x (kemr (crossedHalf sh x (solidAt sh x)) (freeLoop sh x));
         q = p;
         path = first (kemr (crossedHalf sh x (solidAt sh x)) (freeLoop sh x)) refl
             (kemr-accepted sh x (g .capacities) span)
-            (there (kemr-links sh x (g .capacities) span) (kemr-points sh x (g .capacities) span p));
+            (there refl (kemr-points sh x (g .capacities) span p));
         same = λ w a b. turned-cross sh (solidAt sh x) (faceIn sh x (solidAt sh x)) w x a one left none no-spur;
         change = record {
           euler = omega (arith, cs, cf, cl, ce, cv, nj);

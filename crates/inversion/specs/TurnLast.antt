@@ -14,6 +14,7 @@ use Rattle.layout.specs.declared.shape.Shape.{Shape}
 use Rattle.euler.specs.Surgery.{putPoint}
 use Rattle.euler.specs.Queries.{facesIn}
 use Rattle.euler.specs.Exec.{linksAfter, inverse}
+use Rattle.euler.specs.ValenceLaws.{still-links}
 use Rattle.layout.specs.Fields.{First, SolidUsed, Solid, Outer, Face, Isolated, Start, VertexUsed}
 use Rattle.layout.specs.Items.{faceIn}
 use Rattle.sound_tables.specs.Sound.{In}
@@ -161,10 +162,17 @@ module _ {sh : Shape} {x : List ℕ} {p : List ℤ} (g : Good sh x p) (ready : R
         only-loop = only-outer g sn none;
       }
 
+  -- the table afterwards; no vertex word but that of the killed one changes
+  last-links : linksAfter sh x (kvsf (solidAt sh x)) ≡ placedLinks sh x (solidAt sh x) (faceIn sh x (solidAt sh x))
+      (own sh x Outer (faceIn sh x (solidAt sh x))) (own sh x Isolated (own sh x Outer (faceIn sh x (solidAt sh x)))) 0
+      0 0 0 0
+  last-links = still-links sh x (kvsf (solidAt sh x)) 2 refl (λ y. refl) (λ y. refl)
+      ∙ kvsf-links one-loop (g .capacities)
+
   -- another solid is in use as it was
   pub turn-mark : (n : ℕ) → In (sh .solids) n → n ≢ solidAt sh x
       → own sh (linksAfter sh x (kvsf (solidAt sh x))) SolidUsed n ≡ own sh x SolidUsed n
-  turn-mark n i d = ap (λ t. own sh t SolidUsed n) (kvsf-links one-loop (g .capacities))
+  turn-mark n i d = ap (λ t. own sh t SolidUsed n) last-links
       ∙ mark-else g one-loop (solid-used g sn) (lone .2) sn n i d
 
   pub turn-last : TurnMade sh x p
@@ -179,7 +187,7 @@ module _ {sh : Shape} {x : List ℕ} {p : List ℤ} (g : Good sh x p) (ready : R
         y = placedLinks sh x s f l v 0 0 0 0 0;
         q = putPoint p v (pos 0) (pos 0) (pos 0);
         path = first (kvsf s) refl (kvsf-accepted one-loop (g .capacities) (solid-used g sn))
-            (there (kvsf-links one-loop (g .capacities)) (kvsf-points one-loop (g .capacities) p));
+            (there last-links (kvsf-points one-loop (g .capacities) p));
         same = λ w a b. turned-last sh s f w x a one left none;
         change =
             rw (no-join sh x p s)

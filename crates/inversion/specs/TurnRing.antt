@@ -17,6 +17,7 @@ use Rattle.layout.specs.declared.shape.Shape.{Shape}
 use Rattle.layout.specs.Mate.{mate}
 use Rattle.euler.specs.Queries.{facesIn}
 use Rattle.euler.specs.Exec.{refusalOf, linksAfter, pointsAfter, inverse}
+use Rattle.euler.specs.ValenceLaws.{still-links}
 use Rattle.layout.specs.Fields.{SolidUsed, Solid, Outer, Face, Start, Loop, VertexUsed}
 use Rattle.layout.specs.Items.{isRing, faceIn}
 use Rattle.sound_tables.specs.Sound.{In, HalfUsed, side}
@@ -71,7 +72,8 @@ module _ {sh : Shape} {x : List ℕ} {p : List ℤ} (g : Good sh x p) {k l f f�
   ring-shows =
       let m = old-solid (g .sound) r .1 in
       let v = mfkrh-shows (g .sound) (g .capacities) r outcome (good-shows g) m in
-      rw (eqb-same {m = s} refl) at v
+      let w = still-links sh x (mfkrh l f) 10 refl (λ y. refl) (λ y. refl) in
+      subst (λ t. Shows sh t (cut (own sh x) l f s s (λ h. false))) (sym w) (rw (eqb-same {m = s} refl) at v)
 
   -- ---- its columns
 

@@ -13,8 +13,9 @@ use Rattle.layout.specs.Mate.{mate}
 use Rattle.euler.specs.Queries.{facesIn}
 use Rattle.layout.specs.Fields.{Next}
 use Rattle.layout.specs.Items.{faceIn}
-use Rattle.sound_tables.specs.Good.{Good, own}
-use Rattle.sound_spurs.specs.KevAccepted.{kevList, kevPoints, kev-links, kev-points, kev-accepted}
+use Rattle.sound_tables.specs.Good.{Good, own, marked}
+use Rattle.sound_spurs.specs.KevAccepted.{kevPoints, kev-points, kev-accepted}
+use Rattle.euler.specs.Exec.{linksAfter}
 use Rattle.takedown.specs.Inversion.{solidAt, edgesLeft, ofSolid, isSpur, ringHalf, spurHalf, kev}
 use Rattle.inversion.specs.Path.{there, first, acted}
 use Rattle.inversion.specs.Same.{free-face-same, free-loop-same, free-edge-kept}
@@ -43,10 +44,10 @@ module _ {sh : Shape} {x : List ℕ} {p : List ℤ} (g : Good sh x p) (ready : R
       let nj = kev-joins sh x p k in
       record {
         os = kev k ∷ [];
-        y = kevList sh x k;
+        y = linksAfter sh x (kev k);
         q = kevPoints sh x p k;
-        path = first (kev k) refl (kev-accepted g (found .0 .0) (found .1))
-            (there (kev-links g (found .0 .0) (found .1)) (kev-points g (found .0 .0) (found .1)));
+        path = first (kev k) refl (kev-accepted (marked g) (found .0 .0) (found .1))
+            (there refl (kev-points (marked g) (found .0 .0) (found .1)));
         same = λ w a b. turned-spur sh (solidAt sh x) (faceIn sh x (solidAt sh x)) w x a one left none spur;
         change = record {
           euler = omega (arith, c .same-solids, c .same-faces, c .same-loops, c .fewer-edges, c .fewer-vertices, nj);

@@ -16,10 +16,10 @@ use Rattle.euler.specs.Exec.{linksAfter, pointsAfter}
 use Rattle.layout.specs.Fields.{Solid, Outer, Face, Loop, Next}
 use Rattle.layout.specs.Items.{isRing}
 use Rattle.sound_tables.specs.Sound.{In, HalfUsed, side}
-use Rattle.sound_tables.specs.Good.{Good, own}
+use Rattle.sound_tables.specs.Good.{Good, own, marked}
 use Rattle.sound_operators.specs.Theorems.{all-hold}
-use Rattle.sound_spurs.specs.KevAccepted.{kevList, kev-links, kev-accepted}
-use Rattle.sound_bridges.specs.KemrAccepted.{kemr-accepted, kemr-links}
+use Rattle.sound_spurs.specs.KevAccepted.{kev-accepted}
+use Rattle.sound_bridges.specs.KemrAccepted.{kemr-accepted}
 use Rattle.sound_cuts.specs.KefAccepted.{kef-points}
 use Rattle.takedown.specs.Inversion.{solidAt, freeFace, freeLoop, edgesLeft, ofSolid, inRing, ringHalf, spurHalf}
 use Rattle.takedown.specs.Inversion.{crossed, isCrossed, crossedHalf, kev, kef, kemr, mfkrh}
@@ -89,28 +89,22 @@ module _ {sh : Shape} {x : List ℕ} {p : List ℤ} (g : Good sh x p) (ready : R
 
   pub kev-good : Good sh (linksAfter sh x (kev (spurHalf sh x (solidAt sh x))))
       (pointsAfter sh x p (kev (spurHalf sh x (solidAt sh x))))
-  kev-good = all-hold sh x p (kev (spurHalf sh x (solidAt sh x))) g refl (kev-accepted g kev-half kev-next) .0
-
-  is-list : kevList sh x (spurHalf sh x (solidAt sh x)) ≡ linksAfter sh x (kev (spurHalf sh x (solidAt sh x)))
-  is-list = sym (kev-links g kev-half kev-next)
+  kev-good = all-hold sh x p (kev (spurHalf sh x (solidAt sh x))) g refl (kev-accepted (marked g) kev-half kev-next) .0
 
   pub kev-goes-on : Goes sh x (linksAfter sh x (kev (spurHalf sh x (solidAt sh x)))) (spurHalf sh x (solidAt sh x))
-  kev-goes-on = subst (λ l. Goes sh x l (spurHalf sh x (solidAt sh x))) is-list (kev-goes g kev-half kev-next)
+  kev-goes-on = kev-goes g kev-half kev-next
 
   loop-same : (i : ℕ) → HalfUsed sh (own sh (linksAfter sh x (kev (spurHalf sh x (solidAt sh x))))) i
       → own sh (linksAfter sh x (kev (spurHalf sh x (solidAt sh x)))) Loop i ≡ own sh x Loop i
-  loop-same = subst (λ l. (i : ℕ) → HalfUsed sh (own sh l) i → own sh l Loop i ≡ own sh x Loop i) is-list
-      (kev-loop g kev-half kev-next)
+  loop-same = kev-loop g kev-half kev-next
 
   outer-same : (n : ℕ) → In (sh .faces) n → own sh (linksAfter sh x (kev (spurHalf sh x (solidAt sh x)))) Outer n
       ≡ own sh x Outer n
-  outer-same = subst (λ l. (n : ℕ) → In (sh .faces) n → own sh l Outer n ≡ own sh x Outer n) is-list
-      (kev-outer g kev-half kev-next)
+  outer-same = kev-outer g kev-half kev-next
 
   face-same : (n : ℕ) → In (sh .loops) n → own sh (linksAfter sh x (kev (spurHalf sh x (solidAt sh x)))) Face n
       ≡ own sh x Face n
-  face-same = subst (λ l. (n : ℕ) → In (sh .loops) n → own sh l Face n ≡ own sh x Face n) is-list
-      (kev-law g kev-half kev-next .face)
+  face-same = kev-law g kev-half kev-next .face
 
   -- none of a ring has its mate in another loop afterwards, as none had
   pub kev-ring : (i : ℕ) → In (2 * sh .edges) i → inRing sh x (solidAt sh x) i ≡ false
@@ -169,8 +163,7 @@ module _ {sh : Shape} {x : List ℕ} {p : List ℤ} (g : Good sh x p) (ready : R
   pub kemr-goes-on : Goes sh x (linksAfter sh x (kemr (crossedHalf sh x (solidAt sh x)) (freeLoop sh x)))
       (crossedHalf sh x (solidAt sh x))
   kemr-goes-on = let o = span g ready sn one left none no-spur in
-      subst (λ l. Goes sh x l (crossedHalf sh x (solidAt sh x))) (sym (kemr-links sh x (g .capacities) o))
-      (kemr-goes g o)
+      kemr-goes g o
 
 -- ---- mfkrh and kef
 

@@ -7,6 +7,7 @@ use Rattle.script.specs.EntryTrips.{write-read, read-write, script-copied, scri
 use Rattle.script.specs.Scripts.{operator-shortest}
 use Rattle.script.specs.Unread.{refused-3, cut-refused}
 use Rattle.table.specs.declared.check.CheckAnswer.{CheckAnswer}
+use Rattle.sound_tables.specs.Good.{marked}
 use Rattle.sound_tables.specs.ClearSound.{clear-valid}
 use Rattle.sound_cuts.specs.KefAmid.{kef-in-place}
 use Rattle.sound_operators.specs.Theorems.{valid-kept, inverse-exact}
@@ -115,7 +116,7 @@ requested = record {
   obj-ends = obj-ends;
   solid-refused = λ x p h. solid-refused x p (checked-valid x p h);
   obj-reads = obj-reads;
-  kef-in-place = λ x p h k. kef-in-place (checked-good x p h) k;
+  kef-in-place = λ x p h k. kef-in-place (marked (checked-good x p h)) k;
   move-carried = move-carried;
   redo-emptied = redo-emptied;
   starts-answered = starts-answered;

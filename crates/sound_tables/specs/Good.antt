@@ -51,7 +51,7 @@ pub record Good (sh : Shape) (x : List ℕ) (p : List ℤ) : Type 0 where
   pub valent : Valent sh x
 
 -- without its words
-pub marked : {sh : Shape} {x : List ℕ} {p : List ℤ} → Good sh x p → Marked sh x p
+abbrev pub marked : {sh : Shape} {x : List ℕ} {p : List ℤ} → Good sh x p → Marked sh x p
 marked g = record {
   shape = g .shape;
   capacities = g .capacities;

@@ -9,12 +9,12 @@ use native.Mathlib.Omega.{arith}
 use lib.Dec.{eqb, lit≤}
 use lib.IntN.{ℤ}
 use lib.ListN.{length}
-use Rattle.laws.specs.Bools.{split, eqb-same, eqb-other}
+use Rattle.laws.specs.Bools.{split, ask, eqb-other}
 use Rattle.laws.specs.Sums.{bit, bit-le, countTo, count-le}
 use Rattle.script.specs.declared.Operator.{Operator}
 use Rattle.codec.specs.Operands.{oldHalf, newLoop, coordinate, pattern, rows}
 use Rattle.layout.specs.declared.shape.Shape.{Shape}
-use Rattle.layout.specs.Fields.{Isolated, Start, VertexUsed, Columns}
+use Rattle.layout.specs.Fields.{Isolated, Start, VertexUsed, Columns, sameField, same-field}
 use Rattle.check_items.specs.Rules.{startsAt}
 use Rattle.euler.specs.declared.records.Two.{Two}
 use Rattle.euler.specs.Valence.{none, leaveOf, comeOf, lessAt, moreAt, lessStarts, moreStarts}
@@ -22,6 +22,8 @@ use Rattle.euler.specs.Inverses.{inverse-eight}
 use Rattle.euler.specs.Surgery.{itemOf}
 use Rattle.euler.specs.Exec.{limits, refusalOf, marksAfter, linksAfter, killedVertex, pointsAfter, inverse}
 use Rattle.sound_tables.specs.Sound.{In, SameElse, SameUsed, VertexSound, alone, joined, Sound}
+use Rattle.sound_tables.specs.Cells.{Shows}
+use Rattle.sound_tables.specs.WriteLaws.{withColumn, column-off}
 use Rattle.sound_tables.specs.Labels.{many-none}
 use Rattle.sound_tables.specs.Names.{start-unnamed, isolated-unnamed}
 use Rattle.sound_tables.specs.Accepted.{by-thirteen}
@@ -317,6 +319,29 @@ module _ {sh : Shape} {x : List ℕ} {p : List ℤ} (o : Operator) (g : Good sh 
       omega (arith, s, e .1, more .word w i, z, l, B′ .starts w (i .0)))
       (λ e. absurd (d (more .word w i ∙ omega (arith, e, free-come w (i .0) e)))))
       (B′ .mark w i)
+
+  -- but for words the links are what the steps leave
+  pub links-else : SameElse sh (own sh (marksAfter sh x o)) (own sh (linksAfter sh x o))
+  links-else F t k i = more .else F t k i ∙ aside F t k i
+
+  -- and the same vertices are in use
+  pub links-used : (w : ℕ) → In (sh .vertices) w → (own sh (linksAfter sh x o) VertexUsed w ≡ 0
+      → own sh (marksAfter sh x o) VertexUsed w ≡ 0)
+      × (own sh (marksAfter sh x o) VertexUsed w ≡ 0 → own sh (linksAfter sh x o) VertexUsed w ≡ 0)
+  links-used w i =
+      (λ z. free-n w i (used-more w (i .1) .0 z), λ z. used-more w (i .1) .1 (free-m w i z))
+
+  -- what shows the one shows the other, but for words
+  pub links-shown : {d : Columns} → Shows sh (marksAfter sh x o) d
+      → Shows sh (linksAfter sh x o) (withColumn d VertexUsed (own sh (linksAfter sh x o) VertexUsed))
+  links-shown {d} s = record {
+    fit = more .fit;
+    at = λ G k i. ⊎-elim
+        (λ t. subst (λ G. own sh y G k ≡ withColumn d VertexUsed (own sh y VertexUsed) G k) (same-field VertexUsed G t)
+        refl)
+        (λ t. links-else G t k i ∙ s .at G k i ∙ sym (column-off d VertexUsed (own sh y VertexUsed) G t k))
+        (ask (sameField VertexUsed G));
+  }
 
   -- the table stays good
   pub good-kept : Good sh (linksAfter sh x o) (pointsAfter sh x p o)
