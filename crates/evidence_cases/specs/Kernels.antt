@@ -114,7 +114,7 @@ differ i e a b = let z : _≡_ {A = ℕ} 0 1 = sym a ∙ ap (λ l. getD l i 0) e
 
 -- ---- run
 
--- place 5 is the solid's word, place 33 that of the second vertex
+-- place 5 is the solid's word, place 16 the start of the first half-edge
 module _ (k : Runner) (m : Runs k) where
   -- what the kernel leaves of what an editor lends
   ranBy : (t : Editing) (s : List ℕ) → runBy k t s ≡ runIn t s
@@ -127,7 +127,7 @@ module _ (k : Runner) (m : Runs k) where
   -- the first operator performed, the others merely counted
   pub not-first-alone : ((t : Editing) (s : List ℕ)
       → runBy k t s .links ≡ stepOf (shapeOf (t .links)) (logState t) s 0 .state .links) → ⊥
-  not-first-alone h = differ 33
+  not-first-alone h = differ 16
       (sym (h empty scriptBC ∙ made .5) ∙ ap (λ r. r .links) (ranBy empty scriptBC) ∙ made .4) refl refl
 
   -- an invented done count: one that the script alone tells
