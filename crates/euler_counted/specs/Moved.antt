@@ -85,8 +85,8 @@ module _ (sh : Shape) (x : List ℕ) (code : ℕ) (args : List ℤ) (s : ℕ) (e
   pub killed-links : (r : List ℕ) → r ≡ solidKilled sh x s → r ≡ linksAfter sh x (operatorBy code args)
   killed-links r h =
       let o = operatorBy code args in
-      links-steps sh x o (sym (less-kept sh x o 2 e refl)) (marks-kvsf sh x code args s r e a h)
-      (sym (more-kept sh r o 2 e refl))
+      links-steps sh x o (sym (more-kept sh r o 2 e refl)) (sym (less-kept sh x o 2 e refl r))
+      (marks-kvsf sh x code args s r e a h)
 
   pub killed-counts : (c d : List ℕ) → d ≡ solidUncounted sh x c s → d ≡ countsAfter sh x c (operatorBy code args)
   unfolding countsAfter

@@ -13,11 +13,11 @@ module _ (sh : Shape) (x : List ℕ) (o : Operator) where
   unfolding linksAfter marksAfter lessStarts moreStarts
   links-performed y e = e
 
-  -- step by step: words down, links, words up
-  pub links-steps : {y z r : List ℕ} → y ≡ lessStarts sh x o → z ≡ marksAfter sh y o → r ≡ moreStarts sh z o
+  -- step by step from the last: words up, words down, links
+  pub links-steps : {r z y : List ℕ} → r ≡ moreStarts sh o z → z ≡ lessStarts sh x o y → y ≡ marksAfter sh x o
       → r ≡ linksAfter sh x o
   unfolding linksAfter
-  links-steps ey ez er = rw (er, ez, ey)
+  links-steps er ez ey = rw (er, ez, ey)
 
   pub points-performed : (p q : List ℤ) → q ≡ pointsAfter sh x p (operatorBy (o .code) (o .args))
       → q ≡ pointsAfter sh x p o

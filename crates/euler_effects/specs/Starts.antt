@@ -1,5 +1,5 @@
--- The ways out of the functions that keep the vertex words, one law each; and the words by code, at a code that is
--- known and at one where no half-edge leaves or comes.
+-- The ways out of the functions that keep the vertex words, one law each; and where half-edges leave and come by code,
+-- at a code that is known and at one where none does.
 use mathlib.Core.Path.{_≡_, refl, sym, ap, _∙_}
 use mathlib.Core.List.{List}
 use Prim.Native.Nat.{ℕ, zero, suc, _+_, _-_, _≤_, _<_}
@@ -9,15 +9,16 @@ use lib.ListN.{getD}
 use lib.Seq.{set-getD}
 use borrow.Author.Tests.{lt-ltb, le-ltb}
 use Rattle.laws.specs.Bools.{split}
+use Rattle.script.specs.declared.Operator.{Operator}
 use Rattle.layout.specs.declared.shape.Shape.{Shape}
 use Rattle.layout.specs.Layout.{startOf, nextOf, vertexUsed, setVertexUsed}
 use Rattle.layout.specs.Mate.{mate}
-use Rattle.euler.specs.ByCode.{by-none}
+use Rattle.euler.specs.ByCode.{by-code, by-none}
 use Rattle.euler.specs.Surgery.{itemIn, halfBy}
 use Rattle.euler.specs.Exec.{operatorBy}
 use Rattle.euler.specs.declared.records.Two.{Two}
-use Rattle.euler.specs.Valence.{oneLess, oneMore, two, none, ends, leaveBy, comeBy, lessAt, moreAt, lessStarts}
-use Rattle.euler.specs.Valence.{moreStarts}
+use Rattle.euler.specs.Valence.{oneLess, oneMore, two, none, ends, leaveBy, comeBy, leaveOf, comeOf, lessAt, moreAt}
+use Rattle.euler.specs.Valence.{lessStarts, moreStarts}
 
 -- ---- one word, n at vertex v
 
@@ -43,54 +44,48 @@ module _ (sh : Shape) (x : List ℕ) (v n : ℕ) (e : n ≡ vertexUsed sh x v) w
 
 -- ---- two words
 
-module _ (sh : Shape) (x : List ℕ) (u v : ℕ) {y r : List ℕ} where
-  pub less-both : y ≡ oneLess sh x u → r ≡ oneLess sh y v → r ≡ lessAt sh x (two u v)
+-- both are numbers that a word holds
+abbrev pub Words : Two → Type 0
+Words t = (t .one ≤ 65535) × (t .other ≤ 65535)
+
+module _ (sh : Shape) (x : List ℕ) (t : Two) {y r : List ℕ} where
+  pub less-both : y ≡ oneLess sh x (t .one) → r ≡ oneLess sh y (t .other) → r ≡ lessAt sh x t
   less-both ey er = rw (er, ey)
 
-  pub more-both : y ≡ oneMore sh x u → r ≡ oneMore sh y v → r ≡ moreAt sh x (two u v)
+  pub more-both : y ≡ oneMore sh x (t .one) → r ≡ oneMore sh y (t .other) → r ≡ moreAt sh x t
   more-both ey er = rw (er, ey)
 
 -- the vertex between k and the half-edge after it
 abbrev pub between : Shape → List ℕ → ℕ → Two
 between sh x k = two (startOf sh x (nextOf sh x k)) (startOf sh x (nextOf sh x k))
 
--- the vertices read before
-module _ (sh : Shape) (x : List ℕ) (k : ℕ) {u v m : ℕ} {r : List ℕ} where
-  pub less-ends : u ≡ startOf sh x k → m ≡ mate k → v ≡ startOf sh x m → r ≡ lessAt sh x (two u v)
-      → r ≡ lessAt sh x (ends sh x k)
-  less-ends eu em ev er = rw (er, ev, em, eu)
+pub ends-read : (sh : Shape) (x : List ℕ) (k : ℕ) {u m v : ℕ} → u ≡ startOf sh x k → m ≡ mate k → v ≡ startOf sh x m
+    → two u v ≡ ends sh x k
+ends-read sh x k eu em ev = rw (ev, em, eu)
 
-  pub more-ends : u ≡ startOf sh x k → m ≡ mate k → v ≡ startOf sh x m → r ≡ moreAt sh x (two u v)
-      → r ≡ moreAt sh x (ends sh x k)
-  more-ends eu em ev er = rw (er, ev, em, eu)
-
-pub less-between : (sh : Shape) (x : List ℕ) (k : ℕ) {n v : ℕ} {r : List ℕ} → n ≡ nextOf sh x k → v ≡ startOf sh x n
-    → r ≡ lessAt sh x (two v v) → r ≡ lessAt sh x (between sh x k)
-less-between sh x k en ev er = rw (er, ev, en)
+pub between-read : (sh : Shape) (x : List ℕ) (k : ℕ) {n v : ℕ} → n ≡ nextOf sh x k → v ≡ startOf sh x n
+    → two v v ≡ between sh x k
+between-read sh x k en ev = rw (ev, en)
 
 -- ---- by code
 
 module _ (sh : Shape) (x : List ℕ) (code : ℕ) (args : List ℤ) where
-  -- one less at the two that leave with code k
-  less-at : (k : ℕ) (t : Two) {r : List ℕ} → code ≡ k → r ≡ lessAt sh x t
-      → t ≡ getD (leaveBy sh x (itemIn args)) k none → r ≡ lessStarts sh x (operatorBy code args)
-  unfolding lessStarts
-  less-at k t e g z = rw (e, ← z) g
+  leave-at : (k : ℕ) {t : Two} → code ≡ k → t ≡ getD (leaveBy sh x (itemIn args)) k none
+      → t ≡ leaveOf sh x (operatorBy code args)
+  leave-at k e g = by-code (leaveBy sh x (itemIn args)) none code k _ _ e refl g
 
   -- kev, kef and kemr: the ends of the edge that operand 0 names
-  pub less-killed : (k : ℕ) {a : ℕ} {r : List ℕ} → code ≡ k → a ≡ itemIn args 0 → r ≡ lessAt sh x (ends sh x a)
-      → ends sh x (itemIn args 0) ≡ getD (leaveBy sh x (itemIn args)) k none
-      → r ≡ lessStarts sh x (operatorBy code args)
-  less-killed k e h g z = less-at k _ e (g ∙ ap (λ i. lessAt sh x (ends sh x i)) h) z
+  pub leave-killed : (k : ℕ) {a : ℕ} {t : Two} → code ≡ k → a ≡ itemIn args 0 → t ≡ ends sh x a
+      → ends sh x (itemIn args 0) ≡ getD (leaveBy sh x (itemIn args)) k none → t ≡ leaveOf sh x (operatorBy code args)
+  leave-killed k e h g z = leave-at k e (g ∙ ap (ends sh x) h ∙ z)
 
-  pub less-joined : {a : ℕ} {r : List ℕ} → code ≡ 12 → a ≡ itemIn args 0 → r ≡ lessAt sh x (between sh x a)
-      → r ≡ lessStarts sh x (operatorBy code args)
-  less-joined e h g = less-at 12 _ e (g ∙ ap (λ k. lessAt sh x (between sh x k)) h) refl
+  pub leave-joined : {a : ℕ} {t : Two} → code ≡ 12 → a ≡ itemIn args 0 → t ≡ between sh x a
+      → t ≡ leaveOf sh x (operatorBy code args)
+  leave-joined e h g = leave-at 12 e (g ∙ ap (between sh x) h)
 
-  pub less-kept-by : (code ≡ 4 → ⊥) → (code ≡ 6 → ⊥) → (code ≡ 7 → ⊥) → (code ≡ 12 → ⊥)
-      → x ≡ lessStarts sh x (operatorBy code args)
-  unfolding lessStarts
-  less-kept-by d4 d6 d7 d12 =
+  pub leave-none : (code ≡ 4 → ⊥) → (code ≡ 6 → ⊥) → (code ≡ 7 → ⊥) → (code ≡ 12 → ⊥)
+      → none ≡ leaveOf sh x (operatorBy code args)
+  leave-none d4 d6 d7 d12 =
       split code 1 (λ e. rw e) (λ d1.
       split code 2 (λ e. rw e) (λ d2.
       split code 3 (λ e. rw e) (λ d3.
@@ -100,30 +95,26 @@ module _ (sh : Shape) (x : List ℕ) (code : ℕ) (args : List ℤ) where
       split code 10 (λ e. rw e) (λ d10.
       split code 11 (λ e. rw e) (λ d11.
       split code 13 (λ e. rw e) (λ d13.
-      ap (lessAt sh x) (by-none (leaveBy sh x (itemIn args)) none code refl refl
-      (((((((((((((tt, d1), d2), d3), d4), d5), d6), d7), d8), d9), d10), d11), d12), d13)))))))))))
+      by-none (leaveBy sh x (itemIn args)) none code refl refl
+      (((((((((((((tt, d1), d2), d3), d4), d5), d6), d7), d8), d9), d10), d11), d12), d13))))))))))
 
-  -- one more at the two that come with code k
-  more-at : (k : ℕ) (t : Two) {r : List ℕ} → code ≡ k → r ≡ moreAt sh x t
-      → t ≡ getD (comeBy sh x (itemIn args)) k none → r ≡ moreStarts sh x (operatorBy code args)
-  unfolding moreStarts
-  more-at k t e g z = rw (e, ← z) g
+  come-at : (k : ℕ) {t : Two} → code ≡ k → t ≡ getD (comeBy sh x (itemIn args)) k none
+      → t ≡ comeOf sh x (operatorBy code args)
+  come-at k e g = by-code (comeBy sh x (itemIn args)) none code k _ _ e refl g
 
   -- mev, mef and mekr: the ends of the edge that operand i names by the way of operand j
-  pub more-made : (k i j : ℕ) {a b h : ℕ} {r : List ℕ} → code ≡ k → a ≡ itemIn args i → b ≡ itemIn args j
-      → h ≡ halfBy a b → r ≡ moreAt sh x (ends sh x h)
+  pub come-made : (k i j : ℕ) {a b h : ℕ} {t : Two} → code ≡ k → a ≡ itemIn args i → b ≡ itemIn args j
+      → h ≡ halfBy a b → t ≡ ends sh x h
       → ends sh x (halfBy (itemIn args i) (itemIn args j)) ≡ getD (comeBy sh x (itemIn args)) k none
-      → r ≡ moreStarts sh x (operatorBy code args)
-  more-made k i j e ea eb eh g z = more-at k _ e (rw (← ea, ← eb, ← eh) g) z
+      → t ≡ comeOf sh x (operatorBy code args)
+  come-made k i j e ea eb eh g z = come-at k e (rw (g, eh, ea, eb) z)
 
-  pub more-divided : {a : ℕ} {r : List ℕ} → code ≡ 11 → a ≡ itemIn args 2 → r ≡ moreAt sh x (two a a)
-      → r ≡ moreStarts sh x (operatorBy code args)
-  more-divided e h g = more-at 11 _ e (g ∙ ap (λ v. moreAt sh x (two v v)) h) refl
+  pub come-divided : {a : ℕ} → code ≡ 11 → a ≡ itemIn args 2 → two a a ≡ comeOf sh x (operatorBy code args)
+  come-divided e h = come-at 11 e (ap (λ v. two v v) h)
 
-  pub more-kept-by : (code ≡ 3 → ⊥) → (code ≡ 5 → ⊥) → (code ≡ 8 → ⊥) → (code ≡ 11 → ⊥)
-      → x ≡ moreStarts sh x (operatorBy code args)
-  unfolding moreStarts
-  more-kept-by d3 d5 d8 d11 =
+  pub come-none : (code ≡ 3 → ⊥) → (code ≡ 5 → ⊥) → (code ≡ 8 → ⊥) → (code ≡ 11 → ⊥)
+      → none ≡ comeOf sh x (operatorBy code args)
+  come-none d3 d5 d8 d11 =
       split code 1 (λ e. rw e) (λ d1.
       split code 2 (λ e. rw e) (λ d2.
       split code 4 (λ e. rw e) (λ d4.
@@ -133,5 +124,15 @@ module _ (sh : Shape) (x : List ℕ) (code : ℕ) (args : List ℤ) where
       split code 10 (λ e. rw e) (λ d10.
       split code 12 (λ e. rw e) (λ d12.
       split code 13 (λ e. rw e) (λ d13.
-      ap (moreAt sh x) (by-none (comeBy sh x (itemIn args)) none code refl refl
-      (((((((((((((tt, d1), d2), d3), d4), d5), d6), d7), d8), d9), d10), d11), d12), d13)))))))))))
+      by-none (comeBy sh x (itemIn args)) none code refl refl
+      (((((((((((((tt, d1), d2), d3), d4), d5), d6), d7), d8), d9), d10), d11), d12), d13))))))))))
+
+-- the two read before: those that o leaves in x, before its steps made y, and those where half-edges come in y
+module _ (sh : Shape) (o : Operator) (y : List ℕ) {t : Two} {r : List ℕ} where
+  pub less-read : (x : List ℕ) → r ≡ lessAt sh y t → t ≡ leaveOf sh x o → r ≡ lessStarts sh x o y
+  unfolding lessStarts
+  less-read x g e = g ∙ ap (lessAt sh y) e
+
+  pub more-read : r ≡ moreAt sh y t → t ≡ comeOf sh y o → r ≡ moreStarts sh o y
+  unfolding moreStarts
+  more-read g e = g ∙ ap (moreAt sh y) e

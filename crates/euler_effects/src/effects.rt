@@ -10,7 +10,8 @@ ghost use Rattle.euler.specs.Exec.{operatorBy, marksAfter, linksAfter, pointsAf
 ghost use Rattle.layout.specs.Small.{Small};
 ghost use Rattle.layout.specs.Items.{faceIn};
 ghost use Rattle.euler_effects.specs.Chosen.{linksAt};
-use crate::valence::lower_starts;
+use crate::valence::leaving;
+use crate::valence::lower_both;
 use crate::valence::raise_starts;
 use euler::records::half_by;
 use euler::records::item_at;
@@ -157,11 +158,11 @@ pub fn perform(links: &mut [u16], points: &mut [i32], sh: Shape, code: u8, args:
         × (now (points .exit)
         ≡ pointsAfter sh (now (links .entry)) (now (points .entry)) (operatorBy code (now (args .entry)))) ⌝ }
 {
-    // the killed vertex is found before links change
+    // what goes is found before links change: the killed vertex, and where half-edges leave
     let v = killed_vertex(links, sh, code, args);
-    // ends are read while their edge stands: an edge that goes is read first, one that comes last
-    lower_starts(links, sh, code, args);
+    let t = leaving(links, sh, code, args);
     apply_links(links, sh, code, args);
     apply_points(points, code, args, v);
+    lower_both(links, sh, t);
     raise_starts(links, sh, code, args);
 }

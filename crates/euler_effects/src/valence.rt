@@ -1,10 +1,11 @@
-// The vertex words under an operator: one less where a half-edge leaves, one more where one has come. At most two words
-// change, by number, so the cost does not depend on the table.
+// The vertex words behind an operator's other steps: one less where a half-edge has left, one more where one has come.
+// At most two words change, by number, so the cost does not depend on the table.
 ghost use mathlib.Core.Path.{_≡_};
 ghost use Prim.Native.Nat.{ℕ, _≤_};
 ghost use Rattle.euler.specs.Exec.{operatorBy};
-ghost use Rattle.euler.specs.Valence.{oneLess, oneMore, two, ends, lessAt, moreAt, lessStarts, moreStarts};
-ghost use Rattle.euler_effects.specs.Starts.{between};
+ghost use Rattle.euler.specs.Valence.{oneLess, oneMore, ends, leaveOf, comeOf, lessAt, moreAt, moreStarts};
+ghost use Rattle.euler_effects.specs.Starts.{Words, between};
+use euler::records::Two;
 use euler::records::half_by;
 use euler::records::item_at;
 use layout::columns::next_of;
@@ -36,81 +37,80 @@ fn raise_word(links: &mut [u16], sh: Shape, v: usize)
     }
 }
 
-// One less at u and at v, two where they are one vertex.
-fn lower_both(links: &mut [u16], sh: Shape, u: usize, v: usize)
-    requires { ⌜ (u ≤ 65536) × (v ≤ 65536) ⌝ }
-    ensures { λ _. ⌜ now (links .exit) ≡ lessAt sh (now (links .entry)) (two u v) ⌝ }
+// One less at each of the two, two where they are one vertex.
+pub fn lower_both(links: &mut [u16], sh: Shape, t: Two)
+    requires { ⌜ Words t ⌝ }
+    ensures { λ _. ⌜ now (links .exit) ≡ lessAt sh (now (links .entry)) t ⌝ }
 {
-    lower_word(links, sh, u);
-    lower_word(links, sh, v);
+    lower_word(links, sh, t.one);
+    lower_word(links, sh, t.other);
 }
 
-// One more at u and at v, two where they are one vertex.
-fn raise_both(links: &mut [u16], sh: Shape, u: usize, v: usize)
-    requires { ⌜ (u ≤ 65536) × (v ≤ 65536) ⌝ }
-    ensures { λ _. ⌜ now (links .exit) ≡ moreAt sh (now (links .entry)) (two u v) ⌝ }
+// One more at each of the two, two where they are one vertex.
+fn raise_both(links: &mut [u16], sh: Shape, t: Two)
+    requires { ⌜ Words t ⌝ }
+    ensures { λ _. ⌜ now (links .exit) ≡ moreAt sh (now (links .entry)) t ⌝ }
 {
-    raise_word(links, sh, u);
-    raise_word(links, sh, v);
+    raise_word(links, sh, t.one);
+    raise_word(links, sh, t.other);
 }
 
-// One less at both ends of k's edge.
-fn lower_ends(links: &mut [u16], sh: Shape, k: usize)
+// Both ends of k's edge.
+fn ends_of(links: &[u16], sh: Shape, k: usize) -> Two
     requires { ⌜ k ≤ 65535 ⌝ }
-    ensures { λ _. ⌜ now (links .exit) ≡ lessAt sh (now (links .entry)) (ends sh (now (links .entry)) k) ⌝ }
+    ensures { λ r. ⌜ (r ≡ ends sh (now (links .entry)) k) × (Words r) ⌝ }
 {
-    let u = start_of(links, sh, k);
-    let v = start_of(links, sh, mate_of(k));
-    lower_both(links, sh, u, v);
+    let one = start_of(links, sh, k);
+    let other = start_of(links, sh, mate_of(k));
+    Two { one, other }
 }
 
-// One more at both ends of k's edge.
-fn raise_ends(links: &mut [u16], sh: Shape, k: usize)
+// The vertex between k and the half-edge after it, as both.
+fn between_of(links: &[u16], sh: Shape, k: usize) -> Two
     requires { ⌜ k ≤ 65535 ⌝ }
-    ensures { λ _. ⌜ now (links .exit) ≡ moreAt sh (now (links .entry)) (ends sh (now (links .entry)) k) ⌝ }
-{
-    let u = start_of(links, sh, k);
-    let v = start_of(links, sh, mate_of(k));
-    raise_both(links, sh, u, v);
-}
-
-// Two less at the vertex between k and the half-edge after it.
-fn lower_between(links: &mut [u16], sh: Shape, k: usize)
-    requires { ⌜ k ≤ 65535 ⌝ }
-    ensures { λ _. ⌜ now (links .exit) ≡ lessAt sh (now (links .entry)) (between sh (now (links .entry)) k) ⌝ }
+    ensures { λ r. ⌜ (r ≡ between sh (now (links .entry)) k) × (Words r) ⌝ }
 {
     let n = next_of(links, sh, k);
     let v = start_of(links, sh, n);
-    lower_both(links, sh, v, v);
+    Two { one: v, other: v }
 }
 
-// One less where half-edges leave: kev, kef and kemr kill an edge, jekv a vertex between two.
-pub fn lower_starts(links: &mut [u16], sh: Shape, code: u8, args: &[i32; 8])
-    ensures { λ _. ⌜ now (links .exit)
-        ≡ lessStarts sh (now (links .entry)) (operatorBy code (now (args .entry))) ⌝ }
+// Where half-edges leave, read while they stand: kev, kef and kemr kill an edge, jekv a vertex between two.
+pub fn leaving(links: &[u16], sh: Shape, code: u8, args: &[i32; 8]) -> Two
+    ensures { λ r. ⌜
+        (r ≡ leaveOf sh (now (links .entry)) (operatorBy code (now (args .entry)))) × (Words r) ⌝ }
 {
     match code {
-        4 => lower_ends(links, sh, item_at(args, 0)),
-        6 => lower_ends(links, sh, item_at(args, 0)),
-        7 => lower_ends(links, sh, item_at(args, 0)),
-        12 => lower_between(links, sh, item_at(args, 0)),
-        _ => {}
+        4 => ends_of(links, sh, item_at(args, 0)),
+        6 => ends_of(links, sh, item_at(args, 0)),
+        7 => ends_of(links, sh, item_at(args, 0)),
+        12 => between_of(links, sh, item_at(args, 0)),
+        _ => Two { one: 0, other: 0 },
     }
 }
 
-// One more where half-edges have come: mev, mef and mekr make an edge, semv a vertex between two.
-pub fn raise_starts(links: &mut [u16], sh: Shape, code: u8, args: &[i32; 8])
-    ensures { λ _. ⌜ now (links .exit)
-        ≡ moreStarts sh (now (links .entry)) (operatorBy code (now (args .entry))) ⌝ }
+// Where half-edges have come: mev, mef and mekr make an edge, semv a vertex between two.
+fn coming(links: &[u16], sh: Shape, code: u8, args: &[i32; 8]) -> Two
+    ensures { λ r. ⌜
+        (r ≡ comeOf sh (now (links .entry)) (operatorBy code (now (args .entry)))) × (Words r) ⌝ }
 {
     match code {
-        3 => raise_ends(links, sh, half_by(item_at(args, 2), item_at(args, 4))),
-        5 => raise_ends(links, sh, half_by(item_at(args, 3), item_at(args, 6))),
-        8 => raise_ends(links, sh, half_by(item_at(args, 4), item_at(args, 5))),
+        3 => ends_of(links, sh, half_by(item_at(args, 2), item_at(args, 4))),
+        5 => ends_of(links, sh, half_by(item_at(args, 3), item_at(args, 6))),
+        8 => ends_of(links, sh, half_by(item_at(args, 4), item_at(args, 5))),
         11 => {
             let v = item_at(args, 2);
-            raise_both(links, sh, v, v);
+            Two { one: v, other: v }
         }
-        _ => {}
+        _ => Two { one: 0, other: 0 },
     }
+}
+
+// One more where half-edges have come.
+pub fn raise_starts(links: &mut [u16], sh: Shape, code: u8, args: &[i32; 8])
+    ensures { λ _. ⌜ now (links .exit)
+        ≡ moreStarts sh (operatorBy code (now (args .entry))) (now (links .entry)) ⌝ }
+{
+    let t = coming(links, sh, code, args);
+    raise_both(links, sh, t);
 }

@@ -19,7 +19,7 @@ returns : tie.Need-returns
 returns c =
     let w = c .before .before .before .before .before .before in
     let a = w .before .before .before .args in
-    less-both (a .sh) (a .links .now) (a .u) (a .v) (w .lower-word .ensures) (c .before .before .lower-word2 .ensures)
+    less-both (a .sh) (a .links .now) (a .t) (w .lower-word .ensures) (c .before .before .lower-word2 .ensures)
 
 pub lower-both-spec : {M : Type 1} → statement M
 lower-both-spec =

@@ -19,7 +19,7 @@ returns : tie.Need-returns
 returns c =
     let w = c .before .before .before .before .before .before in
     let a = w .before .before .before .args in
-    more-both (a .sh) (a .links .now) (a .u) (a .v) (w .raise-word .ensures) (c .before .before .raise-word2 .ensures)
+    more-both (a .sh) (a .links .now) (a .t) (w .raise-word .ensures) (c .before .before .raise-word2 .ensures)
 
 pub raise-both-spec : {M : Type 1} → statement M
 raise-both-spec =
