@@ -1,3 +1,2 @@
 pub mod Chosen
-pub mod Starts
 pub mod Performed

@@ -1,3 +1,2 @@
 // One operator on a table: its effect on links and points.
 pub mod effects;
-pub mod valence;

@@ -1,5 +1,5 @@
 use Rattle.euler_points.specs.Chosen.{points-by}
-use Rattle.euler_effects.specs.Starts.{less-read}
+use Rattle.euler_valence.specs.Starts.{less-read}
 use Rattle.euler_effects.specs.Performed.{links-steps}
 use borrow.Author.Needs.{needs}
 use Rattle.euler_effects.proofs.effects.perform.Statement.{statement}
@@ -7,9 +7,9 @@ use Rattle.euler_effects.proofs.effects.perform.Tie as tie
 use Rattle.euler_effects.proofs.effects.perform.Reads as reads
 use Rattle.euler_effects.proofs.effects.perform.Lts as lts
 use Rattle.euler_effects.proofs.effects.apply_links.Reads as apply-links-reads
-use Rattle.euler_effects.proofs.valence.leaving.Reads as leaving-reads
-use Rattle.euler_effects.proofs.valence.lower_both.Reads as lower-both-reads
-use Rattle.euler_effects.proofs.valence.raise_starts.Reads as raise-starts-reads
+use Rattle.euler_valence.proofs.valence.leaving.Reads as leaving-reads
+use Rattle.euler_valence.proofs.valence.lower_both.Reads as lower-both-reads
+use Rattle.euler_valence.proofs.valence.raise_starts.Reads as raise-starts-reads
 use Rattle.euler_points.proofs.points.apply_points.Reads as apply-points-reads
 use Rattle.euler_points.proofs.points.killed_vertex.Reads as killed-vertex-reads
 

@@ -1,10 +1,10 @@
-use Rattle.euler_effects.specs.Starts.{more-both}
+use Rattle.euler_valence.specs.Starts.{more-both}
 use borrow.Author.Needs.{needs}
-use Rattle.euler_effects.proofs.valence.raise_both.Statement.{statement}
-use Rattle.euler_effects.proofs.valence.raise_both.Tie as tie
-use Rattle.euler_effects.proofs.valence.raise_both.Reads as reads
-use Rattle.euler_effects.proofs.valence.raise_both.Lts as lts
-use Rattle.euler_effects.proofs.valence.raise_word.Reads as raise-word-reads
+use Rattle.euler_valence.proofs.valence.raise_both.Statement.{statement}
+use Rattle.euler_valence.proofs.valence.raise_both.Tie as tie
+use Rattle.euler_valence.proofs.valence.raise_both.Reads as reads
+use Rattle.euler_valence.proofs.valence.raise_both.Lts as lts
+use Rattle.euler_valence.proofs.valence.raise_word.Reads as raise-word-reads
 
 raise-word-requires : tie.Need-raise-word-requires
 raise-word-requires c κs = search needs

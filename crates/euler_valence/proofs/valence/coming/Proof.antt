@@ -1,14 +1,14 @@
 use mathlib.Core.Path.{refl}
 use native.Mathlib.Omega.{arith}
-use Rattle.euler_effects.specs.Starts.{come-made, come-divided, come-none}
+use Rattle.euler_valence.specs.Starts.{come-made, come-divided, come-none}
 use borrow.Author.Needs.{needs}
-use Rattle.euler_effects.proofs.valence.coming.Statement.{statement}
-use Rattle.euler_effects.proofs.valence.coming.Tie as tie
-use Rattle.euler_effects.proofs.valence.coming.Reads as reads
-use Rattle.euler_effects.proofs.valence.coming.Lts as lts
+use Rattle.euler_valence.proofs.valence.coming.Statement.{statement}
+use Rattle.euler_valence.proofs.valence.coming.Tie as tie
+use Rattle.euler_valence.proofs.valence.coming.Reads as reads
+use Rattle.euler_valence.proofs.valence.coming.Lts as lts
 use Rattle.euler.proofs.records.half_by.Reads as half-by-reads
 use Rattle.euler.proofs.records.item_at.Reads as item-at-reads
-use Rattle.euler_effects.proofs.valence.ends_of.Reads as ends-of-reads
+use Rattle.euler_valence.proofs.valence.ends_of.Reads as ends-of-reads
 
 item-at-requires : tie.Need-item-at-requires
 item-at-requires c κs = search needs

@@ -1,14 +1,14 @@
 use mathlib.Core.Path.{refl}
 use native.Mathlib.Omega.{arith}
-use Rattle.euler_effects.specs.Starts.{leave-killed, leave-joined, leave-none}
+use Rattle.euler_valence.specs.Starts.{leave-killed, leave-joined, leave-none}
 use borrow.Author.Needs.{needs}
-use Rattle.euler_effects.proofs.valence.leaving.Statement.{statement}
-use Rattle.euler_effects.proofs.valence.leaving.Tie as tie
-use Rattle.euler_effects.proofs.valence.leaving.Reads as reads
-use Rattle.euler_effects.proofs.valence.leaving.Lts as lts
+use Rattle.euler_valence.proofs.valence.leaving.Statement.{statement}
+use Rattle.euler_valence.proofs.valence.leaving.Tie as tie
+use Rattle.euler_valence.proofs.valence.leaving.Reads as reads
+use Rattle.euler_valence.proofs.valence.leaving.Lts as lts
 use Rattle.euler.proofs.records.item_at.Reads as item-at-reads
-use Rattle.euler_effects.proofs.valence.between_of.Reads as between-of-reads
-use Rattle.euler_effects.proofs.valence.ends_of.Reads as ends-of-reads
+use Rattle.euler_valence.proofs.valence.between_of.Reads as between-of-reads
+use Rattle.euler_valence.proofs.valence.ends_of.Reads as ends-of-reads
 
 item-at-requires : tie.Need-item-at-requires
 item-at-requires c κs = search needs

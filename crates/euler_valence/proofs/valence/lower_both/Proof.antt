@@ -1,10 +1,10 @@
-use Rattle.euler_effects.specs.Starts.{less-both}
+use Rattle.euler_valence.specs.Starts.{less-both}
 use borrow.Author.Needs.{needs}
-use Rattle.euler_effects.proofs.valence.lower_both.Statement.{statement}
-use Rattle.euler_effects.proofs.valence.lower_both.Tie as tie
-use Rattle.euler_effects.proofs.valence.lower_both.Reads as reads
-use Rattle.euler_effects.proofs.valence.lower_both.Lts as lts
-use Rattle.euler_effects.proofs.valence.lower_word.Reads as lower-word-reads
+use Rattle.euler_valence.proofs.valence.lower_both.Statement.{statement}
+use Rattle.euler_valence.proofs.valence.lower_both.Tie as tie
+use Rattle.euler_valence.proofs.valence.lower_both.Reads as reads
+use Rattle.euler_valence.proofs.valence.lower_both.Lts as lts
+use Rattle.euler_valence.proofs.valence.lower_word.Reads as lower-word-reads
 
 lower-word-requires : tie.Need-lower-word-requires
 lower-word-requires c κs = search needs

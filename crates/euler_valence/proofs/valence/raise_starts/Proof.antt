@@ -1,11 +1,11 @@
-use Rattle.euler_effects.specs.Starts.{more-read}
+use Rattle.euler_valence.specs.Starts.{more-read}
 use borrow.Author.Needs.{needs}
-use Rattle.euler_effects.proofs.valence.raise_starts.Statement.{statement}
-use Rattle.euler_effects.proofs.valence.raise_starts.Tie as tie
-use Rattle.euler_effects.proofs.valence.raise_starts.Reads as reads
-use Rattle.euler_effects.proofs.valence.raise_starts.Lts as lts
-use Rattle.euler_effects.proofs.valence.coming.Reads as coming-reads
-use Rattle.euler_effects.proofs.valence.raise_both.Reads as raise-both-reads
+use Rattle.euler_valence.proofs.valence.raise_starts.Statement.{statement}
+use Rattle.euler_valence.proofs.valence.raise_starts.Tie as tie
+use Rattle.euler_valence.proofs.valence.raise_starts.Reads as reads
+use Rattle.euler_valence.proofs.valence.raise_starts.Lts as lts
+use Rattle.euler_valence.proofs.valence.coming.Reads as coming-reads
+use Rattle.euler_valence.proofs.valence.raise_both.Reads as raise-both-reads
 
 coming-requires : tie.Need-coming-requires
 coming-requires c κs = search needs

@@ -4,7 +4,7 @@ ghost use mathlib.Core.Path.{_≡_};
 ghost use Prim.Native.Nat.{ℕ, _≤_};
 ghost use Rattle.euler.specs.Exec.{operatorBy};
 ghost use Rattle.euler.specs.Valence.{oneLess, oneMore, ends, leaveOf, comeOf, lessAt, moreAt, moreStarts};
-ghost use Rattle.euler_effects.specs.Starts.{Words, between};
+ghost use Rattle.euler_valence.specs.Starts.{Words, between};
 use euler::records::Two;
 use euler::records::half_by;
 use euler::records::item_at;

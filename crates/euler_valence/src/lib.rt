@@ -1,0 +1,2 @@
+// The vertex words under an operator.
+pub mod valence;
