@@ -12,8 +12,8 @@ sys.path.insert(0, os.path.dirname(os.path.abspath(__file__)))
 
 # what kef alone does, and the vertex words, which it keeps as all operators do
 ROOTS = ["euler_cuts::mef_kef::kef_fits", "euler_cuts::mef_kef::kef_inverse", "euler_cuts::mef_kef::kef_links",
-         "euler_effects::valence::leaving", "euler_effects::valence::lower_both",
-         "euler_effects::valence::raise_starts"]
+         "euler_valence::valence::leaving", "euler_valence::valence::lower_both",
+         "euler_valence::valence::raise_starts"]
 OPERATOR = "script::Operator"
 PLAIN = {"bool", "u8", "u16", "u32", "u64", "usize", "i8", "i16", "i32", "i64", "isize"}
 KEYWORDS = {"if", "while", "match", "return", "in", "as", "mut", "let", "else", "loop", "for"}

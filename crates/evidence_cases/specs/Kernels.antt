@@ -102,10 +102,10 @@ unfolding sessionRun sessionUndo sessionRedo runOf moveOf partOf entry checkOf s
     loopEither halfLinks firstNames halfInLoop vertexEither halfAtVertex halfSides faceLinked allTo leastFrom sumTo
     meets linkedb rounds pass across mate within joins linkedBy third second first readNumber groups pattern rows
     inRanges inRange zig zag wire unwire readOperand readOperands readBehind readOperator operandBytes operandsBytes
-    operatorBytes operatorRefusal putBytes admitRead inverseBytes carryRefusal carryOf stepOf runRefusal stepped
-    runFrom admitOf useRefusals useRefusal useWord condition linksAfter marksAfter lessStarts moreStarts pointsAfter killedVertex inverse corner edgeIn
-    edgeOut relabel seek renew sweep mvsfLinks kvsfTest kvsfLinks mevLinks kevTest kevLinks mefTest mefLinks kefTest
-    kefLinks kfmrhTest kfmrhLinks linkedAfter mfkrhTest mfkrhLinks
+    operatorBytes operatorRefusal putBytes admitRead inverseBytes carryRefusal carryOf stepOf runRefusal stepped runFrom
+    admitOf useRefusals useRefusal useWord condition linksAfter marksAfter lessStarts moreStarts pointsAfter
+    killedVertex inverse corner edgeIn edgeOut relabel seek renew sweep mvsfLinks kvsfTest kvsfLinks mevLinks kevTest
+    kevLinks mefTest mefLinks kefTest kefLinks kfmrhTest kfmrhLinks linkedAfter mfkrhTest mfkrhLinks
 made = (refl, refl, refl, refl, refl, refl, refl, refl, refl, refl)
 
 -- two lists that differ at place i, 0 in one and 1 in the other, are not the same

@@ -65,10 +65,10 @@ bothWays (r ∷ rs) = r ∷ back r ∷ bothWays rs
 -- what the definition leaves for a row, by the shape that the first five words say
 unfoldable pub leaves : Row → Executed
 unfolding exec refusalOf admitOf rangeRefusal pattern rows inRanges inRange wire zig useRefusals useRefusal useWord
-    condition linksAfter marksAfter lessStarts moreStarts pointsAfter killedVertex inverse corner edgeIn edgeOut relabel seek renew mate sumTo leastFrom
-    sweep mvsfLinks kvsfTest kvsfLinks mevLinks kevTest kevLinks mefTest mefLinks kefTest kefLinks kemrTest kemrLinks
-    mekrTest mekrLinks kfmrhTest kfmrhLinks linkedAfter mfkrhTest mfkrhLinks semvLinks jekvTest jekvLinks rmovTest
-    rmovLinks within joins linkedBy across pass rounds linkedb
+    condition linksAfter marksAfter lessStarts moreStarts pointsAfter killedVertex inverse corner edgeIn edgeOut relabel
+    seek renew mate sumTo leastFrom sweep mvsfLinks kvsfTest kvsfLinks mevLinks kevTest kevLinks mefTest mefLinks
+    kefTest kefLinks kemrTest kemrLinks mekrTest mekrLinks kfmrhTest kfmrhLinks linkedAfter mfkrhTest mfkrhLinks
+    semvLinks jekvTest jekvLinks rmovTest rmovLinks within joins linkedBy across pass rounds linkedb
 leaves r = exec (shapeOf (r .before .links)) (r .operator) (r .before)
 
 -- what the definition leaves, row for row and both ways, is what the rows say

@@ -133,8 +133,8 @@ unfolding invertOf invertBy turned turnB moveRings makeOuter act crossed onRun e
     faceNames loopNames halfNames loopEither halfLinks firstNames halfInLoop vertexEither halfAtVertex halfSides
     faceLinked allTo anyTo leastFrom sumTo meets linkedb rounds pass across mate within joins linkedBy third second
     first readNumber groups pattern rows inRanges inRange zig zag wire unwire operandBytes operandsBytes operatorBytes
-    putBytes inverseBytes stepped linksAfter marksAfter lessStarts moreStarts pointsAfter killedVertex inverse corner edgeIn edgeOut relabel seek renew
-    sweep kvsfLinks kevLinks kefLinks kemrLinks mekrLinks mfkrhLinks rmovLinks
+    putBytes inverseBytes stepped linksAfter marksAfter lessStarts moreStarts pointsAfter killedVertex inverse corner
+    edgeIn edgeOut relabel seek renew sweep kvsfLinks kevLinks kefLinks kemrLinks mekrLinks mfkrhLinks rmovLinks
 rows-hold = refl
 
 -- the full one counted: one solid, face, loop and vertex, two edges, no ring, one hole

@@ -57,7 +57,8 @@ module _ {sh : Shape} {x : List ℕ} {p : List ℤ} (g : Good sh x p) {k : ℕ} 
         (own sh (linksAfter sh x (kev k)) VertexUsed))
     v = kev-shown g uk nk left
 
-    loop-at : (i : ℕ) → HalfUsed sh (own sh (linksAfter sh x (kev k))) i → own sh (linksAfter sh x (kev k)) Loop i ≡ own sh x Loop i
+    loop-at : (i : ℕ) → HalfUsed sh (own sh (linksAfter sh x (kev k))) i
+        → own sh (linksAfter sh x (kev k)) Loop i ≡ own sh x Loop i
     loop-at i w = let u = used i w in v .at Loop i (w .1) ∙ upd-off _ 0 (u .2) ∙ upd-off _ 0 (u .1)
 
     outer-at : (n : ℕ) → In (sh .faces) n → own sh (linksAfter sh x (kev k)) Outer n ≡ own sh x Outer n
@@ -96,7 +97,8 @@ module _ {sh : Shape} {x : List ℕ} {p : List ℤ} (g : Good sh x p) {k : ℕ} 
   kev-goes = split (own sh x Next (mate k)) k (λ e. goes-at {I = own sh x Start k} (inl (e, refl)))
       (λ d. goes-at {I = 0} (inr (d, refl)))
 
-  pub kev-loop : (i : ℕ) → HalfUsed sh (own sh (linksAfter sh x (kev k))) i → own sh (linksAfter sh x (kev k)) Loop i ≡ own sh x Loop i
+  pub kev-loop : (i : ℕ) → HalfUsed sh (own sh (linksAfter sh x (kev k))) i
+      → own sh (linksAfter sh x (kev k)) Loop i ≡ own sh x Loop i
   kev-loop = split (own sh x Next (mate k)) k (λ e. loop-at {I = own sh x Start k} (inl (e, refl)))
       (λ d. loop-at {I = 0} (inr (d, refl)))
 
@@ -107,7 +109,8 @@ module _ {sh : Shape} {x : List ℕ} {p : List ℤ} (g : Good sh x p) {k : ℕ} 
 -- ---- kemr
 
 module _ {sh : Shape} {x : List ℕ} {p : List ℤ} (g : Good sh x p) {k l2 : ℕ} (o : Span sh (own sh x) k l2) where
-  used₂ : (i : ℕ) → HalfUsed sh (own sh (linksAfter sh x (kemr k l2))) i → HalfUsed sh (own sh x) i × (i ≢ k) × (i ≢ mate k)
+  used₂ : (i : ℕ) → HalfUsed sh (own sh (linksAfter sh x (kemr k l2))) i
+      → HalfUsed sh (own sh x) i × (i ≢ k) × (i ≢ mate k)
   used₂ i w =
       let b = kemr-bridged g o in
       let v = kemr-shown g o in (

@@ -83,13 +83,15 @@ module _ {sh : Shape} {x : List ℕ} {p : List ℤ} (g : Good sh x p) {k l2 : �
 
   pub kemr-loops : suc (loops sh x) ≡ loops sh (linksAfter sh x (kemr k l2))
   kemr-loops = ap suc (loops-is sh x)
-      ∙ words-fewer (sh .loops) (own sh x Face) (own sh (linksAfter sh x (kemr k l2)) Face) l2 (o .ring-in) (o .free) (λ z.
+      ∙ words-fewer (sh .loops) (own sh x Face) (own sh (linksAfter sh x (kemr k l2)) Face) l2 (o .ring-in) (o .free)
+      (λ z.
       b .ends .used (sym (b .ends .one-face) ∙ sym (v .at Face l2 (o .ring-in .1)) ∙ z))
       (λ n i d. sym (face-same n i d))
       ∙ sym (loops-is sh _)
 
   -- a free half-edge stays free
-  pub start-kept : (i : ℕ) → In (2 * sh .edges) i → own sh x Start i ≡ 0 → own sh (linksAfter sh x (kemr k l2)) Start i ≡ 0
+  pub start-kept : (i : ℕ) → In (2 * sh .edges) i → own sh x Start i ≡ 0
+      → own sh (linksAfter sh x (kemr k l2)) Start i ≡ 0
   start-kept i j z =
       let um = g .sound .rules .mate-in k (o .half) in
       v .at Start i (j .1)

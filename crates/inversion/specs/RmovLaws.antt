@@ -29,12 +29,14 @@ rmov-links sh x l f = still-links sh x (rmov l f) 13 refl (λ y. refl) (λ y. re
 module _ {sh : Shape} {x : List ℕ} {p : List ℤ} (g : Good sh x p) {l f : ℕ} (r : Ring sh (own sh x) l f) where
   -- in its own face
   pub swap-shows : f ≡ own sh x Face l → Shows sh (linksAfter sh x (rmov l f)) (change (own sh x) Outer f l)
-  swap-shows e = subst (λ y. Shows sh y (change (own sh x) Outer f l)) (sym (rmov-links sh x l f ∙ swap-links sh x l f (g .capacities) r e))
+  swap-shows e = subst (λ y. Shows sh y (change (own sh x) Outer f l))
+      (sym (rmov-links sh x l f ∙ swap-links sh x l f (g .capacities) r e))
       (shows-put (good-shows g) Outer f l (r .face-in .0) (r .face-in .1))
 
   -- to another face
   pub move-shows : f ≢ own sh x Face l → Shows sh (linksAfter sh x (rmov l f)) (change (own sh x) Face l f)
-  move-shows d = subst (λ y. Shows sh y (change (own sh x) Face l f)) (sym (rmov-links sh x l f ∙ move-links sh x l f (g .capacities) r d))
+  move-shows d = subst (λ y. Shows sh y (change (own sh x) Face l f))
+      (sym (rmov-links sh x l f ∙ move-links sh x l f (g .capacities) r d))
       (shows-put (good-shows g) Face l f (r .loop-in .0) (r .loop-in .1))
 
 -- the table stays good

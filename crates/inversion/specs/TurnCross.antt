@@ -81,7 +81,8 @@ module _ {sh : Shape} {x : List ℕ} {p : List ℤ} (g : Good sh x p) (ready : R
   pub ring : RingAt sh (linksAfter sh x (kemr (crossedHalf sh x (solidAt sh x)) (freeLoop sh x)))
   ring =
       let e = solid-at-same sh x _ (mark-same g span) in
-      subst (λ s. (s ≢ 0) × (facesIn sh (linksAfter sh x (kemr (crossedHalf sh x (solidAt sh x)) (freeLoop sh x))) s ≡ 1)
+      subst (λ s. (s ≢ 0)
+      × (facesIn sh (linksAfter sh x (kemr (crossedHalf sh x (solidAt sh x)) (freeLoop sh x))) s ≡ 1)
       × (ringHalf sh (linksAfter sh x (kemr (crossedHalf sh x (solidAt sh x)) (freeLoop sh x))) s ≢ 0)) (sym e) (
         sn,
         faces-in-same sh x _ (solid-same g span) (solidAt sh x) ∙ one,

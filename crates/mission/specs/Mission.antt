@@ -31,11 +31,12 @@ use Rattle.script.specs.EntryTrips.{Copied, writtenAll}
 use Rattle.script.specs.Unread.{CutShort}
 use Rattle.script.specs.RoundTrip.{Writable}
 use Rattle.layout.specs.declared.shape.Shape.{Shape}
-use Rattle.layout.specs.Layout.{shapeOf}
+use Rattle.layout.specs.Layout.{shapeOf, vertexUsed, setVertexUsed}
 use Rattle.table.specs.Clear.{cleared, clearOf}
-use Rattle.table.specs.Check.{checkOf}
+use Rattle.table.specs.Check.{answer, checkOf}
 use Rattle.table.specs.Count.{countOf}
 use Rattle.euler.specs.Exec.{Table, exec, admitOf, refusalOf, linksAfter, pointsAfter}
+use Rattle.sound_tables.specs.Good.{Valent}
 use Rattle.sound_cuts.specs.MefOperands.{kefOf}
 use Rattle.sound_cuts.specs.KefAmid.{KefInPlace}
 use Rattle.runs.specs.Run.{State, readAt, refusalAt, inverseBytes, runRefusal, entry, notRun, runOf}
@@ -236,7 +237,7 @@ pub record Demand3 : Type 0 where
 
 -- ---- DOCUMENT 02, what its jobs ask beside the demands (job 1 changed some of them, and stands there)
 
--- job 2: the text of a solid; job 3: kef in place; job 4: redo
+-- job 2: the text of a solid; job 3: kef in place; job 4: redo; job 5: the words of vertices
 pub record Requests : Type 0 where
   -- "(After 5 and 6 for the solid: 12, …; then 13, the text doesn't fit.)" Every call ends in one of four ways
   -- (`TextEnds`), each with its answer and every byte of the buffer: what the check refuses; what is refused of the
@@ -263,6 +264,18 @@ pub record Requests : Type 0 where
   -- seen in its text (tests/gate/scratch.py)
   pub kef-in-place : (x : List ℕ) (p : List ℤ) → Passes x p → (k : ℕ) → refusalOf (shapeOf x) x (kefOf k) ≡ 0
       → KefInPlace (shapeOf x) x k
+  -- Job 5. "The vertex word becomes 1 plus the number of half-edges starting there; 0 is still free." In every table
+  -- that passes the check each vertex word is 0 or that (`Valent`)
+  pub vertex-words : (x : List ℕ) (p : List ℤ) → Passes x p → Valent (shapeOf x) x
+  -- "Rule 5 of soundness tests it, rule 1 no longer does": any other number than 0 in its place is answered with 2 and
+  -- rule 5, so none of the rules before it is broken
+  pub wrong-word : (x : List ℕ) (p : List ℤ) → Passes x p → (v w : ℕ) → (1 ≤ v) × (v ≤ shapeOf x .vertices)
+      → vertexUsed (shapeOf x) x v ≢ 0 → w ≢ 0 → w ≢ vertexUsed (shapeOf x) x v
+      → checkOf (setVertexUsed (shapeOf x) x v w) p ≡ answer 2 5
+  -- "and all operators keep it": it is part of `valid-kept`; here by itself. "Restoring to the byte means the new words
+  -- from here on": `inverse-exact`, `undo-exact`, `undo-redo` and `inversion-exact` are of all words
+  pub valence-kept : (x : List ℕ) (p : List ℤ) (o : Operator) → Passes x p → length (o .args) ≡ 8
+      → refusalOf (shapeOf x) x o ≡ 0 → Valent (shapeOf x) (linksAfter (shapeOf x) x o)
   -- Job 4. "Undo shall write the inverse of each operator it does into … the redo log, filled from its end like the
   -- first. Redo n runs its first n operators, logged as in a run". Both are moves: one that is let in carries out as
   -- many of the source's operators from its start on as it answers, each on the state that the one before left and with

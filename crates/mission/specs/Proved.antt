@@ -10,6 +10,8 @@ use Rattle.table.specs.declared.check.CheckAnswer.{CheckAnswer}
 use Rattle.sound_tables.specs.Good.{marked}
 use Rattle.sound_tables.specs.ClearSound.{clear-valid}
 use Rattle.sound_cuts.specs.KefAmid.{kef-in-place}
+use Rattle.sound_valence.specs.WrongWord.{wrong-word}
+use Rattle.sound_valence.specs.Kept.{valence-kept}
 use Rattle.sound_operators.specs.Theorems.{valid-kept, inverse-exact}
 use Rattle.runs.specs.Clauses.{run-out}
 use Rattle.promises.specs.Checked.{checked-valid, checked-good}
@@ -117,6 +119,9 @@ requested = record {
   solid-refused = λ x p h. solid-refused x p (checked-valid x p h);
   obj-reads = obj-reads;
   kef-in-place = λ x p h k. kef-in-place (marked (checked-good x p h)) k;
+  vertex-words = λ x p h. checked-good x p h .valent;
+  wrong-word = λ x p h. wrong-word x p (checked-valid x p h);
+  valence-kept = λ x p o h len a. valence-kept o (checked-good x p h) len a;
   move-carried = move-carried;
   redo-emptied = redo-emptied;
   starts-answered = starts-answered;

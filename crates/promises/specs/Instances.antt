@@ -68,7 +68,8 @@ filled = 99 ∷ 99 ∷ 1 ∷ 1 ∷ 1 ∷ 1 ∷ 1 ∷ 0 ∷ 0 ∷ 0 ∷ 3 ∷ 1 �
 -- two half-edges start at each vertex
 abbrev ran : Editing
 ran = record {
-  links = 1 ∷ 2 ∷ 2 ∷ 2 ∷ 2 ∷ 1 ∷ 1 ∷ 1 ∷ 1 ∷ 2 ∷ 1 ∷ 2 ∷ 0 ∷ 2 ∷ 1 ∷ 0 ∷ 1 ∷ 2 ∷ 4 ∷ 4 ∷ 2 ∷ 1 ∷ 3 ∷ 3 ∷ 1 ∷ 1 ∷ 2 ∷ 2 ∷ 2 ∷ 2 ∷ 1 ∷ 1 ∷ 3 ∷ 3 ∷ [];
+  links = 1 ∷ 2 ∷ 2 ∷ 2 ∷ 2 ∷ 1 ∷ 1 ∷ 1 ∷ 1 ∷ 2 ∷ 1 ∷ 2 ∷ 0 ∷ 2 ∷ 1 ∷ 0 ∷ 1 ∷ 2 ∷ 4 ∷ 4 ∷ 2 ∷ 1
+      ∷ 3 ∷ 3 ∷ 1 ∷ 1 ∷ 2 ∷ 2 ∷ 2 ∷ 2 ∷ 1 ∷ 1 ∷ 3 ∷ 3 ∷ [];
   points = pos 0 ∷ pos 0 ∷ pos 0 ∷ pos 100 ∷ pos 0 ∷ pos 0 ∷ [];
   log = 6 ∷ 4 ∷ 4 ∷ 1 ∷ 2 ∷ 1 ∷ 17 ∷ 18 ∷ [];
   redo = replicate 28 99;
@@ -94,8 +95,8 @@ unfolding checkOf sizesFit brokenRule rule1 rule2 rule3 rule4 rule5 rule6 solidR
     readNumber groups pattern rows inRanges inRange zig zag wire unwire readOperand readOperands readBehind readOperator
     operandBytes operandsBytes operatorBytes putBytes corner edgeIn edgeOut relabel seek renew mvsfLinks kvsfTest
     kvsfLinks mevLinks kevTest kevLinks mefTest mefLinks kefTest kefLinks admitOf useRefusals useRefusal useWord
-    condition linksAfter marksAfter lessStarts moreStarts pointsAfter killedVertex inverse sweep admitRead inverseBytes carryRefusal stepped runRefusal
-    runFrom entry runOf editAll partOf moveOf sessionRun sessionUndo sessionRedo
+    condition linksAfter marksAfter lessStarts moreStarts pointsAfter killedVertex inverse sweep admitRead inverseBytes
+    carryRefusal stepped runRefusal runFrom entry runOf editAll partOf moveOf sessionRun sessionUndo sessionRedo
 begin-calls = (refl, refl, refl)
 
 -- undo by three gives back what there was

@@ -284,7 +284,8 @@ module _ (sh : Shape) (x : List ℕ) (p : List ℤ) (o : Operator) (g : Good sh 
       let f2 = operand 9 1 (sh .faces) e refl (lit≤ tt) refl refl faces-small in
       by-code 9 e (record {
         cap = outer-cap (g .sound) (itemOf o 1) f2;
-        others = λ l i d. kfmrh-stays order i x _ _ f2 (solid-cap (g .sound) (itemOf o 0) f1) (solid-cap (g .sound) (itemOf o 1) f2) d;
+        others = λ l i d. kfmrh-stays order i x _ _ f2 (solid-cap (g .sound) (itemOf o 0) f1)
+            (solid-cap (g .sound) (itemOf o 1) f2) d;
       })
 
   -- 10: face and solid are operands
@@ -316,8 +317,8 @@ module _ (sh : Shape) (x : List ℕ) (p : List ℤ) (o : Operator) (g : Good sh 
   -- whichever it is, it moves the loop that is named and no other
   pub moves : Moves sh x (linksAfter sh x o) (movedLoop sh x o)
   moves =
-      by-thirteen sh x o h moves-mvsf moves-kvsf moves-mev moves-kev moves-mef moves-kef moves-kemr moves-mekr moves-kfmrh
-      moves-mfkrh moves-semv moves-jekv moves-rmov
+      by-thirteen sh x o h moves-mvsf moves-kvsf moves-mev moves-kev moves-mef moves-kef moves-kemr moves-mekr
+      moves-kfmrh moves-mfkrh moves-semv moves-jekv moves-rmov
 
   -- an accepted operator changes the face of no loop but the one that `movedLoop` names
   pub others-stay : (l : ℕ) → In (sh .loops) l → l ≢ movedLoop sh x o

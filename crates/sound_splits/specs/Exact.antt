@@ -92,7 +92,8 @@ module _ {sh : Shape} {x : List ℕ} {p : List ℤ} (g : Marked sh x p) {m : Sem
   d-sound : Sound sh q d
   d-sound = split-sound divided (g .sound)
       (points-new sh p (own sh x) d v (g .points) (r .vertex-in) (g .sound .point) (divided .used)
-      (m .x) (m .y) (m .z) (r .range 0 (lit≤ tt)) (r .range 1 (lit≤ tt)) (r .range 2 (lit≤ tt)) (upd-same (own sh x VertexUsed) v 1))
+      (m .x) (m .y) (m .z) (r .range 0 (lit≤ tt)) (r .range 1 (lit≤ tt)) (r .range 2 (lit≤ tt))
+      (upd-same (own sh x VertexUsed) v 1))
 
   -- a good table stays good
   semv-kept : Kept sh x p (semvOf m)

@@ -359,8 +359,8 @@ module _ {sh : Shape} {x : List ℕ} {p : List ℤ} (g : Marked sh x p) {k : ℕ
 -- ---- as operators
 
 -- both for mev
-pub mev-holds : (sh : Shape) (x : List ℕ) (p : List ℤ) (o : Operator) → Marked sh x p → length (o .args) ≡ 8 → o .code ≡ 3
-    → refusalOf sh x o ≡ 0 → Kept sh x p o × Undone sh x p o
+pub mev-holds : (sh : Shape) (x : List ℕ) (p : List ℤ) (o : Operator) → Marked sh x p → length (o .args) ≡ 8
+    → o .code ≡ 3 → refusalOf sh x o ≡ 0 → Kept sh x p o × Undone sh x p o
 mev-holds sh x p o g len e h =
     let f = mev-facts sh x o (g .capacities) len e h in
     subst (λ q. Kept sh x p q × Undone sh x p q) (sym (f .is)) (mev-kept g (f .fits), mev-undone g (f .fits))

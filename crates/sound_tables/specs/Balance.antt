@@ -90,7 +90,8 @@ times-none w h = ap bit (eqb-other {m = 0} {n = w} (omega arith))
 -- ---- the three kinds of operator
 
 module _ {sh : Shape} {x : List ℕ} {o : Operator}
-    (mark : (w : ℕ) → In (sh .vertices) w → Mark (own sh x VertexUsed w) (own sh (marksAfter sh x o) VertexUsed w)) where
+    (mark : (w : ℕ) → In (sh .vertices) w
+    → Mark (own sh x VertexUsed w) (own sh (marksAfter sh x o) VertexUsed w)) where
   -- no half-edge comes or goes
   pub still-balanced : leaveOf sh x o ≡ none → comeOf sh (marksAfter sh x o) o ≡ none
       → ((i : ℕ) → In (2 * sh .edges) i → own sh (marksAfter sh x o) Start i ≡ own sh x Start i) → Balanced sh x o

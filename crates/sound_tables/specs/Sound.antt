@@ -143,9 +143,11 @@ module _ (sh : Shape) (p : List ℤ) {c d : Columns} (e : SameElse sh c d) (u : 
   loop-agree l i r = record {
     face-in = rw (e Face refl l (i .1)) (r .face-in);
     face-used = rw (e Face refl l (i .1), e Solid refl (c Face l) (r .face-in .1)) (r .face-used);
-    first = e First refl l (i .1) ∙ r .first ∙ least-ext (2 * sh .edges) _ _ (λ k a b. ap (λ n. eqb n l) (sym (e Loop refl k b)));
+    first = e First refl l (i .1) ∙ r .first
+        ∙ least-ext (2 * sh .edges) _ _ (λ k a b. ap (λ n. eqb n l) (sym (e Loop refl k b)));
     either = ⊎-elim (λ h. inl (rw (e First refl l (i .1), e Isolated refl l (i .1)) h))
-        (λ h. inr (rw (e First refl l (i .1), e Isolated refl l (i .1)) (h .0, h .1, λ z. h .2 (u (c Isolated l) (h .1 .1) .0 z))))
+        (λ h. inr (rw (e First refl l (i .1), e Isolated refl l (i .1))
+        (h .0, h .1, λ z. h .2 (u (c Isolated l) (h .1 .1) .0 z))))
         (r .either);
   }
 
@@ -192,7 +194,8 @@ module _ (sh : Shape) (p : List ℤ) {c d : Columns} (e : SameElse sh c d) (u : 
             side-same (mate (t .0)) (s .rules .mate-in (t .0) (t .1)) ∙ t .3,
           ))
           (s .solids .one f g (a .0, a .1, λ z. a .2 (e Solid refl f (a .1) ∙ z))
-          (b .0, b .1, λ z. b .2 (e Solid refl g (b .1) ∙ z)) (sym (e Solid refl f (a .1)) ∙ q ∙ e Solid refl g (b .1)));
+          (b .0, b .1, λ z. b .2 (e Solid refl g (b .1) ∙ z))
+          (sym (e Solid refl f (a .1)) ∙ q ∙ e Solid refl g (b .1)));
     }
 
     -- all of it

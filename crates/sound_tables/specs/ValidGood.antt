@@ -1,5 +1,6 @@
 -- A table passes the check just if it is good: of the right size, and sound in the words of `Sound`.
 use mathlib.Core.Path.{_≡_, refl}
+use mathlib.Core.Bool.{true}
 use mathlib.Core.List.{List}
 use Prim.Native.Nat.{ℕ, _≤_}
 use native.Mathlib.Omega.{arith}
@@ -10,12 +11,12 @@ use Rattle.laws.specs.Bools.{true-T, T-true, T-and, eqb-same}
 use Rattle.laws.specs.Every.{T-every}
 use Rattle.bounds.specs.Bounds.{mostItems}
 use Rattle.layout.specs.Layout.{linksLength, shapeFrom, shapeOf}
-use Rattle.table.specs.Sizes.{capacity, sizeTests, sizesFit}
+use Rattle.table.specs.Sizes.{capacity, sizeTests, sizesFit, tableFits}
 use Rattle.table.specs.SizesLaws.{Sizes, sizes-are}
 use Rattle.table.specs.Valid.{Valid, valid-parts, parts-valid}
 use Rattle.check_rules.specs.RulesSay.{says-rule1, says-rule2, says-rule3}
 use Rattle.check_rules.specs.CyclesSay.{says-rule4, says-rule5, says-rule6}
-use Rattle.sound_tables.specs.Good.{Capacities, Good}
+use Rattle.sound_tables.specs.Good.{Capacities, Marked, Good, marked}
 use Rattle.sound_tables.specs.FromRules.{rules-sound, rules-valent}
 use Rattle.sound_tables.specs.ToRules.{to-rule1, to-rule2, to-rule3, to-rule4, to-rule5, to-rule6}
 
@@ -70,32 +71,37 @@ valid-good x p v =
 capacity-fits : (n : ℕ) → (1 ≤ n) × (n ≤ mostItems) → T (capacity n)
 capacity-fits n i = T-and (leb 1 n) (leb n mostItems) (le→leb 1 n (i .0)) (le→leb n mostItems (i .1))
 
--- and what is good passes
-pub good-valid : (x : List ℕ) (p : List ℤ) → Good (shapeOf x) x p → Valid x p
+-- a marked table has the right size
+pub marked-fits : (x : List ℕ) (p : List ℤ) → Marked (shapeOf x) x p → tableFits x p ≡ true
 unfolding sizesFit
-good-valid x p g =
+marked-fits x p g =
     let sh = shapeOf x in
     let k = g .capacities in
+    let m : length x ≡ linksLength (sh .solids) (sh .faces) (sh .loops) (sh .edges) (sh .vertices) =
+    omega (arith, g .fit) in
+    T-true (T-every (sizeTests (length x) (length p) (sh .solids) (sh .faces) (sh .loops) (sh .edges) (sh .vertices)) (
+      capacity-fits _ (k .solids),
+      (
+        capacity-fits _ (k .faces),
+        (
+          capacity-fits _ (k .loops),
+          (
+            capacity-fits _ (k .edges),
+            (capacity-fits _ (k .vertices), (true-T (eqb-same m), (true-T (eqb-same (g .points)), tt))),
+          ),
+        ),
+      ),
+    ))
+
+-- and what is good passes
+pub good-valid : (x : List ℕ) (p : List ℤ) → Good (shapeOf x) x p → Valid x p
+good-valid x p g =
+    let sh = shapeOf x in
     let r1 = to-rule1 (g .sound) in
     let r2 = to-rule2 (g .sound) in
     let r4 = to-rule4 (g .sound) in
-    let m : length x ≡ linksLength (sh .solids) (sh .faces) (sh .loops) (sh .edges) (sh .vertices) =
-    omega (arith, g .fit) in
     parts-valid x p (record {
-      fits = T-true
-          (T-every (sizeTests (length x) (length p) (sh .solids) (sh .faces) (sh .loops) (sh .edges) (sh .vertices)) (
-            capacity-fits _ (k .solids),
-            (
-              capacity-fits _ (k .faces),
-              (
-                capacity-fits _ (k .loops),
-                (
-                  capacity-fits _ (k .edges),
-                  (capacity-fits _ (k .vertices), (true-T (eqb-same m), (true-T (eqb-same (g .points)), tt))),
-                ),
-              ),
-            ),
-          ));
+      fits = marked-fits x p (marked g);
       first = T-true (says-rule1 sh x p .back r1);
       second = T-true (says-rule2 sh x .back r2);
       third = T-true (says-rule3 sh x .back (to-rule3 (g .sound)));

@@ -24,8 +24,8 @@ use Rattle.euler.specs.Surgery.{itemOf}
 use Rattle.euler.specs.EdgeOperators.{kevTest, kefTest, kemrTest, jekvTest}
 use Rattle.euler.specs.Queries.{loopsIn}
 use Rattle.euler.specs.Valence.{none, leaveOf}
-use Rattle.euler.specs.Exec.{limits, useWord, useRefusal, useRefusals, condition, admitOf, refusalOf, killedVertex, pointsAfter}
-use Rattle.euler.specs.Exec.{pointsBy, inverse}
+use Rattle.euler.specs.Exec.{limits, useWord, useRefusal, useRefusals, condition, admitOf, refusalOf, killedVertex}
+use Rattle.euler.specs.Exec.{pointsBy, pointsAfter, inverse}
 use Rattle.sound_tables.specs.Sound.{SameElse, SameUsed, Sound, sound-alike}
 use Rattle.sound_tables.specs.Good.{own, Marked}
 use Rattle.sound_tables.specs.Caps.{loop-cap, next-cap, operand-cap}

@@ -1,6 +1,6 @@
 -- ALL OPERATORS KEEP THE VERTEX WORDS. An operator changes marks, then the words: one less where half-edges have left,
--- one more where they have come. The theorems of the pairs are of marks; here they are used with the lowered words ahead
--- of the steps, which leads to the same links.
+-- one more where they have come. The theorems of the pairs are of marks; here they are used with the lowered words
+-- ahead of the steps, which leads to the same links.
 use mathlib.Core.Path.{_≡_, refl, sym, ap, _∙_, subst}
 use mathlib.Core.Logic.{_≢_, _⊎_, inl, inr, ⊎-elim}
 use mathlib.Core.List.{List}
@@ -66,7 +66,7 @@ pub none-times : (t : Two) (w : ℕ) → t ≡ none → 1 ≤ w → times t w �
 none-times t w e l = rw e (let z = times-none w l in omega (arith, z))
 
 -- how many start somewhere is seen in the start column
-starts-same : (sh : Shape) (x y : List ℕ) → SameElse sh (own sh x) (own sh y) → (w : ℕ)
+pub starts-same : (sh : Shape) (x y : List ℕ) → SameElse sh (own sh x) (own sh y) → (w : ℕ)
     → startsAt sh y w ≡ startsAt sh x w
 starts-same sh x y e w =
     many-same (2 * sh .edges) (own sh x Start) (own sh y Start) w (λ k i. e Start refl k (i .1))

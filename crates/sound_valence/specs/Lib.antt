@@ -3,3 +3,4 @@ pub mod Alike
 pub mod Marks
 pub mod Kept
 pub mod Undo
+pub mod WrongWord

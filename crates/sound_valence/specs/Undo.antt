@@ -1,5 +1,5 @@
--- UNDOING GIVES THE VERTEX WORDS BACK. What leaves by the one operator comes by the one that undoes it, and the other way
--- round; that is seen from the numbers of starts alone, for all operators at once.
+-- UNDOING GIVES THE VERTEX WORDS BACK. What leaves by the one operator comes by the one that undoes it, and the other
+-- way round; that is seen from the numbers of starts alone, for all operators at once.
 use mathlib.Core.Path.{_≡_, refl, sym, ap, _∙_, subst}
 use mathlib.Core.Logic.{_⊎_, inl, inr, ⊎-elim}
 use mathlib.Core.List.{List}
@@ -94,11 +94,9 @@ module _ {sh : Shape} {x : List ℕ} {p : List ℤ} (o : Operator) (g : Good sh 
       (BI .starts w l) in
       let c : (leaveOf sh m I ≡ none) ⊎ (CI ≡ none) =
       subst (λ t. (leaveOf sh m I ≡ none) ⊎ (comeOf sh t I ≡ none)) (U .links) (BI .one-way) in
-      ⊎-elim (λ e. ⊎-elim (λ f. both (startsAt sh m w) (startsAt sh x′ w) a b (inl (none-times _ w e l)) (inl (none-times _ w f l)))
-      (λ f. both (startsAt sh m w) (startsAt sh x′ w) a b (inl (none-times _ w e l)) (inr (none-times _ w f l))) c)
-      (λ e. ⊎-elim (λ f. both (startsAt sh m w) (startsAt sh x′ w) a b (inr (none-times _ w e l)) (inl (none-times _ w f l)))
-      (λ f. both (startsAt sh m w) (startsAt sh x′ w) a b (inr (none-times _ w e l)) (inr (none-times _ w f l))) c)
-      (B′ o g len h .one-way)
+      both (startsAt sh m w) (startsAt sh x′ w) a b
+      (⊎-elim (λ e. inl (none-times _ w e l)) (λ e. inr (none-times _ w e l)) (B′ o g len h .one-way))
+      (⊎-elim (λ e. inl (none-times _ w e l)) (λ e. inr (none-times _ w e l)) c)
 
   -- where none leaves by it, none has come
   one-y : leaveOf sh m I ≡ none → y ≡ m
@@ -123,7 +121,8 @@ module _ {sh : Shape} {x : List ℕ} {p : List ℤ} (o : Operator) (g : Good sh 
   low-x′ : (w : ℕ) → w ≤ sh .vertices → own sh x′ VertexUsed w < 65534
   low-x′ zero u = omega arith
   low-x′ (suc v) u =
-      let i : In (sh .vertices) (suc v) = (omega arith, u) in omega (arith, R .word (suc v) i, low-x o g len h (suc v) i)
+      let i : In (sh .vertices) (suc v) = (omega arith, u) in
+      omega (arith, R .word (suc v) i, low-x o g len h (suc v) i)
 
   -- one more where half-edges had left: the table again
   back-x : moreStarts sh I x′ ≡ x

@@ -60,7 +60,7 @@ NoneOrIn sh v = (v ≡ 0) ⊎ In (sh .vertices) v
 
 module _ {sh : Shape} {x : List ℕ} (fit : Chained 0 (groups sh) (length x)) where
   -- the word of vertex v becomes n
-  stored : (v n : ℕ) → In (sh .vertices) v
+  pub stored : (v n : ℕ) → In (sh .vertices) v
       → Reworded sh x (setVertexUsed sh x v n) (upd (own sh x VertexUsed) v n)
   stored v n i = let s = shows-put (shows-own sh x fit) VertexUsed v n (i .0) (i .1) in record {
     fit = s .fit;
@@ -90,7 +90,8 @@ module _ {sh : Shape} {x : List ℕ} (fit : Chained 0 (groups sh) (length x)) wh
       (λ z. unstored v z (λ w i. let e = times-none w (i .0) in rw (z, e) (omega arith)) (own sh x VertexUsed v + 1))
       (λ i. words-are (stored v (own sh x VertexUsed v + 1) i) (λ w j. split w v
       (λ e. rw e (upd-same _ v _ ∙ ap (λ b. own sh x VertexUsed v + bit b) (sym (eqb-same {m = v} refl))))
-      (λ d. upd-off _ _ d ∙ sym (ap (λ b. own sh x VertexUsed w + bit b) (eqb-other (λ e. d (sym e))) ∙ omega arith)))) k)
+      (λ d. upd-off _ _ d
+      ∙ sym (ap (λ b. own sh x VertexUsed w + bit b) (eqb-other (λ e. d (sym e))) ∙ omega arith)))) k)
 
 -- ---- at two vertices
 
