@@ -4,9 +4,8 @@ Document 02, job 3: kef "shall use no scratch memory and relabel the run where i
 passed, those behind name the kept loop, those ahead the killed one, and besides only the killed edge's loop words
 differ." It is proved of the source; here each store of the machine's code to links and points is caught
 (tests/driver/stores.c), and the sentence is held against every word of the table behind each of them, up to the last of
-the run. Read as it is proved: besides nothing differs, the killed edge's loop words neither. The words of the edge's
-two vertices, which kef takes one off (job 5), may go down before the walk or behind it, not amid. Scratch memory is
-looked for in stack_use.py.
+the run. Read as it is proved: besides nothing differs, the killed edge's loop words neither, and the words of its two
+vertices, which kef takes one off (job 5), go down behind the walk. Scratch memory is looked for in stack_use.py.
 
 COUNT random tables of each situation (60 by default) besides loops of 3 to 1,000 half-edges. Where stores cannot be
 watched (they can on Linux on x86-64), that is said and only the answers are counted. Prints 'N passed, M failed' as its
@@ -91,25 +90,6 @@ def run_of(table, k):
     return [loop_place(table, half) for half in run_behind(table, k)], loop_word(table, mate(k))
 
 
-def lowered(table, k):
-    """What the words of the edge's vertices become, by place; two less where the two are one."""
-    places = [table.place("vertex", vertex) for vertex in edge_vertices(table, k)]
-    return {place: table.links[place] - places.count(place) for place in places}
-
-
-def from_the_walk_on(before, lower, stores):
-    """The words that the walk finds, and the stores from there on: whole moments in front that store to the words of
-    the edge's vertices alone are no part of it. None where these words are neither as before nor as they become."""
-    rest, words = list(stores), list(before)
-    for together in moments(stores):
-        if any(store.place not in lower for store in together):
-            break
-        rest = rest[len(together):]
-        words = replayed(words, together)
-    found = {place: words[place] for place in lower}
-    return (words, rest) if found in (lower, {place: before[place] for place in lower}) else None
-
-
 def along(run, stores):
     """Which of the run's loop words are stored to, in the order of the stores."""
     among = set(run)
@@ -124,12 +104,10 @@ def watch_one(tally, kef, answer):
     tally.equal(f"accepted: {name}", got.numbers[:3], (0, 0, 1))
     if not watches:
         return False
-    table, before = Table(kef.case.links, kef.case.points), words_of(kef.case)
-    run, kept = run_of(table, kef.k)
+    before = words_of(kef.case)
+    run, kept = run_of(Table(kef.case.links, kef.case.points), kef.k)
     tally.equal(f"each of the run stored to once, in the order of next: {name}", along(run, stores), run)
-    walk = from_the_walk_on(before, lowered(table, kef.k), stores)
-    if tally.holds(f"the vertices' words before the walk: {name}", walk is not None):
-        tally.equal(f"the sentence behind each store: {name}", broken(walk[0], run, kept, walk[1]), None)
+    tally.equal(f"the sentence behind each store: {name}", broken(before, run, kept, stores), None)
     tally.equal(f"no point stored to: {name}", [s for s in stores if s.place >= len(kef.case.links)], [])
     tally.equal(f"the stores make the table: {name}", replayed(before, stores), words_of(model))
     return True
@@ -162,8 +140,7 @@ def told(table, k, walk):
 def taken(table, k, stores):
     """Whether all that is looked for up to the last of the run is found."""
     run, kept = run_of(table, k)
-    walk = from_the_walk_on(table.links, lowered(table, k), stores)
-    return walk is not None and broken(walk[0], run, kept, walk[1]) is None and along(run, stores) == run
+    return broken(table.links, run, kept, stores) is None and along(run, stores) == run
 
 
 def refuse_wrong_walks(tally, rng, count):
@@ -188,15 +165,15 @@ def with_words(before, amid):
     return stores
 
 
-def refuse_words_amid(tally, rng, count):
-    """The words of the edge's vertices may go down together, in front of the walk or behind it."""
+def refuse_words_early(tally, rng, count):
+    """The words of the edge's vertices go down behind the walk; before it or amid is refused."""
     for table, k in some_kefs(rng, count):
         if len(run_behind(table, k)) < 2:
             continue
         for before, amid in ((2, 0), (0, 0), (1, 0), (1, 1), (0, 1), (0, 2)):
             found = taken(table, k, told(table, k, with_words(before, amid)))
             name = f"words, {before} before and {amid} amid: kef {k} on {table.links}"
-            tally.equal(name, found, before != 1 and amid == 0)
+            tally.equal(name, found, before + amid == 0)
 
 
 def watch_others(driver, tally, rng, count):
@@ -216,7 +193,7 @@ def watch_others(driver, tally, rng, count):
 
 def watch_all(tally, driver, rng, count):
     refuse_wrong_walks(tally, rng, OTHERS)
-    refuse_words_amid(tally, rng, OTHERS)
+    refuse_words_early(tally, rng, OTHERS)
     to_points, watches = watch_others(driver, tally, rng, OTHERS)
     met = watch_kefs(driver, tally, random_kefs(rng, count) + long_kefs(rng))
     if not watches:

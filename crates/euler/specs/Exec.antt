@@ -105,7 +105,8 @@ onlyLoop sh x s = faceOuter sh x (faceIn sh x s)
 abbrev pub onlyVertex : Shape → List ℕ → ℕ → ℕ
 onlyVertex sh x s = loopIsolated sh x (onlyLoop sh x s)
 
--- the links afterwards, of a vertex that is made or killed the word's first count alone: 1 for made, 0 for killed
+-- what an operator's steps leave: the links afterwards but for the half-edges counted in vertex words. A vertex that is
+-- made has the word 1, one that is killed 0
 abbrev pub linksBy : Shape → List ℕ → (ℕ → ℕ) → List (List ℕ)
 linksBy sh x a =
     x ∷ mvsfLinks sh x (a 0) (a 1) (a 2) (a 3)

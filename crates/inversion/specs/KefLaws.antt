@@ -17,9 +17,9 @@ use Rattle.sound_tables.specs.WriteLaws.{withColumn}
 use Rattle.sound_tables.specs.Good.{Good, own, good-shows}
 use Rattle.sound_cuts.specs.Relation.{Cut}
 use Rattle.sound_cuts.specs.KefShown.{mend-shows}
-use Rattle.sound_cuts.specs.KefSound.{mend-sound}
+use Rattle.sound_cuts.specs.Exact.{kef-sound}
 use Rattle.sound_cuts.specs.KefPlace.{spotAt, mendColumns, KefPlace}
-use Rattle.sound_cuts.specs.KefRelation.{kef-cut, kef-only, kef-first}
+use Rattle.sound_cuts.specs.KefRelation.{kef-cut}
 use Rattle.sound_cuts.specs.KefAccepted.{kef-links, kef-accepted}
 use Rattle.sound_valence.specs.Kept.{links-shown}
 use Rattle.takedown.specs.Inversion.{kef}
@@ -61,7 +61,7 @@ module _ {sh : Shape} {x : List ℕ} {p : List ℤ} (g : Good sh x p) {k : ℕ} 
   cut = kef-cut (g .sound) refl w
 
   mended : Sound sh p (mendColumns sh (own sh x) (spotAt (own sh x) k))
-  mended = mend-sound cut (kef-only (g .sound) refl w) (kef-first (g .sound) refl w) (g .sound)
+  mended = kef-sound (g .sound) refl w
 
   -- kef at such a place is accepted
   pub place-accepted : refusalOf sh x (kef k) ≡ 0

@@ -28,7 +28,7 @@ use Rattle.sound_tables.specs.Aside.{mixed, mixed-else, mixed-shows, mixed-soun
 use Rattle.sound_tables.specs.Balance.{UsedOrNone, Balanced, one-changed, many-same, two-changed, times-none}
 use Rattle.sound_splits.specs.Relation.{moved, Split, n≢b, n≢m, b≢m}
 use Rattle.sound_splits.specs.CycleMoves.{swapFor}
-use Rattle.sound_splits.specs.JekvColumns.{Joint, jekvColumns, jekv-split}
+use Rattle.sound_splits.specs.JekvColumns.{Joint, joint-agree, jekvColumns, jekv-split}
 use Rattle.sound_splits.specs.Shown.{jekv-shows}
 use Rattle.sound_splits.specs.Accepted.{semvOf, jekvOf, semv-facts, semv-links, jekv-facts}
 use Rattle.sound_splits.specs.Accepted.{tested-joint, jekv-links}
@@ -166,13 +166,8 @@ module _ {sh : Shape} {x y : List ℕ} {p q : List ℤ} (g : Marked sh x p) (h :
 
   -- and in y
   joint-y : Joint sh (own sh y) k n
-  joint-y = record {
-    k-used = (j .k-used .0, j .k-used .1, λ z. j .k-used .2 (sym (e Start refl k (j .k-used .1)) ∙ z));
-    next-k = e Next refl k (j .k-used .1) ∙ j .next-k;
-    n≢k = j .n≢k;
-    n≢m = j .n≢m;
-    next-b = e Next refl (mate n) (rejoined g j .place .b-in .1) ∙ j .next-b;
-  }
+  joint-y = joint-agree j (e Start refl k (j .k-used .1)) (e Next refl k (j .k-used .1))
+      (e Next refl (mate n) (rejoined g j .place .b-in .1))
 
   -- what jekv makes of the columns differs in vertex words alone
   columns-aside : (F : Field) → sameField VertexUsed F ≡ false → (i : ℕ)

@@ -29,7 +29,7 @@ use Rattle.sound_splits.specs.Relation.{Place, aft, Split, n≢k, n≢m,
 use Rattle.sound_splits.specs.Unique.{unique-after, unique-before}
 use Rattle.sound_splits.specs.Sound.{split-sound, join-sound}
 use Rattle.sound_splits.specs.SemvColumns.{semvColumns, semv-split}
-use Rattle.sound_splits.specs.JekvColumns.{Joint, jekvColumns, jekv-split}
+use Rattle.sound_splits.specs.JekvColumns.{Joint, joint-agree, jekvColumns, jekv-split}
 use Rattle.sound_splits.specs.Shown.{semv-shows, jekv-shows}
 use Rattle.sound_tables.specs.HalfNumbers.{edge-by, way-by, way-small, half-is, second-half}
 use Rattle.sound_tables.specs.Names.{free-halves}
@@ -112,13 +112,8 @@ module _ {sh : Shape} {x : List ℕ} {p : List ℤ} (g : Marked sh x p) {m : Sem
 
   -- the same on the list
   y-joint : Joint sh (own sh y) k n
-  y-joint = record {
-    k-used = (r .half .0, r .half .1, λ h. d-joint .k-used .2 (sym (y-shows .at Start k (r .half .1)) ∙ h));
-    next-k = y-shows .at Next k (r .half .1) ∙ d-joint .next-k;
-    n≢k = d-joint .n≢k;
-    n≢m = d-joint .n≢m;
-    next-b = y-shows .at Next (mate n) (place .b-in .1) ∙ d-joint .next-b;
-  }
+  y-joint = joint-agree d-joint (y-shows .at Start k (r .half .1)) (y-shows .at Next k (r .half .1))
+      (y-shows .at Next (mate n) (place .b-in .1))
 
   -- n starts at v
   y-start : own sh y Start n ≡ v

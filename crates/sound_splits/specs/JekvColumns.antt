@@ -30,6 +30,17 @@ pub record Joint (sh : Shape) (d : Columns) (k n : ℕ) : Type 0 where
   pub n≢m : n ≢ mate k
   pub next-b : d Next (mate n) ≡ mate k
 
+-- it is one of any columns that agree where it looks
+pub joint-agree : {sh : Shape} {c d : Columns} {k n : ℕ} → Joint sh c k n → d Start k ≡ c Start k → d Next k ≡ c Next k
+    → d Next (mate n) ≡ c Next (mate n) → Joint sh d k n
+joint-agree j start next behind = record {
+  k-used = (j .k-used .0, j .k-used .1, λ z. j .k-used .2 (sym start ∙ z));
+  next-k = next ∙ j .next-k;
+  n≢k = j .n≢k;
+  n≢m = j .n≢m;
+  next-b = behind ∙ j .next-b;
+}
+
 -- the half-edges after jekv: k is followed by what comes after n, q by k's mate, which starts where n's did; both
 -- halves of n's edge are cleared
 abbrev pub jekvWrites : Columns → ℕ → ℕ → ℕ → List Write

@@ -23,10 +23,10 @@ use Rattle.layout.specs.Fields.{Capacity, Face, Start, Loop, Next, groups}
 use Rattle.euler.specs.Surgery.{itemOf}
 use Rattle.euler.specs.EdgeOperators.{kevTest, kefTest, kemrTest, jekvTest}
 use Rattle.euler.specs.Queries.{loopsIn}
-use Rattle.euler.specs.Valence.{none, leaveOf}
+use Rattle.euler.specs.Valence.{leaveOf}
 use Rattle.euler.specs.Exec.{limits, useWord, useRefusal, useRefusals, condition, admitOf, refusalOf, killedVertex}
 use Rattle.euler.specs.Exec.{pointsBy, pointsAfter, inverse}
-use Rattle.sound_tables.specs.Sound.{SameElse, SameUsed, Sound, sound-alike}
+use Rattle.sound_tables.specs.Sound.{SameElse, SameUsed, sound-alike}
 use Rattle.sound_tables.specs.Good.{own, Marked}
 use Rattle.sound_tables.specs.Caps.{loop-cap, next-cap, operand-cap}
 use Rattle.sound_tables.specs.Accepted.{limitOf}

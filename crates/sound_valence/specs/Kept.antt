@@ -10,17 +10,16 @@ use lib.Dec.{eqb, lit≤}
 use lib.IntN.{ℤ}
 use lib.ListN.{length}
 use Rattle.laws.specs.Bools.{split, ask, eqb-other}
-use Rattle.laws.specs.Sums.{bit, bit-le, countTo, count-le}
+use Rattle.laws.specs.Sums.{bit, count-le}
 use Rattle.script.specs.declared.Operator.{Operator}
-use Rattle.codec.specs.Operands.{oldHalf, newLoop, coordinate, pattern, rows}
+use Rattle.codec.specs.Operands.{pattern, rows}
 use Rattle.layout.specs.declared.shape.Shape.{Shape}
 use Rattle.layout.specs.Fields.{Isolated, Start, VertexUsed, Columns, sameField, same-field}
 use Rattle.check_items.specs.Rules.{startsAt}
 use Rattle.euler.specs.declared.records.Two.{Two}
-use Rattle.euler.specs.Valence.{none, leaveOf, comeOf, lessAt, moreAt, lessStarts, moreStarts}
-use Rattle.euler.specs.Inverses.{inverse-eight}
+use Rattle.euler.specs.Valence.{none, leaveOf, comeOf, lessAt, lessStarts, moreStarts}
 use Rattle.euler.specs.Surgery.{itemOf}
-use Rattle.euler.specs.Exec.{limits, refusalOf, marksAfter, linksAfter, killedVertex, pointsAfter, inverse}
+use Rattle.euler.specs.Exec.{refusalOf, marksAfter, linksAfter, pointsAfter}
 use Rattle.sound_tables.specs.Sound.{In, SameElse, SameUsed, VertexSound, alone, joined, Sound}
 use Rattle.sound_tables.specs.Cells.{Shows}
 use Rattle.sound_tables.specs.WriteLaws.{withColumn, column-off}
@@ -30,17 +29,16 @@ use Rattle.sound_tables.specs.Accepted.{by-thirteen}
 use Rattle.sound_tables.specs.Caps.{operand-cap}
 use Rattle.sound_tables.specs.Good.{own, Marked, Valent, Good, marked, worded}
 use Rattle.sound_tables.specs.Balance.{times, UsedOrNone, Mark, Balanced, times-none, many-same}
-use Rattle.sound_tables.specs.Undone.{Low, UndoneBy}
 use Rattle.sound_spurs.specs.Balance.{kev-aside}
 use Rattle.sound_cuts.specs.Balance.{kef-aside}
 use Rattle.sound_bridges.specs.Balance.{kemr-aside}
 use Rattle.sound_splits.specs.Balance.{jekv-aside}
-use Rattle.sound_valence.specs.Words.{Reworded, reworded-same, same-words, then-words, words-are, NoneOrIn}
+use Rattle.sound_valence.specs.Words.{Reworded, reworded-same, NoneOrIn}
 use Rattle.sound_valence.specs.Words.{less-two, more-two}
 use Rattle.sound_valence.specs.Alike.{marked-alike, Finds, accepted-too, points-too, finds-same, first-half}
 use Rattle.sound_valence.specs.Alike.{kev-finds, kef-finds}
 use Rattle.sound_valence.specs.Alike.{kemr-finds, jekv-finds}
-use Rattle.sound_valence.specs.Marks.{marks-hold, marks-balanced, marks-gone}
+use Rattle.sound_valence.specs.Marks.{marks-hold, marks-balanced}
 
 -- ---- small facts
 

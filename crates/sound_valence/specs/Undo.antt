@@ -13,7 +13,7 @@ use Rattle.layout.specs.declared.shape.Shape.{Shape}
 use Rattle.layout.specs.Fields.{VertexUsed}
 use Rattle.check_items.specs.Rules.{startsAt}
 use Rattle.euler.specs.declared.records.Two.{Two}
-use Rattle.euler.specs.Valence.{none, leaveOf, comeOf, lessAt, moreAt, moreStarts}
+use Rattle.euler.specs.Valence.{none, leaveOf, comeOf, lessAt, moreStarts}
 use Rattle.euler.specs.Inverses.{inverse-eight}
 use Rattle.euler.specs.Exec.{refusalOf, marksAfter, linksAfter, killedVertex, pointsAfter, inverse}
 use Rattle.sound_tables.specs.Sound.{In}
@@ -23,7 +23,7 @@ use Rattle.sound_tables.specs.Undone.{Low, UndoneBy}
 use Rattle.sound_valence.specs.Words.{Reworded, reworded-same, same-words, then-words, less-two, more-two}
 use Rattle.sound_valence.specs.Alike.{Finds, accepted-too, points-too}
 use Rattle.sound_valence.specs.Marks.{marks-hold, marks-balanced, marks-gone}
-use Rattle.sound_valence.specs.Kept.{none-or-in, free-starts, none-times, finds, less, few, covers, low-x, g′, F}
+use Rattle.sound_valence.specs.Kept.{none-or-in, free-starts, none-times, finds, less, covers, low-x, g′, F}
 use Rattle.sound_valence.specs.Kept.{h′, B′, gm, after-marks, more, free-come, gy, sums, valence-kept}
 
 -- numbers that go there and back, each one way
