@@ -84,7 +84,7 @@ module _ {sh : Shape} {x y : List ℕ} {p q : List ℤ} (g : Marked sh x p) (h :
       → SameElse sh (own sh (marksAfter sh x (kefOf b))) (own sh (marksAfter sh y (kefOf b)))
   aside-at b w =
       let z = mixed sh x y in
-      let z-sound = mixed-sound h e in
+      let z-sound = mixed-sound g h e in
       let w′ : KefPlace sh z b = record { used = w .used; one = w .one; other = w .other } in
       let k = kef-cut (g .sound) refl w in
       let s = kef-sound (g .sound) refl w in
@@ -117,7 +117,7 @@ module _ {sh : Shape} {x y : List ℕ} {p q : List ℤ} (g : Marked sh x p) (h :
         ),
       )
       (λ F a t n. sym (k′ .others F a n) ∙ mixed-else sh x y F t n ∙ k .others F a n) in
-      λ F t n i. after-kef k′ s′ z-sound (mixed-shows h e) (h .capacities) F n i ∙ same F t n
+      λ F t n i. after-kef k′ s′ z-sound (mixed-shows g h e) (h .capacities) F n i ∙ same F t n
       ∙ sym (after-kef k s (g .sound) (marked-shows g) (g .capacities) F n i)
 
 -- kef leaves tables that differ in vertex words alone

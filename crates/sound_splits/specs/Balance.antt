@@ -12,7 +12,7 @@ use lib.IntN.{ℤ}
 use lib.ListN.{length}
 use borrow.Author.Tests.{le-leb}
 use Rattle.laws.specs.Bools.{split}
-use Rattle.laws.specs.Sums.{bit, countTo}
+use Rattle.laws.specs.Sums.{bit}
 use Rattle.laws.specs.Update.{upd, upd-same, upd-off}
 use Rattle.bounds.specs.Bounds.{mostHalves}
 use Rattle.script.specs.declared.Operator.{Operator}
@@ -23,6 +23,8 @@ use Rattle.euler.specs.Valence.{two, none, leaveOf, comeOf}
 use Rattle.euler.specs.Exec.{refusalOf, marksAfter}
 use Rattle.sound_tables.specs.Cells.{Shows}
 use Rattle.sound_tables.specs.Sound.{In, SameElse}
+use Rattle.check_items.specs.Rules.{startsAt}
+use Rattle.sound_tables.specs.Labels.{manyWith}
 use Rattle.sound_tables.specs.Good.{own, Marked, marked-shows}
 use Rattle.sound_tables.specs.Aside.{mixed, mixed-else, mixed-shows, mixed-sound}
 use Rattle.sound_tables.specs.Balance.{UsedOrNone, Balanced, one-changed, many-same, two-changed, times-none}
@@ -36,15 +38,12 @@ use Rattle.sound_splits.specs.Exact.{divided, y-shows, rejoined, ky-show
 
 -- ---- a division
 
--- how many half-edges start at w
-abbrev many : Shape → Columns → ℕ → ℕ
-many sh c w = countTo (2 * sh .edges) (λ i. eqb (c Start i) w)
-
 module _ {sh : Shape} {c d : Columns} {k n v : ℕ} (r : Split sh c d k n v) where
   open Split r using (place)
 
   -- two more start at the vertex that divides
-  split-many : (w : ℕ) → 1 ≤ w → many sh d w ≡ many sh c w + (bit (eqb v w) + bit (eqb v w))
+  split-many : (w : ℕ) → 1 ≤ w → manyWith (2 * sh .edges) (d Start) w
+      ≡ manyWith (2 * sh .edges) (c Start) w + (bit (eqb v w) + bit (eqb v w))
   split-many w l =
       let f = upd (c Start) (mate k) v in
       let fn : f n ≡ 0 = upd-off (c Start) v (n≢m place) ∙ place .n-free in
@@ -66,7 +65,7 @@ module _ {sh : Shape} {c d : Columns} {k n v : ℕ} (r : Split sh c d k n v) whe
   module _ {x y : List ℕ} (sx : Shows sh x c) (sy : Shows sh y d) where
     -- the same of the table before, x, and after, y
     tables-many : (w : ℕ) → 1 ≤ w
-        → many sh (own sh y) w ≡ many sh (own sh x) w + (bit (eqb v w) + bit (eqb v w))
+        → startsAt sh y w ≡ startsAt sh x w + (bit (eqb v w) + bit (eqb v w))
     tables-many w l = omega (
       arith,
       many-same (2 * sh .edges) (d Start) (own sh y Start) w (λ i j. sy .at Start i (j .1)),
@@ -173,7 +172,7 @@ module _ {sh : Shape} {x y : List ℕ} {p q : List ℤ} (g : Marked sh x p) (h :
   columns-aside : (F : Field) → sameField VertexUsed F ≡ false → (i : ℕ)
       → joinedUp sh (mixed sh x y) k n F i ≡ joinedUp sh (own sh x) k n F i
   columns-aside =
-      let a = jekv-split (mixed-sound h e) mixed-joint in
+      let a = jekv-split (mixed-sound g h e) mixed-joint in
       by-fields moved (λ F. sameField VertexUsed F ≡ false → (i : ℕ)
       → joinedUp sh (mixed sh x y) k n F i ≡ joinedUp sh (own sh x) k n F i) (
         λ t i. refl,
@@ -201,7 +200,7 @@ module _ {sh : Shape} {x y : List ℕ} {p q : List ℤ} (g : Marked sh x p) (h :
   links-aside F t i l =
       let n1 = rejoined g j .place .n-in .0 in
       rw (jekv-links sh x k n (g .capacities) j n1, jekv-links sh y k n (h .capacities) joint-y n1)
-      (jekv-shows (mixed-shows h e) (mixed-sound h e) mixed-joint .at F i l ∙ columns-aside F t i
+      (jekv-shows (mixed-shows g h e) (mixed-sound g h e) mixed-joint .at F i l ∙ columns-aside F t i
       ∙ sym (ky-shows g j .at F i l))
 
 -- jekv leaves tables that differ in vertex words alone

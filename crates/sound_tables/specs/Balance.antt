@@ -8,18 +8,20 @@ use native.Mathlib.Omega.{arith}
 use lib.Dec.{eqb}
 use lib.IntN.{ℤ}
 use Rattle.laws.specs.Bools.{split, eqb-other}
-use Rattle.laws.specs.Sums.{bit, countTo, sum-ext, sum-change}
+use Rattle.laws.specs.Sums.{bit, sum-ext, sum-change}
 use Rattle.laws.specs.Update.{upd, upd-same, upd-off}
 use Rattle.script.specs.declared.Operator.{Operator}
 use Rattle.layout.specs.declared.shape.Shape.{Shape}
+use Rattle.layout.specs.Layout.{startOf}
 use Rattle.layout.specs.Mate.{mate}
 use Rattle.layout.specs.Fields.{Start, VertexUsed, Columns}
 use Rattle.check_items.specs.Rules.{startsAt}
 use Rattle.euler.specs.declared.records.Two.{Two}
-use Rattle.euler.specs.Valence.{none, ends, leaveOf, comeOf}
+use Rattle.euler.specs.Valence.{two, none, ends, leaveOf, comeOf}
 use Rattle.euler.specs.Exec.{marksAfter}
 use Rattle.sound_tables.specs.Mates.{mate-other}
 use Rattle.sound_tables.specs.Sound.{In, HalfUsed, Sound}
+use Rattle.sound_tables.specs.Labels.{manyWith}
 use Rattle.sound_tables.specs.Cells.{Shows}
 use Rattle.sound_tables.specs.Good.{own}
 
@@ -47,26 +49,23 @@ pub record Balanced (sh : Shape) (x : List ℕ) (o : Operator) : Type 0 where
 
 -- ---- counts
 
--- how many of 1..n have label w
-abbrev many : ℕ → (ℕ → ℕ) → ℕ → ℕ
-many n f w = countTo n (λ k. eqb (f k) w)
-
 -- one label changes
 pub one-changed : (n : ℕ) (f : ℕ → ℕ) (a v w : ℕ) → In n a
-    → many n (upd f a v) w + bit (eqb (f a) w) ≡ many n f w + bit (eqb v w)
+    → manyWith n (upd f a v) w + bit (eqb (f a) w) ≡ manyWith n f w + bit (eqb v w)
 one-changed n f a v w i =
     let c = sum-change n (λ k. bit (eqb (upd f a v k) w)) (λ k. bit (eqb (f k) w)) a (i .0) (i .1)
     (λ k d. ap (λ m. bit (eqb m w)) (upd-off f v d)) in
-    c ∙ ap (λ m. many n f w + bit (eqb m w)) (upd-same f a v)
+    c ∙ ap (λ m. manyWith n f w + bit (eqb m w)) (upd-same f a v)
 
 -- labels that agree are as many
-pub many-same : (n : ℕ) (f g : ℕ → ℕ) (w : ℕ) → ((k : ℕ) → In n k → g k ≡ f k) → many n g w ≡ many n f w
+pub many-same : (n : ℕ) (f g : ℕ → ℕ) (w : ℕ) → ((k : ℕ) → In n k → g k ≡ f k) → manyWith n g w ≡ manyWith n f w
 many-same n f g w e = sum-ext n _ _ (λ k a b. ap (λ m. bit (eqb m w)) (e k (a, b)))
 
 -- two labels change
 pub two-changed : (n : ℕ) (f g : ℕ → ℕ) (a b w : ℕ) → In n a → In n b → a ≢ b
     → ((k : ℕ) → In n k → k ≢ a → k ≢ b → g k ≡ f k)
-    → many n g w + (bit (eqb (f a) w) + bit (eqb (f b) w)) ≡ many n f w + (bit (eqb (g a) w) + bit (eqb (g b) w))
+    → manyWith n g w + (bit (eqb (f a) w) + bit (eqb (f b) w))
+    ≡ manyWith n f w + (bit (eqb (g a) w) + bit (eqb (g b) w))
 two-changed n f g a b w i j d e =
     let h = upd (upd f a (g a)) b (g b) in
     let same : (k : ℕ) → In n k → g k ≡ h k = λ k m. split k b
@@ -87,6 +86,21 @@ two-changed n f g a b w i j d e =
 pub times-none : (w : ℕ) → 1 ≤ w → bit (eqb 0 w) ≡ 0
 times-none w h = ap bit (eqb-other {m = 0} {n = w} (omega arith))
 
+-- ---- both halves of an edge in use
+
+module _ {sh : Shape} {x : List ℕ} {q : List ℤ} (a : Sound sh q (own sh x)) {k : ℕ} (u : HalfUsed sh (own sh x) k) where
+  -- their numbers are in range
+  both-in : In (2 * sh .edges) k × In (2 * sh .edges) (mate k)
+  both-in = let m = a .rules .mate-in k u in ((u .0, u .1), (m .0, m .1))
+
+  -- and they start at vertices in use
+  both-used : UsedOrNone sh x (startOf sh x k) × UsedOrNone sh x (startOf sh x (mate k))
+  both-used =
+      let m = a .rules .mate-in k u in
+      let h = a .half k (u .0, u .1) (u .2) in
+      let b = a .half (mate k) (m .0, m .1) (m .2) in
+      (inr (h .start-in, h .start-used), inr (b .start-in, b .start-used))
+
 -- ---- the three kinds of operator
 
 module _ {sh : Shape} {x : List ℕ} {o : Operator}
@@ -104,56 +118,42 @@ module _ {sh : Shape} {x : List ℕ} {o : Operator}
     mark = mark;
   }
 
-  -- the edge of k comes: its halves were free
+  -- the edge of k comes or goes: no other half-edge changes its start
+  edge-balanced : (k : ℕ) → In (2 * sh .edges) k × In (2 * sh .edges) (mate k) → leaveOf sh x o ≡ ends sh x k
+      → comeOf sh (marksAfter sh x o) o ≡ ends sh (marksAfter sh x o) k
+      → (leaveOf sh x o ≡ none) ⊎ (comeOf sh (marksAfter sh x o) o ≡ none)
+      → UsedOrNone sh x (startOf sh x k) × UsedOrNone sh x (startOf sh x (mate k))
+      → UsedOrNone sh (marksAfter sh x o) (startOf sh (marksAfter sh x o) k)
+      × UsedOrNone sh (marksAfter sh x o) (startOf sh (marksAfter sh x o) (mate k))
+      → ((i : ℕ) → In (2 * sh .edges) i → i ≢ k → i ≢ mate k → own sh (marksAfter sh x o) Start i ≡ own sh x Start i)
+      → Balanced sh x o
+  edge-balanced k i el ec one a b e = record {
+    starts = λ w l. rw (el, ec) (two-changed (2 * sh .edges) (own sh x Start) (own sh (marksAfter sh x o) Start) k
+        (mate k) w (i .0) (i .1) (mate-other k (i .0 .0)) e);
+    one-way = one;
+    leave = rw el a;
+    come = rw ec b;
+    mark = mark;
+  }
+
+  -- it comes: its halves were free
   pub made-balanced : {q : List ℤ} (k : ℕ) → leaveOf sh x o ≡ none
       → comeOf sh (marksAfter sh x o) o ≡ ends sh (marksAfter sh x o) k
       → Sound sh q (own sh (marksAfter sh x o)) → HalfUsed sh (own sh (marksAfter sh x o)) k
       → own sh x Start k ≡ 0 → own sh x Start (mate k) ≡ 0
       → ((i : ℕ) → In (2 * sh .edges) i → i ≢ k → i ≢ mate k → own sh (marksAfter sh x o) Start i ≡ own sh x Start i)
       → Balanced sh x o
-  made-balanced k el ec a u fk fm e =
-      let um = a .rules .mate-in k u in
-      let h = a .half k (u .0, u .1) (u .2) in
-      let m = a .half (mate k) (um .0, um .1) (um .2) in
-      record {
-        starts = λ w l. rw (el, ec) (omega (
-          arith,
-          two-changed (2 * sh .edges) (own sh x Start) (own sh (marksAfter sh x o) Start) k (mate k) w (u .0, u .1)
-              (um .0, um .1) (mate-other k (u .0)) e,
-          ap (λ n. bit (eqb n w)) fk,
-          ap (λ n. bit (eqb n w)) fm,
-          times-none w l,
-        ));
-        one-way = inl el;
-        leave = rw el (inl refl, inl refl);
-        come = rw ec (inr (h .start-in, h .start-used), inr (m .start-in, m .start-used));
-        mark = mark;
-      }
+  made-balanced k el ec a u fk fm = edge-balanced k (both-in a u) (el ∙ (λ t. two (sym fk t) (sym fm t))) ec (inl el)
+      (inl fk, inl fm) (both-used a u)
 
-  -- the edge of k goes: its halves are free
+  -- it goes: its halves are free
   pub killed-balanced : {q : List ℤ} (k : ℕ) → leaveOf sh x o ≡ ends sh x k → comeOf sh (marksAfter sh x o) o ≡ none
       → Sound sh q (own sh x) → HalfUsed sh (own sh x) k
       → own sh (marksAfter sh x o) Start k ≡ 0 → own sh (marksAfter sh x o) Start (mate k) ≡ 0
       → ((i : ℕ) → In (2 * sh .edges) i → i ≢ k → i ≢ mate k → own sh (marksAfter sh x o) Start i ≡ own sh x Start i)
       → Balanced sh x o
-  killed-balanced k el ec a u fk fm e =
-      let um = a .rules .mate-in k u in
-      let h = a .half k (u .0, u .1) (u .2) in
-      let m = a .half (mate k) (um .0, um .1) (um .2) in
-      record {
-        starts = λ w l. rw (el, ec) (omega (
-          arith,
-          two-changed (2 * sh .edges) (own sh x Start) (own sh (marksAfter sh x o) Start) k (mate k) w (u .0, u .1)
-              (um .0, um .1) (mate-other k (u .0)) e,
-          ap (λ n. bit (eqb n w)) fk,
-          ap (λ n. bit (eqb n w)) fm,
-          times-none w l,
-        ));
-        one-way = inr ec;
-        leave = rw el (inr (h .start-in, h .start-used), inr (m .start-in, m .start-used));
-        come = rw ec (inl refl, inl refl);
-        mark = mark;
-      }
+  killed-balanced k el ec a u fk fm = edge-balanced k (both-in a u) el (ec ∙ (λ t. two (sym fk t) (sym fm t))) (inr ec)
+      (both-used a u) (inl fk, inl fm)
 
 -- no half-edge comes or goes, seen through the columns afterwards
 pub shown-still : {sh : Shape} {x : List ℕ} {o : Operator} {d : Columns} → Shows sh (marksAfter sh x o) d

@@ -9,12 +9,12 @@ use native.Mathlib.Omega.{arith}
 use lib.Dec.{eqb, lit≤}
 use lib.IntN.{ℤ}
 use lib.ListN.{length}
-use Rattle.laws.specs.Bools.{split, ask, eqb-other}
+use Rattle.laws.specs.Bools.{split, eqb-other}
 use Rattle.laws.specs.Sums.{bit, count-le}
 use Rattle.script.specs.declared.Operator.{Operator}
 use Rattle.codec.specs.Operands.{pattern, rows}
 use Rattle.layout.specs.declared.shape.Shape.{Shape}
-use Rattle.layout.specs.Fields.{Isolated, Start, VertexUsed, Columns, sameField, same-field}
+use Rattle.layout.specs.Fields.{Isolated, Start, VertexUsed, Columns}
 use Rattle.check_items.specs.Rules.{startsAt}
 use Rattle.euler.specs.declared.records.Two.{Two}
 use Rattle.euler.specs.Valence.{none, leaveOf, comeOf, lessAt, lessStarts, moreStarts}
@@ -22,7 +22,8 @@ use Rattle.euler.specs.Surgery.{itemOf}
 use Rattle.euler.specs.Exec.{refusalOf, marksAfter, linksAfter, pointsAfter}
 use Rattle.sound_tables.specs.Sound.{In, SameElse, SameUsed, VertexSound, alone, joined, Sound}
 use Rattle.sound_tables.specs.Cells.{Shows}
-use Rattle.sound_tables.specs.WriteLaws.{withColumn, column-off}
+use Rattle.sound_tables.specs.WriteLaws.{withColumn}
+use Rattle.sound_tables.specs.Aside.{shows-worded}
 use Rattle.sound_tables.specs.Labels.{many-none}
 use Rattle.sound_tables.specs.Names.{start-unnamed, isolated-unnamed}
 use Rattle.sound_tables.specs.Accepted.{by-thirteen}
@@ -332,14 +333,7 @@ module _ {sh : Shape} {x : List ℕ} {p : List ℤ} (o : Operator) (g : Good sh 
   -- what shows the one shows the other, but for words
   pub links-shown : {d : Columns} → Shows sh (marksAfter sh x o) d
       → Shows sh (linksAfter sh x o) (withColumn d VertexUsed (own sh (linksAfter sh x o) VertexUsed))
-  links-shown {d} s = record {
-    fit = more .fit;
-    at = λ G k i. ⊎-elim
-        (λ t. subst (λ G. own sh y G k ≡ withColumn d VertexUsed (own sh y VertexUsed) G k) (same-field VertexUsed G t)
-        refl)
-        (λ t. links-else G t k i ∙ s .at G k i ∙ sym (column-off d VertexUsed (own sh y VertexUsed) G t k))
-        (ask (sameField VertexUsed G));
-  }
+  links-shown s = shows-worded s (more .fit) links-else
 
   -- the table stays good
   pub good-kept : Good sh (linksAfter sh x o) (pointsAfter sh x p o)
