@@ -3,7 +3,7 @@
 -- below which a search finds nothing. Nobody has to believe this file: `swift-same` of crate inversion proves
 -- `swiftOf` to be `invertOf`, whatever the words.
 use Prim.Native.Nat.{ℕ, zero, suc, _+_, _-_, _*_}
-use mathlib.Core.Bool.{Bool, not, _&&_}
+use mathlib.Core.Bool.{Bool, true, false, not, _&&_}
 use mathlib.Core.List.{List}
 use lib.Dec.{eqb, ltb}
 use Rattle.laws.specs.Bools.{pick}
@@ -13,11 +13,12 @@ use Rattle.layout.specs.Layout.{shapeOf, solidUsed, faceSolid, faceOuter, loopF
 use Rattle.layout.specs.Mate.{mate}
 use Rattle.layout.specs.Items.{some, faceIn, isRing}
 use Rattle.euler.specs.Queries.{facesIn}
-use Rattle.runs.specs.Run.{State, entry}
+use Rattle.euler.specs.Exec.{linksAfter, pointsAfter}
+use Rattle.runs.specs.Run.{State, state, readAt, entry}
 use Rattle.takedown.specs.declared.ends.Ends.{Ends}
 use Rattle.takedown.specs.Inversion.{Work, act, linksIn, freeFace, freeLoop, freeEdge, outside, ofSolid, inRing}
 use Rattle.takedown.specs.Inversion.{isSpur, isCrossed, isRingOf, makeOuter, moveRings, turnRing, turnC, kvsf}
-use Rattle.takedown.specs.Inversion.{kev, kef, kemr, turns, noneFree, shortLog, Inverted, inverted, begin}
+use Rattle.takedown.specs.Inversion.{kev, kef, kemr, turns, shortLog, Ended, ended, Inverted, inverted, begin}
 
 -- the least of low..n that passes, or 0
 abbrev pub seek : ℕ → ℕ → (ℕ → Bool) → ℕ
@@ -270,18 +271,57 @@ swiftTurn sh e x w =
     (halfTurn sh e x (seek (2 * sh .edges) (e .half) (ofSolid sh x (e .solid))) w)
     (across sh e x (seek (2 * sh .edges) (e .border) (outside sh x (e .root))) w)
 
--- turns until no solid is in use, at most n
-unfoldable pub swiftBy : ℕ → Shape → Swift → Work
-swiftBy zero sh t = t .work
-swiftBy (suc n) sh t =
-    pick (eqb (t .ends .solid) 0) (t .work) (swiftBy n sh (swiftTurn sh (t .ends) (linksIn (t .work)) (t .work)))
+-- the turn lacks a number
+abbrev pub ringLacks : Shape → Ends → List ℕ → ℕ → Bool
+ringLacks sh e x k =
+    pick (some k) (eqb (freeFace sh x) 0) (pick (some (spurFrom sh x e)) false (eqb (freeLoop sh x) 0))
 
--- the entry point: as invertOf
+abbrev pub halfLacks : Shape → Ends → List ℕ → ℕ → Bool
+halfLacks sh e x h =
+    pick (some h) (ringLacks sh e x (seek (2 * sh .edges) (e .ring) (inRing sh x (e .solid))))
+    (pick (some (seek (sh .loops) (e .lone) (isRingOf sh x (e .root)))) (eqb (freeEdge sh x) 0) false)
+
+unfoldable pub swiftLacks : Shape → Ends → List ℕ → Bool
+swiftLacks sh e x =
+    pick (eqb (e .faces) 1) (halfLacks sh e x (seek (2 * sh .edges) (e .half) (ofSolid sh x (e .solid)))) false
+
+-- turns until no solid is in use or a turn lacks a number, at most n
+unfoldable pub swiftBy : ℕ → Shape → Swift → Ended
+swiftBy zero sh t = ended false (t .work)
+swiftBy (suc n) sh t =
+    pick (eqb (t .ends .solid) 0) (ended false (t .work))
+    (pick (swiftLacks sh (t .ends) (linksIn (t .work))) (ended true (t .work))
+    (swiftBy n sh (swiftTurn sh (t .ends) (linksIn (t .work)) (t .work))))
+
+-- ---- the roll-back
+
+-- the first operator of the live log carried out, and nothing logged
+abbrev pub undoneOne : Shape → State → State
+undoneOne sh t =
+    state (linksAfter sh (t .links) (readAt sh (t .log) (t .start) .op))
+    (pointsAfter sh (t .links) (t .points) (readAt sh (t .log) (t .start) .op)) (t .log)
+    (readAt sh (t .log) (t .start) .next)
+
+-- the first n
+unfoldable pub undone : ℕ → Shape → State → State
+undone zero sh t = t
+undone (suc n) sh t = undone n sh (undoneOne sh t)
+
+-- as many as were done, and the start handed in
+abbrev pub rolledBack : Shape → State → Work → State
+rolledBack sh t w =
+    state (undone (w .done) sh (w .state) .links) (undone (w .done) sh (w .state) .points) (w .state .log) (t .start)
+
+-- ---- the entry point
+
+abbrev pub swiftlyBy : Shape → State → Ended → Inverted
+swiftlyBy sh t e = pick (e .lack) (inverted 10 0 (begin (rolledBack sh t (e .work)))) (inverted 0 0 (e .work))
+
+-- as invertOf
 unfoldable pub swiftOf : State → Inverted
 swiftOf t =
     pick (eqb (entry t .refusal) 0)
-    (pick (noneFree (shapeOf (t .links)) (t .links)) (inverted 10 0 (begin t))
     (pick (shortLog (shapeOf (t .links)) t) (inverted 9 0 (begin t))
-    (inverted 0 0 (swiftBy (turns (shapeOf (t .links))) (shapeOf (t .links))
-    (entered (shapeOf (t .links)) 1 (begin t))))))
+    (swiftlyBy (shapeOf (t .links)) t
+    (swiftBy (turns (shapeOf (t .links))) (shapeOf (t .links)) (entered (shapeOf (t .links)) 1 (begin t)))))
     (inverted (entry t .refusal) (entry t .rule) (begin t))
