@@ -36,7 +36,7 @@ use Rattle.euler.specs.Valence.{lessStarts, moreStarts}
 use Rattle.runs.specs.Run.{state, inverseBytes, stepped, entry}
 use Rattle.inversion.specs.Promise.{Euler}
 use Rattle.takedown.specs.Inversion.{Inverted, ofSolid, crossedHalf, onRun, crossed, act, makeOuter, moveRings, turnB}
-use Rattle.takedown.specs.Inversion.{turned, invertBy, invertOf}
+use Rattle.takedown.specs.Inversion.{turned, lacksB, lacks, invertBy, invertOf}
 
 -- what is left
 abbrev pub leaves : ℕ → ℕ → ℕ → List ℕ → List ℤ → List ℕ → Inverted
@@ -128,13 +128,14 @@ wanted =
     ∷ leaves 1 0 115 linksFull (replicate 3 (pos 0)) (replicate 114 238) ∷ []
 
 pub rows-hold : asked ≡ wanted
-unfolding invertOf invertBy turned turnB moveRings makeOuter act crossed onRun entry checkOf sizesFit tallyOf itemUsed
-    brokenRule rule1 rule2 rule3 rule4 rule5 rule6 solidRange faceRange loopRange halfRange vertexRange solidNames
-    faceNames loopNames halfNames loopEither halfLinks firstNames halfInLoop vertexEither halfAtVertex halfSides
-    faceLinked allTo anyTo leastFrom sumTo meets linkedb rounds pass across mate within joins linkedBy third second
-    first readNumber groups pattern rows inRanges inRange zig zag wire unwire operandBytes operandsBytes operatorBytes
-    putBytes inverseBytes stepped linksAfter marksAfter lessStarts moreStarts pointsAfter killedVertex inverse corner
-    edgeIn edgeOut relabel seek renew sweep kvsfLinks kevLinks kefLinks kemrLinks mekrLinks mfkrhLinks rmovLinks
+unfolding invertOf invertBy lacks lacksB turned turnB moveRings makeOuter act crossed onRun entry checkOf sizesFit
+    tallyOf itemUsed brokenRule rule1 rule2 rule3 rule4 rule5 rule6 solidRange faceRange loopRange halfRange
+    vertexRange solidNames faceNames loopNames halfNames loopEither halfLinks firstNames halfInLoop vertexEither
+    halfAtVertex halfSides faceLinked allTo anyTo leastFrom sumTo meets linkedb rounds pass across mate within joins
+    linkedBy third second first readNumber groups pattern rows inRanges inRange zig zag wire unwire operandBytes
+    operandsBytes operatorBytes putBytes inverseBytes stepped linksAfter marksAfter lessStarts moreStarts pointsAfter
+    killedVertex inverse corner edgeIn edgeOut relabel seek renew sweep kvsfLinks kevLinks kefLinks kemrLinks
+    mekrLinks mfkrhLinks rmovLinks
 rows-hold = refl
 
 -- the full one counted: one solid, face, loop and vertex, two edges, no ring, one hole

@@ -1,7 +1,9 @@
--- The take-down's promise from what is known of its turns.
+-- The course of the take-down of a state that is let in and has room: a chain of accepted operators, with 19 bytes for
+-- each, down to nothing or to a turn that lacks a number (`course`). And what it has come to where nothing is left
+-- (`whole`). The promises from it are in Theorem.
 use mathlib.Core.Path.{_≡_, refl, sym, ap, _∙_, subst}
 use mathlib.Core.Logic.{_≢_, inl}
-use mathlib.Core.Bool.{Bool, true, false, _||_, false≢true}
+use mathlib.Core.Bool.{Bool, true, false, false≢true}
 use mathlib.Core.List.{List, [], _++_, append-assoc}
 use Prim.Native.Nat.{ℕ, _+_, _-_, _*_, _≤_}
 use native.Mathlib.Nat.{zero-add}
@@ -10,7 +12,8 @@ use lib.Dec.{eqb}
 use lib.IntN.{ℤ}
 use lib.ListN.{length, take, drop, length-append, length-drop}
 use lib.Seq.{take-append-seam}
-use borrow.Author.Tests.{le-ltb, eqb-false}
+use borrow.Author.Tests.{ltb-false, eqb-true, eqb-false}
+use Rattle.laws.specs.Bools.{pick, eqb-other}
 use Rattle.laws.specs.Sums.{count-le}
 use Rattle.script.specs.Operator.{operatorBytes}
 use Rattle.codec.specs.Ranges.{Within}
@@ -23,23 +26,29 @@ use Rattle.table.specs.declared.tally.Item.the-variants.{Edge, Vertex}
 use Rattle.table.specs.declared.check.CheckAnswer.{CheckAnswer}
 use Rattle.script.specs.declared.Operator.{Operator}
 use Rattle.sound_tables.specs.Accepted.{accepted}
-use Rattle.sound_tables.specs.Good.{Good}
+use Rattle.sound_tables.specs.Good.{Good, own}
 use Rattle.sound_operators.specs.Theorems.{all-hold}
 use Rattle.runs.specs.Run.{State, state, Ran, entry, runOf, runFrom}
-use Rattle.runs.specs.Clauses.{run-in}
+use Rattle.runs.specs.Clauses.{run-in, entry-passed}
 use Rattle.promises.specs.Reading.{range-writable}
 use Rattle.promises.specs.Leads.{Leads, none, first}
 use Rattle.promises.specs.Checked.{good-within, good-entry, checked-good}
 use Rattle.promises.specs.WayBack.{Back, back-none}
 use Rattle.evidence_fuel.specs.Inverse.{inverse-small}
-use Rattle.takedown.specs.Inversion.{Work, Inverted, freeFace, freeLoop, freeEdge, turns, bound, noneFree, shortLog}
-use Rattle.takedown.specs.Inversion.{inverted, begin, invertBy, invertOf}
+use Rattle.takedown.specs.Inversion.{Work, Inverted, Ended, ended, turns, bound, shortLog, inverted, invertedBy, begin}
+use Rattle.takedown.specs.Inversion.{invertBy, invertOf}
 use Rattle.inversion.specs.Script.{joinsOf, joins-first, roomOf, room-first}
-use Rattle.inversion.specs.Path.{Path, acted, acted-table, path-back, joinsIn, path-joins}
+use Rattle.inversion.specs.Path.{Path, acted, acted-table, path-good, path-back, joinsIn, path-joins}
 use Rattle.inversion.specs.Rebuild.{leads-part, Builds, leads-run}
-use Rattle.inversion.specs.Counts.{solids, faces, edges, vertices, rings, RingsLoops, StrayFew}
-use Rattle.inversion.specs.Turn.{Ready, TurnsMade, EmptyTable, down}
-use Rattle.inversion.specs.Promise.{clearLinks, clearPoints, Asked, Exact, InversionExact}
+use Rattle.inversion.specs.Counts.{solids, faces, loops, edges, vertices, rings}
+use Rattle.inversion.specs.Same.{solids-is, faces-is, loops-is, edges-is, vertices-is}
+use Rattle.inversion.specs.Turn.{Ready, Empty, Stop, emptied, lacking, down}
+use Rattle.inversion.specs.AllTurns.{turns-made}
+use Rattle.inversion.specs.EmptyLaws.{empty-table}
+use Rattle.inversion.specs.LoopCounts.{rings-loops, stray-few}
+use Rattle.inversion.specs.HolesAll.{sound-holes}
+use Rattle.inversion.specs.Credit.{solid-vertex, covered}
+use Rattle.inversion.specs.Promise.{Euler, clearLinks, clearPoints, Exact}
 
 -- ---- a part of the log as a script
 
@@ -81,24 +90,6 @@ room-enough sh {x = x} {p} {b} g (first {n} o rest e len acc more) =
 pub half-is : (s f e v r h : ℕ) → v + f + 2 * h ≡ e + r + 2 * s → holesOf s f e v r ≡ h
 half-is s f e v r h q = omega arith
 
--- one of the numbers is free
-pub free-all : (a b c : ℕ) → ((eqb a 0 || eqb b 0) || eqb c 0) ≡ false → (a ≢ 0) × (b ≢ 0) × (c ≢ 0)
-free-all a b c h = by (eqb a 0) (eqb b 0) (eqb c 0) refl refl refl h
-  where
-    by : (x y z : Bool) → eqb a 0 ≡ x → eqb b 0 ≡ y → eqb c 0 ≡ z → ((x || y) || z) ≡ false → (a ≢ 0) × (b ≢ 0)
-        × (c ≢ 0)
-    by false false false e f g h = (eqb-false a 0 e, eqb-false b 0 f, eqb-false c 0 g)
-    by false false true e f g h = absurd (false≢true (sym h))
-    by false true z e f g h = absurd (false≢true (sym h))
-    by true y z e f g h = absurd (false≢true (sym h))
-
--- let in: down to nothing
-let-in : (t : State) → entry t .refusal ≡ 0 → noneFree (shapeOf (t .links)) (t .links) ≡ false
-    → shortLog (shapeOf (t .links)) t ≡ false
-    → invertOf t ≡ inverted 0 0 (invertBy (turns (shapeOf (t .links))) (shapeOf (t .links)) (begin t))
-unfolding invertOf
-let-in t e f g = rw (e, f, g)
-
 -- what the work leaves, n operators done
 abbrev ends : State → ℕ → List ℕ → ℕ → Work
 ends t n log start = record { done = n; state = state (clearLinks (t .links)) (clearPoints (t .links)) log start }
@@ -136,6 +127,7 @@ finish t n h log start b jo short =
       below = b .below;
       same-length = b .same-length;
       rest = b .rest;
+      front = b .front;
       bound = short;
       rebuilt = λ log′ start′ l r.
           let u : State = state (clearLinks (t .links)) (clearPoints (t .links)) log′ start′ in
@@ -154,7 +146,7 @@ finish t n h log start b jo short =
     }
 
 -- a chain of accepted operators down to nothing
-whole : (t : State) (h : ℕ) (os : List Operator) → t .start ≤ length (t .log)
+pub whole : (t : State) (h : ℕ) (os : List Operator) → t .start ≤ length (t .log)
     → Good (shapeOf (t .links)) (t .links) (t .points)
     → Path (shapeOf (t .links)) (clearLinks (t .links)) (clearPoints (t .links)) os (t .links) (t .points)
     → joinsIn (shapeOf (t .links)) (t .links) (t .points) os ≡ h
@@ -194,32 +186,138 @@ whole t h os le g path j short room =
         (finish t n h log start (subst (λ (v : Work). Back (shapeOf (t .links)) n t (v .state)) is b)
         (subst (λ (v : Work). joinsOf n (shapeOf (t .links)) (drop start log) (v .state .links) ≡ h) is k) s)
 
-module _ (made : TurnsMade) (empty : EmptyTable) (rings-loops : RingsLoops) (stray-few : StrayFew) where
-  -- enough room, said with the counts
-  not-short : (t : State) (h : ℕ) → Asked t h → shortLog (shapeOf (t .links)) t ≡ false
-  unfolding tallyOf
-  not-short t h a =
-      let e = half-is _ _ _ _ _ h (a .formula) in
-      rw e (le-ltb (t .start) _ (omega (arith, a .room)))
+-- ---- the course
 
-  -- THE TAKE-DOWN IS EXACT
-  pub inversion-from : InversionExact
-  inversion-from t h a =
-      let x = t .links in
-      let sh = shapeOf x in
-      let g = checked-good x (t .points) (a .sound) in
-      let fr = free-all (freeFace sh x) (freeLoop sh x) (freeEdge sh x) (a .free) in
-      let ready : Ready sh x = record { face = fr .0; edge = fr .2; loop = inl (fr .1) } in
-      let fuel : edges sh x + vertices sh x ≤ turns sh =
-      omega (arith, count-le (sh .edges) (itemUsed Edge sh x), count-le (sh .vertices) (itemUsed Vertex sh x)) in
-      let d = down made empty (turns sh) sh x (t .points) g ready fuel in
-      let rl = rings-loops sh x (t .points) g in
-      let sf = stray-few sh x (t .points) g in
-      let j : joinsIn sh x (t .points) (d .os) ≡ h = omega (arith, rl, d .euler, a .formula) in
-      let short : length (d .os) + 2 * solids sh x ≤ vertices sh x + 2 * faces sh x + 2 * rings sh x + 3 * h =
-      omega (arith, rl, sf, d .short, j) in
-      let room : 19 * length (d .os) ≤ t .start = omega (arith, short, a .room) in
-      let is =
-      let-in t (ap (λ (r : CheckAnswer). r .refusal) (good-entry t g (a .start-in))) (a .free) (not-short t h a)
-      ∙ ap (inverted 0 0) (d .same (begin t) refl refl) in
-      subst (λ (r : Inverted). Exact t r h) (sym is) (whole t h (d .os) (a .start-in) g (d .path) j short room)
+-- every good table has a number of holes
+pub good-holes : {sh : Shape} {x : List ℕ} {p : List ℤ} → Good sh x p
+    → (h : ℕ) × (vertices sh x + 2 * faces sh x + 2 * h ≡ edges sh x + loops sh x + 2 * solids sh x)
+good-holes {sh} {x} {p} g =
+    let h = sound-holes sh p (own sh x) (g .sound) refl in
+    (h .holes, rw (vertices-is sh x, faces-is sh x, edges-is sh x, loops-is sh x, solids-is sh x) (h .formula))
+
+-- so the bound is a number
+pub euler-at : (t : State) → entry t .refusal ≡ 0 → (h : ℕ) × Euler (shapeOf (t .links)) (t .links) h
+euler-at t z =
+    let g = checked-good (t .links) (t .points) (entry-passed t z .1) in
+    let h = good-holes g in
+    (h .0, omega (arith, h .1, rings-loops (shapeOf (t .links)) (t .links) (t .points) g))
+
+-- the operators of all turns, and where they stop
+pub record Course (t : State) (h : ℕ) : Type 0 where
+  pub os : List Operator
+  pub y : List ℕ
+  pub q : List ℤ
+  pub lack : Bool
+  pub good : Good (shapeOf (t .links)) (t .links) (t .points)
+  pub start-in : t .start ≤ length (t .log)
+  pub path : Path (shapeOf (t .links)) y q os (t .links) (t .points)
+  pub made : invertBy (turns (shapeOf (t .links))) (shapeOf (t .links)) (begin t)
+      ≡ ended lack (acted (shapeOf (t .links)) (begin t) os)
+  pub stop : Stop (shapeOf (t .links)) y q lack
+  pub joins : Empty (shapeOf (t .links)) y q → joinsIn (shapeOf (t .links)) (t .links) (t .points) os ≡ h
+  pub short : length os + 2 * solids (shapeOf (t .links)) (t .links) ≤ vertices (shapeOf (t .links)) (t .links)
+      + 2 * faces (shapeOf (t .links)) (t .links) + 2 * rings (shapeOf (t .links)) (t .links) + 3 * h
+  pub room : 19 * length os ≤ t .start
+  pub spare : Ready (shapeOf (t .links)) (t .links) → lack ≡ false
+
+-- 19 bytes for each of the bound
+bytes-free : (t : State) (h : ℕ) → Euler (shapeOf (t .links)) (t .links) h → shortLog (shapeOf (t .links)) t ≡ false
+    → 19 * (vertices (shapeOf (t .links)) (t .links) + 2 * faces (shapeOf (t .links)) (t .links)
+    + 2 * rings (shapeOf (t .links)) (t .links) + 3 * h) ≤ t .start + 38 * solids (shapeOf (t .links)) (t .links)
+unfolding tallyOf
+bytes-free t h e f = omega (arith, ltb-false (t .start) _ f, half-is _ _ _ _ _ h e)
+
+-- a state that is let in and has room takes its course
+pub course : (t : State) (h : ℕ) → Euler (shapeOf (t .links)) (t .links) h → entry t .refusal ≡ 0
+    → shortLog (shapeOf (t .links)) t ≡ false → Course t h
+course t h e z f =
+    let x = t .links in
+    let sh = shapeOf x in
+    let i = entry-passed t z in
+    let g = checked-good x (t .points) (i .1) in
+    let fuel : edges sh x + vertices sh x ≤ turns sh =
+    omega (arith, count-le (sh .edges) (itemUsed Edge sh x), count-le (sh .vertices) (itemUsed Vertex sh x)) in
+    let d = down turns-made empty-table solid-vertex (turns sh) sh x (t .points) g fuel in
+    let gy = path-good g (d .path) in
+    let rl = rings-loops sh x (t .points) g in
+    let sf = stray-few sh x (t .points) g in
+    let k = good-holes gy in
+    let j : joinsIn sh x (t .points) (d .os) + k .0 ≡ h = omega (arith, rl, d .change .euler, e, k .1) in
+    let short : length (d .os) + 2 * solids sh x ≤ vertices sh x + 2 * faces sh x + 2 * rings sh x + 3 * h =
+    omega (arith, rl, sf, covered gy (d .change), j) in
+    record {
+      os = d .os;
+      y = d .y;
+      q = d .q;
+      lack = d .lack;
+      good = g;
+      start-in = i .0;
+      path = d .path;
+      made = d .same (begin t) refl refl;
+      stop = d .stop;
+      joins = λ m. omega (
+        arith,
+        j,
+        k .1,
+        m .no-solids,
+        m .no-faces,
+        m .no-loops,
+        m .no-edges,
+        m .no-vertices,
+      );
+      short = short;
+      room = omega (arith, short, bytes-free t h e f);
+      spare = d .spare;
+    }
+
+-- undoing leads back over it
+pub course-back : (t : State) (h : ℕ) (c : Course t h)
+    → Back (shapeOf (t .links)) (length (c .os)) t (acted (shapeOf (t .links)) (begin t) (c .os) .state)
+course-back t h c =
+    rw (zero-add (length (c .os))) at (path-back (shapeOf (t .links)) t (begin t) (back-none t (c .good) (c .start-in))
+    (c .path) (c .room))
+
+-- ---- what is answered
+
+-- what the turns left, where they were begun
+pub invert-by : (t : State) (e : Ended) → entry t .refusal ≡ 0 → shortLog (shapeOf (t .links)) t ≡ false
+    → invertBy (turns (shapeOf (t .links))) (shapeOf (t .links)) (begin t) ≡ e → invertOf t ≡ invertedBy t e
+unfolding invertOf
+invert-by t e z f q = rw (z, f, q)
+
+-- what is answered before the turns
+pub short-answered : (t : State) → entry t .refusal ≡ 0 → shortLog (shapeOf (t .links)) t ≡ true
+    → invertOf t ≡ inverted 9 0 (begin t)
+unfolding invertOf
+short-answered t z s = rw (z, s)
+
+pub out-answered : (t : State) → entry t .refusal ≢ 0
+    → invertOf t ≡ inverted (entry t .refusal) (entry t .rule) (begin t)
+unfolding invertOf
+out-answered t d = rw (eqb-other d)
+
+-- by the tests: let in, room, no lack
+tests : (a b c : Bool) (u v : Inverted) (k r : ℕ) (t : State) → (a ≡ false → k ≡ 0 → ⊥) → (u .answer .refusal ≡ 0 → ⊥)
+    → pick a (pick b (inverted 9 0 (begin t)) (pick c u v)) (inverted k r (begin t)) .answer .refusal ≡ 0
+    → (a ≡ true) × (b ≡ false) × (c ≡ false)
+tests true true c u v k r t f g e = absurd (omega arith)
+tests true false true u v k r t f g e = absurd (g e)
+tests true false false u v k r t f g e = (refl, refl, refl)
+tests false b c u v k r t f g e = absurd (f refl e)
+
+-- 0 is answered where all turns were made
+pub invert-passed : (t : State) → invertOf t .answer .refusal ≡ 0 → (entry t .refusal ≡ 0)
+    × (shortLog (shapeOf (t .links)) t ≡ false)
+    × (invertBy (turns (shapeOf (t .links))) (shapeOf (t .links)) (begin t) .lack ≡ false)
+unfolding invertOf
+invert-passed t e =
+    let sh = shapeOf (t .links) in
+    let a =
+    tests (eqb (entry t .refusal) 0) (shortLog sh t) (invertBy (turns sh) sh (begin t) .lack) _ _ (entry t .refusal)
+    (entry t .rule) t (eqb-false _ 0) (λ z. omega arith) e in
+    (eqb-true _ 0 (a .0), a .1, a .2)
+
+-- nothing is in use at the end
+pub emptied-is : {sh : Shape} {y : List ℕ} {q : List ℤ} {b : Bool} → Stop sh y q b → b ≡ false → Empty sh y q
+emptied-is (emptied e) z = e
+emptied-is (lacking d e) z = absurd (false≢true (sym z))

@@ -1,21 +1,28 @@
--- THE TAKE-DOWN'S PROMISE (document 01, "Demand 3 in detail"), about `invertOf`, the definition that the contract of
--- the entry point cites. And the number of holes. Statements only: `InversionExact`, `HolesOne` and `CountHoles` are
--- proved in Theorem.
+-- THE TAKE-DOWN'S PROMISE (document 01, "Demand 3 in detail", and document 02, job 6), about `invertOf`, the definition
+-- that the contract of the entry point cites. And the number of holes. Statements only: all are proved in Theorem.
 use mathlib.Core.Path.{_≡_}
-use mathlib.Core.Bool.{false}
-use mathlib.Core.List.{List}
+use mathlib.Core.Logic.{_≢_}
+use mathlib.Core.Bool.{Bool, false, _||_}
+use mathlib.Core.List.{List, [], _∷_}
 use Prim.Native.Nat.{ℕ, _+_, _-_, _*_, _≤_}
+use lib.Dec.{eqb}
 use lib.IntN.{ℤ}
 use lib.ListN.{length, getD, take, drop}
+use Rattle.script.specs.declared.Operator.{Operator}
 use Rattle.layout.specs.declared.shape.Shape.{Shape}
 use Rattle.layout.specs.Layout.{shapeOf}
 use Rattle.table.specs.Check.{checkOf}
 use Rattle.table.specs.Clear.{emptyLinks, emptyPoints}
 use Rattle.table.specs.Count.{countOf}
-use Rattle.runs.specs.Run.{State, state, runOf}
-use Rattle.takedown.specs.Inversion.{Inverted, noneFree, invertOf}
+use Rattle.runs.specs.Run.{State, state, entry, carryRefusal, stepped, runOf}
+use Rattle.promises.specs.Leads.{Leads}
+use Rattle.promises.specs.Logging.{below}
+use Rattle.takedown.specs.Inversion.{Work, linksIn, Inverted, ended, solidAt, freeFace, freeLoop, freeEdge, turnOf}
+use Rattle.takedown.specs.Inversion.{turns, shortLog, begin, invertBy, invertOf}
 use Rattle.inversion.specs.Script.{joinsOf, roomOf}
+use Rattle.inversion.specs.Path.{acted}
 use Rattle.inversion.specs.Counts.{solids, faces, edges, vertices, rings}
+use Rattle.inversion.specs.Lacks.{Enough, Lack}
 use Rattle.inversion.specs.Rebuild.{Builds}
 
 -- links and points as clearing with the same capacities leaves them
@@ -39,16 +46,6 @@ pub record OneHoles (x : List ℕ) : Type 0 where
 abbrev pub scriptOf : State → Inverted → List ℕ
 scriptOf t r = take (t .start - r .answer .start) (drop (r .answer .start) (r .log))
 
--- what is asked: a sound table, a start not beyond the log, a free face, loop and edge, and 19 × (v + 2f + 2r + 3h −
--- 2s) bytes in front of the start
-pub record Asked (t : State) (h : ℕ) : Type 0 where
-  pub sound : checkOf (t .links) (t .points) .refusal ≡ 0
-  pub start-in : t .start ≤ length (t .log)
-  pub free : noneFree (shapeOf (t .links)) (t .links) ≡ false
-  pub formula : Euler (shapeOf (t .links)) (t .links) h
-  pub room : 19 * (vertices (shapeOf (t .links)) (t .links) + 2 * faces (shapeOf (t .links)) (t .links)
-      + 2 * rings (shapeOf (t .links)) (t .links) + 3 * h) ≤ t .start + 38 * solids (shapeOf (t .links)) (t .links)
-
 -- what is promised of r, which the take-down leaves of t
 pub record Exact (t : State) (r : Inverted) (h : ℕ) : Type 0 where
   -- emptied
@@ -60,6 +57,8 @@ pub record Exact (t : State) (r : Inverted) (h : ℕ) : Type 0 where
   pub below : r .answer .start ≤ t .start
   pub same-length : length (r .log) ≡ length (t .log)
   pub rest : drop (t .start) (r .log) ≡ drop (t .start) (t .log)
+  -- and so is what lies in front of the logged script
+  pub front : take (r .answer .start) (r .log) ≡ take (r .answer .start) (t .log)
   -- the bound
   pub bound : r .answer .done + 2 * solids (shapeOf (t .links)) (t .links)
       ≤ vertices (shapeOf (t .links)) (t .links) + 2 * faces (shapeOf (t .links)) (t .links)
@@ -76,9 +75,100 @@ pub record Exact (t : State) (r : Inverted) (h : ℕ) : Type 0 where
   -- exactly h of its operators join two faces of one solid
   pub joins : joinsOf (r .answer .done) (shapeOf (t .links)) (scriptOf t r) (clearLinks (t .links)) ≡ h
 
--- THE TAKE-DOWN IS EXACT
+-- THE TAKE-DOWN IS EXACT wherever it is not refused
 abbrev pub InversionExact : Type 0
-InversionExact = (t : State) (h : ℕ) → Asked t h → Exact t (invertOf t) h
+InversionExact = (t : State) (h : ℕ) → Euler (shapeOf (t .links)) (t .links) h → invertOf t .answer .refusal ≡ 0
+    → Exact t (invertOf t) h
+
+-- ---- refusal 10
+
+-- turns, none of which lacks a number, lead from the work w to the work v
+pub data Turns (sh : Shape) (v : Work) : Work → Type 0 where
+  here : {w : Work} → w ≡ v → Turns sh v w
+  turn : {w : Work} → solidAt sh (linksIn w) ≢ 0 → Enough sh (linksIn w) → Turns sh v (turnOf sh w) → Turns sh v w
+
+-- the table is let in and the log has room (1, 2 and 9 come ahead), and behind some turns one lacks a number: `Lack`
+-- names the kind
+pub record Stopped (t : State) : Type 0 where
+  pub let-in : entry t .refusal ≡ 0
+  pub room : shortLog (shapeOf (t .links)) t ≡ false
+  pub last : Work
+  pub turned : Turns (shapeOf (t .links)) last (begin t)
+  pub solid : solidAt (shapeOf (t .links)) (linksIn last) ≢ 0
+  pub lack : Lack (shapeOf (t .links)) (linksIn last)
+
+-- 10 EXACTLY where the steps A to C call for a free number and none of that kind is left
+abbrev pub TenExactly : Type 0
+TenExactly = (t : State) → (invertOf t .answer .refusal ≡ 10 → Stopped t)
+    × (Stopped t → invertOf t .answer .refusal ≡ 10)
+
+-- the log behind 10: the inverses of the steps, newest first, stand just below the start, and every other byte is as it
+-- was; read forward they lead from the table at which a number was lacking to the one handed in
+pub record Logged (t : State) (log : List ℕ) : Type 0 where
+  pub steps : ℕ
+  pub bytes : List ℕ
+  pub fits : length bytes ≤ t .start
+  pub log-is : log ≡ below (t .log) (t .start) bytes
+  pub y : List ℕ
+  pub q : List ℤ
+  pub inverses : Leads (shapeOf (t .links)) (t .links) (t .points) [] steps y q bytes
+
+-- nothing is done: table and start as before, and so is the log but, by 10, in front of its start
+pub record AsBefore (t : State) (r : Inverted) : Type 0 where
+  pub done : r .answer .done ≡ 0
+  pub start : r .answer .start ≡ t .start
+  pub links : r .links ≡ t .links
+  pub points : r .points ≡ t .points
+  pub log : r .answer .refusal ≢ 10 → r .log ≡ t .log
+  pub logged : r .answer .refusal ≡ 10 → Logged t (r .log)
+
+-- A REFUSED TAKE-DOWN LEAVES ALL AS BEFORE THE CALL
+abbrev pub RefusedAsBefore : Type 0
+RefusedAsBefore = (t : State) → invertOf t .answer .refusal ≢ 0 → AsBefore t (invertOf t)
+
+-- operators carried out one after the other as in a run, each with room for its inverse
+pub data AllCarried (sh : Shape) : State → List Operator → Type 0 where
+  none : {t : State} → AllCarried sh t []
+  next : {t : State} {os : List Operator} (o : Operator) → carryRefusal sh t o ≡ 0 → AllCarried sh (stepped sh t o) os
+      → AllCarried sh t (o ∷ os)
+
+-- the operators of the turns, none refused
+pub record Carried (t : State) : Type 0 where
+  pub os : List Operator
+  pub lack : Bool
+  pub made : invertBy (turns (shapeOf (t .links))) (shapeOf (t .links)) (begin t)
+      ≡ ended lack (acted (shapeOf (t .links)) (begin t) os)
+  pub all : AllCarried (shapeOf (t .links)) t os
+
+-- THE LOG IS ENOUGH: behind 9 no operator is refused, for room or otherwise
+abbrev pub LogEnough : Type 0
+LogEnough = (t : State) → entry t .refusal ≡ 0 → shortLog (shapeOf (t .links)) t ≡ false → Carried t
+
+-- ---- the mission's form
+
+-- no free face, loop or edge number
+abbrev pub noneFree : Shape → List ℕ → Bool
+noneFree sh x = (eqb (freeFace sh x) 0 || eqb (freeLoop sh x) 0) || eqb (freeEdge sh x) 0
+
+-- WITH ONE OF EACH KIND FREE, NEVER 10
+abbrev pub SpareNeverTen : Type 0
+SpareNeverTen = (t : State) → noneFree (shapeOf (t .links)) (t .links) ≡ false → invertOf t .answer .refusal ≢ 10
+
+-- what the mission supposes: a sound table, a start not beyond the log, a free face, loop and edge, and 19 × (v + 2f +
+-- 2r + 3h − 2s) bytes in front of the start
+pub record Asked (t : State) (h : ℕ) : Type 0 where
+  pub sound : checkOf (t .links) (t .points) .refusal ≡ 0
+  pub start-in : t .start ≤ length (t .log)
+  pub free : noneFree (shapeOf (t .links)) (t .links) ≡ false
+  pub formula : Euler (shapeOf (t .links)) (t .links) h
+  pub room : 19 * (vertices (shapeOf (t .links)) (t .links) + 2 * faces (shapeOf (t .links)) (t .links)
+      + 2 * rings (shapeOf (t .links)) (t .links) + 3 * h) ≤ t .start + 38 * solids (shapeOf (t .links)) (t .links)
+
+-- SO IT IS EXACT THERE
+abbrev pub SpareExact : Type 0
+SpareExact = (t : State) (h : ℕ) → Asked t h → Exact t (invertOf t) h
+
+-- ---- holes
 
 -- HOLES ARE WHOLE AND NOT NEGATIVE, for every sound table, full ones too
 abbrev pub HolesOne : Type 0

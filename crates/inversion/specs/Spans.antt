@@ -18,8 +18,8 @@ use Rattle.sound_tables.specs.Names.{loop-unnamed}
 use Rattle.sound_tables.specs.Good.{Good, own}
 use Rattle.sound_bridges.specs.Runs.{met?}
 use Rattle.sound_bridges.specs.KemrColumns.{walk}
-use Rattle.takedown.specs.Inversion.{solidAt, freeLoop, edgesLeft, inRing, ringHalf, spurHalf, crossedHalf, kemr}
-use Rattle.inversion.specs.Turn.{Ready}
+use Rattle.takedown.specs.Inversion.{solidAt, freeFace, freeLoop, edgesLeft, inRing, ringHalf, spurHalf, crossedHalf}
+use Rattle.takedown.specs.Inversion.{kemr}
 use Rattle.inversion.specs.OfSolid.{one-loop}
 use Rattle.inversion.specs.KemrTurn.{rest-loop}
 use Rattle.inversion.specs.TurnCross.{span}
@@ -28,7 +28,7 @@ use Rattle.inversion.specs.SwiftKept.{Spans}
 use Rattle.inversion.specs.TurnsB.{ringLeft, in-ring, kemr-goes-on, ring-good, ring-goes-on, ring-apart, ring-of}
 use Rattle.inversion.specs.TurnsB.{InRing, named, name-same}
 
-module _ {sh : Shape} {x : List ℕ} {p : List ℤ} (g : Good sh x p) (ready : Ready sh x) (sn : solidAt sh x ≢ 0)
+module _ {sh : Shape} {x : List ℕ} {p : List ℤ} (g : Good sh x p) (free : freeLoop sh x ≢ 0) (sn : solidAt sh x ≢ 0)
     (one : facesIn sh x (solidAt sh x) ≡ 1)
     (left : edgesLeft sh x (solidAt sh x) ≡ true) (none : ringHalf sh x (solidAt sh x) ≡ 0)
     (no-spur : spurHalf sh x (solidAt sh x) ≡ 0) where
@@ -38,13 +38,13 @@ module _ {sh : Shape} {x : List ℕ} {p : List ℤ} (g : Good sh x p) (ready : R
       → (own sh (linksAfter sh x (kemr (crossedHalf sh x (solidAt sh x)) (freeLoop sh x))) Loop i ≡ own sh x Loop i)
       ⊎ ((own sh (linksAfter sh x (kemr (crossedHalf sh x (solidAt sh x)) (freeLoop sh x))) Loop i ≡ freeLoop sh x)
       × (own sh x Loop i ≡ own sh x Loop (crossedHalf sh x (solidAt sh x))))
-  ring-name = kemr-loop g (span g ready sn one left none no-spur)
+  ring-name = kemr-loop g (span g free sn one left none no-spur)
 
   pub kemr-spans : {q : List ℤ} → Good sh (linksAfter sh x (kemr (crossedHalf sh x (solidAt sh x)) (freeLoop sh x))) q
       → Spans sh (linksAfter sh x (kemr (crossedHalf sh x (solidAt sh x)) (freeLoop sh x))) (solidAt sh x) (freeLoop sh
       x) (own sh x Loop (crossedHalf sh x (solidAt sh x)))
   kemr-spans gz i u t =
-      let G = kemr-goes-on g ready sn one left none no-spur in
+      let G = kemr-goes-on g free sn one left none no-spur in
       let c = G .edge .used i u in
       let e = one-loop g sn one none i (c .0, sym (G .of i u) ∙ t) in
       let m = ring-name (mate i) (gz .sound .rules .mate-in i u) in
@@ -57,11 +57,11 @@ module _ {sh : Shape} {x : List ℕ} {p : List ℤ} (g : Good sh x p) (ready : R
   pub kemr-from : (i : ℕ)
       → HalfUsed sh (own sh (linksAfter sh x (kemr (crossedHalf sh x (solidAt sh x)) (freeLoop sh x)))) i
       → own sh (linksAfter sh x (kemr (crossedHalf sh x (solidAt sh x)) (freeLoop sh x))) Loop i ≡ freeLoop sh x
-      → (t : ℕ) × (t < walk (g .sound) (span g ready sn one left none no-spur) .0)
+      → (t : ℕ) × (t < walk (g .sound) (span g free sn one left none no-spur) .0)
       × (iter (own sh x Next) t (own sh x Next (crossedHalf sh x (solidAt sh x))) ≡ i)
   kemr-from i u e =
-      let o = span g ready sn one left none no-spur in
-      let c = kemr-goes-on g ready sn one left none no-spur .edge .used i u in
+      let o = span g free sn one left none no-spur in
+      let c = kemr-goes-on g free sn one left none no-spur .edge .used i u in
       ⊎-elim (λ m. m)
       (λ m. absurd (loop-unnamed (g .sound) (freeLoop sh x) (o .ring-in) (o .free) i (u .0, u .1)
       (sym (rest-loop g o i m (u .0, u .1) (c .1) (c .2)) ∙ e)))
@@ -69,7 +69,7 @@ module _ {sh : Shape} {x : List ℕ} {p : List ℤ} (g : Good sh x p) (ready : R
 
 -- ---- the ring turn behind it
 
-module _ {sh : Shape} {x : List ℕ} {p : List ℤ} (g : Good sh x p) (ready : Ready sh x) (sn : solidAt sh x ≢ 0)
+module _ {sh : Shape} {x : List ℕ} {p : List ℤ} (g : Good sh x p) (free : freeFace sh x ≢ 0) (sn : solidAt sh x ≢ 0)
     (one : facesIn sh x (solidAt sh x) ≡ 1)
     (left : edgesLeft sh x (solidAt sh x) ≡ true) (some : ringHalf sh x (solidAt sh x) ≢ 0) where
   pub spans-none : {a b : ℕ} → Spans sh x (solidAt sh x) a b → (i : ℕ) → In (2 * sh .edges) i
@@ -78,33 +78,33 @@ module _ {sh : Shape} {x : List ℕ} {p : List ℤ} (g : Good sh x p) (ready : R
       (ask (inRing sh (ringLeft sh x) (solidAt sh x) i))
     where
       gy : Good sh (ringLeft sh x) p
-      gy = ring-good g ready sn one left some
+      gy = ring-good g free sn one left some
 
       -- each of the two loops is now named as that of k's mate
       to : (n : ℕ) → HalfUsed sh (own sh (ringLeft sh x)) n
           → (own sh x Loop n ≡ own sh x Loop (ringHalf sh x (solidAt sh x)))
           ⊎ (own sh x Loop n ≡ own sh x Loop (mate (ringHalf sh x (solidAt sh x))))
           → own sh (ringLeft sh x) Loop n ≡ own sh x Loop (mate (ringHalf sh x (solidAt sh x)))
-      to n u (inl e) = ⊎-elim (λ a. a .1) (λ a. absurd (a .0 e)) (named g ready sn one left some n u)
-      to n u (inr e) = ⊎-elim (λ a. a .1) (λ a. a .1 ∙ e) (named g ready sn one left some n u)
+      to n u (inl e) = ⊎-elim (λ a. a .1) (λ a. absurd (a .0 e)) (named g free sn one left some n u)
+      to n u (inr e) = ⊎-elim (λ a. a .1) (λ a. a .1 ∙ e) (named g free sn one left some n u)
 
       -- a and b are those of k and its mate
       ends : (n : ℕ) → (n ≡ a) ⊎ (n ≡ b) → (n ≡ own sh x Loop (ringHalf sh x (solidAt sh x)))
           ⊎ (n ≡ own sh x Loop (mate (ringHalf sh x (solidAt sh x))))
-      ends n q = ⊎-elim (λ e. absurd (ring-apart g ready sn one left some e))
+      ends n q = ⊎-elim (λ e. absurd (ring-apart g free sn one left some e))
           (⊎-elim (λ e. ⊎-elim (λ z. inl (z ∙ sym (e .0))) (λ z. inr (z ∙ sym (e .1))) q)
           (λ e. ⊎-elim (λ z. inr (z ∙ sym (e .1))) (λ z. inl (z ∙ sym (e .0))) q))
-          (S (ringHalf sh x (solidAt sh x)) (ring-of g ready sn one left some .0) (ring-of g ready sn one left some .1))
+          (S (ringHalf sh x (solidAt sh x)) (ring-of g free sn one left some .0) (ring-of g free sn one left some .1))
 
       clash : InRing gy sn i → ⊥
       clash r =
-          let G = ring-goes-on g ready sn one left some in
+          let G = ring-goes-on g free sn one left some in
           let c = G .edge .used i (r .0 .0) in
           let um = gy .sound .rules .mate-in i (r .0 .0) in
           let both : ((own sh x Loop i ≡ a) ⊎ (own sh x Loop i ≡ b)) → ((own sh x Loop (mate i) ≡ a)
           ⊎ (own sh x Loop (mate i) ≡ b)) → ⊥ =
           λ e f. r .2 (to (mate i) um (ends (own sh x Loop (mate i)) f)
           ∙ sym (to i (r .0 .0) (ends (own sh x Loop i) e))) in
-          ⊎-elim (λ e. r .2 (name-same g ready sn one left some (mate i) i um (r .0 .0) e))
+          ⊎-elim (λ e. r .2 (name-same g free sn one left some (mate i) i um (r .0 .0) e))
           (⊎-elim (λ e. both (inl (e .0)) (inr (e .1))) (λ e. both (inr (e .0)) (inl (e .1))))
           (S i (c .0) (sym (G .of i (r .0 .0)) ∙ r .0 .1))

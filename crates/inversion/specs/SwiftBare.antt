@@ -19,14 +19,13 @@ use Rattle.takedown.specs.Inversion.{solidAt, freeEdge, ofSolid, edgesLeft, isR
 use Rattle.inversion.specs.Same.{face-in-same, faces-in-same, solid-at-same}
 use Rattle.inversion.specs.OfSolid.{least-some, both}
 use Rattle.inversion.specs.Root.{root-is, no-half}
-use Rattle.inversion.specs.Turn.{Ready}
 use Rattle.inversion.specs.TurnBridge.{Bare, turn-bare, found}
 use Rattle.inversion.specs.TurnsB.{least-before, fails}
 use Rattle.takedown.specs.declared.ends.Ends.{Ends}
 use Rattle.takedown.specs.Swift.{bareEnds}
 use Rattle.inversion.specs.SwiftKept.{Keeps, Kept}
 
-module _ {sh : Shape} {x : List ℕ} {p : List ℤ} (g : Good sh x p) (ready : Ready sh x) (sn : solidAt sh x ≢ 0)
+module _ {sh : Shape} {x : List ℕ} {p : List ℤ} (g : Good sh x p) (free : freeEdge sh x ≢ 0) (sn : solidAt sh x ≢ 0)
     (one : facesIn sh x (solidAt sh x) ≡ 1)
     (left : edgesLeft sh x (solidAt sh x) ≡ false) (some : ringOf sh x (faceIn sh x (solidAt sh x)) ≢ 0) where
   -- the root, and its ring that goes
@@ -40,14 +39,14 @@ module _ {sh : Shape} {x : List ℕ} {p : List ℤ} (g : Good sh x p) (ready : R
   y = linksAfter sh (linksAfter sh x (mekr (own sh x Outer r) l (freeEdge sh x))) (kev (2 * freeEdge sh x - 1))
 
   B : Bare sh x y l
-  B = turn-bare g ready sn one left some
+  B = turn-bare g free sn one left some
 
   at : solidAt sh y ≡ solidAt sh x
   at = solid-at-same sh x y (B .mark)
 
   -- the ring lies in the root
   ring-face : own sh x Face l ≡ r
-  ring-face = found g ready sn one left some .1
+  ring-face = found g free sn one left some .1
 
   -- no half-edge is of the solid
   none : (i : ℕ) → In (2 * sh .edges) i → ofSolid sh y (solidAt sh x) i ≡ false

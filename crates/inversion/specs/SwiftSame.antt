@@ -1,11 +1,12 @@
 -- On a good table the quick take-down does what the take-down does.
 use mathlib.Core.Path.{_≡_, refl, sym, ap, _∙_, subst}
-use mathlib.Core.Logic.{_≢_, inl, ⊎-elim}
-use mathlib.Core.Bool.{Bool, true, false}
+use mathlib.Core.Logic.{_≢_, ⊎-elim}
+use mathlib.Core.Bool.{true, false}
 use mathlib.Core.List.{List}
 use Prim.Native.Nat.{ℕ, zero, suc, _-_, _*_, _≤_, _<_}
+use native.Mathlib.Nat.{zero-add}
 use native.Mathlib.Omega.{arith}
-use lib.Dec.{eqb, leb}
+use lib.Dec.{eqb}
 use lib.IntN.{ℤ}
 use lib.ListN.{length}
 use Rattle.laws.specs.Bools.{pick, split, ask, eqb-same, eqb-other}
@@ -19,25 +20,29 @@ use Rattle.layout.specs.Fields.{SolidUsed}
 use Rattle.layout.specs.Items.{some, faceIn}
 use Rattle.sound_tables.specs.Sound.{In}
 use Rattle.sound_tables.specs.Good.{Good, own}
-use Rattle.table.specs.Check.{checkOf}
 use Rattle.runs.specs.Run.{State, entry, stepped}
+use Rattle.runs.specs.Clauses.{entry-passed}
 use Rattle.promises.specs.Checked.{checked-good}
-use Rattle.takedown.specs.Inversion.{Work, act, begin, inverted, noneFree, shortLog, turns, invertOf, linksIn, solidAt}
+use Rattle.takedown.specs.Inversion.{Work, act, begin, inverted, invertedBy, shortLog, turns, invertOf, linksIn}
+use Rattle.takedown.specs.Inversion.{solidAt, lacksB, lacks, lackAt, ended}
 use Rattle.takedown.specs.Inversion.{freeFace, freeLoop, freeEdge, outside, borderHalf, ofSolid, edgesLeft, inRing}
 use Rattle.takedown.specs.Inversion.{ringHalf, spurHalf, isCrossed, crossedHalf, isRingOf, ringOf, makeOuter, moveRings}
 use Rattle.takedown.specs.Inversion.{turnRing, turnC, turned, invertBy, kvsf, kev, kef, kemr, mekr, mfkrh}
-use Rattle.inversion.specs.Path.{path-good, acted-table}
+use Rattle.inversion.specs.Path.{acted, path-good, acted-table}
 use Rattle.inversion.specs.OfSolid.{least-some, not-some, some-not}
-use Rattle.inversion.specs.Turn.{Ready}
+use Rattle.inversion.specs.Turn.{invert-some, invert-lack}
 use Rattle.inversion.specs.TurnShape.{turned-a, turned-ring, turned-spur, turned-cross, turned-c, turned-last}
 use Rattle.inversion.specs.TurnLast.{turn-mark as last-mark}
 use Rattle.inversion.specs.Root.{solid-in}
-use Rattle.inversion.specs.Main.{free-all}
+use Rattle.inversion.specs.Lacks.{Enough, face-left, loop-left, edge-left}
+use Rattle.inversion.specs.Main.{euler-at, course, course-back, invert-by, short-answered}
+use Rattle.inversion.specs.RolledBack.{rolled-back}
 use Rattle.inversion.specs.AllTurns.{turns-made}
 use Rattle.inversion.specs.Gone.{Goes}
 use Rattle.takedown.specs.declared.ends.Ends.{Ends}
 use Rattle.takedown.specs.Swift.{seek, Swift, withHalf, spurFrom, ringEnds, spurEnds, crossEnds, loopFrom, acrossEnds}
-use Rattle.takedown.specs.Swift.{acrossTurn, acrossFrom, bareEnds, enter, entered, swiftTurn, swiftBy, swiftOf}
+use Rattle.takedown.specs.Swift.{acrossTurn, acrossFrom, bareEnds, enter, entered, swiftTurn, swiftLacks, swiftBy}
+use Rattle.takedown.specs.Swift.{swiftlyBy, swiftOf}
 use Rattle.inversion.specs.SwiftKept.{seek-least, Keeps, Kept, kept-enter, spur-from, solid-kept, root-kept}
 use Rattle.inversion.specs.SwiftKept.{faces-kept}
 use Rattle.inversion.specs.TurnsB.{least-before, kev-good, kev-goes-on, kemr-good, kemr-goes-on, uncrossed-of}
@@ -109,7 +114,7 @@ pub record Same (sh : Shape) (x : List ℕ) (e : Ends) (w : Work) : Type 0 where
   pub work : swiftTurn sh e x w .work ≡ turned sh (solidAt sh x) (faceIn sh x (solidAt sh x)) w
   pub kept : Kept sh (linksIn (swiftTurn sh e x w .work)) (swiftTurn sh e x w .ends)
 
-module _ {sh : Shape} {x : List ℕ} {p : List ℤ} (g : Good sh x p) (ready : Ready sh x) (sn : solidAt sh x ≢ 0)
+module _ {sh : Shape} {x : List ℕ} {p : List ℤ} (g : Good sh x p) (sn : solidAt sh x ≢ 0)
     (e : Ends) (K : Kept sh x e) (w : Work) (a : w .state .links ≡ x) (b : w .state .points ≡ p) where
   -- the searches find what they are to find
   half-is : seek (2 * sh .edges) (e .half) (ofSolid sh x (e .solid))
@@ -192,8 +197,8 @@ module _ {sh : Shape} {x : List ℕ} {p : List ℤ} (g : Good sh x p) (ready : R
       h₀-low : 1 ≤ least (2 * sh .edges) (ofSolid sh x (solidAt sh x))
       h₀-low = least-some (2 * sh .edges) (ofSolid sh x (solidAt sh x)) there .0 .0
 
-      same-ring : ringHalf sh x (solidAt sh x) ≢ 0 → Same sh x e w
-      same-ring d =
+      same-ring : freeFace sh x ≢ 0 → ringHalf sh x (solidAt sh x) ≢ 0 → Same sh x e w
+      same-ring free d =
           let r = faceIn sh x (solidAt sh x) in
           from _ (shape-ring sh e x w _ _ faces-one half-is there ring-is d)
           (sym (turned-ring sh (solidAt sh x) r w x a one left d))
@@ -201,8 +206,8 @@ module _ {sh : Shape} {x : List ℕ} {p : List ℤ} (g : Good sh x p) (ready : R
           kept-at sh (ringEnds sh x (withHalf e (least (2 * sh .edges) (ofSolid sh x (solidAt sh x)))) k)
           (after sh (act sh w (mfkrh (loopOf sh x k) (freeFace sh x))) (kef k) _
           (after sh w (mfkrh (loopOf sh x k) (freeFace sh x)) x a))
-          (by-goes (ring-good g ready sn one left d) (ring-goes-on g ready sn one left d) _ refl refl refl
-          (kept-ring g ready sn one left d e r _ (K .keeps) h₀-low h₀-before)))
+          (by-goes (ring-good g free sn one left d) (ring-goes-on g free sn one left d) _ refl refl refl
+          (kept-ring g free sn one left d e r _ (K .keeps) h₀-low h₀-before)))
 
       module _ (none : ringHalf sh x (solidAt sh x) ≡ 0) where
         same-spur : spurHalf sh x (solidAt sh x) ≢ 0 → Same sh x e w
@@ -212,11 +217,11 @@ module _ {sh : Shape} {x : List ℕ} {p : List ℤ} (g : Good sh x p) (ready : R
             (sym (turned-spur sh (solidAt sh x) r w x a one left none d))
             (kept-at sh (spurEnds sh x (withHalf e (least (2 * sh .edges) (ofSolid sh x (solidAt sh x))))
             (spurHalf sh x (solidAt sh x))) (after sh w (kev (spurHalf sh x (solidAt sh x))) x a)
-            (by-goes (kev-good g ready sn one left none d) (kev-goes-on g ready sn one left none d) _ refl refl refl
-            (kept-spur g ready sn one left none d e r _ (K .keeps) h₀-low h₀-before)))
+            (by-goes (kev-good g sn one left none d) (kev-goes-on g sn one left none d) _ refl refl refl
+            (kept-spur g sn one left none d e r _ (K .keeps) h₀-low h₀-before)))
 
-        same-cross : spurHalf sh x (solidAt sh x) ≡ 0 → Same sh x e w
-        same-cross d =
+        same-cross : freeLoop sh x ≢ 0 → spurHalf sh x (solidAt sh x) ≡ 0 → Same sh x e w
+        same-cross free d =
             let r = faceIn sh x (solidAt sh x) in
             let q : seek (2 * sh .edges) (e .cross) (isCrossed sh x (e .solid)) ≡ crossedHalf sh x (solidAt sh x) =
             ap (λ s. seek (2 * sh .edges) (e .cross) (isCrossed sh x s)) (K .solid)
@@ -227,15 +232,15 @@ module _ {sh : Shape} {x : List ℕ} {p : List ℤ} (g : Good sh x p) (ready : R
             (kept-at sh (crossEnds sh x (withHalf e (least (2 * sh .edges) (ofSolid sh x (solidAt sh x))))
             (crossedHalf sh x (solidAt sh x)))
             (after sh w (kemr (crossedHalf sh x (solidAt sh x)) (freeLoop sh x)) x a)
-            (by-goes (kemr-good g ready sn one left none d) (kemr-goes-on g ready sn one left none d) _ refl refl refl
-            (kept-cross g ready sn one left none d e r _ (K .keeps) h₀-low h₀-before)))
+            (by-goes (kemr-good g free sn one left none d) (kemr-goes-on g free sn one left none d) _ refl refl refl
+            (kept-cross g free sn one left none d e r _ (K .keeps) h₀-low h₀-before)))
 
     module _ (left : edgesLeft sh x (solidAt sh x) ≡ false) where
       gone : seek (2 * sh .edges) (e .half) (ofSolid sh x (e .solid)) ≡ 0
       gone = half-is ∙ not-some (least (2 * sh .edges) (ofSolid sh x (solidAt sh x))) left
 
-      same-c : ringOf sh x (faceIn sh x (solidAt sh x)) ≢ 0 → Same sh x e w
-      same-c d =
+      same-c : freeEdge sh x ≢ 0 → ringOf sh x (faceIn sh x (solidAt sh x)) ≢ 0 → Same sh x e w
+      same-c free d =
           let r = faceIn sh x (solidAt sh x) in
           let o = mekr (faceOuter sh x r) (ringOf sh x r) (freeEdge sh x) in
           from _ (shape-c sh e x w _ faces-one gone lone-is d)
@@ -245,7 +250,7 @@ module _ {sh : Shape} {x : List ℕ} {p : List ℤ} (g : Good sh x p) (ready : R
           (bareEnds sh e (ringOf sh x r))) (sym (K .root))
           (kept-at sh (bareEnds sh e (ringOf sh x r))
           (after sh (act sh w o) (kev (2 * freeEdge sh x - 1)) _ (after sh w o x a))
-          (kept-bare g ready sn one left d e K)))
+          (kept-bare g free sn one left d e K)))
 
       same-last : ringOf sh x (faceIn sh x (solidAt sh x)) ≡ 0 → Same sh x e w
       same-last d =
@@ -255,77 +260,107 @@ module _ {sh : Shape} {x : List ℕ} {p : List ℤ} (g : Good sh x p) (ready : R
           (by-enter (act sh w (kvsf (e .solid)))
           (λ n i h. ap (λ t. own sh t SolidUsed n) (after sh w (kvsf (e .solid)) x a
           ∙ ap (λ s. linksAfter sh x (kvsf s)) (K .solid))
-          ∙ last-mark g ready sn one left d n i (λ z. omega (arith, h, z))))
+          ∙ last-mark g sn one left d n i (λ z. omega (arith, h, z))))
 
-  pub turn-same : Same sh x e w
-  turn-same = split (facesIn sh x (solidAt sh x)) 1
+  pub turn-same : Enough sh x → Same sh x e w
+  turn-same enough = split (facesIn sh x (solidAt sh x)) 1
       (λ one. ⊎-elim
       (λ left. split (ringHalf sh x (solidAt sh x)) 0
-      (λ none. split (spurHalf sh x (solidAt sh x)) 0 (λ z. same-cross one left none z)
-      (λ d. same-spur one left none d))
-      (λ d. same-ring one left d))
-      (λ left. split (ringOf sh x (faceIn sh x (solidAt sh x))) 0 (λ z. same-last one left z) (λ d. same-c one left d))
+      (λ none. split (spurHalf sh x (solidAt sh x)) 0
+      (λ z. same-cross one left none (loop-left sh x enough one left none z) z) (λ d. same-spur one left none d))
+      (λ d. same-ring one left (face-left sh x enough one left d) d))
+      (λ left. split (ringOf sh x (faceIn sh x (solidAt sh x))) 0 (λ z. same-last one left z)
+      (λ d. same-c one left (edge-left sh x enough one left d) d))
       (ask (edgesLeft sh x (solidAt sh x))))
       (λ many. same-a many)
 
+  -- it lacks a number where the turn does
+  pub lacks-same : swiftLacks sh e x ≡ lackAt sh x
+  unfolding swiftLacks lacks lacksB
+  lacks-same = rw (spur-is, ring-is, half-is, lone-is, K .faces)
+
 -- ---- turn by turn
 
+-- it stops where a turn lacks a number
+swift-lack : (n : ℕ) (sh : Shape) (t : Swift) → t .ends .solid ≢ 0 → swiftLacks sh (t .ends) (linksIn (t .work)) ≡ true
+    → swiftBy (suc n) sh t ≡ ended true (t .work)
+unfolding swiftBy
+swift-lack n sh t d e = rw (eqb-other d, e)
+
+-- else it goes on
+swift-some : (n : ℕ) (sh : Shape) (t : Swift) → t .ends .solid ≢ 0 → swiftLacks sh (t .ends) (linksIn (t .work)) ≡ false
+    → swiftBy (suc n) sh t ≡ swiftBy n sh (swiftTurn sh (t .ends) (linksIn (t .work)) (t .work))
+unfolding swiftBy
+swift-some n sh t d e = rw (eqb-other d, e)
+
 pub swift-by : (n : ℕ) (sh : Shape) (t : Swift) → Good sh (linksIn (t .work)) (t .work .state .points)
-    → Ready sh (linksIn (t .work)) → Kept sh (linksIn (t .work)) (t .ends) → swiftBy n sh t ≡ invertBy n sh (t .work)
+    → Kept sh (linksIn (t .work)) (t .ends) → swiftBy n sh t ≡ invertBy n sh (t .work)
 unfolding swiftBy invertBy
-swift-by zero sh t g ready K = refl
-swift-by (suc n) sh t g ready K = split (solidAt sh (linksIn (t .work))) 0
+swift-by zero sh t g K = refl
+swift-by (suc n) sh t g K = split (solidAt sh (linksIn (t .work))) 0
     (λ z. rw (eqb-same (K .solid ∙ z), eqb-same z))
     (λ d.
     let x = linksIn (t .work) in
-    let m = turns-made sh x (t .work .state .points) g ready d in
-    let s = turn-same g ready d (t .ends) K (t .work) refl refl in
-    let e = s .work ∙ m .same (t .work) refl refl in
+    let l = lacks-same g d (t .ends) K (t .work) refl refl in
+    ⊎-elim
+    (λ e. swift-lack n sh t (λ z. d (sym (K .solid) ∙ z)) (l ∙ e) ∙ sym (invert-lack n sh (t .work) d e))
+    (λ e.
+    let m = turns-made sh x (t .work .state .points) g e d in
+    let s = turn-same g d (t .ends) K (t .work) refl refl e in
+    let q = s .work ∙ m .same (t .work) refl refl in
     let v = acted-table sh (t .work) (m .path) in
-    let el = ap linksIn e ∙ v .0 in
-    let ep = ap (λ w. w .state .points) e ∙ v .1 in
+    let el = ap linksIn q ∙ v .0 in
+    let ep = ap (λ w. w .state .points) q ∙ v .1 in
     let gy : Good sh (linksIn (swiftTurn sh (t .ends) x (t .work) .work)) (swiftTurn sh (t .ends) x
     (t .work) .work .state .points) = rw (el, ep) (path-good g (m .path)) in
-    let ry : Ready sh (linksIn (swiftTurn sh (t .ends) x (t .work) .work)) = rw el (m .ready) in
-    rw (eqb-other (λ z. d (sym (K .solid) ∙ z)), eqb-other d)
-    (swift-by n sh (swiftTurn sh (t .ends) x (t .work)) gy ry (s .kept) ∙ ap (invertBy n sh) (s .work)))
+    swift-some n sh t (λ z. d (sym (K .solid) ∙ z)) (l ∙ e)
+    ∙ swift-by n sh (swiftTurn sh (t .ends) x (t .work)) gy (s .kept) ∙ ap (invertBy n sh) (s .work)
+    ∙ sym (invert-some n sh (t .work) d e))
+    (ask (lackAt sh x)))
 
 -- ---- the entry point
 
--- what is let in passes the check
-let-in : (t : State) → entry t .refusal ≡ 0 → checkOf (t .links) (t .points) .refusal ≡ 0
-unfolding entry
-let-in t = by (leb (t .start) (length (t .log)))
-  where
-    by : (b : Bool) → pick b (checkOf (t .links) (t .points)) (record { refusal = 1; rule = 0 }) .refusal ≡ 0
-        → checkOf (t .links) (t .points) .refusal ≡ 0
-    by true e = e
-    by false e = absurd (omega (arith, e))
+-- of a state that is let in the turns are the same
+turns-same : (t : State) → entry t .refusal ≡ 0
+    → swiftBy (turns (shapeOf (t .links))) (shapeOf (t .links)) (entered (shapeOf (t .links)) 1 (begin t))
+    ≡ invertBy (turns (shapeOf (t .links))) (shapeOf (t .links)) (begin t)
+turns-same t z =
+    let sh = shapeOf (t .links) in
+    let g = checked-good (t .links) (t .points) (entry-passed t z .1) in
+    swift-by (turns sh) sh (entered sh 1 (begin t)) g
+    (kept-enter sh (t .links) 1 (g .capacities .edges .0) (omega arith) (λ s i h. absurd (omega (arith, i .0, h))))
+
+-- and what is rolled back is as it was
+back-same : (t : State) → entry t .refusal ≡ 0 → shortLog (shapeOf (t .links)) t ≡ false
+    → swiftlyBy (shapeOf (t .links)) t (invertBy (turns (shapeOf (t .links))) (shapeOf (t .links)) (begin t))
+    ≡ invertedBy t (invertBy (turns (shapeOf (t .links))) (shapeOf (t .links)) (begin t))
+back-same t z s =
+    let sh = shapeOf (t .links) in
+    let h = euler-at t z in
+    let c = course t (h .0) (h .1) z s in
+    let w = acted sh (begin t) (c .os) in
+    let d = acted-table sh (begin t) (c .path) .2 ∙ zero-add (length (c .os)) in
+    let r = rolled-back sh t w (length (c .os)) d (course-back t (h .0) c) in
+    rw (c .made) (ap (λ u. pick (c .lack) (inverted 10 0 (begin u)) (inverted 0 0 w)) r)
+
+-- a short log is told first
+short-same : (t : State) → entry t .refusal ≡ 0 → shortLog (shapeOf (t .links)) t ≡ true
+    → swiftOf t ≡ inverted 9 0 (begin t)
+unfolding swiftOf
+short-same t z s = rw (z, s)
+
+-- then come the turns
+work-same : (t : State) → entry t .refusal ≡ 0 → shortLog (shapeOf (t .links)) t ≡ false
+    → swiftOf t
+    ≡ swiftlyBy (shapeOf (t .links)) t (invertBy (turns (shapeOf (t .links))) (shapeOf (t .links)) (begin t))
+unfolding swiftOf
+work-same t z s = rw (z, s, turns-same t z)
 
 -- THE QUICK TAKE-DOWN IS THE TAKE-DOWN, whatever the words
 pub swift-same : (t : State) → swiftOf t ≡ invertOf t
 unfolding swiftOf invertOf
-swift-same t = split (entry t .refusal) 0 in-it (λ d. rw (eqb-other d))
-  where
-    in-it : entry t .refusal ≡ 0 → swiftOf t ≡ invertOf t
-    in-it z = ⊎-elim full free (ask (noneFree (shapeOf (t .links)) (t .links)))
-      where
-        work : noneFree (shapeOf (t .links)) (t .links) ≡ false
-            → swiftBy (turns (shapeOf (t .links))) (shapeOf (t .links)) (entered (shapeOf (t .links)) 1 (begin t))
-            ≡ invertBy (turns (shapeOf (t .links))) (shapeOf (t .links)) (begin t)
-        work n =
-            let g = checked-good (t .links) (t .points) (let-in t z) in
-            let fr = free-all (freeFace (shapeOf (t .links)) (t .links)) (freeLoop (shapeOf (t .links)) (t .links))
-            (freeEdge (shapeOf (t .links)) (t .links)) n in
-            swift-by (turns (shapeOf (t .links))) (shapeOf (t .links)) (entered (shapeOf (t .links)) 1 (begin t)) g
-            (record { face = fr .0; edge = fr .2; loop = inl (fr .1) })
-            (kept-enter (shapeOf (t .links)) (t .links) 1 (g .capacities .edges .0) (omega arith)
-            (λ s i h. absurd (omega (arith, i .0, h))))
-
-        full : noneFree (shapeOf (t .links)) (t .links) ≡ true → swiftOf t ≡ invertOf t
-        full n = rw (z, n)
-
-        free : noneFree (shapeOf (t .links)) (t .links) ≡ false → swiftOf t ≡ invertOf t
-        free n =
-            rw (z, n) (ap (λ v. pick (shortLog (shapeOf (t .links)) t) (inverted 9 0 (begin t)) (inverted 0 0 v))
-            (work n))
+swift-same t = split (entry t .refusal) 0
+    (λ z. ⊎-elim (λ s. short-same t z s ∙ sym (short-answered t z s))
+    (λ s. work-same t z s ∙ back-same t z s ∙ sym (invert-by t _ z s refl))
+    (ask (shortLog (shapeOf (t .links)) t)))
+    (λ d. rw (eqb-other d))

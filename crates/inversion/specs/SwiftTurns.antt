@@ -21,9 +21,8 @@ use Rattle.sound_tables.specs.Sound.{In, HalfUsed}
 use Rattle.sound_tables.specs.Walking.{Steps, steps-on}
 use Rattle.sound_tables.specs.Good.{Good, own}
 use Rattle.sound_bridges.specs.KemrColumns.{walk}
-use Rattle.takedown.specs.Inversion.{solidAt, freeLoop, edgesLeft, ofSolid, inRing, ringHalf, isSpur, spurHalf, crossed}
-use Rattle.takedown.specs.Inversion.{isCrossed, crossedHalf, kev, kemr}
-use Rattle.inversion.specs.Turn.{Ready}
+use Rattle.takedown.specs.Inversion.{solidAt, freeFace, freeLoop, edgesLeft, ofSolid, inRing, ringHalf, isSpur}
+use Rattle.takedown.specs.Inversion.{spurHalf, crossed, isCrossed, crossedHalf, kev, kemr}
 use Rattle.inversion.specs.TurnCross.{span}
 use Rattle.inversion.specs.OfSolid.{least-some, least-no, both, joint, of-solid}
 use Rattle.inversion.specs.Gone.{Goes}
@@ -38,22 +37,22 @@ use Rattle.inversion.specs.SwiftKept.{spur-kept, cross-kept}
 
 -- ---- kev
 
-module _ {sh : Shape} {x : List ℕ} {p : List ℤ} (g : Good sh x p) (ready : Ready sh x) (sn : solidAt sh x ≢ 0)
+module _ {sh : Shape} {x : List ℕ} {p : List ℤ} (g : Good sh x p) (sn : solidAt sh x ≢ 0)
     (one : facesIn sh x (solidAt sh x) ≡ 1)
     (left : edgesLeft sh x (solidAt sh x) ≡ true) (none : ringHalf sh x (solidAt sh x) ≡ 0)
     (spur : spurHalf sh x (solidAt sh x) ≢ 0) where
   uk : HalfUsed sh (own sh x) (spurHalf sh x (solidAt sh x))
-  uk = kev-half g ready sn one left none spur
+  uk = kev-half g sn one left none spur
 
   nk : own sh x Next (spurHalf sh x (solidAt sh x)) ≡ mate (spurHalf sh x (solidAt sh x))
-  nk = kev-next g ready sn one left none spur
+  nk = kev-next g sn one left none spur
 
   g₁ : Good sh (linksAfter sh x (kev (spurHalf sh x (solidAt sh x))))
       (pointsAfter sh x p (kev (spurHalf sh x (solidAt sh x))))
-  g₁ = kev-good g ready sn one left none spur
+  g₁ = kev-good g sn one left none spur
 
   G₁ : Goes sh x (linksAfter sh x (kev (spurHalf sh x (solidAt sh x)))) (spurHalf sh x (solidAt sh x))
-  G₁ = kev-goes-on g ready sn one left none spur
+  G₁ = kev-goes-on g sn one left none spur
 
   -- the lower ends
   pub kept-spur : (e : Ends) (r k₀ : ℕ) → Keeps sh x (solidAt sh x) r e → 1 ≤ k₀
@@ -85,7 +84,7 @@ module _ {sh : Shape} {x : List ℕ} {p : List ℤ} (g : Good sh x p) (ready : R
         );
     border = λ i j h. absurd (omega (arith, j .0, h));
     half = λ i j h. half-kept g g₁ sn G₁ i j (h₀ i j h);
-    ring = λ i j h. kev-ring g ready sn one left none spur i j
+    ring = λ i j h. kev-ring g sn one left none spur i j
         (least-no (2 * sh .edges) (inRing sh x (solidAt sh x)) none i j);
     spur = λ i j h d d₂ d₃ d₄. fails false _ refl (λ t. absurd (new i j h d d₂ d₃ d₄ t));
     cross = λ i j h. cross-kept g g₁ sn G₁ i j (K .cross i j h);
@@ -188,26 +187,26 @@ run-low sh (suc n) (suc d) x j stop b h w l f =
     rw (eqb-other (o .0)) (run-low sh n d x (nextOf sh x j) stop (lesser (lesser j (mate j)) b) (omega arith) (o .1)
     (lesser-low (lesser j (mate j)) b (lesser-low j (mate j) (q .0) (q .1)) l) (λ t m. f (suc t) (omega arith)))
 
-module _ {sh : Shape} {x : List ℕ} {p : List ℤ} (g : Good sh x p) (ready : Ready sh x) (sn : solidAt sh x ≢ 0)
+module _ {sh : Shape} {x : List ℕ} {p : List ℤ} (g : Good sh x p) (free : freeLoop sh x ≢ 0) (sn : solidAt sh x ≢ 0)
     (one : facesIn sh x (solidAt sh x) ≡ 1)
     (left : edgesLeft sh x (solidAt sh x) ≡ true) (none : ringHalf sh x (solidAt sh x) ≡ 0)
     (no-spur : spurHalf sh x (solidAt sh x) ≡ 0) where
   uc : HalfUsed sh (own sh x) (crossedHalf sh x (solidAt sh x))
-  uc = kemr-half g ready sn one left none no-spur
+  uc = kemr-half g free sn one left none no-spur
 
   g₂ : Good sh (linksAfter sh x (kemr (crossedHalf sh x (solidAt sh x)) (freeLoop sh x)))
       (pointsAfter sh x p (kemr (crossedHalf sh x (solidAt sh x)) (freeLoop sh x)))
-  g₂ = kemr-good g ready sn one left none no-spur
+  g₂ = kemr-good g free sn one left none no-spur
 
   G₂ : Goes sh x (linksAfter sh x (kemr (crossedHalf sh x (solidAt sh x)) (freeLoop sh x)))
       (crossedHalf sh x (solidAt sh x))
-  G₂ = kemr-goes-on g ready sn one left none no-spur
+  G₂ = kemr-goes-on g free sn one left none no-spur
 
   -- the run from k to its mate
   run : (d : ℕ) × (d < 2 * sh .edges)
       × Steps (own sh x Next) (own sh x Next (crossedHalf sh x (solidAt sh x))) (mate
       (crossedHalf sh x (solidAt sh x))) d
-  run = walk (g .sound) (span g ready sn one left none no-spur)
+  run = walk (g .sound) (span g free sn one left none no-spur)
 
   ring-low₂ : 1 ≤ leastRun sh (2 * sh .edges) x (own sh x Next (crossedHalf sh x (solidAt sh x))) (mate
       (crossedHalf sh x (solidAt sh x))) (2 * sh .edges + 1)
@@ -231,7 +230,7 @@ module _ {sh : Shape} {x : List ℕ} {p : List ℤ} (g : Good sh x p) (ready : R
           ⊎-elim (λ e. r .2 e)
           (⊎-elim
           (λ e.
-          let f = kemr-from g ready sn one left none no-spur i (r .0 .0) (e .0) in
+          let f = kemr-from g free sn one left none no-spur i (r .0 .0) (e .0) in
           omega (
             arith,
             h,
@@ -240,7 +239,7 @@ module _ {sh : Shape} {x : List ℕ} {p : List ℤ} (g : Good sh x p) (ready : R
                 (f .1) .0,
           ))
           (λ e.
-          let f = kemr-from g ready sn one left none no-spur (mate i) um (e .1) in
+          let f = kemr-from g free sn one left none no-spur (mate i) um (e .1) in
           omega (
             arith,
             h,
@@ -248,7 +247,7 @@ module _ {sh : Shape} {x : List ℕ} {p : List ℤ} (g : Good sh x p) (ready : R
             run-met sh (2 * sh .edges) (run .0) x _ _ (2 * sh .edges + 1) (omega (arith, run .1)) (run .2) (f .0)
                 (f .1) .1,
           )))
-          (kemr-spans g ready sn one left none no-spur g₂ i (r .0 .0) (r .0 .1))
+          (kemr-spans g free sn one left none no-spur g₂ i (r .0 .0) (r .0 .1))
 
   pub kept-cross : (e : Ends) (r k₀ : ℕ) → Keeps sh x (solidAt sh x) r e → 1 ≤ k₀
       → ((i : ℕ) → In (2 * sh .edges) i → i < k₀ → ofSolid sh x (solidAt sh x) i ≡ false)
@@ -264,7 +263,7 @@ module _ {sh : Shape} {x : List ℕ} {p : List ℤ} (g : Good sh x p) (ready : R
       (
         freeLoop sh x,
         own sh x Loop (crossedHalf sh x (solidAt sh x)),
-        kemr-spans g ready sn one left none no-spur g₂,
+        kemr-spans g free sn one left none no-spur g₂,
       ),
       refl,
       refl,
@@ -292,26 +291,26 @@ module _ {sh : Shape} {x : List ℕ} {p : List ℤ} (g : Good sh x p) (ready : R
 
 -- ---- mfkrh and kef
 
-module _ {sh : Shape} {x : List ℕ} {p : List ℤ} (g : Good sh x p) (ready : Ready sh x) (sn : solidAt sh x ≢ 0)
+module _ {sh : Shape} {x : List ℕ} {p : List ℤ} (g : Good sh x p) (free : freeFace sh x ≢ 0) (sn : solidAt sh x ≢ 0)
     (one : facesIn sh x (solidAt sh x) ≡ 1)
     (left : edgesLeft sh x (solidAt sh x) ≡ true) (some : ringHalf sh x (solidAt sh x) ≢ 0) where
   uh : HalfUsed sh (own sh x) (ringHalf sh x (solidAt sh x))
-  uh = ring-half g ready sn one left some
+  uh = ring-half g free sn one left some
 
   g₃ : Good sh (ringLeft sh x) p
-  g₃ = ring-good g ready sn one left some
+  g₃ = ring-good g free sn one left some
 
   G₃ : Goes sh x (ringLeft sh x) (ringHalf sh x (solidAt sh x))
-  G₃ = ring-goes-on g ready sn one left some
+  G₃ = ring-goes-on g free sn one left some
 
   -- behind kemr there is none any more
   ring₃ : (e : Ends) (r : ℕ) → Keeps sh x (solidAt sh x) r e → (b : Bool) → eqb (e .pair) 1 ≡ b → (i : ℕ)
       → In (2 * sh .edges) i → i < pick b (2 * sh .edges + 1) (ringHalf sh x (solidAt sh x))
       → inRing sh (ringLeft sh x) (solidAt sh x) i ≡ false
   ring₃ e r K true q i j h = let s = K .pair (eqb→eq _ _ (true-T q)) in
-      spans-none g ready sn one left some (s .0 .2) i j
+      spans-none g free sn one left some (s .0 .2) i j
   ring₃ e r K false q i j h =
-      ring-keeps g ready sn one left some i j (least-before (2 * sh .edges) (inRing sh x (solidAt sh x)) i j h)
+      ring-keeps g free sn one left some i j (least-before (2 * sh .edges) (inRing sh x (solidAt sh x)) i j h)
 
   ring-low₃ : (b : Bool) → 1 ≤ pick b (2 * sh .edges + 1) (ringHalf sh x (solidAt sh x))
   ring-low₃ true = omega arith

@@ -140,7 +140,7 @@ module _ {sh : Shape} {x : List ℕ} {p : List ℤ} {k l f r s : ℕ} (B : Borde
 free-edge-same : {sh : Shape} {x y : List ℕ} → Alike sh x y → Ready sh x → freeEdge sh y ≢ 0
 free-edge-same {sh} {x} {y} a ready = free-edge-kept sh x y (λ i j z. a .start i j ∙ z) (ready .edge)
 
-module _ {sh : Shape} {x : List ℕ} {p : List ℤ} (g : Good sh x p) (ready : Ready sh x) (sn : solidAt sh x ≢ 0)
+module _ {sh : Shape} {x : List ℕ} {p : List ℤ} (g : Good sh x p) (sn : solidAt sh x ≢ 0)
     (many : facesIn sh x (solidAt sh x) ≢ 1) where
   -- the whole turn from its parts
   whole : {k l f r s : ℕ} (O : Opened sh x p k l f r s) (C : Cleared sh (O .y) p k l f r s (sh .loops) 1)
@@ -188,7 +188,6 @@ module _ {sh : Shape} {x : List ℕ} {p : List ℤ} (g : Good sh x p) (ready : R
             K .0 .fewer-edges,
             K .0 .same-vertices,
           );
-          less = omega (arith, al .same-edges, al .same-vertices, K .0 .fewer-edges, K .0 .same-vertices);
           paid = inl (omega (
             arith,
             nj,
@@ -207,7 +206,8 @@ module _ {sh : Shape} {x : List ℕ} {p : List ℤ} (g : Good sh x p) (ready : R
           ));
           back = λ z. absurd (many (z .1));
         };
-        ready = kef-ready B only (free-edge-same al ready);
+        less = omega (arith, al .same-edges, al .same-vertices, K .0 .fewer-edges, K .0 .same-vertices);
+        ready = λ ready. kef-ready B only (free-edge-same al ready);
       }
 
   pub turn-across : TurnMade sh x p

@@ -3,7 +3,7 @@ use mathlib.Core.Path.{_≡_, refl, sym, ap, _∙_, subst}
 use mathlib.Core.Logic.{_≢_, _⊎_, inl, inr}
 use mathlib.Core.Bool.{true, false, false≢true}
 use mathlib.Core.List.{List, [], _∷_}
-use Prim.Native.Nat.{ℕ, suc, _-_, _*_, _≤_}
+use Prim.Native.Nat.{ℕ, suc, _+_, _-_, _*_, _≤_, _<_}
 use native.Mathlib.Omega.{arith}
 use lib.Dec.{eqb, eqb→eq, T-not}
 use lib.IntN.{ℤ}
@@ -189,6 +189,14 @@ module _ {sh : Shape} {x : List ℕ} {p : List ℤ} (g : Good sh x p) {o l e u1 
       free-m
       (λ i j c d. sym (v .at Start i (j .1) ∙ b .start-o i c d))
 
+  same-vertices₁ : vertices sh x₁ ≡ vertices sh x
+  same-vertices₁ = vertices-by-marks (mekr o l e) g refl accepted₁ ∙ vertices-is sh _
+      ∙ words-same (sh .vertices) _ _ (λ n i. marks-shown .at VertexUsed n (i .1) ∙ b .others VertexUsed refl n)
+      ∙ sym (vertices-is sh x)
+
+  pub bridge-less : edges sh y + vertices sh y < edges sh x + vertices sh x
+  bridge-less = omega (arith, same-vertices₁, edges₁, law .fewer-edges, law .fewer-vertices)
+
   pub bridge-change : (RingAt sh x → ⊥) → Change sh x y 2 0
   bridge-change never =
       let cs : solids sh x₁ ≡ solids sh x = solids-is sh _
@@ -199,9 +207,7 @@ module _ {sh : Shape} {x : List ℕ} {p : List ℤ} (g : Good sh x p) {o l e u1 
       let cl : suc (loops sh x₁) ≡ loops sh x = ap suc (loops-is sh _)
       ∙ words-fewer (sh .loops) _ _ l (r .ring-in) (v .at Face l (r .ring-in .1)
       ∙ b .face-2) (r .ring-used) (λ n i d. v .at Face n (i .1) ∙ b .face-o n d) ∙ sym (loops-is sh x) in
-      let cv : vertices sh x₁ ≡ vertices sh x = vertices-by-marks (mekr o l e) g refl accepted₁ ∙ vertices-is sh _
-      ∙ words-same (sh .vertices) _ _ (λ n i. marks-shown .at VertexUsed n (i .1) ∙ b .others VertexUsed refl n)
-      ∙ sym (vertices-is sh x) in
+      let cv = same-vertices₁ in
       let K = law in
       record {
         euler = omega (
@@ -217,7 +223,6 @@ module _ {sh : Shape} {x : List ℕ} {p : List ℤ} (g : Good sh x p) {o l e u1 
           K .fewer-edges,
           K .fewer-vertices,
         );
-        less = omega (arith, cv, edges₁, K .fewer-edges, K .fewer-vertices);
         paid = inl (omega (arith, cs, cl, cv, K .same-solids, K .same-loops, K .fewer-vertices, strays₂));
         back = λ z. absurd (never z);
       }
@@ -257,7 +262,7 @@ module _ {sh : Shape} {x : List ℕ} {p : List ℤ} (g : Good sh x p) {o l e u1 
 
 -- ---- the turn
 
-module _ {sh : Shape} {x : List ℕ} {p : List ℤ} (g : Good sh x p) (ready : Ready sh x) (sn : solidAt sh x ≢ 0)
+module _ {sh : Shape} {x : List ℕ} {p : List ℤ} (g : Good sh x p) (free : freeEdge sh x ≢ 0) (sn : solidAt sh x ≢ 0)
     (one : facesIn sh x (solidAt sh x) ≡ 1)
     (left : edgesLeft sh x (solidAt sh x) ≡ false) (some : ringOf sh x (faceIn sh x (solidAt sh x)) ≢ 0) where
   -- what the search says
@@ -287,7 +292,7 @@ module _ {sh : Shape} {x : List ℕ} {p : List ℤ} (g : Good sh x p) (ready : R
       (ringOf sh x (faceIn sh x (solidAt sh x))) 0 (freeEdge sh x) 0
   facts =
       let f = faceIn sh x (solidAt sh x) in
-      let q = least-some (sh .edges) (λ n. eqb (own sh x Start (2 * n)) 0) (ready .edge) in
+      let q = least-some (sh .edges) (λ n. eqb (own sh x Start (2 * n)) 0) free in
       let a = lone-of (own sh x Outer f) (outer-in g sn) (outer-face g sn) in
       let c = lone-of (ringOf sh x f) (found .0) (found .1) in
       record {
@@ -333,5 +338,6 @@ module _ {sh : Shape} {x : List ℕ} {p : List ℤ} (g : Good sh x p) (ready : R
         change =
             rw (no-join sh x p o l e (2 * e - 1)) (bridge-change g facts refl (a .1) (a .2) refl (c .1) (c .2)
             (λ z. no-ring g sn left (z .2)));
-        ready = bridge-ready g facts refl (a .1) (a .2) refl (c .1) (c .2) ready;
+        less = bridge-less g facts refl (a .1) (a .2) refl (c .1) (c .2);
+        ready = bridge-ready g facts refl (a .1) (a .2) refl (c .1) (c .2);
       }

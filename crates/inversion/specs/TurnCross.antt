@@ -25,7 +25,7 @@ use Rattle.inversion.specs.Counts.{solids, faces, loops, edges}
 use Rattle.inversion.specs.Same.{faces-in-same, free-face-same, solid-at-same, free-edge-kept}
 use Rattle.takedown.specs.Crossed.{crossed-at}
 use Rattle.inversion.specs.OfSolid.{least-some, both, Of, of-solid, one-loop, crossed-there}
-use Rattle.inversion.specs.Turn.{RingAt, Ready, TurnMade}
+use Rattle.inversion.specs.Turn.{RingAt, TurnMade}
 use Rattle.inversion.specs.TurnShape.{turned-cross}
 use Rattle.inversion.specs.KemrTurn.{kemr-solids, kemr-faces, kemr-loops, kemr-edges, kemr-vertices, kemr-strays}
 use Rattle.inversion.specs.KemrTurn.{kemr-ring, solid-same, mark-same, start-kept}
@@ -43,7 +43,7 @@ only-root {sh} {x} g {s} sn one k u =
     label-only (sh .faces) (own sh x Solid) s (side (own sh x) k) (i .0, i .1) (u .1)
     (λ f j e. one-many (sh .faces) (own sh x Solid) s one (side (own sh x) k) f (i .0, i .1) (u .1) j e)
 
-module _ {sh : Shape} {x : List ℕ} {p : List ℤ} (g : Good sh x p) (ready : Ready sh x) (sn : solidAt sh x ≢ 0)
+module _ {sh : Shape} {x : List ℕ} {p : List ℤ} (g : Good sh x p) (free : freeLoop sh x ≢ 0) (sn : solidAt sh x ≢ 0)
     (one : facesIn sh x (solidAt sh x) ≡ 1)
     (left : edgesLeft sh x (solidAt sh x) ≡ true) (none : ringHalf sh x (solidAt sh x) ≡ 0)
     (no-spur : spurHalf sh x (solidAt sh x) ≡ 0) where
@@ -62,8 +62,7 @@ module _ {sh : Shape} {x : List ℕ} {p : List ℤ} (g : Good sh x p) (ready : R
   -- a loop is free
   pub loop-free : In (sh .loops) (freeLoop sh x) × (own sh x Face (freeLoop sh x) ≡ 0)
   loop-free =
-      let d : freeLoop sh x ≢ 0 = ⊎-elim (λ d. d) (λ r. absurd (r .2 none)) (ready .loop) in
-      let f = least-some (sh .loops) (λ l. eqb (own sh x Face l) 0) d in
+      let f = least-some (sh .loops) (λ l. eqb (own sh x Face l) 0) free in
       (f .0, eqb→eq _ _ (true-T (f .1)))
 
   pub span : Span sh (own sh x) (crossedHalf sh x (solidAt sh x)) (freeLoop sh x)
@@ -109,11 +108,11 @@ module _ {sh : Shape} {x : List ℕ} {p : List ℤ} (g : Good sh x p) (ready : R
         same = λ w a b. turned-cross sh (solidAt sh x) (faceIn sh x (solidAt sh x)) w x a one left none no-spur;
         change = record {
           euler = omega (arith, cs, cf, cl, ce, cv, nj);
-          less = omega (arith, ce, cv);
           paid = inr (ring, omega (arith, cs, cl, cv, ct, nj));
           back = λ r. absurd (r .2 none);
         };
-        ready = record {
+        less = omega (arith, ce, cv);
+        ready = λ ready. record {
           face = λ z. ready .face (sym (free-face-same sh x _ (solid-same g span)) ∙ z);
           edge = free-edge-kept sh x _ (start-kept g span) (ready .edge);
           loop = inr ring;

@@ -3,7 +3,7 @@ use mathlib.Core.Path.{_≡_, refl, sym, ap, _∙_}
 use mathlib.Core.Logic.{_≢_, inl}
 use mathlib.Core.Bool.{true, false, false≢true}
 use mathlib.Core.List.{List, [], _∷_}
-use Prim.Native.Nat.{ℕ, suc, _*_, _≤_}
+use Prim.Native.Nat.{ℕ, suc, _+_, _*_, _≤_, _<_}
 use native.Mathlib.Omega.{arith}
 use lib.Dec.{eqb}
 use lib.IntN.{ℤ, pos}
@@ -98,6 +98,20 @@ module _ {sh : Shape} {x : List ℕ} {p : List ℤ} (g : Good sh x p) {s f l v :
       ≡ own sh x SolidUsed n
   mark-else n i d = shown .at SolidUsed n (i .1) ∙ upd-off _ 0 d
 
+  fewer-vertices : suc (vertices sh (placedLinks sh x s f l v 0 0 0 0 0)) ≡ vertices sh x
+  fewer-vertices = ap suc (vertices-is sh _)
+      ∙ words-fewer (sh .vertices) _ _ v (o .vertex-in) (shown .at VertexUsed v (o .vertex-in .1)
+      ∙ upd-same _ v 0) vertex (λ n i d. shown .at VertexUsed n (i .1) ∙ upd-off _ 0 d) ∙ sym (vertices-is sh x)
+
+  same-edges : edges sh (placedLinks sh x s f l v 0 0 0 0 0) ≡ edges sh x
+  same-edges = edges-is sh _
+      ∙ words-same (sh .edges) _ _ (λ e i. start-same (2 * e) (omega (arith, i .0), omega (arith, i .1)))
+      ∙ sym (edges-is sh x)
+
+  pub last-less : edges sh (placedLinks sh x s f l v 0 0 0 0 0) + vertices sh (placedLinks sh x s f l v 0 0 0 0 0)
+      < edges sh x + vertices sh x
+  last-less = omega (arith, fewer-vertices, same-edges)
+
   pub last-change : (RingAt sh x → ⊥) → Change sh x (placedLinks sh x s f l v 0 0 0 0 0) 1 0
   last-change never =
       let cs : suc (solids sh (placedLinks sh x s f l v 0 0 0 0 0)) ≡ solids sh x = ap suc (solids-is sh _)
@@ -109,15 +123,10 @@ module _ {sh : Shape} {x : List ℕ} {p : List ℤ} (g : Good sh x p) {s f l v :
       let cl : suc (loops sh (placedLinks sh x s f l v 0 0 0 0 0)) ≡ loops sh x = ap suc (loops-is sh _)
       ∙ words-fewer (sh .loops) _ _ l (o .loop-in) face-gone (λ z. omega
       (arith, o .face-in .0, sym (o .face) ∙ z)) face-else ∙ sym (loops-is sh x) in
-      let cv : suc (vertices sh (placedLinks sh x s f l v 0 0 0 0 0)) ≡ vertices sh x = ap suc (vertices-is sh _)
-      ∙ words-fewer (sh .vertices) _ _ v (o .vertex-in) (shown .at VertexUsed v (o .vertex-in .1)
-      ∙ upd-same _ v 0) vertex (λ n i d. shown .at VertexUsed n (i .1) ∙ upd-off _ 0 d) ∙ sym (vertices-is sh x) in
-      let ce : edges sh (placedLinks sh x s f l v 0 0 0 0 0) ≡ edges sh x = edges-is sh _
-      ∙ words-same (sh .edges) _ _ (λ e i. start-same (2 * e) (omega (arith, i .0), omega (arith, i .1)))
-      ∙ sym (edges-is sh x) in
+      let cv = fewer-vertices in
+      let ce = same-edges in
       record {
         euler = omega (arith, cs, cf, cl, cv, ce);
-        less = omega (arith, cv, ce);
         paid = inl (omega (arith, cs, cl, cv, strays-le));
         back = λ r. absurd (never r);
       }
@@ -131,7 +140,7 @@ module _ {sh : Shape} {x : List ℕ} {p : List ℤ} (g : Good sh x p) {s f l v :
         (eqb-same face-gone));
   }
 
-module _ {sh : Shape} {x : List ℕ} {p : List ℤ} (g : Good sh x p) (ready : Ready sh x) (sn : solidAt sh x ≢ 0)
+module _ {sh : Shape} {x : List ℕ} {p : List ℤ} (g : Good sh x p) (sn : solidAt sh x ≢ 0)
     (one : facesIn sh x (solidAt sh x) ≡ 1)
     (left : edgesLeft sh x (solidAt sh x) ≡ false) (none : ringOf sh x (faceIn sh x (solidAt sh x)) ≡ 0) where
   lone : (own sh x First (own sh x Outer (faceIn sh x (solidAt sh x))) ≡ 0)
@@ -192,5 +201,6 @@ module _ {sh : Shape} {x : List ℕ} {p : List ℤ} (g : Good sh x p) (ready : R
         change =
             rw (no-join sh x p s)
             (last-change g one-loop (solid-used g sn) (lone .2) sn (λ r. no-ring g sn left (r .2)));
-        ready = last-ready g one-loop (solid-used g sn) (lone .2) sn ready;
+        less = last-less g one-loop (solid-used g sn) (lone .2) sn;
+        ready = last-ready g one-loop (solid-used g sn) (lone .2) sn;
       }

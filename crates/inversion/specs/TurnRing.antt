@@ -3,7 +3,7 @@ use mathlib.Core.Path.{_≡_, refl, sym, ap, _∙_, subst}
 use mathlib.Core.Logic.{_≢_, inl}
 use mathlib.Core.Bool.{true, false, not, _&&_, false≢true}
 use mathlib.Core.List.{List, [], _∷_}
-use Prim.Native.Nat.{ℕ, suc, _*_, _≤_}
+use Prim.Native.Nat.{ℕ, suc, _+_, _*_, _≤_, _<_}
 use native.Mathlib.Omega.{arith}
 use lib.Dec.{eqb, eqb→eq, T-not}
 use lib.IntN.{ℤ}
@@ -235,10 +235,14 @@ module _ {sh : Shape} {x : List ℕ} {p : List ℤ} (g : Good sh x p) {k l f f�
           loops₂,
           joins₂,
         );
-        less = omega (arith, K .fewer-edges, K .same-vertices, edges₁, vertices₁);
         paid = inl (omega (arith, K .same-solids, K .same-vertices, solids₁, vertices₁, loops₂, strays₂, joins₂));
-        back = λ z. omega (arith, K .same-solids, K .same-vertices, solids₁, vertices₁, loops₂, strays₂, joins₂);
+        back = λ z. inl
+            (omega (arith, K .same-solids, K .same-vertices, solids₁, vertices₁, loops₂, strays₂, joins₂));
       }
+
+  pub ring-less : edges sh (linksAfter sh (linksAfter sh x (mfkrh l f)) (kef k))
+      + vertices sh (linksAfter sh (linksAfter sh x (mfkrh l f)) (kef k)) < edges sh x + vertices sh x
+  ring-less = omega (arith, law₂ .fewer-edges, law₂ .same-vertices, edges₁, vertices₁)
 
   pub ring-ready : Ready sh x → Ready sh (linksAfter sh (linksAfter sh x (mfkrh l f)) (kef k))
   ring-ready ready = record {
@@ -251,7 +255,7 @@ module _ {sh : Shape} {x : List ℕ} {p : List ℤ} (g : Good sh x p) {k l f f�
 
 -- ---- the turn
 
-module _ {sh : Shape} {x : List ℕ} {p : List ℤ} (g : Good sh x p) (ready : Ready sh x) (sn : solidAt sh x ≢ 0)
+module _ {sh : Shape} {x : List ℕ} {p : List ℤ} (g : Good sh x p) (free : freeFace sh x ≢ 0) (sn : solidAt sh x ≢ 0)
     (one : facesIn sh x (solidAt sh x) ≡ 1)
     (left : edgesLeft sh x (solidAt sh x) ≡ true) (some : ringHalf sh x (solidAt sh x) ≢ 0) where
   -- what the search says: of the solid, in a ring, the mate in another loop
@@ -280,7 +284,7 @@ module _ {sh : Shape} {x : List ℕ} {p : List ℤ} (g : Good sh x p) (ready : R
   ring-face =
       let u = found .0 in
       let h = g .sound .half (ringHalf sh x (solidAt sh x)) (u .0 .0, u .0 .1) (u .0 .2) in
-      let f = least-some (sh .faces) (λ f. eqb (own sh x Solid f) 0) (ready .face) in
+      let f = least-some (sh .faces) (λ f. eqb (own sh x Solid f) 0) free in
       record {
         loop-in = h .loop-in;
         loop-used = h .loop-used;
@@ -312,5 +316,6 @@ module _ {sh : Shape} {x : List ℕ} {p : List ℤ} (g : Good sh x p) (ready : R
         path = ring-path g u refl (found .2) same-face ring-face;
         same = λ w a b. turned-ring sh (solidAt sh x) (faceIn sh x (solidAt sh x)) w x a one left some;
         change = ring-change g u refl (found .2) same-face ring-face;
-        ready = ring-ready g u refl (found .2) same-face ring-face ready;
+        less = ring-less g u refl (found .2) same-face ring-face;
+        ready = ring-ready g u refl (found .2) same-face ring-face;
       }

@@ -20,11 +20,11 @@ use Rattle.takedown.specs.Inversion.{solidAt, edgesLeft, ofSolid, isSpur, ringH
 use Rattle.inversion.specs.Path.{there, first, acted}
 use Rattle.inversion.specs.Same.{free-face-same, free-loop-same, free-edge-kept}
 use Rattle.inversion.specs.OfSolid.{least-some, both, Of, of-solid}
-use Rattle.inversion.specs.Turn.{Ready, TurnMade}
+use Rattle.inversion.specs.Turn.{TurnMade}
 use Rattle.inversion.specs.TurnShape.{turned-spur}
 use Rattle.inversion.specs.KevLaws.{kev-joins, kev-law}
 
-module _ {sh : Shape} {x : List ℕ} {p : List ℤ} (g : Good sh x p) (ready : Ready sh x) (sn : solidAt sh x ≢ 0)
+module _ {sh : Shape} {x : List ℕ} {p : List ℤ} (g : Good sh x p) (sn : solidAt sh x ≢ 0)
     (one : facesIn sh x (solidAt sh x) ≡ 1)
     (left : edgesLeft sh x (solidAt sh x) ≡ true) (none : ringHalf sh x (solidAt sh x) ≡ 0)
     (spur : spurHalf sh x (solidAt sh x) ≢ 0) where
@@ -51,11 +51,11 @@ module _ {sh : Shape} {x : List ℕ} {p : List ℤ} (g : Good sh x p) (ready : R
         same = λ w a b. turned-spur sh (solidAt sh x) (faceIn sh x (solidAt sh x)) w x a one left none spur;
         change = record {
           euler = omega (arith, c .same-solids, c .same-faces, c .same-loops, c .fewer-edges, c .fewer-vertices, nj);
-          less = omega (arith, c .fewer-edges, c .fewer-vertices);
           paid = inl (omega (arith, c .same-solids, c .same-loops, c .fewer-vertices, c .same-strays, nj));
           back = λ r. absurd (r .2 none);
         };
-        ready = record {
+        less = omega (arith, c .fewer-edges, c .fewer-vertices);
+        ready = λ ready. record {
           face = λ z. ready .face (sym (free-face-same sh x _ (c .solid)) ∙ z);
           edge = free-edge-kept sh x _ (c .start-kept) (ready .edge);
           loop = ⊎-elim (λ d. inl (λ z. d (sym (free-loop-same sh x _ (c .face)) ∙ z))) (λ r. absurd (r .2 none))

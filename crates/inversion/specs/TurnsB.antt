@@ -23,7 +23,6 @@ use Rattle.sound_bridges.specs.KemrAccepted.{kemr-accepted}
 use Rattle.sound_cuts.specs.KefAccepted.{kef-points}
 use Rattle.takedown.specs.Inversion.{solidAt, freeFace, freeLoop, edgesLeft, ofSolid, inRing, ringHalf, spurHalf}
 use Rattle.takedown.specs.Inversion.{crossed, isCrossed, crossedHalf, kev, kef, kemr, mfkrh}
-use Rattle.inversion.specs.Turn.{Ready}
 use Rattle.inversion.specs.OfSolid.{both, joint, Of, of-solid, solid-of, one-loop}
 use Rattle.inversion.specs.KevLaws.{kev-law}
 use Rattle.inversion.specs.KefLaws.{place-accepted}
@@ -76,16 +75,16 @@ fails a b e f = ⊎-elim (λ t. absurd (false≢true (sym e ∙ f t))) (λ t. t)
 
 -- ---- kev
 
-module _ {sh : Shape} {x : List ℕ} {p : List ℤ} (g : Good sh x p) (ready : Ready sh x) (sn : solidAt sh x ≢ 0)
+module _ {sh : Shape} {x : List ℕ} {p : List ℤ} (g : Good sh x p) (sn : solidAt sh x ≢ 0)
     (one : facesIn sh x (solidAt sh x) ≡ 1)
     (left : edgesLeft sh x (solidAt sh x) ≡ true) (none : ringHalf sh x (solidAt sh x) ≡ 0)
     (spur : spurHalf sh x (solidAt sh x) ≢ 0) where
   -- what the search found
   pub kev-half : HalfUsed sh (own sh x) (spurHalf sh x (solidAt sh x))
-  kev-half = spur-found g ready sn one left none spur .0 .0
+  kev-half = spur-found g sn one left none spur .0 .0
 
   pub kev-next : own sh x Next (spurHalf sh x (solidAt sh x)) ≡ mate (spurHalf sh x (solidAt sh x))
-  kev-next = spur-found g ready sn one left none spur .1
+  kev-next = spur-found g sn one left none spur .1
 
   pub kev-good : Good sh (linksAfter sh x (kev (spurHalf sh x (solidAt sh x))))
       (pointsAfter sh x p (kev (spurHalf sh x (solidAt sh x))))
@@ -148,49 +147,49 @@ module _ {sh : Shape} {x : List ℕ} {p : List ℤ} (g : Good sh x p) {s : ℕ} 
 
 -- ---- kemr
 
-module _ {sh : Shape} {x : List ℕ} {p : List ℤ} (g : Good sh x p) (ready : Ready sh x) (sn : solidAt sh x ≢ 0)
+module _ {sh : Shape} {x : List ℕ} {p : List ℤ} (g : Good sh x p) (free : freeLoop sh x ≢ 0) (sn : solidAt sh x ≢ 0)
     (one : facesIn sh x (solidAt sh x) ≡ 1)
     (left : edgesLeft sh x (solidAt sh x) ≡ true) (none : ringHalf sh x (solidAt sh x) ≡ 0)
     (no-spur : spurHalf sh x (solidAt sh x) ≡ 0) where
   pub kemr-half : HalfUsed sh (own sh x) (crossedHalf sh x (solidAt sh x))
-  kemr-half = cross-found g ready sn one left none no-spur .0 .0
+  kemr-half = cross-found g free sn one left none no-spur .0 .0
 
   pub kemr-good : Good sh (linksAfter sh x (kemr (crossedHalf sh x (solidAt sh x)) (freeLoop sh x)))
       (pointsAfter sh x p (kemr (crossedHalf sh x (solidAt sh x)) (freeLoop sh x)))
   kemr-good = all-hold sh x p (kemr (crossedHalf sh x (solidAt sh x)) (freeLoop sh x)) g refl
-      (kemr-accepted sh x (g .capacities) (span g ready sn one left none no-spur)) .0
+      (kemr-accepted sh x (g .capacities) (span g free sn one left none no-spur)) .0
 
   pub kemr-goes-on : Goes sh x (linksAfter sh x (kemr (crossedHalf sh x (solidAt sh x)) (freeLoop sh x)))
       (crossedHalf sh x (solidAt sh x))
-  kemr-goes-on = let o = span g ready sn one left none no-spur in
+  kemr-goes-on = let o = span g free sn one left none no-spur in
       kemr-goes g o
 
 -- ---- mfkrh and kef
 
-module _ {sh : Shape} {x : List ℕ} {p : List ℤ} (g : Good sh x p) (ready : Ready sh x) (sn : solidAt sh x ≢ 0)
+module _ {sh : Shape} {x : List ℕ} {p : List ℤ} (g : Good sh x p) (free : freeFace sh x ≢ 0) (sn : solidAt sh x ≢ 0)
     (one : facesIn sh x (solidAt sh x) ≡ 1)
     (left : edgesLeft sh x (solidAt sh x) ≡ true) (some : ringHalf sh x (solidAt sh x) ≢ 0) where
   pub ring-of : Of g sn (ringHalf sh x (solidAt sh x))
-  ring-of = ring-found g ready sn one left some .0
+  ring-of = ring-found g free sn one left some .0
 
   pub ring-half : HalfUsed sh (own sh x) (ringHalf sh x (solidAt sh x))
-  ring-half = ring-found g ready sn one left some .0 .0
+  ring-half = ring-found g free sn one left some .0 .0
 
   -- the mate lies in another loop
   pub ring-apart : own sh x Loop (mate (ringHalf sh x (solidAt sh x))) ≢ own sh x Loop (ringHalf sh x (solidAt sh x))
-  ring-apart = ring-found g ready sn one left some .2
+  ring-apart = ring-found g free sn one left some .2
 
   pub ring-good : Good sh (ringLeft sh x) p
   ring-good =
-      let F = ring-face g ready sn one left some in
-      let S = same-face g ready sn one left some in
+      let F = ring-face g free sn one left some in
+      let S = same-face g free sn one left some in
       subst (Good sh (ringLeft sh x)) (kef-points sh _ p (ringHalf sh x (solidAt sh x)))
       (all-hold sh _ p (kef (ringHalf sh x (solidAt sh x))) (good₁ g ring-half refl ring-apart S F) refl
       (place-accepted (good₁ g ring-half refl ring-apart S F) (place₁ g ring-half refl ring-apart S F)) .0)
 
   pub ring-goes-on : Goes sh x (ringLeft sh x) (ringHalf sh x (solidAt sh x))
-  ring-goes-on = ring-goes g ring-half refl ring-apart (same-face g ready sn one left some)
-      (ring-face g ready sn one left some)
+  ring-goes-on = ring-goes g ring-half refl ring-apart (same-face g free sn one left some)
+      (ring-face g free sn one left some)
 
   -- what becomes of a loop's name
   pub named : (i : ℕ) → HalfUsed sh (own sh (ringLeft sh x)) i
@@ -198,8 +197,8 @@ module _ {sh : Shape} {x : List ℕ} {p : List ℤ} (g : Good sh x p) (ready : R
       × (own sh (ringLeft sh x) Loop i ≡ own sh x Loop (mate (ringHalf sh x (solidAt sh x)))))
       ⊎ ((own sh x Loop i ≢ own sh x Loop (ringHalf sh x (solidAt sh x)))
       × (own sh (ringLeft sh x) Loop i ≡ own sh x Loop i))
-  named = ring-loop g ring-half refl ring-apart (same-face g ready sn one left some)
-      (ring-face g ready sn one left some)
+  named = ring-loop g ring-half refl ring-apart (same-face g free sn one left some)
+      (ring-face g free sn one left some)
 
   -- two of one name have one name
   pub name-same : (i j : ℕ) → HalfUsed sh (own sh (ringLeft sh x)) i → HalfUsed sh (own sh (ringLeft sh x)) j
@@ -219,7 +218,7 @@ module _ {sh : Shape} {x : List ℕ} {p : List ℤ} (g : Good sh x p) (ready : R
       ring-in g sn i (
         (c .0, sym (G .of i (r .0 .0)) ∙ r .0 .1),
         ⊎-elim
-            (λ a q. ring-found g ready sn one left some .1 (ap (λ l. own sh x Outer (own sh x Face l)) (sym (a .0)) ∙ q
+            (λ a q. ring-found g free sn one left some .1 (ap (λ l. own sh x Outer (own sh x Face l)) (sym (a .0)) ∙ q
             ∙ a .0))
             (λ a q. r .1 (outer i c a ∙ q ∙ sym (a .1)))
             (named i (r .0 .0)),
@@ -232,8 +231,8 @@ module _ {sh : Shape} {x : List ℕ} {p : List ℤ} (g : Good sh x p) (ready : R
           × (own sh (ringLeft sh x) Loop i ≡ own sh x Loop i)
           → own sh (ringLeft sh x) Outer (side (own sh (ringLeft sh x)) i) ≡ own sh x Outer (side (own sh x) i)
       outer i c a =
-          let F = ring-face g ready sn one left some in
-          let S = same-face g ready sn one left some in
+          let F = ring-face g free sn one left some in
+          let S = same-face g free sn one left some in
           let h = g .sound .half i (c .0 .0, c .0 .1) (c .0 .2) in
           let w = g .sound .solids .side-in i (c .0) in
           ap (own sh (ringLeft sh x) Outer) (ap (own sh (ringLeft sh x) Face) (a .1)

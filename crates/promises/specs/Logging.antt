@@ -87,3 +87,11 @@ module _ (log : List ℕ) (start : ℕ) (b : List ℕ) (room : length b ≤ star
       let k : drop (start + (at - start)) after ≡ drop (start + (at - start)) log =
       sym (drop-drop (at - start) start after) ∙ ap (drop (at - start)) g ∙ drop-drop (at - start) start log in
       rw f at k
+
+  -- up to any place in front of the new start neither
+  pub put-front : (at : ℕ) → at + length b ≤ start → take at after ≡ take at log
+  put-front at h =
+      let l = length-take-le (start - length b) log (omega arith) in
+      ap (take at) (put-below log start fits b room)
+      ∙ take-append-le at (take (start - length b) log) (b ++ drop start log) (omega (arith, l))
+      ∙ take-take at (start - length b) log (omega arith)

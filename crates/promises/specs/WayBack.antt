@@ -1,13 +1,15 @@
 -- Undoing leads back. `Back sh n t₀ t`: the first n operators of t's live log are the written inverses, newest first,
--- of what was done since t₀, and behind them stands t₀'s live log. Each operator carried out adds one. The take-down is
--- followed so; what runs and moves do is followed there and back by `Gone` (Trail).
-use mathlib.Core.Path.{_≡_, refl, sym, _∙_}
+-- of what was done since t₀, and behind them stands t₀'s live log; in front of them no byte has changed. Each operator
+-- carried out adds one. The take-down is followed so; what runs and moves do is followed there and back by `Gone`
+-- (Trail).
+use mathlib.Core.Path.{_≡_, refl, sym, ap, _∙_}
 use mathlib.Core.Bool.{Bool, true, false}
 use mathlib.Core.List.{List}
 use Prim.Native.Nat.{ℕ, suc, _-_, _≤_}
 use native.Mathlib.Omega.{arith}
 use lib.Dec.{leb}
-use lib.ListN.{length, drop}
+use lib.ListN.{length, take, drop}
+use lib.Seq.{take-take}
 use borrow.Author.Tests.{leb-true}
 use Rattle.laws.specs.Bools.{pick}
 use Rattle.script.specs.declared.Operator.{Operator}
@@ -19,7 +21,7 @@ use Rattle.runs.specs.Run.{State, readAt, refusalAt, inverseBytes, carryRefusal
 use Rattle.runs.specs.RunLaws.{read-admitted}
 use Rattle.sound_tables.specs.Accepted.{first-zero}
 use Rattle.euler.specs.Inverses.{inverse-eight}
-use Rattle.promises.specs.Logging.{put-length, put-live, put-rest}
+use Rattle.promises.specs.Logging.{put-length, put-live, put-rest, put-front}
 use Rattle.promises.specs.Leads.{Leads, none, first}
 use Rattle.sound_operators.specs.Theorems.{all-hold}
 
@@ -30,6 +32,7 @@ pub record Back (sh : Shape) (n : ℕ) (t₀ t : State) : Type 0 where
   pub fits : t₀ .start ≤ length (t₀ .log)
   pub same-length : length (t .log) ≡ length (t₀ .log)
   pub rest : drop (t₀ .start) (t .log) ≡ drop (t₀ .start) (t₀ .log)
+  pub front : take (t .start) (t .log) ≡ take (t .start) (t₀ .log)
   pub leads : Leads sh (t₀ .links) (t₀ .points) (drop (t₀ .start) (t₀ .log)) n (t .links) (t .points)
       (drop (t .start) (t .log))
 
@@ -41,8 +44,8 @@ back-none t g h = record {
   fits = h;
   same-length = refl;
   rest = refl;
-  leads =
-      none refl refl refl;
+  front = refl;
+  leads = none refl refl refl;
 }
 
 -- an operator that is carried out is admitted, and its inverse has room
@@ -81,6 +84,11 @@ back-stepped {sh} {n} t₀ t o b len acc room =
       fits = b .fits;
       same-length = put-length (t .log) (t .start) (operatorBytes i) room f ∙ b .same-length;
       rest = put-rest (t .log) (t .start) (operatorBytes i) room f (t₀ .start) (b .below) ∙ b .rest;
+      front =
+          let k : ℕ = t .start - length (operatorBytes i) in
+          put-front (t .log) (t .start) (operatorBytes i) room f k (omega (arith, room))
+          ∙ sym (take-take k (t .start) (t .log) (omega arith)) ∙ ap (take k) (b .front)
+          ∙ take-take k (t .start) (t₀ .log) (omega arith);
       leads = first {n = n} {p = pointsAfter sh (t .links) (t .points) o} i (drop (t .start) (t .log))
           (put-live (t .log) (t .start) (operatorBytes i) room f) (inverse-eight sh (t .links) (t .points) o)
           (h .1 .accepted)
