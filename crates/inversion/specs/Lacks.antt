@@ -13,8 +13,8 @@ use Rattle.layout.specs.Layout.{faceSolid, loopFace, startOf}
 use Rattle.layout.specs.Items.{some, faceIn}
 use Rattle.euler.specs.Queries.{facesIn}
 use Rattle.sound_tables.specs.Sound.{In}
-use Rattle.takedown.specs.Inversion.{solidAt, freeFace, freeLoop, freeEdge, edgesLeft, ringHalf, spurHalf, ringOf, lacksB}
-use Rattle.takedown.specs.Inversion.{lacks, lackAt}
+use Rattle.takedown.specs.Inversion.{solidAt, freeFace, freeLoop, freeEdge, edgesLeft, ringHalf, spurHalf, ringOf}
+use Rattle.takedown.specs.Inversion.{lacksB, lacks, lackAt}
 use Rattle.inversion.specs.OfSolid.{least-no, least-some}
 
 -- what the turn of the solid at hand calls for is left

@@ -13,7 +13,7 @@
 -- In quotes: documents 00 and 01; where it is document 02, it says so.
 use mathlib.Core.Path.{_≡_}
 use mathlib.Core.Logic.{_≢_}
-use mathlib.Core.Bool.{true}
+use mathlib.Core.Bool.{true, false}
 use mathlib.Core.List.{List, [], _∷_, _++_}
 use Prim.Native.Nat.{ℕ, _+_, _-_, _≤_, _<_}
 use lib.IntN.{ℤ}
@@ -41,9 +41,9 @@ use Rattle.sound_cuts.specs.MefOperands.{kefOf}
 use Rattle.sound_cuts.specs.KefAmid.{KefInPlace}
 use Rattle.runs.specs.Run.{State, readAt, refusalAt, inverseBytes, runRefusal, entry, notRun, runOf}
 use Rattle.runs.specs.Move.{moved, moveOf, moveEntry}
-use Rattle.takedown.specs.Inversion.{inverted, begin, invertOf}
+use Rattle.takedown.specs.Inversion.{shortLog, inverted, begin, invertOf}
 use Rattle.sessions.specs.Session.{redoneSession}
-use Rattle.sessions.specs.Editing.{Editing, logState, undoIn, undoneFrom, redoIn, redoneFrom}
+use Rattle.sessions.specs.Editing.{Editing, logState, undoIn, undoneFrom, redoIn, redoneFrom, invertIn}
 use Rattle.promises.specs.RunAll.{leftBy, runAll}
 use Rattle.promises.specs.Reading.{Taken}
 use Rattle.promises.specs.Carried.{Refusing, Carried, apart}
@@ -58,7 +58,8 @@ use Rattle.promises.specs.Padded.{shortUsed, shortSource}
 use Rattle.promises.specs.ShortLog.{live}
 use Rattle.machine.specs.Machine.{Act, behind, onlyRuns}
 use Rattle.machine.specs.Acts.{scriptsOf, ActsUndone}
-use Rattle.inversion.specs.Promise.{clearLinks, clearPoints, Asked, InversionExact, HolesOne, CountHoles}
+use Rattle.inversion.specs.Promise.{clearLinks, clearPoints, InversionExact, TenExactly, RefusedAsBefore, LogEnough}
+use Rattle.inversion.specs.Promise.{SpareNeverTen, SpareExact, HolesOne, CountHoles}
 use Rattle.wavefront.specs.Obj.{solidRefusal, objOf}
 use Rattle.wavefront_read.specs.Refused.{RefusedAs}
 use Rattle.wavefront_read.specs.Written.{TextEnds, TextRead}
@@ -106,7 +107,8 @@ pub record Demand1 : Type 0 where
       → moveOf source from t (moveOf source from t n .answer .done)
       ≡ movedApart (moveEntry source from t) (moveOf source from t n)
   -- "A refusal writes no byte of its own." Where the entry refuses (1 for a start beyond the log, else what the check
-  -- answers), none is done and all is as before; so too where clearing, writing or the take-down refuses
+  -- answers), none is done and all is as before; so too where clearing, writing or the take-down refuses, but by 10 of
+  -- the take-down (`refused-as-before`)
   pub entry-numbered : (t : State) → OneOf (0 ∷ 1 ∷ 2 ∷ []) (entry t .refusal)
   pub run-out : (t : State) (s : List ℕ) → entry t .refusal ≢ 0
       → runOf t s ≡ notRun (entry t .refusal) (entry t .rule) t
@@ -118,7 +120,7 @@ pub record Demand1 : Type 0 where
       → clearOf x p s f l e v ≡ cleared 1 x p
   pub write-out : (o : Operator) (out : List ℕ) → writeOperator o out .answer .refusal ≢ 0
       → writeOperator o out ≡ notWritten (writeOperator o out .answer .refusal) out
-  pub invert-out : (t : State) → invertOf t .answer .refusal ≢ 0
+  pub invert-out : (t : State) → invertOf t .answer .refusal ≢ 0 → invertOf t .answer .refusal ≢ 10
       → invertOf t ≡ inverted (invertOf t .answer .refusal) (invertOf t .answer .rule) (begin t)
   pub obj-out : (x : List ℕ) (p : List ℤ) (s : ℕ) (out : List ℕ) → objOf x p s out .answer .refusal ≢ 0
       → objOf x p s out .out ≡ out
@@ -223,9 +225,10 @@ pub record Demand3 : Type 0 where
   -- v + 2f + 2r + 3h − 2s operators, by the count it answers. What it logs is a script that rebuilds the same table, to
   -- the byte, from an empty one of the same capacities, log space given. Exactly h of that script's operators join two
   -- faces of one solid, …" (`Exact`; the steps are `invertOf`'s, each beside document 01's words)
-  pub inversion-exact : InversionExact
-  -- and it answers 0 only where all that is so
-  pub invert-asked : (t : State) → invertOf t .answer .refusal ≡ 0 → (h : ℕ) × Asked t h
+  pub spare-exact : SpareExact
+  -- and it answers 0 only for a table that passes the check and a log with that space
+  pub invert-asked : (t : State) → invertOf t .answer .refusal ≡ 0 → Passes (t .links) (t .points)
+      × (t .start ≤ length (t .log)) × (shortLog (shapeOf (t .links)) t ≡ false)
   -- "an empty one of the same capacities": what clearing leaves
   pub clear-own : (x : List ℕ) (p : List ℤ) → Passes x p
       → clearOf x p (getD x 0 0) (getD x 1 0) (getD x 2 0) (getD x 3 0) (getD x 4 0)
@@ -237,7 +240,7 @@ pub record Demand3 : Type 0 where
 
 -- ---- DOCUMENT 02, what its jobs ask beside the demands (job 1 changed some of them, and stands there)
 
--- job 2: the text of a solid; job 3: kef in place; job 4: redo; job 5: the words of vertices
+-- job 2: the text of a solid; job 3: kef in place; job 4: redo; job 5: the words of vertices; job 6: full tables
 pub record Requests : Type 0 where
   -- "(After 5 and 6 for the solid: 12, …; then 13, the text doesn't fit.)" Every call ends in one of four ways
   -- (`TextEnds`), each with its answer and every byte of the buffer: what the check refuses; what is refused of the
@@ -313,6 +316,19 @@ pub record Requests : Type 0 where
       → undoAll e ss .answer .answer .refusal ≡ 9
   pub used-room : (e : Editing) (ss : List (List ℕ)) → Passes (e .links) (e .points)
       → e .session .redo ≤ length (e .redo) → usedAll (logState e) ss ≤ length (e .redo) → RedoRoom e ss
+  -- Job 6. "Give 10 exactly when the steps A to C call for a free number and none of that kind is left" (`Stopped`;
+  -- `Lack` names the kind); "The log-space test comes ahead of it", so 9 is not 10
+  pub ten-exactly : TenExactly
+  -- "done is then 0, the table, the live log and the session are as before the call, and of the bytes in front of the
+  -- log's start only those that the steps logged into may differ": they keep what was logged (`AsBefore`, `Logged`)
+  pub refused-as-before : RefusedAsBefore
+  pub session-as-before : (e : Editing) → invertIn e .answer .answer .refusal ≢ 0
+      → invertIn e .answer .session ≡ e .session
+  -- behind that test no operator of the steps is refused, for room or otherwise
+  pub log-enough : LogEnough
+  -- "The rebuild promise then holds for each table that isn't refused." With the mission's supposition none is by 10
+  pub inversion-exact : InversionExact
+  pub spare-never-ten : SpareNeverTen
 
 -- the whole
 pub record Mission : Type 0 where

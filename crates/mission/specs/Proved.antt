@@ -26,13 +26,14 @@ use Rattle.promises.specs.Sessions.{redo-emptied, starts-answered, redo-ended, 
 use Rattle.promises.specs.Padded.{padded-run, padded-move}
 use Rattle.promises.specs.ShortLog.{log-shortest, move-shortest}
 use Rattle.machine.specs.Acts.{undo-acts}
-use Rattle.inversion.specs.Theorem.{inversion-exact, holes-one, count-holes}
+use Rattle.inversion.specs.Theorem.{inversion-exact, ten-exactly, refused-as-before, log-enough, spare-never-ten}
+use Rattle.inversion.specs.Theorem.{spare-exact, invert-out, holes-one, count-holes}
 use Rattle.wavefront_read.specs.Refused.{solid-refused}
 use Rattle.wavefront_read.specs.Written.{obj-ends, obj-out, obj-reads}
 use Rattle.mission.specs.Refusals.{clear-numbered, check-numbered, count-numbered, read-numbered, write-numbered}
 use Rattle.mission.specs.Refusals.{run-numbered, undo-numbered, redo-numbered, invert-numbered, obj-numbered}
-use Rattle.mission.specs.Refusals.{rule-named, entry-numbered, clear-out, write-out, invert-out}
-use Rattle.mission.specs.TakeDown.{clear-own, invert-asked, invert-sound}
+use Rattle.mission.specs.Refusals.{rule-named, entry-numbered, clear-out, write-out}
+use Rattle.mission.specs.TakeDown.{clear-own, invert-asked, session-as-before, invert-sound}
 use Rattle.mission.specs.SoundActs.{sound-acts}
 use Rattle.mission.specs.Mission.{RefusalsNumbered, Demand1, Demand2, Demand3, Requests, Mission}
 
@@ -105,7 +106,7 @@ demand-3 = record {
   undo-exact = undo-exact;
   undo-acts = undo-acts;
   inverse-exact = λ t o h. inverse-exact t o (checked-valid (t .links) (t .points) h);
-  inversion-exact = inversion-exact;
+  spare-exact = spare-exact;
   invert-asked = invert-asked;
   clear-own = clear-own;
   holes-one = holes-one;
@@ -133,6 +134,12 @@ requested = record {
   redo-beyond = redo-beyond;
   undo-full = undo-full;
   used-room = used-room;
+  ten-exactly = ten-exactly;
+  refused-as-before = refused-as-before;
+  session-as-before = session-as-before;
+  log-enough = log-enough;
+  inversion-exact = inversion-exact;
+  spare-never-ten = spare-never-ten;
 }
 
 -- all of it

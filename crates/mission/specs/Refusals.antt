@@ -38,7 +38,7 @@ use Rattle.runs.specs.Move.{moveOf, moveEntry}
 use Rattle.runs.specs.Clauses.{run-out, move-out}
 use Rattle.sessions.specs.Session.{sessionUndo, sessionRedo}
 use Rattle.sessions.specs.Editing.{Editing, logState, redoState, undoIn, redoIn}
-use Rattle.takedown.specs.Inversion.{noneFree, shortLog, Inverted, inverted, begin, invertOf}
+use Rattle.takedown.specs.Inversion.{turns, shortLog, Inverted, begin, invertBy, invertOf}
 use Rattle.wavefront.specs.Obj.{noRingNorLone, threeSided, solidRefusal, Texted, objOf}
 use Rattle.wavefront_read.specs.Written.{TextEnds, unsound, unshown, unfitting, written, obj-ends}
 use Rattle.promises.specs.Carried.{step-refusal, Carried, ended, refused as stopped, done, run-carried}
@@ -291,13 +291,13 @@ redo-numbered e n = move-numbered (e .redo) (e .session .redo) (logState e) n
 abbrev inverts : List ℕ
 inverts = 0 ∷ 1 ∷ 2 ∷ 9 ∷ 10 ∷ []
 
--- in document 01's order
+-- in document 02's order
 pub invert-numbered : (t : State) → OneOf inverts (invertOf t .answer .refusal)
 unfolding invertOf
 invert-numbered t =
     pick-ind P (eqb (entry t .refusal) 0) _ _
-    (pick-ind P (noneFree (shapeOf (t .links)) (t .links)) _ _ tt
-    (pick-ind P (shortLog (shapeOf (t .links)) t) _ _ tt tt))
+    (pick-ind P (shortLog (shapeOf (t .links)) t) _ _ tt
+    (pick-ind P (invertBy (turns (shapeOf (t .links))) (shapeOf (t .links)) (begin t) .lack) _ _ tt tt))
     (wider checks inverts tt (entry t .refusal) (entry-numbered t))
   where
     P : Inverted → Type 0
@@ -374,16 +374,3 @@ write-out o out =
   where
     P : Written → Type 0
     P w = w .answer .refusal ≢ 0 → w ≡ notWritten (w .answer .refusal) out
-
--- of the take-down
-pub invert-out : (t : State) → invertOf t .answer .refusal ≢ 0
-    → invertOf t ≡ inverted (invertOf t .answer .refusal) (invertOf t .answer .rule) (begin t)
-unfolding invertOf
-invert-out t =
-    pick-ind P (eqb (entry t .refusal) 0) _ _
-    (pick-ind P (noneFree (shapeOf (t .links)) (t .links)) _ _ (λ d. refl)
-    (pick-ind P (shortLog (shapeOf (t .links)) t) _ _ (λ d. refl) (λ d. absurd (d refl))))
-    (λ d. refl)
-  where
-    P : Inverted → Type 0
-    P r = r .answer .refusal ≢ 0 → r ≡ inverted (r .answer .refusal) (r .answer .rule) (begin t)
