@@ -11,6 +11,8 @@ MODE  entries    COUNT cases each of clearing, checking, counting, reading and w
                  and a net of three
       takedown   COUNT tables taken down and built again by what was logged, besides every table of two edges at most,
                  from 10,000 on of three
+      full       COUNT tables taken down, two of three with no number free of some kinds or of all, also boxes and prisms;
+                 besides every table of two edges at most with no number free of one, two or three kinds
       obj        COUNT solids written as OBJ text and read again, besides every small table, each coordinate, and parts
                  as large as a table can hold
       kef        COUNT scripts of one kef on loops of 3 half-edges up to some thousand, and of one; each undone and
@@ -45,8 +47,8 @@ from redo_met import WANTED as WANTED_HISTORIES
 from redo_promise import WANTED as WANTED_TRIPS, keep_exchange, keep_promise as keep_trips, trip_case
 from rules import check
 from small_tables import ACCEPTED, operator_cases
-from takedown_cases import LISTED, LISTED_TOO, listed_trials, takedown_trial
-from takedown_met import WANTED, case_situations
+from takedown_cases import LISTED, LISTED_TOO, NONE_OF_SOME, full_trials, listed_trials, takedown_trial
+from takedown_met import WANTED, WANTED_FULL, WANTED_LACKS, case_situations
 from takedown_promise import keep_promise, model_answer
 from tally import Tally
 from valence_cases import (OTHERS, WANTED_CHANGES, WANTED_RULES, change_situations, changed_table, check_case,
@@ -66,6 +68,8 @@ ENOUGH_OF_THREE = 4_000
 KEFS_ENOUGH = 500
 # From so many changed words on the small tables are asked too; from so many on each kind of change is met so often.
 WORDS_MANY, WORDS_ENOUGH, CHANGED_OFTEN = 1_000, 3_000, 200
+# From so many full tables on each kind of number has to be lacking so often, with and without steps before.
+FULL_ENOUGH, LACKING_OFTEN = 4_500, 100
 # So often histories have to be refused by each number, and half as often to meet each situation.
 OFTEN = 8
 
@@ -151,6 +155,18 @@ def takedown(driver, tally, met, rng, count):
         met.want_situations(tally, WANTED)
     if count >= PLENTY:
         met.want_rules(tally, "takedown")
+
+
+def full(driver, tally, met, rng, count):
+    """Small tables first, so that a slip shows on one that can be read."""
+    for spares in NONE_OF_SOME:
+        compare_takedowns(driver, tally, met, listed_trials(LISTED, spares))
+    for size in portions(count):
+        compare_takedowns(driver, tally, met, full_trials(rng, size))
+    if count >= FULL_ENOUGH:
+        met.want_answers(tally, {"takedown": (0, 9, 10)}, LACKING_OFTEN)
+        met.want_situations(tally, WANTED_FULL)
+        met.want_situations(tally, WANTED_LACKS, LACKING_OFTEN)
 
 
 def compare_takedowns(driver, tally, met, trials):
@@ -285,7 +301,7 @@ def compare_changes(driver, tally, met, rng, changes):
 # Name, comparison, and the count with which the gate runs it.
 MODES = {"entries": (entries, 500), "operators": (operators, 3_000), "runs": (runs, 4_500), "promise": (promise, 2_000),
          "padded": (padded, 4_500), "numbers": (numbers, 2_000), "takedown": (takedown, 5_000),
-         "obj": (obj, 5_000), "kef": (kef, 500), "redo": (redo, 4_000), "words": (words, 3_000)}
+         "full": (full, 4_500), "obj": (obj, 5_000), "kef": (kef, 500), "redo": (redo, 4_000), "words": (words, 3_000)}
 
 
 def run_mode(driver, name, count, seed):

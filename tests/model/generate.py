@@ -194,9 +194,11 @@ def injection(rng, used, capacity):
     return dict(zip(used, rng.sample(range(1, capacity + 1), len(used))))
 
 
-def renumbered(rng, b, capacities):
-    """The same table under a stranger's numbers; writing it back makes first the least."""
+def renumbered(rng, b, capacities, in_order=False):
+    """The same table under a stranger's numbers, solids in their order if asked; writing it back makes first the least."""
     s, f, l, e, v = (injection(rng, *sizes) for sizes in zip(used_numbers(b), capacities))
+    if in_order:
+        s = dict(zip(sorted(s), sorted(s.values())))
     h = {}
     for edge, to in e.items():
         h[2 * edge - 1] = 2 * to - rng.randint(0, 1)

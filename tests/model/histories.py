@@ -16,6 +16,7 @@ from padding import half_padded, padded
 from redo_met import history_situations
 from rules import check
 from script import operator_bytes
+from takedown_full import any_lacking_table
 from takedown_tables import spared_table
 
 MOST_CALLS = 12
@@ -34,8 +35,8 @@ def first_frame(rng):
     """A sound table most often; logs of any bytes, so that what lies behind an early start is a stranger's."""
     dice, bad = rng.random(), 0.07
     if dice < 0.95:
-        # of which some can be taken down
-        table = random_table(rng) if dice < 0.65 else spared_table(rng, None)
+        # of which some can be taken down, and some lack a number for it
+        table = random_table(rng) if dice < 0.6 else spared_table(rng) if dice < 0.8 else any_lacking_table(rng)
         links, points = table.links, table.points
     else:
         # 1 comes before 2, so bad starts are met with these more often

@@ -340,7 +340,10 @@ def wire_frames(tally, rng, scale):
         met[case.kind] += 1
         tally.equal("answer encoded and decoded", wire.decode_stream(wire.encode_case(answer) * 2), [answer, answer])
         if answer.numbers[0] != 0 and case.kind not in (wire.RUN, wire.UNDO, wire.REDO):
-            tally.equal("a refused call leaves everything", answer[2:], back[2:])
+            # but what a take-down that lacked a number has logged in front of the start
+            place = case.session[0] if answer.numbers[0] == 10 else 0
+            left, before = (frame._replace(log=frame.log[place:])[2:] for frame in (answer, back))
+            tally.equal("a refused call leaves everything", left, before)
     for kind, name in wire.KIND_NAMES.items():
         tally.holds(f"wire met: {name}", met[kind] > 0)
 

@@ -96,7 +96,7 @@ def cleared(tally):
 
 
 def taken_down(tally):
-    """b alone in a table with numbers to spare: kvsf, logged as b; v + 2f - 2s is 1, so 19 bytes are asked for."""
+    """b alone: kvsf, logged as b; v + 2f - 2s is 1, so 19 bytes are asked for."""
     desk = Desk(SMALL, 30, 30)
     desk.run(B + C)
     desk.undo(1)
@@ -125,7 +125,7 @@ def bad_starts(tally):
         tally.equal(f"undo with redo start {start}", desk.undo(1), (1, 0, 0, 4))
         tally.equal(f"undo 0 with redo start {start}", desk.undo(0), (1, 0, 0, 4))
         tally.equal(f"redo with redo start {start}", desk.redo(0), (1, 0, 0))
-        tally.equal(f"take-down with redo start {start}", take_down(*desk.lent()), (10, 0, 0, 4))
+        tally.equal(f"take-down with redo start {start}", take_down(*desk.lent()), (9, 0, 0, 4))
         tally.equal(f"run of nothing with redo start {start}", desk.run(b""), (0, 0, 0, 0, 4))
         tally.equal(f"nothing changes with redo start {start}", state(desk), before)
         tally.equal(f"run without room with redo start {start}", desk.run(bytes.fromhex("0604")), (9, 0, 0, 0, 4))

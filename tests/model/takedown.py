@@ -1,4 +1,4 @@
-"""The take-down of document 01, its steps in their order.
+"""The take-down of documents 01 ("The take-down") and 02 (job 6), its steps in their order.
 
 A step is a generator: it yields its next operator and goes on only when that one has been carried out, so what is least
 is always looked for in the table that the operator before has left. Of how operators are carried out it knows nothing.
@@ -11,33 +11,61 @@ from kernel import entry_refusal, put_in_front
 from layout import Table, half_of, mate
 from operators import plan
 from rules import count
-from script import limits_of, operator, operator_bytes
+from script import PATTERNS, limits_of, operands_of, operator, operator_bytes
 
 # "An operator is its code and operands, 19 bytes at most".
 LONGEST_OPERATOR = 19
-# "10 take-down with no free face, loop or edge number".
-SPARED = ("face", "loop", "edge")
+# The kinds of number that the steps call for, each with the operator that does.
+CALLED_FOR = {"face": "mfkrh", "loop": "kemr", "edge": "mekr"}
 
 TakeDownAnswer = namedtuple("TakeDownAnswer", "refusal rule done start")
+# How the steps ended: the body they left, the inverse of each operator done, and the kind of which they called for a
+# number when none was left, None where they came to their end.
+Taken = namedtuple("Taken", "body inverses lacking")
 
 
 def take_down(links, points, log, redo, session):
-    """Takes a table down; links, points, log (a bytearray) and session change in place, by a refusal none of them."""
+    """Takes a table down; links, points, log (a bytearray) and session change in place.
+
+    By 1, 2 and 9 nothing changes. By 10 "only those that the steps logged into may differ" of the bytes in front of the
+    log's start; links and points are written only behind the last step, so that there is nothing to take back.
+    """
     refusal, rule = take_down_refusal(links, points, log, session.log)
     if refusal != 0:
         return TakeDownAnswer(refusal, rule, 0, session.log)
-    body, done = Boundary(Table(links, points)), 0
-    for op in steps(body):
-        session.log = put_in_front(log, session.log, operator_bytes(carry_out_step(body, op)))
-        done += 1
+    body, inverses, lacking = taken(links, points)
+    start = session.log
+    for inverse in inverses:
+        start = put_in_front(log, start, operator_bytes(inverse))
+    if lacking is not None:
+        return TakeDownAnswer(10, 0, 0, session.log)
     write_back(body, links, points)
-    session.empty_redo(redo, done)
-    return TakeDownAnswer(0, 0, done, session.log)
+    session.log = start
+    session.empty_redo(redo, len(inverses))
+    return TakeDownAnswer(0, 0, len(inverses), start)
+
+
+def taken(links, points):
+    """The steps on a body of their own, up to their end or to where they lack a number."""
+    body, inverses = Boundary(Table(links, points)), []
+    for op in steps(body):
+        lacking = lacking_kind(op)
+        if lacking is not None:
+            return Taken(body, inverses, lacking)
+        inverses.append(carry_out_step(body, op))
+    return Taken(body, inverses, None)
+
+
+def lacking_kind(op):
+    """The kind of the number that an operator of the steps was to have and that is not there."""
+    lacking = [operand.kind for operand, number in zip(operands_of(op.code), op.args) if number is None]
+    # What a step looks for among used items is always there: only the calls for a free number may come back empty.
+    assert all(CALLED_FOR.get(kind) == PATTERNS[op.code][0] for kind in lacking), f"the take-down's own {op}"
+    return lacking[0] if lacking else None
 
 
 def carry_out_step(body, op):
     """Carries out an operator of the steps and answers its inverse; a refused one is a finding about the steps."""
-    assert None not in op.args, f"the take-down's own {op} lacks a number"
     refusal, inverse, effect = plan(body, op)
     assert refusal == 0, f"the take-down's own {op} is refused by {refusal}"
     effect()
@@ -47,19 +75,12 @@ def carry_out_step(body, op):
 # Refusals
 
 def take_down_refusal(links, points, log, start):
-    """By "Order: 1, 2; take-down then 10, 9."; answers (refusal, rule)."""
+    """1 and 2, then 9: "The log-space test comes ahead of" 10; answers (refusal, rule)."""
     refusal, rule = entry_refusal(links, points, (log, start))
     if refusal != 0:
         return refusal, rule
-    if not has_spares(Boundary(Table(links, points))):
-        return 10, 0
     # "Free log bytes are those in front of a start not beyond the log."
     return (9 if start < bytes_needed(links, points) else 0), 0
-
-
-def has_spares(b):
-    """Whether a number of each kind is free; where one kind has none, 10 is due."""
-    return all(least_free(b, kind) is not None for kind in SPARED)
 
 
 def most_operators(links, points):

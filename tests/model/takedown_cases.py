@@ -1,16 +1,21 @@
-"""Wire cases for the take-down: sound tables with room, without room or without a spare number; tables not sound."""
+"""Wire cases for the take-down: sound tables with room or without, with numbers to spare or full; tables not sound."""
 
+import itertools
 from collections import namedtuple
 
 import wire
 from generate import beyond, damaged_table, random_log, random_redo
 from takedown import bytes_needed
+from takedown_full import PLACES, full_tables
 from takedown_tables import every_body, spared_table, table_with
 
-# Places among the capacities: faces, loops, edges, of each of which a number has to be free.
-SPARED_PLACES = (1, 2, 3)
 # Edges and lone loops of the tables that are listed; three edges by themselves make ten thousand.
 LISTED, LISTED_TOO = ((0, 0), (0, 1), (1, 0), (1, 1), (2, 0), (2, 1)), ((3, 0),)
+# How many tables that is.
+LISTED_TABLES, LISTED_TOO_TABLES = 729, 10_674
+# Spare numbers of each kind: one of those that the steps call for; and every way to have none of some of them.
+ONE_EACH = (0, 1, 1, 1, 0)
+NONE_OF_SOME = [(0, *spares, 0) for spares in itertools.product((0, 1), repeat=3) if spares != (1, 1, 1)]
 
 # A case, and whether its table was made to be sound.
 Trial = namedtuple("Trial", "case sound")
@@ -20,11 +25,17 @@ def takedown_trial(rng):
     dice = rng.random()
     if dice < 0.08:
         return Trial(damaged_case(rng), False)
-    table = spared_table(rng, lacking=rng.choice(SPARED_PLACES) if dice < 0.18 else None)
+    table = spared_table(rng, full=rng.choice(list(PLACES.values())) if dice < 0.18 else None)
     log, start = log_for(rng, table)
     if dice > 0.98:
         start = beyond(rng, log)
     return Trial(case_with(rng, table.links, table.points, log, start), True)
+
+
+def full_trials(rng, count):
+    """So many tables, most of them full, with just the room that is asked for, a byte less, or more."""
+    return [Trial(case_with(rng, table.links, table.points, *log_for(rng, table)), True)
+            for table in full_tables(rng, count)]
 
 
 def case_with(rng, links, points, log, start):
@@ -37,10 +48,10 @@ def takedown_case(rng):
     return takedown_trial(rng).case
 
 
-def listed_trials(sizes):
-    """Every table of these sizes, with one number of each kind to spare and just the room that is asked for."""
+def listed_trials(sizes, spares=ONE_EACH):
+    """Every table of these sizes, with so many numbers of each kind to spare and just the room that is asked for."""
     trials = []
-    for table in [table_with(body, (0, 1, 1, 1, 0)) for size in sizes for body in every_body(*size)]:
+    for table in [table_with(body, spares) for size in sizes for body in every_body(*size)]:
         need = bytes_needed(table.links, table.points)
         case = wire.case(wire.TAKEDOWN, (), table.links, table.points, b"\xEE" * need, b"", b"\xEE" * 5, (need, 2))
         trials.append(Trial(case, True))

@@ -1,4 +1,6 @@
-"""Hand-made cases for the take-down: example e, the operators that document 01 asks for on small tables, refusals."""
+"""Hand-made cases for the take-down: example e, the operators that document 01 asks for on small tables, refusals, and
+where a number lacks (document 02, job 6).
+"""
 
 from boundary import Boundary
 from examples import B, BREAKERS, SMALL, WORDS_B, Desk
@@ -6,7 +8,7 @@ from kernel import Session, run
 from layout import Table, cleared_table
 from rules import check, count
 from script import describe, operator, script_bytes
-from takedown import bytes_needed, carry_out_step, has_spares, most_operators, steps, take_down
+from takedown import bytes_needed, carry_out_step, most_operators, steps, take_down, taken
 from takedown_tables import body_of, table_with
 
 HANDLE = script_bytes([operator("mef", 1, 0, 0, 1, 2, 2, 0), operator("kfmrh", 1, 2)])
@@ -23,33 +25,38 @@ def operators_of(table):
     return words
 
 
+def refused(tally, name, links, points, log, start, wanted):
+    """The refusal and its rule, done 0, the start as it was; answers what is left of links, points and log."""
+    links, points, changed = list(links), list(points), bytearray(log)
+    tally.equal(name, take_down(links, points, changed, b"", Session(start)), wanted + (0, start))
+    return links, points, bytes(changed)
+
+
 # Example e
 
 def example_e(tally):
-    """With L = 2 no loop is free; with L = 3 three operators, and the log holds what made the table."""
-    desk = Desk(SMALL)
-    tally.equal("example e, L = 2: made", (desk.run(B)[:3], desk.run(HANDLE)[:3]), ((0, 0, 1), (0, 0, 2)))
-    before, log = desk.state(), bytes(desk.log)
-    taken = take_down(desk.links, desk.points, desk.log, b"", Session(190))
-    tally.equal("example e, L = 2: take-down", taken, (10, 0, 0, 190))
-    tally.equal("example e, L = 2: nothing changes", (desk.state(), bytes(desk.log)), (before, log))
-    wider = (1, 2, 3, 2, 2)
-    desk = Desk(wider)
-    tally.equal("example e, L = 3: made", (desk.run(B)[:3], desk.run(HANDLE)[:3]), ((0, 0, 1), (0, 0, 2)))
-    before, log = desk.state(), bytearray(b"\xEE" * 120)
-    tally.equal("example e, L = 3: counts", count(*before), (0, 0, 1, 1, 2, 1, 1, 1, 1))
-    tally.equal("example e, L = 3: at most", most_operators(*before), 6)
-    tally.equal("example e, L = 3: operators", operators_of(Table(*before)), ["mfkrh 2 2 0", "kef 2", "kvsf 1"])
-    taken = take_down(desk.links, desk.points, log, b"", Session(114))
-    tally.equal("example e, L = 3: take-down", taken, (0, 0, 3, 95))
-    tally.equal("example e, L = 3: empty", desk.state(), ([1, 2, 3, 2, 2] + [0] * 32, [0] * 6))
+    """Three operators with L = 2, where no loop is free, as with L = 3; the log holds what made the table."""
     logged = bytes.fromhex("0101010101000000" "0501000001020200" "090102")
-    tally.equal("example e, L = 3: log", bytes(log), b"\xEE" * 95 + logged + b"\xEE" * 6)
-    again, inverses = cleared_table(wider), bytearray(8)
-    built = run(again.links, again.points, inverses, b"", Session(8), logged)
-    tally.equal("example e, L = 3: built again", built, (0, 0, 3, 19, 0))
-    tally.equal("example e, L = 3: the same words", (again.links, again.points), before)
-    tally.equal("example e, L = 3: its inverses", bytes(inverses), bytes.fromhex("0A020200" "0602" "0201"))
+    for loops in (2, 3):
+        name, capacities = f"example e, L = {loops}", (1, 2, loops, 2, 2)
+        desk = Desk(capacities)
+        tally.equal(f"{name}: made", (desk.run(B)[:3], desk.run(HANDLE)[:3]), ((0, 0, 1), (0, 0, 2)))
+        before, log = desk.state(), bytearray(b"\xEE" * 120)
+        tally.equal(f"{name}: counts", count(*before), (0, 0, 1, 1, 2, 1, 1, 1, 1))
+        tally.equal(f"{name}: at most", most_operators(*before), 6)
+        tally.equal(f"{name}: operators", operators_of(Table(*before)), ["mfkrh 2 2 0", "kef 2", "kvsf 1"])
+        for start in (113, 0):
+            left = refused(tally, f"{name}: room {start}", *before, log, start, (9, 0))
+            tally.equal(f"{name}: room {start}, nothing changes", left, before + (bytes(log),))
+        tally.equal(f"{name}: take-down", take_down(desk.links, desk.points, log, b"", Session(114)), (0, 0, 3, 95))
+        empty = cleared_table(capacities)
+        tally.equal(f"{name}: empty", desk.state(), (empty.links, empty.points))
+        tally.equal(f"{name}: log", bytes(log), b"\xEE" * 95 + logged + b"\xEE" * 6)
+        inverses = bytearray(8)
+        built = run(empty.links, empty.points, inverses, b"", Session(8), logged)
+        tally.equal(f"{name}: built again", built, (0, 0, 3, 19, 0))
+        tally.equal(f"{name}: the same words", (empty.links, empty.points), before)
+        tally.equal(f"{name}: its inverses", bytes(inverses), bytes.fromhex("0A020200" "0602" "0201"))
 
 
 # The steps: loops, face of each, outer loop of each face, and the operators that document 01 asks for
@@ -100,13 +107,6 @@ def steps_in_order(tally):
 
 # Refusals
 
-def refused(tally, name, links, points, log, start, wanted):
-    """The refusal and its rule, done 0, the start as it was, and no byte changed."""
-    links, points, changed = list(links), list(points), bytearray(log)
-    tally.equal(name, take_down(links, points, changed, b"", Session(start)), wanted + (0, start))
-    return links, points, bytes(changed)
-
-
 def refusals(tally):
     for rule, (links, points) in BREAKERS.items():
         for start, wanted in ((3, (2, rule)), (4, (1, 0)), (1 << 63, (1, 0))):
@@ -119,25 +119,65 @@ def refusals(tally):
 
 
 def sizes(tally):
-    """10 before 9, each where one number or one byte is lacking."""
-    for lacking, kind in enumerate(("solid", "face", "loop", "edge", "vertex")):
-        needs_it = kind in ("face", "loop", "edge")
+    """9 where a byte is lacking; none of these steps calls for a number, so that no kind has to have a free one."""
+    for full, kind in enumerate(("solid", "face", "loop", "edge", "vertex")):
         table = table_with(body_of({1: [3, 2], 2: [1, 4]}, {1: 1, 2: 2}, {1: 1, 2: 2}),
-                           [0 if place == lacking else 1 for place in range(5)])
+                           [0 if place == full else 1 for place in range(5)])
         words, need = (table.links, table.points), bytes_needed(table.links, table.points)
         tally.equal(f"no {kind} free: at most", need, 19 * 4)
-        tally.equal(f"no {kind} free: spares", has_spares(Boundary(table)), not needs_it)
-        for start, otherwise in ((need, 0), (need - 1, 9), (0, 9)):
-            name, log, refusal = f"no {kind} free, room {start}", b"\xEE" * (need + 30), 10 if needs_it else otherwise
-            if refusal != 0:
-                left = refused(tally, name, *words, log, start, (refusal, 0))
-                tally.equal(f"{name}: nothing changes", left, words + (log,))
-            else:
-                answer = take_down(list(words[0]), list(words[1]), bytearray(log), b"", Session(start))
-                tally.equal(name, answer[:3], (0, 0, 3))
+        log = b"\xEE" * (need + 30)
+        for start in (need - 1, 0):
+            left = refused(tally, f"no {kind} free, room {start}", *words, log, start, (9, 0))
+            tally.equal(f"no {kind} free, room {start}: nothing changes", left, words + (log,))
+        answer = take_down(list(words[0]), list(words[1]), bytearray(log), b"", Session(need))
+        tally.equal(f"no {kind} free", answer[:3], (0, 0, 3))
     empty = cleared_table((1,) * 5)
-    taken = take_down(empty.links, empty.points, bytearray(), b"", Session(0))
-    tally.equal("an empty table needs no log", taken, (0, 0, 0, 0))
+    taken_down = take_down(empty.links, empty.points, bytearray(), b"", Session(0))
+    tally.equal("an empty table needs no log", taken_down, (0, 0, 0, 0))
 
 
-TAKEDOWN_EXAMPLES = (example_e, steps_in_order, refusals, sizes)
+# Loops, face of each, outer loop of each face; spare numbers; the kind that lacks, and what the steps log before, as the
+# log has it: the inverse of the last operator in front.
+KNOT = [1, 3, 2, 4]
+LACKS = [
+    ("mfkrh, at once", {1: [1], 2: [2]}, {1: 1, 2: 1}, {1: 1}, (0, 0, 1, 1, 0), "face", []),
+    ("mfkrh behind kemr", {1: KNOT}, {1: 1}, {1: 1}, (0, 0, 1, 0, 0), "face", [operator("mekr", 1, 4, 2, 3, 1, 0)]),
+    ("kemr, at once", {1: KNOT}, {1: 1}, {1: 1}, (0, 1, 0, 1, 0), "loop", []),
+    ("kemr behind kev", {1: KNOT + [5, 6]}, {1: 1}, {1: 1}, (0, 1, 0, 1, 0), "loop",
+     [operator("mev", 1, 1, 3, 2, 0, 0, 0, 0)]),
+    ("mekr, at once", {1: [], 2: [], 3: [1, 2]}, {1: 1, 2: 1, 3: 2}, {1: 1, 2: 3}, (0, 1, 1, 0, 1), "edge", []),
+    ("mekr of the second solid", {1: [], 2: [], 3: [], 4: [1, 2]}, {1: 1, 2: 2, 3: 2, 4: 3}, {1: 1, 2: 2, 3: 4},
+     (0, 1, 1, 0, 1), "edge", [operator("mvsf", 1, 1, 1, 3, 0, 0, 0)]),
+]
+
+
+def lacks(tally):
+    """10 for each kind: table, live log and session stay, and in front of the start is what the steps logged."""
+    for name, cycles, loop_face, face_outer, spares, kind, inverses in LACKS:
+        table = table_with(body_of(cycles, loop_face, face_outer), spares)
+        words, need = (table.links, table.points), bytes_needed(table.links, table.points)
+        tally.equal(f"{name}: sound", check(*words), (0, 0))
+        tally.equal(f"{name}: what lacks, and behind what", taken(*words)[1:], (inverses[::-1], kind))
+        log, logged = b"\xEE" * (need + 30), script_bytes(inverses)
+        left = refused(tally, name, *words, log, need, (10, 0))
+        wanted = log[:need - len(logged)] + logged + log[need:]
+        tally.equal(f"{name}: only logged bytes differ", left, words + (wanted,))
+        left = refused(tally, f"{name}: 9 comes first", *words, log, need - 1, (9, 0))
+        tally.equal(f"{name}: 9 changes nothing", left, words + (log,))
+        links, points, session = list(words[0]), list(words[1]), Session(need, 3)
+        take_down(links, points, bytearray(log), b"abcde", session)
+        tally.equal(f"{name}: the redo log is not emptied", session, Session(need, 3))
+        roomy = table_with(body_of(cycles, loop_face, face_outer), SPARES)
+        tally.equal(f"{name}: with numbers to spare", taken(roomy.links, roomy.points).lacking, None)
+
+
+def solids_before(tally):
+    """A solid that is down has left a face and a loop, so that the next one's mfkrh and kemr find theirs."""
+    table = table_with(body_of({1: [], 2: KNOT}, {1: 1, 2: 2}, {1: 1, 2: 2}), (0,) * 5)
+    tally.equal("a full table of a vertex and a torus", operators_of(table),
+                ["kvsf 1", "kemr 1 1", "mfkrh 1 1 0", "kef 3", "kvsf 2"])
+    table = table_with(body_of({1: KNOT, 2: []}, {1: 1, 2: 2}, {1: 1, 2: 2}), (0,) * 5)
+    tally.equal("of a torus and a vertex", taken(table.links, table.points)[1:], ([], "loop"))
+
+
+TAKEDOWN_EXAMPLES = (example_e, steps_in_order, refusals, sizes, lacks, solids_before)

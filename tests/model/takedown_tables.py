@@ -199,19 +199,20 @@ def some_body(rng):
     return written_body(rng), True
 
 
-def spared_table(rng, lacking=None):
-    """A sound table with a free face, loop and edge number, but none of the kind lacking (its place in the capacities).
+def spared_table(rng, full=None):
+    """A sound table with a free face, loop and edge number, but none of the kind that is full (its place in the
+    capacities).
 
     Written ones keep their numbers half of the time, bridges lowest; all others get a stranger's.
     """
     b, from_one = some_body(rng)
     spares = [rng.choice((0, 1, 3)), *(rng.choice((1, 1, 2, 4)) for _ in range(3)), rng.choice((0, 1, 3))]
-    if lacking is not None:
-        spares[lacking] = 0
+    if full is not None:
+        spares[full] = 0
     if from_one and rng.random() < 0.5:
         return table_with(b, spares)
     capacities = capacities_with(b, spares)
     # Numbers of two and three bytes, and many free ones.
-    if lacking is None and rng.random() < 0.02:
+    if full is None and rng.random() < 0.02:
         capacities = larger_capacities(rng, capacities)
     return renumbered(rng, b, capacities)
