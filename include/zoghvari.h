@@ -98,7 +98,8 @@ typedef struct {
     uint8_t refusal; /* 0, 1, 2, 9 or 10 */
     uint8_t rule;    /* with 2: the lowest broken rule, 1 to 6 */
     size_t done;     /* operators carried out, as many as the logged script holds; 0 with a refusal */
-    size_t start;    /* where the script in the log, and so the live part, starts: the session's `log` */
+    size_t start;    /* where the script in the log, and so the live part, starts: the session's `log`. With a refusal
+                      * the start handed in */
 } ZoghvariInverted;
 
 typedef struct {
@@ -169,9 +170,13 @@ ZoghvariRedone zoghvari_redo(uint16_t *links, size_t links_n, int32_t *points, s
  * start answered up to the one before are a script of `done` operators: run from a cleared table of the same
  * capacities, it builds the table again, every byte of links and points. Where it does an operator it empties the redo
  * log, as a run; on an empty table it does none. It does not look at the session's `redo`.
- * Refusals, in this order: 1 and 2 of the table and the session's `log`, 10 unless a face, a loop and an edge number
- * are free, 9 where fewer than 19 (v + 2f + 2r + 3h - 2s) bytes lie below the session's `log`, by the numbers that
- * zoghvari_count answers. There is no half-way: a refusal changes no byte, of the session neither. */
+ * Refusals, in this order: 1 and 2 of the table and the session's `log`; 9 where fewer than 19 (v + 2f + 2r + 3h - 2s)
+ * bytes lie below the session's `log`, by the numbers that zoghvari_count answers; 10 where a step lacked a free face,
+ * loop or edge number. Some steps make a face, a ring or an edge on the way, so a full table is refused only where one
+ * of them calls for a number and none of its kind is left by then; where a face, a loop and an edge number are free,
+ * none ever lacks. There is no half-way: 1, 2 and 9 change no byte. By 10 links, points, the session, the log from the
+ * session's `log` on and the redo log are as they were; below the session's `log` the bytes that the steps logged into
+ * may differ, as many as they logged and never more than those that 9 asks for. */
 ZoghvariInverted zoghvari_invert(uint16_t *links, size_t links_n, int32_t *points, size_t points_n, uint8_t *log,
                                  size_t log_n, size_t redo_n, ZoghvariSession *session);
 

@@ -38,7 +38,8 @@ pub enum Refusal {
     /// [`Counts::invert_log_length`](crate::Counts::invert_log_length) in front of its start. The operator that met it
     /// has changed nothing, and what was done or undone before it stands.
     NoRoom,
-    /// 10: the take-down finds no free face, no free loop or no free edge number.
+    /// 10: a step of the take-down lacked a free face, loop or edge number. The table is as it was, and so are the log
+    /// from its start on, the redo log and both starts.
     NoNumber,
     /// 11: undo finds the log ended, or redo the redo log, where its next operator should begin; what was undone or
     /// done before that stands.

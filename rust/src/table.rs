@@ -221,8 +221,11 @@ impl Table {
     /// [`Table::clear`] leaves them; in the log the script stands in front of what was live before, which stays. The
     /// redo log is emptied as by a run.
     ///
-    /// Refusals 1 and 2; 10 unless a face, a loop and an edge number are free; 9 where fewer bytes than
-    /// [`Counts::invert_log_length`] lie in front of the log's start. Table, logs and starts are then as they were.
+    /// Refusals, in this order: 1 and 2; 9 where fewer bytes than [`Counts::invert_log_length`] lie in front of the
+    /// log's start; 10 where a step lacked a free face, loop or edge number. A full table is refused only where a step
+    /// calls for a number and none of its kind is left by then; where one of each of these kinds is free, none ever
+    /// lacks. With a refusal links, points, the redo log, both starts and the log from its start on are as they were;
+    /// with 10 the bytes in front of the log's start that the steps logged into may differ, with the others none.
     ///
     /// To save a table and go on working with it, take down a copy, with a log of its own:
     ///

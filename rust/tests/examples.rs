@@ -54,14 +54,17 @@ fn e_the_take_down() {
     let cleared = |loops| Table::new(Capacities { loops, ..SMALL }, 2 * LOG).unwrap();
     let table = |loops| after_on(cleared(loops), &[&B, &E]);
     let counts = Counts { solids: 1, faces: 1, loops: 2, edges: 1, vertices: 1, rings: 1, holes: 1 };
-    assert_eq!((table(2).count(), table(2).invert()), (Ok(counts), Err(Refusal::NoNumber)));
-    let saved = table(3).invert().expect("a loop is free");
-    assert_eq!(saved.done, 3);
-    // An inverse's inverse is the operator itself: what building logs is the take-down, operator by operator.
-    let built = after_on(cleared(3), &[&saved.script]);
-    let steps = [Operator::new(10, &[2, 2, 0]), Operator::new(6, &[2]), Operator::new(2, &[1])];
-    assert_eq!(operators(live(&built)), steps);
-    assert_eq!((built.links(), built.points()), (table(3).links(), table(3).points()));
+    // With two loops none is free, and none of the three operators calls for one.
+    for loops in [2, 3] {
+        assert_eq!(table(loops).count(), Ok(counts));
+        let saved = table(loops).invert().expect("a face is free");
+        assert_eq!(saved.done, 3);
+        // An inverse's inverse is the operator itself: what building logs is the take-down, operator by operator.
+        let built = after_on(cleared(loops), &[&saved.script]);
+        let steps = [Operator::new(10, &[2, 2, 0]), Operator::new(6, &[2]), Operator::new(2, &[1])];
+        assert_eq!(operators(live(&built)), steps);
+        assert_eq!((built.links(), built.points()), (table(loops).links(), table(loops).points()));
+    }
 }
 
 #[test]
