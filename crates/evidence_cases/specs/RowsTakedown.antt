@@ -1,5 +1,6 @@
 -- Example e of document 01: after b mef and kfmrh are run, the table is counted and taken down. With two loops none is
--- free; with three it goes down to nothing, by mfkrh 2 2 0, kef 2, kvsf 1, and the script logged builds it again.
+-- free, and none is called for (document 02, job 6; kfmrh freed face 2): as with three it goes down to nothing, by mfkrh
+-- 2 2 0, kef 2, kvsf 1, and the script logged builds it again.
 use Prim.Native.Nat.{ℕ, _+_}
 use mathlib.Core.List.{List, [], _∷_, _++_}
 use lib.IntN.{pos}
@@ -69,10 +70,17 @@ making3 n ss = row (lentWith 37 n) (making 3 linksEmpty3 linksB3 linksE3 n ++ ss
 
 abbrev pub takedownRows : List Row
 takedownRows =
-    -- two loops, 114 bytes free: 10; all undone
-    making2 114 (inverts 10 0 (afterE linksE 114) ∷ undoes 3 0 3 (redoable (undoneE linksEmpty 114) scriptUp) ∷ [])
-    -- two loops, no byte free: 10 comes before 9; all undone
-    ∷ making2 0 (inverts 10 0 (afterE linksE 0) ∷ undoes 3 0 3 (redoable (undoneE linksEmpty 0) scriptUp) ∷ [])
+    -- two loops, 114 bytes free: down to nothing; cleared, and built again by what was logged
+    making2 114
+    (inverts 0 3 (downAt linksEmpty 95) ∷ clears 1 2 2 2 2 0 (downAt linksEmpty 122)
+    ∷ runs scriptUp 0 3 19 (downAt linksE 114) ∷ [])
+    -- the take-down undone, then all else
+    ∷ making2 114
+    (inverts 0 3 (downAt linksEmpty 95) ∷ undoes 3 0 3 (redoable (downAt linksE 114) scriptDown)
+    ∷ undoes 3 0 3 (redoable (downAt linksEmpty 122) (scriptUp ++ scriptDown)) ∷ [])
+    -- two loops, one byte less free: 9; no byte free: 9, and all undone
+    ∷ making2 113 (inverts 9 0 (afterE linksE 113) ∷ [])
+    ∷ making2 0 (inverts 9 0 (afterE linksE 0) ∷ undoes 3 0 3 (redoable (undoneE linksEmpty 0) scriptUp) ∷ [])
     -- three loops, 114 bytes free: down to nothing; cleared, and built again by what was logged
     ∷ making3 114
     (inverts 0 3 (downAt linksEmpty3 95) ∷ clears 1 2 3 2 2 0 (downAt linksEmpty3 122)
