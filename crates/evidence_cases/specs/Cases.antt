@@ -35,7 +35,7 @@ use Rattle.euler.specs.Valence.{lessStarts, moreStarts}
 use Rattle.euler.specs.Exec.{killedVertex, inverse}
 use Rattle.runs.specs.Run.{admitRead, inverseBytes, carryRefusal, runRefusal, stepped, runFrom, entry, runOf}
 use Rattle.runs.specs.Move.{partOf, moveOf}
-use Rattle.takedown.specs.Inversion.{act, turnB, turned, invertBy, invertOf}
+use Rattle.takedown.specs.Inversion.{act, turnB, turned, lacksB, lacks, invertBy, invertOf}
 use Rattle.sessions.specs.Session.{sessionClear, sessionRun, sessionUndo, sessionRedo, sessionInvert}
 use Rattle.machine.specs.Machine.{doAll}
 use Rattle.evidence_cases.specs.Case.{Row, Hold}
@@ -54,15 +54,15 @@ cases = runRows ++ (takedownRows ++ (refusedRows ++ (paddedRows ++ (objRows ++ (
 -- what the definitions leave, step for step, is what the rows say
 pub cases-hold : Hold cases
 unfolding doAll sessionClear sessionRun sessionUndo sessionRedo sessionInvert clearOf runOf moveOf partOf countOf
-    invertOf invertBy turned turnB act readOperator writeOperator entry checkOf sizesFit tallyOf itemUsed brokenRule
-    rule1 rule2 rule3 rule4 rule5 rule6 solidRange faceRange loopRange halfRange vertexRange solidNames faceNames
-    loopNames halfNames loopEither halfLinks firstNames halfInLoop vertexEither halfAtVertex halfSides faceLinked allTo
-    leastFrom sumTo meets linkedb rounds pass across mate within joins linkedBy third second first readNumber groups
-    pattern rows inRanges inRange zig zag wire unwire readOperand readOperands readBehind operandBytes operandsBytes
-    operatorBytes operatorRefusal putBytes admitRead inverseBytes carryRefusal runRefusal stepped runFrom admitOf
-    useRefusals useRefusal useWord condition linksAfter marksAfter lessStarts moreStarts pointsAfter killedVertex
-    inverse corner edgeIn edgeOut relabel seek renew sweep mvsfLinks kvsfTest kvsfLinks mevLinks kevTest kevLinks
-    mefTest mefLinks kefTest kefLinks kfmrhTest kfmrhLinks linkedAfter mfkrhTest mfkrhLinks rmovTest anyTo digits
-    decimal passingTo ownVertex hundredths millimetres concatMap vertexLine lap backwards cornerWord faceLine objText
-    noRingNorLone threeSided solidRefusal fitted objOf
+    invertOf invertBy lacks lacksB turned turnB act readOperator writeOperator entry checkOf sizesFit tallyOf itemUsed
+    brokenRule rule1 rule2 rule3 rule4 rule5 rule6 solidRange faceRange loopRange halfRange vertexRange solidNames
+    faceNames loopNames halfNames loopEither halfLinks firstNames halfInLoop vertexEither halfAtVertex halfSides
+    faceLinked allTo leastFrom sumTo meets linkedb rounds pass across mate within joins linkedBy third second first
+    readNumber groups pattern rows inRanges inRange zig zag wire unwire readOperand readOperands readBehind
+    operandBytes operandsBytes operatorBytes operatorRefusal putBytes admitRead inverseBytes carryRefusal runRefusal
+    stepped runFrom admitOf useRefusals useRefusal useWord condition linksAfter marksAfter lessStarts moreStarts
+    pointsAfter killedVertex inverse corner edgeIn edgeOut relabel seek renew sweep mvsfLinks kvsfTest kvsfLinks
+    mevLinks kevTest kevLinks mefTest mefLinks kefTest kefLinks kfmrhTest kfmrhLinks linkedAfter mfkrhTest mfkrhLinks
+    rmovTest anyTo digits decimal passingTo ownVertex hundredths millimetres concatMap vertexLine lap backwards
+    cornerWord faceLine objText noRingNorLone threeSided solidRefusal fitted objOf
 cases-hold = refl
