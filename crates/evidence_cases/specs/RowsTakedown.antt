@@ -1,6 +1,6 @@
 -- Example e of document 01: after b mef and kfmrh are run, the table is counted and taken down. With two loops none is
--- free, and none is called for (document 02, job 6; kfmrh freed face 2): as with three it goes down to nothing, by mfkrh
--- 2 2 0, kef 2, kvsf 1, and the script logged builds it again.
+-- free, and none is called for (document 02, job 6; kfmrh freed face 2): as with three it goes down to nothing, by
+-- mfkrh 2 2 0, kef 2, kvsf 1, and the script logged builds it again.
 use Prim.Native.Nat.{ℕ, _+_}
 use mathlib.Core.List.{List, [], _∷_, _++_}
 use lib.IntN.{pos}
