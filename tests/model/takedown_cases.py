@@ -1,6 +1,5 @@
 """Wire cases for the take-down: sound tables with room or without, with numbers to spare or full; tables not sound."""
 
-import itertools
 from collections import namedtuple
 
 import wire
@@ -13,9 +12,9 @@ from takedown_tables import every_body, spared_table, table_with
 LISTED, LISTED_TOO = ((0, 0), (0, 1), (1, 0), (1, 1), (2, 0), (2, 1)), ((3, 0),)
 # How many tables that is.
 LISTED_TABLES, LISTED_TOO_TABLES = 729, 10_674
-# Spare numbers of each kind: one of those that the steps call for; and every way to have none of some of them.
+# Spare numbers of each kind: one of those that the steps call for; and none of them, or of one alone.
 ONE_EACH = (0, 1, 1, 1, 0)
-NONE_OF_SOME = [(0, *spares, 0) for spares in itertools.product((0, 1), repeat=3) if spares != (1, 1, 1)]
+NONE_OF_SOME = ((0, 0, 0, 0, 0), (0, 0, 1, 1, 0), (0, 1, 0, 1, 0), (0, 1, 1, 0, 0))
 
 # A case, and whether its table was made to be sound.
 Trial = namedtuple("Trial", "case sound")

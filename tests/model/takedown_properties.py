@@ -93,7 +93,7 @@ def small_take_downs(tally, _rng, scale):
 
 
 def small_full_take_downs(tally, _rng, scale):
-    """The same with no number free of any kind, with a large scale of one, two or three."""
+    """The same with no number free of any kind, with a large scale also with none of one kind."""
     for spares in NONE_OF_SOME if scale >= 5 else NONE_OF_SOME[:1]:
         trials = listed_trials(LISTED, spares)
         take_down(tally, Met(), trials)
