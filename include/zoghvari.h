@@ -174,9 +174,9 @@ ZoghvariRedone zoghvari_redo(uint16_t *links, size_t links_n, int32_t *points, s
  * bytes lie below the session's `log`, by the numbers that zoghvari_count answers; 10 where a step lacked a free face,
  * loop or edge number. Some steps make a face, a ring or an edge on the way, so a full table is refused only where one
  * of them calls for a number and none of its kind is left by then; where a face, a loop and an edge number are free,
- * none ever lacks. There is no half-way: 1, 2 and 9 change no byte. By 10 links, points, the session, the log from the
- * session's `log` on and the redo log are as they were; below the session's `log` the bytes that the steps logged into
- * may differ, as many as they logged and never more than those that 9 asks for. */
+ * none ever lacks. There is no half-way: 1, 2 and 9 change no byte. By 10 the steps done are taken back: links, points,
+ * the session, the log from the session's `log` on and the redo log are as they were; just below the session's `log`
+ * stand the inverses that the steps logged, never more bytes than 9 asks for, and in front of them all is as it was. */
 ZoghvariInverted zoghvari_invert(uint16_t *links, size_t links_n, int32_t *points, size_t points_n, uint8_t *log,
                                  size_t log_n, size_t redo_n, ZoghvariSession *session);
 
