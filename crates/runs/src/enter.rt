@@ -24,7 +24,7 @@ pub fn enter(links: &[u16], points: &[i32], log: &[u8], start: usize) -> CheckAn
 }
 
 // A table's capacities as limits.
-fn limits_of(sh: Shape) -> Limits
+pub fn limits_of(sh: Shape) -> Limits
     requires { ⌜ Small sh ⌝ }
     ensures { λ r. ⌜ r ≡ limits sh ⌝ }
 {

@@ -1,7 +1,7 @@
 -- What a half-edge or a loop is asked, answered from numbers read before: over plain variables, so that each proof of
 -- code names just what it read.
 use mathlib.Core.Path.{_≡_}
-use mathlib.Core.Bool.{Bool, not, _&&_, _||_}
+use mathlib.Core.Bool.{Bool, not, _&&_}
 use mathlib.Core.List.{List}
 use Prim.Native.Nat.{ℕ}
 use lib.Dec.{eqb}
@@ -9,7 +9,7 @@ use Rattle.layout.specs.declared.shape.Shape.{Shape}
 use Rattle.layout.specs.Layout.{faceSolid, loopFace, loopOf, nextOf, side}
 use Rattle.layout.specs.Mate.{mate}
 use Rattle.layout.specs.Items.{isRing}
-use Rattle.takedown.specs.Inversion.{outside, ofSolid, inRing, isSpur, isRingOf, freeFace, freeLoop, freeEdge, noneFree}
+use Rattle.takedown.specs.Inversion.{outside, ofSolid, inRing, isSpur, isRingOf}
 use Rattle.takedown.specs.Swift.{strayRing}
 
 module _ (sh : Shape) (x : List ℕ) where
@@ -36,7 +36,3 @@ module _ (sh : Shape) (x : List ℕ) where
   pub stray-read : (s root l : ℕ) {f own : ℕ} {ring : Bool} → f ≡ loopFace sh x l → own ≡ faceSolid sh x f
       → ring ≡ isRing sh x l → ((eqb own s && not (eqb f root)) && ring) ≡ strayRing sh x s root l
   stray-read s root l ef eo er = rw (eo, er, ef)
-
-  pub none-read : {f l e : ℕ} → f ≡ freeFace sh x → l ≡ freeLoop sh x → e ≡ freeEdge sh x
-      → ((eqb f 0 || eqb l 0) || eqb e 0) ≡ noneFree sh x
-  none-read ef el ee = rw (ef, el, ee)

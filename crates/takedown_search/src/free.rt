@@ -3,7 +3,7 @@ ghost use mathlib.Core.Path.{_≡_};
 ghost use Prim.Native.Nat.{ℕ, _<_, _≤_};
 ghost use Rattle.bounds.specs.Bounds.{mostItems};
 ghost use Rattle.layout.specs.Small.{Small};
-ghost use Rattle.takedown.specs.Inversion.{freeFace, freeLoop, freeEdge, noneFree};
+ghost use Rattle.takedown.specs.Inversion.{freeFace, freeLoop, freeEdge};
 use euler::scans::least_naming_one;
 use layout::column::faces_of_loops;
 use layout::column::solids_of_faces;
@@ -41,15 +41,4 @@ pub fn free_edge(links: &[u16], sh: Shape) -> usize
         e += 1;
     }
     0
-}
-
-// No free face, loop or edge number.
-pub fn none_free(links: &[u16], sh: Shape) -> bool
-    requires { ⌜ Small sh ⌝ }
-    ensures { λ r. ⌜ r ≡ noneFree sh (now (links .entry)) ⌝ }
-{
-    let f = free_face(links, sh);
-    let l = free_loop(links, sh);
-    let e = free_edge(links, sh);
-    (f == 0) | (l == 0) | (e == 0)
 }
