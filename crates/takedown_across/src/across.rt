@@ -1,6 +1,7 @@
 // A: while another face is left. A half-edge k of another face has its mate in the root: if its loop is a ring it is
 // made outer; the rings of its face move to the root; kef k.
 ghost use mathlib.Core.Path.{_≡_};
+ghost use mathlib.Core.Bool.{false};
 ghost use Prim.Native.Nat.{ℕ, _+_, _-_, _*_, _<_, _≤_};
 ghost use lib.Dec.{eqb};
 ghost use Rattle.layout.specs.Small.{Small};
@@ -28,8 +29,10 @@ use takedown_plans::operators::kef;
 use takedown_search::seek::Sought;
 use takedown_search::seek::seek;
 
-// A stage of the work: how far it has come, and what is carried on to the next turn.
+// A stage of the work: how far it has come, and what is carried on to the next turn. `lack`: the turn calls for a
+// number of which none is left, so that nothing changed.
 pub struct Stage {
+    pub lack: bool,
     pub progress: Progress,
     pub ends: Ends,
 }
@@ -112,7 +115,7 @@ fn pass(
     }
 }
 
-// A turn of A.
+// A turn of A. It calls for no free number.
 pub fn across(
     links: &mut [u16],
     points: &mut [i32],
@@ -127,11 +130,15 @@ pub fn across(
         ≡ swift.across sh e (now (links .entry))
         (seek (2 * sh .edges) (e .border) (outside sh (now (links .entry)) (e .root)))
         (held at (now (links .entry)) (now (points .entry)) (now (log .entry))))
-        × (r .progress .done ≤ at .done + 4099) × (InWords (r .ends)) ⌝ }
+        × (r .progress .done ≤ at .done + 4099) × (InWords (r .ends)) × (r .lack ≡ false) ⌝ }
 {
     let p = passage_of(links, sh, e);
     let q = pass(links, points, log, sh, at, p, e.root);
     let progress = q.progress;
     let ends = across_ends(e, q.still, p.near, p.stray);
-    Stage { progress, ends }
+    Stage {
+        lack: false,
+        progress,
+        ends,
+    }
 }

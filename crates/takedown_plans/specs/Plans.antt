@@ -10,6 +10,6 @@ use Rattle.takedown_plans.specs.declared.plans.Plan.{Plan}
 abbrev pub swiftIs : Work → Ends → Swift
 swiftIs w e = record { work = w; ends = e }
 
--- its operators one after the other
+-- its operators one after the other; what it lacks is not asked here
 abbrev pub carried : Shape → Plan → Work → Swift
 carried sh r w = swiftIs (pick (r .two) (act sh (act sh w (r .first)) (r .second)) (act sh w (r .first))) (r .ends)

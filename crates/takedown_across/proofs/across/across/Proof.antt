@@ -1,3 +1,4 @@
+use mathlib.Core.Path.{refl}
 use native.Mathlib.Omega.{arith}
 use Rattle.takedown_across.specs.PassingLaws.{across-is}
 use borrow.Author.Needs.{needs}
@@ -40,6 +41,7 @@ returns c = (
       (c .before .before .before .before .before .before .before .pass .ensures .1) (c .across-ends .ensures .0),
   omega (arith, c .before .before .before .before .before .before .before .pass .ensures .2),
   c .across-ends .ensures .1,
+  refl,
 )
 
 pub across-spec : {M : Type 1} → statement M

@@ -1,4 +1,4 @@
-use Rattle.takedown_plans.specs.PlanLaws.{bridge-planned}
+use Rattle.takedown_plans.specs.PlanLaws.{bridge-planned, lack-read}
 use borrow.Author.Needs.{needs}
 use Rattle.takedown_plans.proofs.plans.bridge_plan.Statement.{statement}
 use Rattle.takedown_plans.proofs.plans.bridge_plan.Tie as tie
@@ -40,6 +40,7 @@ returns c = (
       (c .before .before .before .before .free-edge .ensures .0) (c .before .before .before .mekr .ensures)
       (c .before .before .less .ensures) (c .before .kev .ensures) (c .bare-ends .ensures .0),
   c .bare-ends .ensures .1,
+  lack-read (c .before .before .before .before .free-edge .ensures .0),
 )
 
 pub bridge-plan-spec : {M : Type 1} → statement M

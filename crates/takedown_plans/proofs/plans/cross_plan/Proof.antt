@@ -1,4 +1,4 @@
-use Rattle.takedown_plans.specs.PlanLaws.{cross-planned}
+use Rattle.takedown_plans.specs.PlanLaws.{cross-planned, lack-read}
 use borrow.Author.Needs.{needs}
 use Rattle.takedown_plans.proofs.plans.cross_plan.Statement.{statement}
 use Rattle.takedown_plans.proofs.plans.cross_plan.Tie as tie
@@ -26,6 +26,7 @@ returns c = (
       (c .before .before .before .before .before .args .e) _ _ _ (c .before .kemr2 .result) w _
       (c .before .before .before .free-loop .ensures .0) (c .before .before .kemr .ensures) (c .cross-ends .ensures .0),
   c .cross-ends .ensures .1,
+  lack-read (c .before .before .before .free-loop .ensures .0),
 )
 
 pub cross-plan-spec : {M : Type 1} → statement M

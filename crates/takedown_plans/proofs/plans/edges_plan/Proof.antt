@@ -1,4 +1,5 @@
-use Rattle.takedown_plans.specs.PlanLaws.{edges-ring, edges-spur, edges-crossed}
+use Rattle.takedown_plans.specs.PlanLaws.{edges-ring, edges-spur, edges-crossed, ring-lacks}
+use Rattle.takedown_plans.specs.PlanLaws.{spur-lacks, cross-lacks}
 use Rattle.takedown_search.specs.Sought.{passing, lastOf}
 use borrow.Author.Needs.{needs}
 use Rattle.takedown_plans.proofs.plans.edges_plan.Statement.{statement}
@@ -28,6 +29,9 @@ returns c = (
       (c .before .before .before .before .before .args .e) _ _ _ (c .before .before .before .with-half .ensures .0)
       (c .before .before .seek .ensures .0) w _ (c .before .if1 .taken) (c .ring-plan .ensures .0 w),
   c .ring-plan .ensures .1,
+  ring-lacks (c .before .before .before .before .before .args .sh) _
+      (c .before .before .before .before .before .args .e) _ (c .before .before .seek .ensures .0) _
+      (c .before .if1 .taken) (c .ring-plan .ensures .2),
 )
 
 spur-from-requires : tie.Need-spur-from-requires
@@ -45,6 +49,10 @@ returns-2 c = (
       (c .before .before .before .before .seek .ensures .0) w _ (c .before .before .before .if1 .left) _
       (c .before .before .spur-from .ensures .0) (c .before .if2 .taken) (c .spur-plan .ensures .0 w),
   c .spur-plan .ensures .1,
+  spur-lacks (c .before .before .before .before .before .before .before .args .sh) _
+      (c .before .before .before .before .before .before .before .args .e) _
+      (c .before .before .before .before .seek .ensures .0) _ (c .before .before .before .if1 .left) _
+      (c .before .before .spur-from .ensures .0) (c .before .if2 .taken) (c .spur-plan .ensures .2),
 )
 
 seek-requires-2 : tie.Need-seek-requires-2
@@ -63,6 +71,10 @@ returns-3 c = (
       (c .before .before .before .spur-from .ensures .0) (c .before .before .if2 .left) _ (c .before .seek2 .ensures .0)
       (c .cross-plan .ensures .0 w),
   c .cross-plan .ensures .1,
+  cross-lacks (c .before .before .before .before .before .before .before .before .args .sh) _
+      (c .before .before .before .before .before .before .before .before .args .e) _
+      (c .before .before .before .before .before .seek .ensures .0) _ (c .before .before .before .before .if1 .left) _
+      (c .before .before .before .spur-from .ensures .0) (c .before .before .if2 .left) (c .cross-plan .ensures .2),
 )
 
 pub edges-plan-spec : {M : Type 1} → statement M

@@ -1,4 +1,4 @@
-use Rattle.takedown_plans.specs.PlanLaws.{ring-planned}
+use Rattle.takedown_plans.specs.PlanLaws.{ring-planned, lack-read}
 use borrow.Author.Needs.{needs}
 use Rattle.takedown_plans.proofs.plans.ring_plan.Statement.{statement}
 use Rattle.takedown_plans.proofs.plans.ring_plan.Tie as tie
@@ -32,6 +32,7 @@ returns c = (
       (c .before .before .before .before .loop-of .ensures .0) (c .before .before .before .free-face .ensures .0)
       (c .before .before .mfkrh .ensures) (c .before .kef .ensures) (c .ring-ends .ensures .0),
   c .ring-ends .ensures .1,
+  lack-read (c .before .before .before .free-face .ensures .0),
 )
 
 pub ring-plan-spec : {M : Type 1} → statement M

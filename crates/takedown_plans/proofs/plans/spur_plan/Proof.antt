@@ -1,3 +1,4 @@
+use mathlib.Core.Path.{refl}
 use Rattle.takedown_plans.specs.PlanLaws.{spur-planned}
 use borrow.Author.Needs.{needs}
 use Rattle.takedown_plans.proofs.plans.spur_plan.Statement.{statement}
@@ -21,6 +22,7 @@ returns c = (
   λ w. spur-planned (c .before .before .before .before .args .sh) _ (c .before .before .before .before .args .e) _ _
       _ (c .before .kev2 .result) w (c .before .before .kev .ensures) (c .spur-ends .ensures .0),
   c .spur-ends .ensures .1,
+  refl,
 )
 
 pub spur-plan-spec : {M : Type 1} → statement M
