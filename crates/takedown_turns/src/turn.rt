@@ -1,13 +1,14 @@
 // A turn of the solid at hand.
 ghost use mathlib.Core.Path.{_≡_};
+ghost use mathlib.Core.Bool.{false};
 ghost use Prim.Native.Nat.{ℕ, _+_, _<_, _≤_};
 ghost use Rattle.layout.specs.Small.{Small};
 ghost use Rattle.takedown.specs.Inversion as inversion;
-ghost use Rattle.takedown.specs.Swift.{swiftTurn, entered};
+ghost use Rattle.takedown.specs.Swift.{swiftLacks, entered};
 ghost use Rattle.takedown_ends.specs.InWords.{InWords};
 ghost use Rattle.takedown_acts.specs.Held.{held};
-ghost use Rattle.takedown_plans.specs.Plans.{carried};
 ghost use Rattle.takedown_across.specs.Passing.{staged};
+ghost use Rattle.takedown_turns.specs.Turning.{carriedUnless, turnUnless};
 use layout::shape::Shape;
 use takedown::ends::Ends;
 use takedown_across::across::Stage;
@@ -22,7 +23,7 @@ use takedown_plans::plans::edges_plan;
 use takedown_search::seek::Sought;
 use takedown_search::seek::seek;
 
-// The operators of a plan.
+// The operators of a plan, unless it lacks a number.
 fn carry(
     links: &mut [u16],
     points: &mut [i32],
@@ -33,19 +34,36 @@ fn carry(
 ) -> Stage
     requires { ⌜ (Small sh) × (at .done < 900000000) ⌝ }
     ensures { λ r. ⌜
-        (staged r (now (links .exit)) (now (points .exit)) (now (log .exit))
-        ≡ carried sh plan (held at (now (links .entry)) (now (points .entry)) (now (log .entry))))
+        (r .lack ≡ plan .lack)
+        × (staged r (now (links .exit)) (now (points .exit)) (now (log .exit))
+        ≡ carriedUnless sh plan (held at (now (links .entry)) (now (points .entry)) (now (log .entry))))
         × (r .progress .done ≤ at .done + 2) × (r .ends ≡ plan .ends) ⌝ }
 {
     let first = plan.first;
     let second = plan.second;
     let ends = plan.ends;
+    let lack = plan.lack;
+    if lack {
+        return Stage {
+            lack,
+            progress: at,
+            ends,
+        };
+    }
     let a = act(links, points, log, sh, at, first);
     if plan.two {
         let b = act(links, points, log, sh, a, second);
-        return Stage { progress: b, ends };
+        return Stage {
+            lack,
+            progress: b,
+            ends,
+        };
     }
-    Stage { progress: a, ends }
+    Stage {
+        lack,
+        progress: a,
+        ends,
+    }
 }
 
 // Its last operator, and the next solid is entered.
@@ -62,14 +80,19 @@ fn last(
         (staged r (now (links .exit)) (now (points .exit)) (now (log .exit))
         ≡ entered sh s
         (inversion.act sh (held at (now (links .entry)) (now (points .entry)) (now (log .entry))) (inversion.kvsf s)))
-        × (r .progress .done ≤ at .done + 1) × (InWords (r .ends)) ⌝ }
+        × (r .progress .done ≤ at .done + 1) × (InWords (r .ends)) × (r .lack ≡ false) ⌝ }
 {
     let a = act(links, points, log, sh, at, kvsf(s));
     let ends = enter(links, sh, s);
-    Stage { progress: a, ends }
+    Stage {
+        lack: false,
+        progress: a,
+        ends,
+    }
 }
 
-// A while another face is left, B while edges are left, C by the root's rings, last kvsf.
+// A while another face is left, B while edges are left, C by the root's rings, last kvsf. Where B or C calls for a
+// number of which none is left, nothing changes.
 pub fn turn(
     links: &mut [u16],
     points: &mut [i32],
@@ -80,8 +103,10 @@ pub fn turn(
 ) -> Stage
     requires { ⌜ (Small sh) × (at .done < 800000000) × (InWords e) ⌝ }
     ensures { λ r. ⌜
-        (staged r (now (links .exit)) (now (points .exit)) (now (log .exit))
-        ≡ swiftTurn sh e (now (links .entry)) (held at (now (links .entry)) (now (points .entry)) (now (log .entry))))
+        (r .lack ≡ swiftLacks sh e (now (links .entry)))
+        × (staged r (now (links .exit)) (now (points .exit)) (now (log .exit))
+        ≡ turnUnless sh e (now (links .entry)) (r .ends)
+        (held at (now (links .entry)) (now (points .entry)) (now (log .entry))))
         × (r .progress .done ≤ at .done + 4099) × (InWords (r .ends)) ⌝ }
 {
     if e.faces != 1 {

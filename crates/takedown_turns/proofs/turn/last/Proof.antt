@@ -1,3 +1,4 @@
+use mathlib.Core.Path.{refl}
 use native.Mathlib.Omega.{arith}
 use Rattle.takedown_turns.specs.TurnLaws.{last-is}
 use borrow.Author.Needs.{needs}
@@ -33,6 +34,7 @@ returns c = (
       (c .before .before .before .before .before .before .before .act .ensures .0) (c .enter .ensures .0),
   omega (arith, c .before .before .before .before .before .before .before .act .ensures .1),
   c .enter .ensures .1,
+  refl,
 )
 
 pub last-spec : {M : Type 1} → statement M

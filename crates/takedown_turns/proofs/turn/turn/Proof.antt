@@ -1,8 +1,8 @@
 use native.Mathlib.Omega.{arith}
 use Rattle.takedown_search.specs.Sought.{passing, lastOf}
-use mathlib.Core.Path.{sym, subst, _∙_}
+use mathlib.Core.Path.{refl, sym, subst, _∙_}
 use Rattle.takedown_ends.specs.InWords.{InWords}
-use Rattle.takedown_turns.specs.TurnLaws.{turn-across, turn-edges, turn-bridge, turn-last}
+use Rattle.takedown_turns.specs.TurnLaws.{turn-across, turn-edges, turn-bridge, turn-last, turn-unless}
 use borrow.Author.Needs.{needs}
 use Rattle.takedown_turns.proofs.turn.turn.Statement.{statement}
 use Rattle.takedown_turns.proofs.turn.turn.Tie as tie
@@ -29,12 +29,15 @@ same-length-3 c = search needs
 
 returns : tie.Need-returns
 unfolding passing lastOf
-returns c = (
-  turn-across _ _ _ _ _ (c .before .before .before .before .before .before .before .before .before .if1 .taken)
-      (c .before .before .before .before .before .across .ensures .0),
-  omega (arith, c .before .before .before .before .before .across .ensures .1),
-  c .before .before .before .before .before .across .ensures .2,
-)
+returns c =
+    let e = c .before .before .before .before .before .across .ensures in
+    let o = c .before .before .before .before .before .before .before .before .before .if1 .taken in
+    let is = turn-across _ _ _ _ _ _ o (e .3) (e .0) in (
+      is .0,
+      turn-unless _ _ _ _ _ _ _ _ _ (rw (e .3) at is .0, is .1) refl refl,
+      omega (arith, e .1),
+      e .2,
+    )
 
 seek-requires : tie.Need-seek-requires
 seek-requires c κs = search needs
@@ -56,24 +59,20 @@ same-length-6 c = search needs
 
 returns-2 : tie.Need-returns-2
 unfolding passing lastOf
-returns-2 c = (
-  turn-edges
-      (c .before .before .before .before .before .before .before .before .before .before .before .before .before .before
-      .before .before .before .before .args .sh)
-      (c .before .before .before .before .before .before .before .before .before .before .before .before .before .before
-      .before .before .before .before .args .e) _ _ _
-      (c .before .before .before .before .before .before .before .before .before .before .before .before .before
-      .before .if1 .left) _
-      (c .before .before .before .before .before .before .before .before .before .before .before
-      .before .seek .ensures .0)
-      (c .before .before .before .before .before .before .before .before .before .before .before .if2 .taken)
-      (c .before .before .before .before .before .carry .ensures .0
-      ∙ c .before .before .before .before .before .before .before .before .before .edges-plan .ensures .0 _),
-  omega (arith, c .before .before .before .before .before .carry .ensures .1),
-  subst InWords (sym
-      (c .before .before .before .before .before .carry .ensures .2))
-      (c .before .before .before .before .before .before .before .before .before .edges-plan .ensures .1),
-)
+returns-2 c =
+    let e = c .before .before .before .before .before .carry .ensures in
+    let q = c .before .before .before .before .before .before .before .before .before in
+    let p = q .edges-plan .ensures in
+    let d = q .before .before in
+    let h = d .before .seek .ensures .0 in
+    let i = d .before .before .before in
+    let a = i .before .before .before .before .args in
+    let is = turn-edges (a .sh) (a .e) _ _ _ _ (i .if1 .left) _ h (d .if2 .taken) (p .2) (p .0 _) in (
+      e .0 ∙ is .0,
+      turn-unless (a .sh) (a .e) _ _ _ _ _ _ _ is (e .3) (e .1),
+      omega (arith, e .2),
+      subst InWords (sym (e .3)) (p .1),
+    )
 
 seek-requires-2 : tie.Need-seek-requires-2
 seek-requires-2 c κs = search needs
@@ -95,28 +94,23 @@ same-length-9 c = search needs
 
 returns-3 : tie.Need-returns-3
 unfolding passing lastOf
-returns-3 c = (
-  turn-bridge
-      (c .before .before .before .before .before .before .before .before .before .before .before .before .before .before
-      .before .before .before .before .before .before .before .args .sh)
-      (c .before .before .before .before .before .before .before .before .before .before .before .before .before .before
-      .before .before .before .before .before .before .before .args .e) _ _ _
-      (c .before .before .before .before .before .before .before .before .before .before .before .before .before .before
-      .before .before .before .if1 .left) _
-      (c .before .before .before .before .before .before .before .before .before .before .before .before .before .before
-      .before .seek .ensures .0)
-      (c .before .before .before .before .before .before .before .before .before .before .before .before .before
-      .before .if2 .left) _
-      (c .before .before .before .before .before .before .before .before .before .before .before
-      .before .seek2 .ensures .0)
-      (c .before .before .before .before .before .before .before .before .before .before .before .if3 .taken)
-      (c .before .before .before .before .before .carry2 .ensures .0
-      ∙ c .before .before .before .before .before .before .before .before .before .bridge-plan .ensures .0 _),
-  omega (arith, c .before .before .before .before .before .carry2 .ensures .1),
-  subst InWords (sym
-      (c .before .before .before .before .before .carry2 .ensures .2))
-      (c .before .before .before .before .before .before .before .before .before .bridge-plan .ensures .1),
-)
+returns-3 c =
+    let e = c .before .before .before .before .before .carry2 .ensures in
+    let q = c .before .before .before .before .before .before .before .before .before in
+    let p = q .bridge-plan .ensures in
+    let l = q .before .before in
+    let m = l .before in
+    let d = m .before .before in
+    let s = d .before in
+    let i = s .before .before in
+    let a = i .before .before .before .before .args in
+    let is = turn-bridge (a .sh) (a .e) _ _ _ _ (i .if1 .left) _ (s .seek .ensures .0) (d .if2 .left) _
+    (m .seek2 .ensures .0) (l .if3 .taken) (p .2) (p .0 _) in (
+      e .0 ∙ is .0,
+      turn-unless (a .sh) (a .e) _ _ _ _ _ _ _ is (e .3) (e .1),
+      omega (arith, e .2),
+      subst InWords (sym (e .3)) (p .1),
+    )
 
 last-requires : tie.Need-last-requires
 last-requires c κs = search needs
@@ -132,23 +126,21 @@ same-length-12 c = search needs
 
 returns-4 : tie.Need-returns-4
 unfolding passing lastOf
-returns-4 c = (
-  turn-last
-      (c .before .before .before .before .before .before .before .before .before .before .before .before .before .before
-      .before .before .before .before .before .args .sh)
-      (c .before .before .before .before .before .before .before .before .before .before .before .before .before .before
-      .before .before .before .before .before .args .e) _ _ _
-      (c .before .before .before .before .before .before .before .before .before .before .before .before .before .before
-      .before .if1 .left) _
-      (c .before .before .before .before .before .before .before .before .before .before .before .before
-      .before .seek .ensures .0)
-      (c .before .before .before .before .before .before .before .before .before .before .before .before .if2 .left) _
-      (c .before .before .before .before .before .before .before .before .before .before .seek2 .ensures .0)
-      (c .before .before .before .before .before .before .before .before .before .if3 .left)
-      (c .before .before .before .before .before .last .ensures .0),
-  omega (arith, c .before .before .before .before .before .last .ensures .1),
-  c .before .before .before .before .before .last .ensures .2,
-)
+returns-4 c =
+    let e = c .before .before .before .before .before .last .ensures in
+    let l = c .before .before .before .before .before .before .before .before .before in
+    let m = l .before in
+    let d = m .before .before in
+    let s = d .before in
+    let i = s .before .before in
+    let a = i .before .before .before .before .args in
+    let is = turn-last (a .sh) (a .e) _ _ _ _ (i .if1 .left) _ (s .seek .ensures .0) (d .if2 .left) _
+    (m .seek2 .ensures .0) (l .if3 .left) (e .3) (e .0) in (
+      is .0,
+      turn-unless (a .sh) (a .e) _ _ _ _ _ _ _ (rw (e .3) at is .0, is .1) refl refl,
+      omega (arith, e .1),
+      e .2,
+    )
 
 pub turn-spec : {M : Type 1} → statement M
 turn-spec =
