@@ -1,0 +1,3 @@
+pub mod Ending
+pub mod TurnsLaws
+pub mod BackLaws
