@@ -14,7 +14,7 @@ HANDED = re.compile(r"^\s*(\w+0) = sh \.\1;$")
 # a crate, by its definitions or laws (`Rattle.NAME`), or by its code (`NAME::` at the head of a path)
 NAMED = re.compile(r"Rattle·([a-z_]+)|(?<![:\w·.])([a-z_]+)::")
 # types of these are reached by way of others, and the checker wants them listed all the same
-REACHED = {"runs_run": {"table"}, "runs_move": {"table"}, "takedown_entry": {"takedown_across"},
+REACHED = {"runs_run": {"table"}, "runs_move": {"table"}, "takedown_all": {"takedown_across"},
            "kernel": {"laws", "layout", "euler"}}
 
 
