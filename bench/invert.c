@@ -22,7 +22,8 @@
 typedef struct {
     const char *name;
     Shape (*make)(unsigned n, uint16_t cap);
-    unsigned n[3]; /* for capacities 64, 512 and 4,096: a face, a loop and an edge number must stay free */
+    unsigned n[3]; /* for capacities 64, 512 and 4,096; a face, a loop and an edge number stay free, which need not be
+                    * (see refused.c), so that figures can be held beside older ones */
 } Row;
 
 static const Row rows[] = {
