@@ -5,9 +5,10 @@
  *     -w  only rows with this word in their name
  *
  * A solid that is down has freed a face and a loop, and an edge that is gone is free: so a face or a loop lacks behind
- * the spurs of the first solid at the latest, and an edge behind solids of one vertex. A script makes each table through
- * the library. The two take-downs take turns in one program: trust the ratio, not the times. Nothing is timed before the
- * refused one has left every word of the table, and the script of the accepted one has built its table again. */
+ * the spurs of the first solid at the latest, and an edge behind solids of one vertex. A script makes each table
+ * through the library. The two take-downs take turns in one program: trust the ratio, not the times. Nothing is timed
+ * before the refused one has left every word of the table, and the script of the accepted one has built its table
+ * again. */
 #include <stdio.h>
 #include <stdlib.h>
 #include <string.h>
@@ -230,7 +231,7 @@ int main(int argc, char **argv) {
     const char *word = wanted_word(argc, argv, "refused");
     Bench b[ROWS * SIZES];
     int n = 0;
-    printf("take-down refused with 10 at the last possible turn, and the same with a number more: ms; ratio: of the two\n"
+    printf("take-down refused with 10 at the last possible turn, and the same with a number more: ms, and their ratio\n"
            "before: operators done and taken back; done: those of the accepted one\n"
            "%-21s %5s %6s %6s %10s %10s %8s\n", "shape", "size", "before", "done", "refused", "accepted", "ratio");
     for (int i = 0; i < ROWS * SIZES; i++)

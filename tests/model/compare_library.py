@@ -11,8 +11,8 @@ MODE  entries    COUNT cases each of clearing, checking, counting, reading and w
                  and a net of three
       takedown   COUNT tables taken down and built again by what was logged, besides every table of two edges at most,
                  from 10,000 on of three
-      full       COUNT tables taken down, two of three with no number free of some kinds or of all, also boxes and prisms;
-                 besides every table of two edges at most with no face, loop or edge free, or none of the three
+      full       COUNT tables taken down, two of three with no number free of some kinds or of all, also boxes and
+                 prisms; besides every table of two edges at most with no face, loop or edge free, or none of the three
       obj        COUNT solids written as OBJ text and read again, besides every small table, each coordinate, and parts
                  as large as a table can hold
       kef        COUNT scripts of one kef on loops of 3 half-edges up to some thousand, and of one; each undone and

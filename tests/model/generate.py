@@ -195,7 +195,7 @@ def injection(rng, used, capacity):
 
 
 def renumbered(rng, b, capacities, in_order=False):
-    """The same table under a stranger's numbers, solids in their order if asked; writing it back makes first the least."""
+    """The same table under a stranger's numbers, solids in their order if asked; writing it makes first the least."""
     s, f, l, e, v = (injection(rng, *sizes) for sizes in zip(used_numbers(b), capacities))
     if in_order:
         s = dict(zip(sorted(s), sorted(s.values())))

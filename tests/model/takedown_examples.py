@@ -136,8 +136,8 @@ def sizes(tally):
     tally.equal("an empty table needs no log", taken_down, (0, 0, 0, 0))
 
 
-# Loops, face of each, outer loop of each face; spare numbers; the kind that lacks, and what the steps log before, as the
-# log has it: the inverse of the last operator in front.
+# Loops, face of each, outer loop of each face; spare numbers; the kind that lacks, and what the steps log before, as
+# the log has it: the inverse of the last operator in front.
 KNOT = [1, 3, 2, 4]
 LACKS = [
     ("mfkrh, at once", {1: [1], 2: [2]}, {1: 1, 2: 1}, {1: 1}, (0, 0, 1, 1, 0), "face", []),

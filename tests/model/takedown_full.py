@@ -1,14 +1,14 @@
 """Full tables for the take-down: capacities that leave no number free, of some kinds or of all.
 
-Bodies are written down without any operator and put under a stranger's numbers into such capacities. A step that takes a
-solid down frees a face and a loop, one that takes an edge away frees an edge. So a face or a loop can lack at the first
-solid alone, and there only while it has one face; and an edge only where lone rings come before every edge. By chance
-that is rare, so bodies are made for it.
+Bodies are written down without any operator and put under a stranger's numbers into such capacities. A step that takes
+a solid down frees a face and a loop, one that takes an edge away frees an edge. So a face or a loop can lack at the
+first solid alone, and there only while it has one face; and an edge only where lone rings come before every edge. By
+chance that is rare, so bodies are made for it.
 """
 
 from generate import random_coordinate, renumbered
-from takedown_tables import (apart, body_of, bridged_rings, capacities_with, scattered, some_body, spared_table, tangled,
-                             with_spurs, written_body)
+from takedown_tables import (apart, body_of, bridged_rings, capacities_with, scattered, some_body, spared_table,
+                             tangled, with_spurs, written_body)
 from wavefront_parts import beside, circle, prism
 
 # Places among the capacities: faces, loops, edges.

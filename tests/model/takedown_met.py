@@ -58,7 +58,7 @@ def full_kinds(b):
 
 
 def lack_situations(refusal, full, inverses, lacking):
-    """Of tables that are full: which number the steps lack, be it that 9 comes first, and what they have done by then."""
+    """Of full tables: which number the steps lack, be it that 9 comes first, and what they have done by then."""
     done = {PATTERNS[inverse.code][0] for inverse in inverses}
     if lacking is None:
         # Of a kind that was full, a step before has freed a number.

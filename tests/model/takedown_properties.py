@@ -8,8 +8,8 @@ from met import Met
 from rules import check
 from script import operator_bytes
 from takedown import taken
-from takedown_cases import (LISTED, LISTED_TABLES, LISTED_TOO, LISTED_TOO_TABLES, NONE_OF_SOME, full_trials, listed_trials,
-                            takedown_trial)
+from takedown_cases import (LISTED, LISTED_TABLES, LISTED_TOO, LISTED_TOO_TABLES, NONE_OF_SOME, full_trials,
+                            listed_trials, takedown_trial)
 from takedown_met import WANTED, WANTED_FULL, WANTED_LACKS, case_situations
 from takedown_promise import keep_promise, model_answer
 
