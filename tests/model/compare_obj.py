@@ -32,7 +32,7 @@ CAPACITIES = (PROGRAM_CAPACITY,) * 5
 # Fixed input
 
 def script_for(b):
-    """A script that builds this body under its own numbers; the take-down asks for one to spare of each kind."""
+    """A script that builds this body under its own numbers; for some the take-down calls for one more of a kind."""
     b.capacities = (PROGRAM_CAPACITY + 1,) * 5
     return script_of(table_of(b))
 

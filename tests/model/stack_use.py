@@ -19,6 +19,7 @@ from layout import CAPACITY_LIMIT, links_length, points_length
 from library import ask
 from script import PATTERNS, operator, operator_bytes
 from takedown import LONGEST_OPERATOR, bytes_needed
+from takedown_tables import body_of
 from watch_cases import kef_bytes, long_kef
 from wavefront_cases import large_cases
 
@@ -32,8 +33,8 @@ ASKED = {"memset", "memcpy", "memmove", "memcmp", "bcmp"}
 
 def stacks(driver, cases):
     """What each case took: bytes reached, whether the last number is measured, bytes written to behind the first store
-    to the log. None where there was no answer, or a refusal."""
-    return [answer.numbers[-3:] if answer is not None and answer.numbers[0] == 0 else None
+    to the log. None where there was no answer, or a refusal, but 10: then a take-down had to find its way back."""
+    return [answer.numbers[-3:] if answer is not None and answer.numbers[0] in (0, 10) else None
             for answer in ask(driver, cases)]
 
 
@@ -110,15 +111,23 @@ def one_of_each(rng):
     return runs + undos + list(map(exchanged, undos))
 
 
+def lacking_take_down(rng):
+    """One that does a kev before a loop lacks: as large as a table can be of which two loops are all."""
+    knot = body_of({1: [1, 3, 2, 4, 5, 6], 2: []}, {1: 1, 2: 2}, {1: 1, 2: 2})
+    table = renumbered(rng, knot, (2, 2, 2, CAPACITY_LIMIT, CAPACITY_LIMIT), in_order=True)
+    need = bytes_needed(table.links, table.points)
+    return wire.case(wire.TAKEDOWN, (), table.links, table.points, bytes(need), session=(need, 0))
+
+
 def large_calls(rng):
-    """A case or more of each kind, all accepted, at the largest capacities."""
+    """A case or more of each kind at the largest capacities, all accepted, and a take-down that is refused with 10."""
     operators, texts = one_of_each(rng), large_cases(rng)[:1]
     table = renumbered(rng, grown(rng, (12,) * 5, 40), LARGEST)
     lent, need = (table.links, table.points), bytes_needed(table.links, table.points)
     return operators + texts + [
         wire.case(wire.CLEAR, LARGEST, [0] * links_length(LARGEST), [0] * points_length(LARGEST), session=(0, 0)),
         wire.case(wire.CHECK, (), *lent), wire.case(wire.COUNT, (), *lent),
-        wire.case(wire.TAKEDOWN, (), *lent, bytes(need), session=(need, 0)),
+        wire.case(wire.TAKEDOWN, (), *lent, bytes(need), session=(need, 0)), lacking_take_down(rng),
         wire.case(wire.READ, (0,), script=operators[0].script),
         wire.case(wire.WRITE, (2, 1, 1) + (0,) * 8, script=bytes(LONGEST_OPERATOR))]
 

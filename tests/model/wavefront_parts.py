@@ -60,7 +60,7 @@ def script_of(table):
     need = bytes_needed(table.links, table.points)
     log = bytearray(need)
     taken = take_down(table.links, table.points, log, b"", Session(need))
-    assert taken.refusal == 0, "no numbers to spare"
+    assert taken.refusal == 0, "a number lacks"
     return bytes(log[taken.start:])
 
 
