@@ -48,6 +48,7 @@ from redo_promise import WANTED as WANTED_TRIPS, keep_exchange, keep_promise as 
 from rules import check
 from small_tables import ACCEPTED, operator_cases
 from takedown_cases import LISTED, LISTED_TOO, NONE_OF_SOME, full_trials, listed_trials, takedown_trial
+from takedown_full import ROUND
 from takedown_met import WANTED, WANTED_FULL, WANTED_LACKS, case_situations
 from takedown_promise import keep_promise, model_answer
 from tally import Tally
@@ -83,8 +84,8 @@ def compare(driver, tally, met, cases):
             met.situations.update(number_situations(case, wanted))
 
 
-def portions(count):
-    return [min(PORTION, count - place) for place in range(0, count, PORTION)]
+def portions(count, portion=PORTION):
+    return [min(portion, count - place) for place in range(0, count, portion)]
 
 
 def entries(driver, tally, met, rng, count):
@@ -161,7 +162,7 @@ def full(driver, tally, met, rng, count):
     """Small tables first, so that a slip shows on one that can be read."""
     for spares in NONE_OF_SOME:
         compare_takedowns(driver, tally, met, listed_trials(LISTED, spares))
-    for size in portions(count):
+    for size in portions(count, 100 * ROUND):
         compare_takedowns(driver, tally, met, full_trials(rng, size))
     if count >= FULL_ENOUGH:
         met.want_answers(tally, {"takedown": (0, 9, 10)}, LACKING_OFTEN)

@@ -7,8 +7,8 @@ chance that is rare, so bodies are made for it.
 """
 
 from generate import random_coordinate, renumbered
-from takedown_tables import (apart, body_of, bridged_rings, capacities_with, scattered, some_body, spared_table,
-                             tangled, with_spurs, written_body)
+from takedown_tables import (apart, body_of, bridged_rings, capacities_with, scattered, some_body, tangled, with_spurs,
+                             written_body)
 from wavefront_parts import beside, circle, prism
 
 # Places among the capacities: faces, loops, edges.
@@ -24,7 +24,7 @@ def full_tables(rng, count):
     makers = (*(lambda rng, kind=kind: lacking_table(rng, kind) for kind in PLACES), any_full_table)
     for place in range(count):
         turn = place % ROUND
-        make = makers[place % len(makers)] if turn < FULL else spared_table if turn < SPARED else full_prisms
+        make = makers[place % len(makers)] if turn < FULL else with_spares if turn < SPARED else full_prisms
         yield make(rng)
 
 
@@ -42,6 +42,12 @@ def any_full_table(rng):
     """Any body: most of them come down all the same."""
     b, _ = some_body(rng)
     return renumbered(rng, b, full_capacities(rng, b, rng.sample(list(PLACES), rng.randint(1, 3))))
+
+
+def with_spares(rng):
+    """A free face, loop and edge at least; mode takedown has larger tables too."""
+    b, _ = some_body(rng)
+    return renumbered(rng, b, capacities_with(b, [rng.choice((1, 1, 2, 4)) for _ in range(5)]))
 
 
 # Bodies made so that a number lacks
