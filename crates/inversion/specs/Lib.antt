@@ -45,3 +45,4 @@ pub mod SwiftBare
 pub mod RolledBack
 pub mod SwiftSame
 pub mod Examples
+pub mod FullExamples

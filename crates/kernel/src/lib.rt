@@ -148,9 +148,9 @@ pub extern "C" fn zoghvari_redo(
 
 // Takes a sound table down to nothing (document 01: the take-down), each operator with its inverse in the log below its
 // start, so that the part of the log from the new start up to the old one is a script that builds the table again.
-// Refusal 1, or 2 with the rule; 10 where no face, loop or edge number is free; 9 where fewer than 19 (v + 2f + 2r + 3h
-// − 2s) bytes are free; or 0; the operators done and the log's new start. If an operator was done the redo log is
-// emptied.
+// Refusal 1, or 2 with the rule; 9 where fewer than 19 (v + 2f + 2r + 3h − 2s) bytes are free; 10 where a step lacked a
+// free face, loop or edge number, and what was done before it is taken back; or 0; the operators done and the log's new
+// start. If an operator was done the redo log is emptied.
 #[no_mangle]
 pub extern "C" fn zoghvari_invert(
     links: &mut [u16],
