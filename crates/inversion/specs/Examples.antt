@@ -1,7 +1,9 @@
 -- The take-down computed beyond example e of document 01 (which crate evidence_cases has): a table whose edge 1 is a
 -- bridge between two handles, so that the least crossed k is not the least k; a table that takes every kind of turn;
--- two solids; a full table, a torus of two edges with no number free: 10, with a start beyond the log 1; its holes
--- counted.
+-- two solids. And full tables: a torus of two edges with no number free: 10, with a start beyond the log 1; its holes
+-- counted; one table for each kind of number that can lack, behind a step that is taken back, so that the table stays
+-- and in front of the log's start stands what was logged; a byte less of log, which is told first; and two that come
+-- down, one of which frees in time what it calls for.
 use Prim.Native.Nat.{ℕ, _*_}
 use mathlib.Core.Path.{_≡_, refl}
 use mathlib.Core.List.{List, [], _∷_, _++_}
@@ -109,6 +111,68 @@ abbrev linksFull : List ℕ
 linksFull = 1 ∷ 1 ∷ 1 ∷ 2 ∷ 1 ∷ 1 ∷ 1 ∷ 1 ∷ 1 ∷ 1 ∷ 0 ∷ 1 ∷ 1 ∷ 3 ∷ 4 ∷ 1 ∷ 1 ∷ 4 ∷ 3 ∷ 1 ∷ 1 ∷ 2 ∷ 1 ∷ 1 ∷ 1 ∷ 1 ∷ 2
     ∷ 5 ∷ []
 
+-- ---- other full tables (document 02, job 6)
+
+-- a face lacks behind kemr 1 2: then mfkrh of the new ring calls for one
+abbrev linksFace : List ℕ
+linksFace =
+    1 ∷ 1 ∷ 2 ∷ 2 ∷ 1 ∷ 1 ∷ 1 ∷ 1 ∷ 1 ∷ 1 ∷ 0 ∷ 0 ∷ 0 ∷ 0 ∷ 1 ∷ 1 ∷ 3 ∷ 4 ∷ 1 ∷ 1 ∷ 4 ∷ 3 ∷ 1 ∷ 1 ∷ 2 ∷ 1 ∷ 1 ∷ 1
+    ∷ 1 ∷ 2 ∷ 5 ∷ []
+
+abbrev pointsFace : List ℤ
+pointsFace = pos 10 ∷ negsuc 19 ∷ pos 30 ∷ []
+
+abbrev loggedFace : List ℕ
+loggedFace = 8 ∷ 1 ∷ 4 ∷ 2 ∷ 3 ∷ 1 ∷ 0 ∷ []
+
+-- a loop lacks behind kev 5: then kemr calls for one
+abbrev linksLoop : List ℕ
+linksLoop =
+    1 ∷ 1 ∷ 1 ∷ 3 ∷ 2 ∷ 1 ∷ 1 ∷ 1 ∷ 1 ∷ 1 ∷ 0 ∷ 1 ∷ 1 ∷ 3 ∷ 6 ∷ 1 ∷ 1 ∷ 4 ∷ 3 ∷ 1 ∷ 1 ∷ 2 ∷ 1 ∷ 1 ∷ 1 ∷ 5 ∷ 2 ∷ 1
+    ∷ 1 ∷ 6 ∷ 4 ∷ 2 ∷ 1 ∷ 1 ∷ 5 ∷ 6 ∷ 2 ∷ []
+
+-- two corners
+abbrev pointsPair : List ℤ
+pointsPair = pos 10 ∷ negsuc 19 ∷ pos 30 ∷ negsuc 0 ∷ pos 2 ∷ negsuc 2 ∷ []
+
+abbrev loggedLoop : List ℕ
+loggedLoop = 3 ∷ 1 ∷ 1 ∷ 3 ∷ 2 ∷ 0 ∷ 1 ∷ 4 ∷ 5 ∷ []
+
+-- an edge lacks at the second of three solids, behind kvsf 1: mekr calls for one
+abbrev linksEdge : List ℕ
+linksEdge =
+    3 ∷ 3 ∷ 4 ∷ 1 ∷ 5 ∷ 1 ∷ 1 ∷ 1 ∷ 1 ∷ 1 ∷ 2 ∷ 2 ∷ 3 ∷ 4 ∷ 1 ∷ 0 ∷ 3 ∷ 2 ∷ 0 ∷ 4 ∷ 2 ∷ 0 ∷ 5 ∷ 3 ∷ 1 ∷ 0 ∷ 1 ∷ 4
+    ∷ 2 ∷ 2 ∷ 2 ∷ 4 ∷ 1 ∷ 1 ∷ 2 ∷ 2 ∷ 1 ∷ 1 ∷ 1 ∷ []
+
+abbrev pointsEdge : List ℤ
+pointsEdge =
+    pos 10 ∷ negsuc 19 ∷ pos 30 ∷ negsuc 0 ∷ pos 2 ∷ negsuc 2 ∷ pos 0 ∷ pos 7 ∷ pos 0 ∷ pos 4 ∷ pos 5 ∷ pos 6
+    ∷ pos 100 ∷ pos 0 ∷ pos 0 ∷ []
+
+abbrev loggedEdge : List ℕ
+loggedEdge = 1 ∷ 1 ∷ 1 ∷ 1 ∷ 3 ∷ 0 ∷ 14 ∷ 0 ∷ []
+
+-- a sheet of two edges and two faces that fills its table, and comes down by kef, kev and kvsf
+abbrev linksSheet : List ℕ
+linksSheet =
+    1 ∷ 2 ∷ 2 ∷ 2 ∷ 2 ∷ 1 ∷ 1 ∷ 1 ∷ 1 ∷ 2 ∷ 1 ∷ 2 ∷ 0 ∷ 2 ∷ 1 ∷ 0 ∷ 1 ∷ 2 ∷ 4 ∷ 4 ∷ 2 ∷ 1 ∷ 3 ∷ 3 ∷ 1 ∷ 1 ∷ 2 ∷ 2
+    ∷ 2 ∷ 2 ∷ 1 ∷ 1 ∷ 3 ∷ 3 ∷ []
+
+abbrev loggedSheet : List ℕ
+loggedSheet =
+    1 ∷ 1 ∷ 1 ∷ 1 ∷ 1 ∷ 20 ∷ 39 ∷ 60 ∷ 3 ∷ 1 ∷ 0 ∷ 2 ∷ 2 ∷ 0 ∷ 1 ∷ 4 ∷ 5 ∷ 5 ∷ 1 ∷ 4 ∷ 3 ∷ 1 ∷ 2 ∷ 2 ∷ 1 ∷ []
+
+-- a vertex and a torus that fill theirs: kvsf 1 frees the loop and the face that the torus calls for
+abbrev linksFreed : List ℕ
+linksFreed =
+    2 ∷ 2 ∷ 2 ∷ 2 ∷ 2 ∷ 1 ∷ 1 ∷ 1 ∷ 1 ∷ 2 ∷ 2 ∷ 1 ∷ 0 ∷ 2 ∷ 2 ∷ 1 ∷ 0 ∷ 1 ∷ 2 ∷ 3 ∷ 4 ∷ 1 ∷ 2 ∷ 4 ∷ 3 ∷ 1 ∷ 2 ∷ 2
+    ∷ 1 ∷ 1 ∷ 2 ∷ 1 ∷ 2 ∷ 5 ∷ 1 ∷ []
+
+abbrev loggedFreed : List ℕ
+loggedFreed =
+    1 ∷ 2 ∷ 2 ∷ 2 ∷ 1 ∷ 20 ∷ 39 ∷ 60 ∷ 5 ∷ 2 ∷ 0 ∷ 0 ∷ 2 ∷ 1 ∷ 1 ∷ 1 ∷ 9 ∷ 2 ∷ 1 ∷ 8 ∷ 2 ∷ 4 ∷ 1 ∷ 3 ∷ 1 ∷ 0 ∷ 1 ∷ 1
+    ∷ 1 ∷ 1 ∷ 2 ∷ 1 ∷ 4 ∷ 5 ∷ []
+
 -- ---- the rows: a state, and all that is left
 
 abbrev pub asked : List Inverted
@@ -117,7 +181,13 @@ asked =
     ∷ invertOf (state linksAll pointsAll (replicate 171 238) 171)
     ∷ invertOf (state linksTwo pointsTwo (replicate 228 238) 228)
     ∷ invertOf (state linksFull (replicate 3 (pos 0)) (replicate 114 238) 114)
-    ∷ invertOf (state linksFull (replicate 3 (pos 0)) (replicate 114 238) 115) ∷ []
+    ∷ invertOf (state linksFull (replicate 3 (pos 0)) (replicate 114 238) 115)
+    ∷ invertOf (state linksFace pointsFace (replicate 76 238) 76)
+    ∷ invertOf (state linksLoop pointsPair (replicate 95 238) 95)
+    ∷ invertOf (state linksEdge pointsEdge (replicate 133 238) 133)
+    ∷ invertOf (state linksSheet pointsPair (replicate 76 238) 76)
+    ∷ invertOf (state linksFreed pointsPair (replicate 95 238) 95)
+    ∷ invertOf (state linksFace pointsFace (replicate 76 238) 75) ∷ []
 
 abbrev pub wanted : List Inverted
 wanted =
@@ -125,7 +195,13 @@ wanted =
     ∷ leaves 0 9 111 (3 ∷ 4 ∷ 4 ∷ 4 ∷ 2 ∷ replicate 57 0) (replicate 6 (pos 0)) (replicate 111 238 ++ scriptAll)
     ∷ leaves 0 8 164 (2 ∷ 5 ∷ 6 ∷ 3 ∷ 5 ∷ replicate 59 0) (replicate 15 (pos 0)) (replicate 164 238 ++ scriptTwo)
     ∷ leaves 10 0 114 linksFull (replicate 3 (pos 0)) (replicate 114 238)
-    ∷ leaves 1 0 115 linksFull (replicate 3 (pos 0)) (replicate 114 238) ∷ []
+    ∷ leaves 1 0 115 linksFull (replicate 3 (pos 0)) (replicate 114 238)
+    ∷ leaves 10 0 76 linksFace pointsFace (replicate 69 238 ++ loggedFace)
+    ∷ leaves 10 0 95 linksLoop pointsPair (replicate 86 238 ++ loggedLoop)
+    ∷ leaves 10 0 133 linksEdge pointsEdge (replicate 125 238 ++ loggedEdge)
+    ∷ leaves 0 3 51 (1 ∷ 2 ∷ 2 ∷ 2 ∷ 2 ∷ replicate 29 0) (replicate 6 (pos 0)) (replicate 51 238 ++ loggedSheet)
+    ∷ leaves 0 5 61 (2 ∷ 2 ∷ 2 ∷ 2 ∷ 2 ∷ replicate 30 0) (replicate 6 (pos 0)) (replicate 61 238 ++ loggedFreed)
+    ∷ leaves 9 0 75 linksFace pointsFace (replicate 76 238) ∷ []
 
 pub rows-hold : asked ≡ wanted
 unfolding invertOf invertBy lacks lacksB turned turnB moveRings makeOuter act crossed onRun entry checkOf sizesFit

@@ -45,4 +45,3 @@ pub mod SwiftBare
 pub mod RolledBack
 pub mod SwiftSame
 pub mod Examples
-pub mod FullExamples
