@@ -102,16 +102,15 @@ abbrev pub TenExactly : Type 0
 TenExactly = (t : State) → (invertOf t .answer .refusal ≡ 10 → Stopped t)
     × (Stopped t → invertOf t .answer .refusal ≡ 10)
 
--- the log behind 10: the inverses of the steps, newest first, stand just below the start, and every other byte is as it
--- was; read forward they lead from the table at which a number was lacking to the one handed in
+-- the log behind 10: the inverses of the steps done until a number lacked, newest first, stand just below the start,
+-- and every other byte is as it was; read forward they lead from the table at which it lacked to the one handed in
 pub record Logged (t : State) (log : List ℕ) : Type 0 where
-  pub steps : ℕ
+  pub stopped : Stopped t
   pub bytes : List ℕ
   pub fits : length bytes ≤ t .start
   pub log-is : log ≡ below (t .log) (t .start) bytes
-  pub y : List ℕ
-  pub q : List ℤ
-  pub inverses : Leads (shapeOf (t .links)) (t .links) (t .points) [] steps y q bytes
+  pub inverses : Leads (shapeOf (t .links)) (t .links) (t .points) [] (stopped .last .done) (linksIn (stopped .last))
+      (stopped .last .state .points) bytes
 
 -- nothing is done: table and start as before, and so is the log but, by 10, in front of its start
 pub record AsBefore (t : State) (r : Inverted) : Type 0 where
