@@ -4,11 +4,11 @@
  *   refused [-w WORD]
  *     -w  only rows with this word in their name
  *
- * A solid that is down has freed a face and a loop, and an edge that is gone is free: so a face or a loop lacks behind
- * the spurs of the first solid at the latest, and an edge behind solids of one vertex. A script makes each table
- * through the library. The two take-downs take turns in one program: trust the ratio, not the times. Nothing is timed
- * before the refused one has left every word of the table, and the script of the accepted one has built its table
- * again. */
+ * A solid that is down has freed a face and a loop, and an edge that is gone is free: so a loop lacks behind the spurs
+ * of the first solid at the latest, a face behind a kemr more, and an edge behind solids of one vertex. A script makes
+ * each table through the library. The two take-downs take turns in one program: trust the ratio, not the times. Nothing
+ * is timed before the refused one has left every word of the table, and the script of the accepted one has built its
+ * table again. */
 #include <stdio.h>
 #include <stdlib.h>
 #include <string.h>

@@ -7,6 +7,8 @@ use zoghvari::{script_bytes, Capacities, Inverted, Operator, Ran, Redone, Refusa
 
 const POCKET: &[u8] = include_bytes!("../../examples/pocket.script");
 const CAPACITIES: Capacities = Capacities::all(64);
+/// So many operators at the front of the pocket's script make the block, a box.
+const BLOCK: usize = 13;
 
 /// A block with a pocket and a through hole. Its log holds bytes that no run wrote, before the start and behind it.
 fn pocket() -> Table {
@@ -111,6 +113,12 @@ fn a_full_table_comes_down_where_no_step_calls_for_a_number() {
     let saved = sheet.clone().invert().unwrap();
     let built = after_on(Table::new(SMALL, 128).unwrap(), &[&saved.script]);
     assert_eq!((saved.done, built.links(), built.points()), (3, sheet.links(), sheet.points()));
+    // Nor of a plain box: the first operators of the pocket's script, in a table that just holds it.
+    let box_alone = Capacities { solids: 1, faces: 6, loops: 6, edges: 12, vertices: 8 };
+    let block = drawn(box_alone, &operators(POCKET)[..BLOCK]);
+    let saved = block.clone().invert().unwrap();
+    let built = after_on(Table::new(box_alone, 4_096).unwrap(), &[&saved.script]);
+    assert_eq!((saved.done, built.links(), built.points()), (13, block.links(), block.points()));
     // Nor here, but by the time that a loop and a face are called for the first solid is down.
     let behind = drawn(Capacities { solids: 2, ..SMALL }, &[&torus(2)[..], &[vertex(1, 1, 1, 1)]].concat());
     assert_eq!(behind.clone().invert().map(|saved| saved.done), Ok(5));

@@ -69,7 +69,7 @@ ENOUGH_OF_THREE = 4_000
 KEFS_ENOUGH = 500
 # From so many changed words on the small tables are asked too; from so many on each kind of change is met so often.
 WORDS_MANY, WORDS_ENOUGH, CHANGED_OFTEN = 1_000, 3_000, 200
-# From so many full tables on each kind of number has to be lacking so often, with and without steps before.
+# From so many full tables on each kind of number has to be lacking so often, and so often behind steps.
 FULL_ENOUGH, LACKING_OFTEN = 4_500, 100
 # So often histories have to be refused by each number, and half as often to meet each situation.
 OFTEN = 8

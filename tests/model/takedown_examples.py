@@ -10,6 +10,7 @@ from rules import check, count
 from script import describe, operator, script_bytes
 from takedown import bytes_needed, carry_out_step, most_operators, steps, take_down, taken
 from takedown_tables import body_of, table_with
+from wavefront_parts import circle, prism
 
 HANDLE = script_bytes([operator("mef", 1, 0, 0, 1, 2, 2, 0), operator("kfmrh", 1, 2)])
 # Two free numbers of each kind at least: the least of them has to be taken.
@@ -180,4 +181,24 @@ def solids_before(tally):
     tally.equal("of a torus and a vertex", taken(table.links, table.points)[1:], ([], "loop"))
 
 
-TAKEDOWN_EXAMPLES = (example_e, steps_in_order, refusals, sizes, lacks, solids_before)
+def full_box(tally):
+    """A plain box with no number free of any kind: "its take-down never makes an edge", nor a face nor a ring."""
+    table = table_with(prism(circle(4, 1_000), 0, 500), (0,) * 5)
+    words, need = (table.links, table.points), bytes_needed(table.links, table.points)
+    tally.equal("a full box: sound", check(*words), (0, 0))
+    tally.equal("a full box: counts", count(*words)[2:], (1, 6, 6, 12, 8, 0, 0))
+    tally.equal("a full box: capacities", tuple(table.links[:5]), (1, 6, 6, 12, 8))
+    kinds = [op.split()[0] for op in operators_of(table)]
+    tally.equal("a full box: operators", kinds, ["kef"] * 5 + ["kev"] * 7 + ["kvsf"])
+    refused(tally, "a full box: a byte less", *words, b"\xEE" * need, need - 1, (9, 0))
+    links, points, log = list(words[0]), list(words[1]), bytearray(b"\xEE" * need)
+    answer = take_down(links, points, log, b"", Session(need))
+    tally.equal("a full box: taken down", answer[:3], (0, 0, 13))
+    again = cleared_table(tuple(table.links[:5]))
+    tally.equal("a full box: empty", (links, points), (again.links, again.points))
+    script = bytes(log[answer.start:])
+    built = run(again.links, again.points, bytearray(need), b"", Session(need), script)
+    tally.equal("a full box: built again", (built[:3], again.links, again.points), ((0, 0, 13),) + words)
+
+
+TAKEDOWN_EXAMPLES = (example_e, steps_in_order, refusals, sizes, lacks, solids_before, full_box)

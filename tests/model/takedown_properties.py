@@ -10,6 +10,7 @@ from script import operator_bytes
 from takedown import taken
 from takedown_cases import (LISTED, LISTED_TABLES, LISTED_TOO, LISTED_TOO_TABLES, NONE_OF_SOME, full_trials,
                             listed_trials, takedown_trial)
+from takedown_full import full_prisms
 from takedown_met import WANTED, WANTED_FULL, WANTED_LACKS, case_situations
 from takedown_promise import keep_promise, model_answer
 
@@ -85,6 +86,13 @@ def full_take_downs(tally, rng, scale):
     met.want_situations(tally, WANTED_FULL + WANTED_LACKS if scale >= 1 else ())
 
 
+def prisms_come_down(tally, rng, scale):
+    """Boxes and prisms with no number free of any kind: no step calls for one."""
+    for _ in range(int(60 * scale)):
+        table = full_prisms(rng)
+        tally.equal(f"a full prism comes down: {table.links}", taken(table.links, table.points).lacking, None)
+
+
 def small_take_downs(tally, _rng, scale):
     """Every table of up to two edges and one lone loop, with a large scale also of three edges: none is refused."""
     wanted = LISTED_TABLES + (LISTED_TOO_TABLES if scale >= 5 else 0)
@@ -101,4 +109,4 @@ def small_full_take_downs(tally, _rng, scale):
             by_room(tally, case)
 
 
-TAKEDOWN_PROPERTIES = (random_take_downs, small_take_downs, full_take_downs, small_full_take_downs)
+TAKEDOWN_PROPERTIES = (random_take_downs, small_take_downs, full_take_downs, prisms_come_down, small_full_take_downs)

@@ -38,7 +38,7 @@ use Rattle.evidence_fuel.specs.Inverse.{inverse-small}
 use Rattle.takedown.specs.Inversion.{Work, Inverted, Ended, ended, turns, bound, shortLog, inverted, invertedBy, begin}
 use Rattle.takedown.specs.Inversion.{invertBy, invertOf}
 use Rattle.inversion.specs.Script.{joinsOf, joins-first, roomOf, room-first}
-use Rattle.inversion.specs.Path.{Path, acted, acted-table, path-good, path-back, joinsIn, path-joins}
+use Rattle.inversion.specs.Path.{Path, acted, acted-table, path-good, path-back, path-low, joinsIn, path-joins}
 use Rattle.inversion.specs.Rebuild.{leads-part, Builds, leads-run}
 use Rattle.inversion.specs.Counts.{solids, faces, loops, edges, vertices, rings}
 use Rattle.inversion.specs.Same.{solids-is, faces-is, loops-is, edges-is, vertices-is}
@@ -269,6 +269,18 @@ course t h e z f =
       room = omega (arith, short, bytes-free t h e f);
       spare = d .spare;
     }
+
+-- its operators are no more than the bound
+pub course-few : (t : State) (h : ℕ) → Euler (shapeOf (t .links)) (t .links) h → (c : Course t h)
+    → length (c .os) ≤ bound (tallyOf (shapeOf (t .links)) (t .links))
+unfolding tallyOf
+course-few t h e c = omega (arith, c .short, half-is _ _ _ _ _ h e)
+
+-- its start is at most 19 bytes lower for each of them
+pub course-low : (t : State) (h : ℕ) (c : Course t h)
+    → t .start ≤ acted (shapeOf (t .links)) (begin t) (c .os) .state .start + 19 * length (c .os)
+course-low t h c =
+    path-low (shapeOf (t .links)) t (begin t) (back-none t (c .good) (c .start-in)) (c .path) (c .room)
 
 -- undoing leads back over it
 pub course-back : (t : State) (h : ℕ) (c : Course t h)

@@ -85,6 +85,17 @@ path-back sh {n} t₀ w b (first {os} o len acc r) h =
     subst (λ m. Back sh m t₀ (acted sh (act sh w o) os .state)) e
     (path-back sh t₀ (act sh w o) (s .0) r (omega (arith, h, s .1)))
 
+-- and its start is at most 19 bytes lower for each of them
+pub path-low : (sh : Shape) {n : ℕ} {y : List ℕ} {q : List ℤ} {os : List Operator} (t₀ : State) (w : Work)
+    → Back sh n t₀ (w .state)
+    → Path sh y q os (w .state .links) (w .state .points) → 19 * length os ≤ w .state .start
+    → w .state .start ≤ acted sh w os .state .start + 19 * length os
+unfolding acted act stepped
+path-low sh t₀ w b (there e f) h = omega arith
+path-low sh t₀ w b (first {os} o len acc r) h =
+    let s = step-back sh t₀ w o b len acc (omega (arith, h)) in
+    omega (arith, s .1, path-low sh t₀ (act sh w o) (s .0) r (omega (arith, h, s .1)))
+
 -- ---- the joins of the logged part
 
 -- how many of the inverses of os join two faces of one solid, each on the table that its operator left

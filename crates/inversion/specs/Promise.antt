@@ -2,7 +2,7 @@
 -- that the contract of the entry point cites. And the number of holes. Statements only: all are proved in Theorem.
 use mathlib.Core.Path.{_≡_}
 use mathlib.Core.Logic.{_≢_}
-use mathlib.Core.Bool.{Bool, false, _||_}
+use mathlib.Core.Bool.{Bool, true, false, _||_}
 use mathlib.Core.List.{List, [], _∷_}
 use Prim.Native.Nat.{ℕ, _+_, _-_, _*_, _≤_}
 use lib.Dec.{eqb}
@@ -13,12 +13,12 @@ use Rattle.layout.specs.declared.shape.Shape.{Shape}
 use Rattle.layout.specs.Layout.{shapeOf}
 use Rattle.table.specs.Check.{checkOf}
 use Rattle.table.specs.Clear.{emptyLinks, emptyPoints}
-use Rattle.table.specs.Count.{countOf}
+use Rattle.table.specs.Count.{tallyOf, countOf}
 use Rattle.runs.specs.Run.{State, state, entry, carryRefusal, stepped, runOf}
 use Rattle.promises.specs.Leads.{Leads}
 use Rattle.promises.specs.Logging.{below}
 use Rattle.takedown.specs.Inversion.{Work, linksIn, Inverted, ended, solidAt, freeFace, freeLoop, freeEdge, turnOf}
-use Rattle.takedown.specs.Inversion.{turns, shortLog, begin, invertBy, invertOf}
+use Rattle.takedown.specs.Inversion.{turns, bound, shortLog, begin, invertBy, invertOf}
 use Rattle.inversion.specs.Script.{joinsOf, roomOf}
 use Rattle.inversion.specs.Path.{acted}
 use Rattle.inversion.specs.Counts.{solids, faces, edges, vertices, rings}
@@ -97,6 +97,18 @@ pub record Stopped (t : State) : Type 0 where
   pub solid : solidAt (shapeOf (t .links)) (linksIn last) ≢ 0
   pub lack : Lack (shapeOf (t .links)) (linksIn last)
 
+-- which refusal is answered: 1 and 2 by the way in, then 9, then 10, else none; and no rule but with 2
+pub record Answers (t : State) (r : Inverted) : Type 0 where
+  pub out : entry t .refusal ≢ 0 → (r .answer .refusal ≡ entry t .refusal) × (r .answer .rule ≡ entry t .rule)
+  pub nine : entry t .refusal ≡ 0 → shortLog (shapeOf (t .links)) t ≡ true → r .answer .refusal ≡ 9
+  pub ten : Stopped t → r .answer .refusal ≡ 10
+  pub zero : entry t .refusal ≡ 0 → shortLog (shapeOf (t .links)) t ≡ false → (Stopped t → ⊥) → r .answer .refusal ≡ 0
+  pub no-rule : entry t .refusal ≡ 0 → r .answer .rule ≡ 0
+
+-- EVERY TABLE WITH ROOM COMES DOWN where no step lacks a number, full or not; and else the refusal is the one due
+abbrev pub InvertAnswers : Type 0
+InvertAnswers = (t : State) → Answers t (invertOf t)
+
 -- 10 EXACTLY where the steps A to C call for a free number and none of that kind is left
 abbrev pub TenExactly : Type 0
 TenExactly = (t : State) → (invertOf t .answer .refusal ≡ 10 → Stopped t)
@@ -106,8 +118,11 @@ TenExactly = (t : State) → (invertOf t .answer .refusal ≡ 10 → Stopped t)
 -- and every other byte is as it was; read forward they lead from the table at which it lacked to the one handed in
 pub record Logged (t : State) (log : List ℕ) : Type 0 where
   pub stopped : Stopped t
+  pub of-steps : log ≡ stopped .last .state .log
   pub bytes : List ℕ
   pub fits : length bytes ≤ t .start
+  -- never more of them than 9 asks for
+  pub few : length bytes ≤ 19 * bound (tallyOf (shapeOf (t .links)) (t .links))
   pub log-is : log ≡ below (t .log) (t .start) bytes
   pub inverses : Leads (shapeOf (t .links)) (t .links) (t .points) [] (stopped .last .done) (linksIn (stopped .last))
       (stopped .last .state .points) bytes
@@ -145,7 +160,7 @@ LogEnough = (t : State) → entry t .refusal ≡ 0 → shortLog (shapeOf (t .lin
 
 -- ---- the mission's form
 
--- no free face, loop or edge number
+-- of faces, loops or edges some kind has no free number
 abbrev pub noneFree : Shape → List ℕ → Bool
 noneFree sh x = (eqb (freeFace sh x) 0 || eqb (freeLoop sh x) 0) || eqb (freeEdge sh x) 0
 

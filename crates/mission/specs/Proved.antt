@@ -27,7 +27,7 @@ use Rattle.promises.specs.Padded.{padded-run, padded-move}
 use Rattle.promises.specs.ShortLog.{log-shortest, move-shortest}
 use Rattle.machine.specs.Acts.{undo-acts}
 use Rattle.inversion.specs.Theorem.{inversion-exact, ten-exactly, refused-as-before, log-enough, spare-never-ten}
-use Rattle.inversion.specs.Theorem.{spare-exact, invert-out, holes-one, count-holes}
+use Rattle.inversion.specs.Theorem.{invert-answers, spare-exact, invert-out, holes-one, count-holes}
 use Rattle.wavefront_read.specs.Refused.{solid-refused}
 use Rattle.wavefront_read.specs.Written.{obj-ends, obj-out, obj-reads}
 use Rattle.mission.specs.Refusals.{clear-numbered, check-numbered, count-numbered, read-numbered, write-numbered}
@@ -134,6 +134,7 @@ requested = record {
   redo-beyond = redo-beyond;
   undo-full = undo-full;
   used-room = used-room;
+  invert-answers = invert-answers;
   ten-exactly = ten-exactly;
   refused-as-before = refused-as-before;
   session-as-before = session-as-before;

@@ -8,6 +8,7 @@ ghost use Rattle.takedown.specs.Swift.{swiftLacks, entered};
 ghost use Rattle.takedown_ends.specs.InWords.{InWords};
 ghost use Rattle.takedown_acts.specs.Held.{held};
 ghost use Rattle.takedown_across.specs.Passing.{staged};
+ghost use Rattle.takedown_plans.specs.Plans.{carried};
 ghost use Rattle.takedown_turns.specs.Turning.{carriedUnless, turnUnless};
 use layout::shape::Shape;
 use takedown::ends::Ends;
@@ -23,7 +24,31 @@ use takedown_plans::plans::edges_plan;
 use takedown_search::seek::Sought;
 use takedown_search::seek::seek;
 
-// The operators of a plan, unless it lacks a number.
+// The operators of a plan.
+fn operate(
+    links: &mut [u16],
+    points: &mut [i32],
+    log: &mut [u8],
+    sh: Shape,
+    at: Progress,
+    plan: Plan,
+) -> Progress
+    requires { ⌜ (Small sh) × (at .done < 900000000) ⌝ }
+    ensures { λ r. ⌜
+        (held r (now (links .exit)) (now (points .exit)) (now (log .exit))
+        ≡ carried sh plan (held at (now (links .entry)) (now (points .entry)) (now (log .entry))) .work)
+        × (r .done ≤ at .done + 2) ⌝ }
+{
+    let first = plan.first;
+    let second = plan.second;
+    let a = act(links, points, log, sh, at, first);
+    if plan.two {
+        return act(links, points, log, sh, a, second);
+    }
+    a
+}
+
+// They are carried out, unless the plan lacks a number.
 fn carry(
     links: &mut [u16],
     points: &mut [i32],
@@ -39,8 +64,6 @@ fn carry(
         ≡ carriedUnless sh plan (held at (now (links .entry)) (now (points .entry)) (now (log .entry))))
         × (r .progress .done ≤ at .done + 2) × (r .ends ≡ plan .ends) ⌝ }
 {
-    let first = plan.first;
-    let second = plan.second;
     let ends = plan.ends;
     let lack = plan.lack;
     if lack {
@@ -50,18 +73,10 @@ fn carry(
             ends,
         };
     }
-    let a = act(links, points, log, sh, at, first);
-    if plan.two {
-        let b = act(links, points, log, sh, a, second);
-        return Stage {
-            lack,
-            progress: b,
-            ends,
-        };
-    }
+    let progress = operate(links, points, log, sh, at, plan);
     Stage {
         lack,
-        progress: a,
+        progress,
         ends,
     }
 }
