@@ -316,8 +316,8 @@ pub record Requests : Type 0 where
       → undoAll e ss .answer .answer .refusal ≡ 9
   pub used-room : (e : Editing) (ss : List (List ℕ)) → Passes (e .links) (e .points)
       → e .session .redo ≤ length (e .redo) → usedAll (logState e) ss ≤ length (e .redo) → RedoRoom e ss
-  -- Job 6, "Full tables come down too": which refusal is answered (`Answers`): 1 and 2 by the way in; then 9, since "the
-  -- log-space test comes ahead of" 10; then 10; and where no step lacks a number 0
+  -- Job 6, "Full tables come down too". Which refusal is answered (`Answers`): 1 and 2 by the way in; 9, since "the
+  -- log-space test comes ahead of it"; 10; and where no step lacks a number 0
   pub invert-answers : InvertAnswers
   -- "Give 10 exactly when the steps A to C call for a free number and none of that kind is left" (`Stopped`; `Lack`
   -- names the kind)
