@@ -9,7 +9,6 @@ use Prim.Native.Nat.{ℕ, _+_, _*_, _≤_}
 use native.Mathlib.Omega.{arith}
 use lib.Dec.{eqb}
 use lib.IntN.{ℤ}
-use Rattle.laws.specs.Bools.{eqb-other}
 use Rattle.laws.specs.Search.{least}
 use Rattle.laws.specs.Sums.{bit, countTo, sum-lt, sum-zero}
 use Rattle.layout.specs.declared.shape.Shape.{Shape}
@@ -23,7 +22,7 @@ use Rattle.sound_tables.specs.Good.{Good, own}
 use Rattle.takedown.specs.Inversion.{solidAt, ofSolid, inRing, ringHalf}
 use Rattle.inversion.specs.Counts.{solids, faces, loops, edges, vertices, rings}
 use Rattle.inversion.specs.Same.{vertices-is}
-use Rattle.inversion.specs.OfSolid.{least-some, both, joint, of-solid}
+use Rattle.inversion.specs.OfSolid.{least-some, both, joint, some-is, of-solid}
 use Rattle.inversion.specs.Root.{root-is, outer-in, outer-face}
 use Rattle.inversion.specs.LoopCounts.{rings-loops, stray-few, solid-faces}
 use Rattle.inversion.specs.Turn.{RingAt, worth, Change, SolidVertex}
@@ -37,17 +36,13 @@ count-some n p c i t =
       sum-zero n,
     )
 
--- a number that is there
-is-some : (n : ℕ) → n ≢ 0 → some n ≡ true
-is-some n d = rw (eqb-other d)
-
 module _ {sh : Shape} {x : List ℕ} {p : List ℤ} (g : Good sh x p) (sn : solidAt sh x ≢ 0) where
   -- a vertex in use is counted
   vertex-counted : (v : ℕ) → In (sh .vertices) v → own sh x VertexUsed v ≢ 0 → 1 ≤ vertices sh x
   vertex-counted v i d = omega (
     arith,
     vertices-is sh x,
-    count-some (sh .vertices) (λ k. some (own sh x VertexUsed k)) v i (is-some _ d),
+    count-some (sh .vertices) (λ k. some (own sh x VertexUsed k)) v i (some-is _ d),
   )
 
   -- the root's outer loop is lone, or a half-edge of it starts somewhere
@@ -81,7 +76,7 @@ ring-there {sh} {x} g r =
     let u = of-solid g (r .0) k (f .0) (b .0) .0 in
     let h = g .sound .half k (u .0, u .1) (u .2) in
     count-some (sh .loops) (λ m. some (own sh x Face m) && isRing sh x m) l (h .loop-in)
-    (joint _ _ (is-some _ (h .loop-used)) (b .1))
+    (joint _ _ (some-is _ (h .loop-used)) (b .1))
 
 -- WHEREVER IT STOPS, NO MORE THAN THE WORTH OF WHAT WAS THERE IS DONE
 pub covered : {sh : Shape} {x y : List ℕ} {q : List ℤ} {n j : ℕ} → Good sh y q → Change sh x y n j

@@ -7,15 +7,15 @@ use mathlib.Core.List.{List}
 use Prim.Native.Nat.{ℕ, _*_}
 use lib.Dec.{eqb, eqb→eq}
 use Rattle.laws.specs.Bools.{split, ask, true-T, eqb-same, eqb-other}
-use Rattle.laws.specs.Search.{least}
+use Rattle.laws.specs.Search.{least, least-none}
 use Rattle.layout.specs.declared.shape.Shape.{Shape}
 use Rattle.layout.specs.Layout.{faceSolid, loopFace, startOf}
-use Rattle.layout.specs.Items.{some, faceIn}
+use Rattle.layout.specs.Items.{faceIn}
 use Rattle.euler.specs.Queries.{facesIn}
 use Rattle.sound_tables.specs.Sound.{In}
 use Rattle.takedown.specs.Inversion.{solidAt, freeFace, freeLoop, freeEdge, edgesLeft, ringHalf, spurHalf, ringOf}
 use Rattle.takedown.specs.Inversion.{lacksB, lacks, lackAt}
-use Rattle.inversion.specs.OfSolid.{least-no, least-some}
+use Rattle.inversion.specs.OfSolid.{least-no}
 
 -- what the turn of the solid at hand calls for is left
 abbrev pub Enough : Shape → List ℕ → Type 0
@@ -37,9 +37,7 @@ all-used : (n : ℕ) (f : ℕ → ℕ) → least n (λ k. eqb (f k) 0) ≡ 0 →
 all-used n f z k i e = false≢true (sym (least-no n (λ k. eqb (f k) 0) z k i) ∙ eqb-same e)
 
 none-free : (n : ℕ) (f : ℕ → ℕ) → ((k : ℕ) → In n k → f k ≢ 0) → least n (λ k. eqb (f k) 0) ≡ 0
-none-free n f h = split (least n (λ k. eqb (f k) 0)) 0 (λ z. z) (λ d.
-    let s = least-some n (λ k. eqb (f k) 0) d in
-    absurd (h _ (s .0) (eqb→eq _ _ (true-T (s .1)))))
+none-free n f h = least-none n _ (λ k a b. eqb-other (h k (a, b)))
 
 module _ (sh : Shape) (x : List ℕ) where
   -- ---- where it does not lack

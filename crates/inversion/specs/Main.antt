@@ -2,7 +2,7 @@
 -- each, down to nothing or to a turn that lacks a number (`course`). And what it has come to where nothing is left
 -- (`whole`). The promises from it are in Theorem.
 use mathlib.Core.Path.{_≡_, refl, sym, ap, _∙_, subst}
-use mathlib.Core.Logic.{_≢_, inl}
+use mathlib.Core.Logic.{_≢_, ⊎-elim}
 use mathlib.Core.Bool.{Bool, true, false, false≢true}
 use mathlib.Core.List.{List, [], _++_, append-assoc}
 use Prim.Native.Nat.{ℕ, _+_, _-_, _*_, _≤_}
@@ -12,8 +12,8 @@ use lib.Dec.{eqb}
 use lib.IntN.{ℤ}
 use lib.ListN.{length, take, drop, length-append, length-drop}
 use lib.Seq.{take-append-seam}
-use borrow.Author.Tests.{ltb-false, eqb-true, eqb-false}
-use Rattle.laws.specs.Bools.{pick, eqb-other}
+use borrow.Author.Tests.{ltb-false}
+use Rattle.laws.specs.Bools.{split, ask, eqb-other}
 use Rattle.laws.specs.Sums.{count-le}
 use Rattle.script.specs.Operator.{operatorBytes}
 use Rattle.codec.specs.Ranges.{Within}
@@ -36,7 +36,7 @@ use Rattle.promises.specs.Checked.{good-within, good-entry, checked-good}
 use Rattle.promises.specs.WayBack.{Back, back-none}
 use Rattle.evidence_fuel.specs.Inverse.{inverse-small}
 use Rattle.takedown.specs.Inversion.{Work, Inverted, Ended, ended, turns, bound, shortLog, inverted, invertedBy, begin}
-use Rattle.takedown.specs.Inversion.{invertBy, invertOf}
+use Rattle.takedown.specs.Inversion.{takenBack, allTurns, invertOf}
 use Rattle.inversion.specs.Script.{joinsOf, joins-first, roomOf, room-first}
 use Rattle.inversion.specs.Path.{Path, acted, acted-table, path-good, path-back, path-low, joinsIn, path-joins}
 use Rattle.inversion.specs.Rebuild.{leads-part, Builds, leads-run}
@@ -211,7 +211,7 @@ pub record Course (t : State) (h : ℕ) : Type 0 where
   pub good : Good (shapeOf (t .links)) (t .links) (t .points)
   pub start-in : t .start ≤ length (t .log)
   pub path : Path (shapeOf (t .links)) y q os (t .links) (t .points)
-  pub made : invertBy (turns (shapeOf (t .links))) (shapeOf (t .links)) (begin t)
+  pub made : allTurns t
       ≡ ended lack (acted (shapeOf (t .links)) (begin t) os)
   pub stop : Stop (shapeOf (t .links)) y q lack
   pub joins : Empty (shapeOf (t .links)) y q → joinsIn (shapeOf (t .links)) (t .links) (t .points) os ≡ h
@@ -227,6 +227,10 @@ bytes-free : (t : State) (h : ℕ) → Euler (shapeOf (t .links)) (t .links) h �
 unfolding tallyOf
 bytes-free t h e f = omega (arith, ltb-false (t .start) _ f, half-is _ _ _ _ _ h e)
 
+-- enough turns
+pub fuel : (sh : Shape) (x : List ℕ) → edges sh x + vertices sh x ≤ turns sh
+fuel sh x = omega (arith, count-le (sh .edges) (itemUsed Edge sh x), count-le (sh .vertices) (itemUsed Vertex sh x))
+
 -- a state that is let in and has room takes its course
 pub course : (t : State) (h : ℕ) → Euler (shapeOf (t .links)) (t .links) h → entry t .refusal ≡ 0
     → shortLog (shapeOf (t .links)) t ≡ false → Course t h
@@ -235,9 +239,7 @@ course t h e z f =
     let sh = shapeOf x in
     let i = entry-passed t z in
     let g = checked-good x (t .points) (i .1) in
-    let fuel : edges sh x + vertices sh x ≤ turns sh =
-    omega (arith, count-le (sh .edges) (itemUsed Edge sh x), count-le (sh .vertices) (itemUsed Vertex sh x)) in
-    let d = down turns-made empty-table solid-vertex (turns sh) sh x (t .points) g fuel in
+    let d = down turns-made empty-table solid-vertex (turns sh) sh x (t .points) g (fuel sh x) in
     let gy = path-good g (d .path) in
     let rl = rings-loops sh x (t .points) g in
     let sf = stray-few sh x (t .points) g in
@@ -291,9 +293,13 @@ course-back t h c =
 
 -- ---- what is answered
 
+-- the refusal of what is left
+pub refusal-of : {r u : Inverted} → r ≡ u → r .answer .refusal ≡ u .answer .refusal
+refusal-of e = ap (λ (v : Inverted). v .answer .refusal) e
+
 -- what the turns left, where they were begun
 pub invert-by : (t : State) (e : Ended) → entry t .refusal ≡ 0 → shortLog (shapeOf (t .links)) t ≡ false
-    → invertBy (turns (shapeOf (t .links))) (shapeOf (t .links)) (begin t) ≡ e → invertOf t ≡ invertedBy t e
+    → allTurns t ≡ e → invertOf t ≡ invertedBy t e
 unfolding invertOf
 invert-by t e z f q = rw (z, f, q)
 
@@ -308,26 +314,41 @@ pub out-answered : (t : State) → entry t .refusal ≢ 0
 unfolding invertOf
 out-answered t d = rw (eqb-other d)
 
--- by the tests: let in, room, no lack
-tests : (a b c : Bool) (u v : Inverted) (k r : ℕ) (t : State) → (a ≡ false → k ≡ 0 → ⊥) → (u .answer .refusal ≡ 0 → ⊥)
-    → pick a (pick b (inverted 9 0 (begin t)) (pick c u v)) (inverted k r (begin t)) .answer .refusal ≡ 0
-    → (a ≡ true) × (b ≡ false) × (c ≡ false)
-tests true true c u v k r t f g e = absurd (omega arith)
-tests true false true u v k r t f g e = absurd (g e)
-tests true false false u v k r t f g e = (refl, refl, refl)
-tests false b c u v k r t f g e = absurd (f refl e)
+-- what is answered where the turns stop for want of a number
+pub lack-answered : (t : State) → entry t .refusal ≡ 0 → shortLog (shapeOf (t .links)) t ≡ false
+    → allTurns t .lack ≡ true
+    → invertOf t ≡ takenBack t (allTurns t .work)
+lack-answered t z f l = invert-by t _ z f refl ∙ rw l
+
+-- and where they do not
+pub done-answered : (t : State) → entry t .refusal ≡ 0 → shortLog (shapeOf (t .links)) t ≡ false
+    → allTurns t .lack ≡ false
+    → invertOf t ≡ inverted 0 0 (allTurns t .work)
+done-answered t z f l = invert-by t _ z f refl ∙ rw l
+
+-- the ways out: refused by the way in, for room, for want of a number, and down to nothing
+pub data Way (t : State) : Type 0 where
+  out : entry t .refusal ≢ 0 → Way t
+  short : entry t .refusal ≡ 0 → shortLog (shapeOf (t .links)) t ≡ true → Way t
+  lack : entry t .refusal ≡ 0 → shortLog (shapeOf (t .links)) t ≡ false → allTurns t .lack ≡ true → Way t
+  done : entry t .refusal ≡ 0 → shortLog (shapeOf (t .links)) t ≡ false → allTurns t .lack ≡ false → Way t
+
+pub way : (t : State) → Way t
+way t = split (entry t .refusal) 0
+    (λ z. ⊎-elim (λ s. short z s) (λ s. ⊎-elim (λ l. lack z s l) (λ l. done z s l) (ask (allTurns t .lack)))
+    (ask (shortLog (shapeOf (t .links)) t)))
+    (λ d. out d)
 
 -- 0 is answered where all turns were made
 pub invert-passed : (t : State) → invertOf t .answer .refusal ≡ 0 → (entry t .refusal ≡ 0)
-    × (shortLog (shapeOf (t .links)) t ≡ false)
-    × (invertBy (turns (shapeOf (t .links))) (shapeOf (t .links)) (begin t) .lack ≡ false)
-unfolding invertOf
-invert-passed t e =
-    let sh = shapeOf (t .links) in
-    let a =
-    tests (eqb (entry t .refusal) 0) (shortLog sh t) (invertBy (turns sh) sh (begin t) .lack) _ _ (entry t .refusal)
-    (entry t .rule) t (eqb-false _ 0) (λ z. omega arith) e in
-    (eqb-true _ 0 (a .0), a .1, a .2)
+    × (shortLog (shapeOf (t .links)) t ≡ false) × (allTurns t .lack ≡ false)
+invert-passed t e = by (way t)
+  where
+    by : Way t → (entry t .refusal ≡ 0) × (shortLog (shapeOf (t .links)) t ≡ false) × (allTurns t .lack ≡ false)
+    by (out d) = absurd (d (sym (refusal-of (out-answered t d)) ∙ e))
+    by (short z s) = absurd (omega (arith, sym (refusal-of (short-answered t z s)) ∙ e))
+    by (lack z s l) = absurd (omega (arith, sym (refusal-of (lack-answered t z s l)) ∙ e))
+    by (done z s l) = (z, s, l)
 
 -- nothing is in use at the end
 pub emptied-is : {sh : Shape} {y : List ℕ} {q : List ℤ} {b : Bool} → Stop sh y q b → b ≡ false → Empty sh y q

@@ -62,6 +62,9 @@ joint a b e f = rw (e, f)
 pub some-not : (n : ℕ) → some n ≡ true → n ≢ 0
 some-not n h z = false≢true (rw (eqb-same z) at h)
 
+pub some-is : (n : ℕ) → n ≢ 0 → some n ≡ true
+some-is n d = rw (eqb-other d)
+
 pub not-some : (n : ℕ) → some n ≡ false → n ≡ 0
 not-some n h = split n 0 (λ e. e) (λ d. absurd (false≢true (sym h ∙ rw (eqb-other d))))
 

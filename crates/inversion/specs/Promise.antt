@@ -18,7 +18,7 @@ use Rattle.runs.specs.Run.{State, state, entry, carryRefusal, stepped, runOf}
 use Rattle.promises.specs.Leads.{Leads}
 use Rattle.promises.specs.Logging.{below}
 use Rattle.takedown.specs.Inversion.{Work, linksIn, Inverted, ended, solidAt, freeFace, freeLoop, freeEdge, turnOf}
-use Rattle.takedown.specs.Inversion.{turns, bound, shortLog, begin, invertBy, invertOf}
+use Rattle.takedown.specs.Inversion.{bound, shortLog, begin, allTurns, invertOf}
 use Rattle.inversion.specs.Script.{joinsOf, roomOf}
 use Rattle.inversion.specs.Path.{acted}
 use Rattle.inversion.specs.Counts.{solids, faces, edges, vertices, rings}
@@ -150,7 +150,7 @@ pub data AllCarried (sh : Shape) : State → List Operator → Type 0 where
 pub record Carried (t : State) : Type 0 where
   pub os : List Operator
   pub lack : Bool
-  pub made : invertBy (turns (shapeOf (t .links))) (shapeOf (t .links)) (begin t)
+  pub made : allTurns t
       ≡ ended lack (acted (shapeOf (t .links)) (begin t) os)
   pub all : AllCarried (shapeOf (t .links)) t os
 

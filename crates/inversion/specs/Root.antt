@@ -6,7 +6,7 @@ use mathlib.Core.List.{List}
 use Prim.Native.Nat.{ℕ, _*_}
 use lib.Dec.{eqb, eqb→eq, not-T}
 use lib.IntN.{ℤ}
-use Rattle.laws.specs.Bools.{split, T-true, eqb-same, eqb-other}
+use Rattle.laws.specs.Bools.{split, T-true, eqb-same}
 use Rattle.laws.specs.Search.{least}
 use Rattle.layout.specs.declared.shape.Shape.{Shape}
 use Rattle.layout.specs.Fields.{SolidUsed, Solid, Outer, Face, First, Isolated, Loop, VertexUsed}
@@ -16,7 +16,7 @@ use Rattle.sound_tables.specs.Names.{named-used}
 use Rattle.sound_tables.specs.Labels.{LeastIs, label-found, label-some}
 use Rattle.sound_tables.specs.Good.{Good, own}
 use Rattle.takedown.specs.Inversion.{solidAt, ofSolid, edgesLeft, inRing, ringHalf, isRingOf, ringOf}
-use Rattle.inversion.specs.OfSolid.{least-some, least-no, least-there, both, joint, Of, of-solid}
+use Rattle.inversion.specs.OfSolid.{least-some, least-no, least-there, both, joint, Of, of-solid, some-is}
 
 module _ {sh : Shape} {x : List ℕ} {p : List ℤ} (g : Good sh x p) (sn : solidAt sh x ≢ 0) where
   -- it is in use
@@ -48,10 +48,8 @@ module _ {sh : Shape} {x : List ℕ} {p : List ℤ} (g : Good sh x p) (sn : soli
     pub no-half : (k : ℕ) → Of g sn k → ⊥
     no-half k u =
         false≢true (sym left
-        ∙ some-is (least-there (2 * sh .edges) (ofSolid sh x (solidAt sh x)) k (u .0 .0, u .0 .1) (eqb-same (u .1))))
-      where
-        some-is : least (2 * sh .edges) (ofSolid sh x (solidAt sh x)) ≢ 0 → edgesLeft sh x (solidAt sh x) ≡ true
-        some-is d = rw (eqb-other d)
+        ∙ some-is (least (2 * sh .edges) (ofSolid sh x (solidAt sh x)))
+        (least-there (2 * sh .edges) (ofSolid sh x (solidAt sh x)) k (u .0 .0, u .0 .1) (eqb-same (u .1))))
 
     -- so that its loops are lone
     pub lone-loop : (m : ℕ) → In (sh .loops) m → own sh x Face m ≢ 0 → own sh x Solid (own sh x Face m) ≡ solidAt sh x

@@ -24,7 +24,7 @@ use Rattle.runs.specs.Run.{State, entry, stepped}
 use Rattle.runs.specs.Clauses.{entry-passed}
 use Rattle.promises.specs.Checked.{checked-good}
 use Rattle.takedown.specs.Inversion.{Work, act, begin, inverted, invertedBy, shortLog, turns, invertOf, linksIn}
-use Rattle.takedown.specs.Inversion.{solidAt, lacksB, lacks, lackAt, ended}
+use Rattle.takedown.specs.Inversion.{solidAt, lacksB, lacks, lackAt, ended, allTurns}
 use Rattle.takedown.specs.Inversion.{freeFace, freeLoop, freeEdge, outside, borderHalf, ofSolid, edgesLeft, inRing}
 use Rattle.takedown.specs.Inversion.{ringHalf, spurHalf, isCrossed, crossedHalf, isRingOf, ringOf, makeOuter, moveRings}
 use Rattle.takedown.specs.Inversion.{turnRing, turnC, turned, invertBy, kvsf, kev, kef, kemr, mekr, mfkrh}
@@ -323,7 +323,7 @@ swift-by (suc n) sh t g K = split (solidAt sh (linksIn (t .work))) 0
 -- of a state that is let in the turns are the same
 turns-same : (t : State) → entry t .refusal ≡ 0
     → swiftBy (turns (shapeOf (t .links))) (shapeOf (t .links)) (entered (shapeOf (t .links)) 1 (begin t))
-    ≡ invertBy (turns (shapeOf (t .links))) (shapeOf (t .links)) (begin t)
+    ≡ allTurns t
 turns-same t z =
     let sh = shapeOf (t .links) in
     let g = checked-good (t .links) (t .points) (entry-passed t z .1) in
@@ -332,8 +332,8 @@ turns-same t z =
 
 -- and what is rolled back is as it was
 back-same : (t : State) → entry t .refusal ≡ 0 → shortLog (shapeOf (t .links)) t ≡ false
-    → swiftlyBy (shapeOf (t .links)) t (invertBy (turns (shapeOf (t .links))) (shapeOf (t .links)) (begin t))
-    ≡ invertedBy t (invertBy (turns (shapeOf (t .links))) (shapeOf (t .links)) (begin t))
+    → swiftlyBy (shapeOf (t .links)) t (allTurns t)
+    ≡ invertedBy t (allTurns t)
 back-same t z s =
     let sh = shapeOf (t .links) in
     let h = euler-at t z in
@@ -352,7 +352,7 @@ short-same t z s = rw (z, s)
 -- then come the turns
 work-same : (t : State) → entry t .refusal ≡ 0 → shortLog (shapeOf (t .links)) t ≡ false
     → swiftOf t
-    ≡ swiftlyBy (shapeOf (t .links)) t (invertBy (turns (shapeOf (t .links))) (shapeOf (t .links)) (begin t))
+    ≡ swiftlyBy (shapeOf (t .links)) t (allTurns t)
 unfolding swiftOf
 work-same t z s = rw (z, s, turns-same t z)
 

@@ -38,7 +38,7 @@ use Rattle.runs.specs.Move.{moveOf, moveEntry}
 use Rattle.runs.specs.Clauses.{run-out, move-out}
 use Rattle.sessions.specs.Session.{sessionUndo, sessionRedo}
 use Rattle.sessions.specs.Editing.{Editing, logState, redoState, undoIn, redoIn}
-use Rattle.takedown.specs.Inversion.{turns, shortLog, Inverted, begin, invertBy, invertOf}
+use Rattle.takedown.specs.Inversion.{shortLog, Inverted, allTurns, invertOf}
 use Rattle.wavefront.specs.Obj.{noRingNorLone, threeSided, solidRefusal, Texted, objOf}
 use Rattle.wavefront_read.specs.Written.{TextEnds, unsound, unshown, unfitting, written, obj-ends}
 use Rattle.promises.specs.Carried.{step-refusal, Carried, ended, refused as stopped, done, run-carried}
@@ -297,7 +297,7 @@ unfolding invertOf
 invert-numbered t =
     pick-ind P (eqb (entry t .refusal) 0) _ _
     (pick-ind P (shortLog (shapeOf (t .links)) t) _ _ tt
-    (pick-ind P (invertBy (turns (shapeOf (t .links))) (shapeOf (t .links)) (begin t) .lack) _ _ tt tt))
+    (pick-ind P (allTurns t .lack) _ _ tt tt))
     (wider checks inverts tt (entry t .refusal) (entry-numbered t))
   where
     P : Inverted → Type 0
