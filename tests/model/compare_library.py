@@ -42,7 +42,7 @@ from met import Met
 from padded_cases import listed_cases, padded_read_case, padded_redo_case, padded_run_case, padded_undo_case
 from padded_met import number_situations, wanted_numbers, wanted_padded
 from padded_promise import keep_promise as keep_padded_promise
-from promise import WANTED as WANTED_ROOMS, a_byte_less, just_enough, more, tell
+from promise import MENDED, WANTED as WANTED_ROOMS, a_byte_less, just_enough, more, tell
 from redo_met import WANTED as WANTED_HISTORIES
 from redo_promise import WANTED as WANTED_TRIPS, keep_exchange, keep_promise as keep_trips, trip_case
 from rules import check
@@ -122,7 +122,7 @@ def promise(driver, tally, met, rng, count):
         tell(driver, tally, met, rng, size, (just_enough, more))
     if count >= ENOUGH:
         met.want_codes(tally, {"run": [0, 1] + list(range(3, 10)), "undo": [0, 1]})
-        met.want_situations(tally, ["promised, all undone by just the room for it"])
+        met.want_situations(tally, ["promised, all undone by just the room for it", MENDED])
 
 
 def padded(driver, tally, met, rng, count):

@@ -16,6 +16,10 @@ from padding import half_padded
 from script import operator_bytes, read_script, script_bytes, shorten
 
 
+# What undo meets counts, not what the first session held: the first operator done has set the redo log's start.
+MENDED = "promised, though the first redo start was beyond its log"
+
+
 # Room in the redo log, by the lengths of the operators that undo writes there, in the order in which they were done
 
 def just_enough(_rng, lengths):
@@ -82,6 +86,8 @@ class Story:
         if self.is_promised() and self.done > 0:
             fitting = self.fitting()
             yield "promised, all undone" if fitting == self.done else "promised, 9"
+            if self.first.session[1] > len(self.first.redo):
+                yield MENDED
             if self.last.session[1] == len(script_bytes(self.operators)):
                 yield "promised, all undone by just the room for it"
             if fitting < self.done:

@@ -10,3 +10,4 @@ pub mod RowsRedo
 pub mod Shortened
 pub mod Cases
 pub mod Kernels
+pub mod Lengths

@@ -9,7 +9,7 @@ use Rattle.machine.specs.Machine.{Undo, Redo, ToUndo, ToRedo}
 use Rattle.evidence_cases.specs.Case.{Step, Row, row, editing, redoAt, redoable, step, clears, checks, runs}
 use Rattle.evidence_cases.specs.Case.{undoes, redoes, inverts}
 use Rattle.evidence_cases.specs.Tables.{lent, linksEmpty, linksB, linksC, linksD, pointsZero, pointsAt, logB}
-use Rattle.evidence_cases.specs.Tables.{logD, tableB, tableC, tableD, backC, backB, undoneWith}
+use Rattle.evidence_cases.specs.Tables.{logC, logD, tableB, tableC, tableD, backC, backB, undoneWith}
 use Rattle.evidence_cases.specs.RowsRuns.{scriptB, scriptC, scriptD, scriptCD, scriptBCD, clearing, runningB}
 use Rattle.evidence_cases.specs.RowsRuns.{runningC, runningD}
 use Rattle.evidence_cases.specs.RowsRefused.{mevBytes}
@@ -164,6 +164,10 @@ unredoneRows =
     -- so does a take-down that does one, and clearing
     ∷ row (redoAt wideB (blank 30) 31) (inverts 0 1 (redoAt downB (blank 30) 30) ∷ [])
     ∷ row astray (clears 1 2 2 2 2 0 (redoAt (undoneWith logB) (blank 30) 30) ∷ [])
+    -- so undo after such a run is accepted: the start that undo meets is what counts (`RedoRoom`)
+    ∷ row astray
+    (runs scriptC 0 1 10 (redoAt tableC (blank 30) 30)
+    ∷ undoes 1 0 1 (redoAt (editing linksB pointsZero logC 6) redoC 20) ∷ [])
     -- the log's start beyond its log
     ∷ row lost (undoes 0 1 0 lost ∷ redoes 0 1 0 lost ∷ runs [] 1 0 0 lost ∷ inverts 1 0 lost ∷ [])
     -- a table that is not sound

@@ -10,14 +10,19 @@
 -- A contract says: for every input the answer, and every word, coordinate and byte that the call leaves, are the
 -- definition's. So what is said here of a definition is said of the call, and what is said of a list of acts
 -- (`Act`, `doAll` of crate `machine`: one act for each entry point) is said of these calls one after the other.
+-- The calls that write no redo log are handed its length as a number: run and take-down; clearing is handed the lengths
+-- of both logs so. Such a call is what the definition says for the numbers handed in. The statements about lists of
+-- calls (`Editing`, `Act`) hand in the logs' own lengths; a caller who hands in another number is the "outside hand"
+-- that they exclude.
 -- In quotes: documents 00 and 01; where it is document 02, it says so.
 use mathlib.Core.Path.{_≡_}
 use mathlib.Core.Logic.{_≢_}
-use mathlib.Core.Bool.{true, false}
+use mathlib.Core.Bool.{true, false, _&&_}
 use mathlib.Core.List.{List, [], _∷_, _++_}
 use Prim.Native.Nat.{ℕ, _+_, _-_, _≤_, _<_}
 use lib.IntN.{ℤ}
 use lib.ListN.{length, getD, take, drop}
+use Rattle.laws.specs.Bools.{pick}
 use Rattle.script.specs.declared.Operator.{Operator}
 use Rattle.codec.specs.declared.Limits.{Limits}
 use Rattle.codec.specs.Operands.{widest}
@@ -32,6 +37,7 @@ use Rattle.script.specs.Unread.{CutShort}
 use Rattle.script.specs.RoundTrip.{Writable}
 use Rattle.layout.specs.declared.shape.Shape.{Shape}
 use Rattle.layout.specs.Layout.{shapeOf, vertexUsed, setVertexUsed}
+use Rattle.layout.specs.Points.{isZero}
 use Rattle.table.specs.Clear.{cleared, clearOf}
 use Rattle.table.specs.Check.{answer, checkOf}
 use Rattle.table.specs.Count.{countOf}
@@ -208,7 +214,8 @@ pub record Demand3 : Type 0 where
   -- runs included: … Undoing as many operators as were done in all, by document 01's meaning of done, then gives the
   -- earlier table, to the byte." (`Restored`: also the log from the first start on, and undo's answer.) Document 02,
   -- job 4: "every promise about undoing, the mission's …, supposes a redo start not beyond the redo log, and room in
-  -- that log for the operators undo writes there" (`RedoRoom`: for the operators done, in shortest form)
+  -- that log for the operators undo writes there" (`RedoRoom`: of the start that undo meets, not of the first; and for
+  -- the operators done, in shortest form)
   pub undo-exact : (e : Editing) (ss : List (List ℕ)) → Passes (e .links) (e .points) → RedoRoom e ss → Restored e ss
   -- "… each …, on the table, log and start the last one left, with no other writing call until the undo and no outside
   -- hand on table or log": the same of any list of calls of which each is a run or writes none of these
@@ -270,11 +277,16 @@ pub record Requests : Type 0 where
   -- Job 5. "The vertex word becomes 1 plus the number of half-edges starting there; 0 is still free." In every table
   -- that passes the check each vertex word is 0 or that (`Valent`)
   pub vertex-words : (x : List ℕ) (p : List ℤ) → Passes x p → Valent (shapeOf x) x
-  -- "Rule 5 of soundness tests it, rule 1 no longer does": any other number than 0 in its place is answered with 2 and
-  -- rule 5, so none of the rules before it is broken
+  -- "Rule 5 of soundness tests it, rule 1 no longer does": any other number than 0 in its place, of a vertex in use or
+  -- a free one, is answered with 2 and rule 5, so none of the rules before it is broken
   pub wrong-word : (x : List ℕ) (p : List ℤ) → Passes x p → (v w : ℕ) → (1 ≤ v) × (v ≤ shapeOf x .vertices)
-      → vertexUsed (shapeOf x) x v ≢ 0 → w ≢ 0 → w ≢ vertexUsed (shapeOf x) x v
-      → checkOf (setVertexUsed (shapeOf x) x v w) p ≡ answer 2 5
+      → w ≢ 0 → w ≢ vertexUsed (shapeOf x) x v → checkOf (setVertexUsed (shapeOf x) x v w) p ≡ answer 2 5
+  -- "0 is still free": 0 in the place of a vertex in use is rule 1 where its point is not zero (a free record is all
+  -- zero), else rule 2 (what names it names no item in use)
+  pub freed-word : (x : List ℕ) (p : List ℤ) → Passes x p → (v : ℕ) → (1 ≤ v) × (v ≤ shapeOf x .vertices)
+      → vertexUsed (shapeOf x) x v ≢ 0
+      → checkOf (setVertexUsed (shapeOf x) x v 0) p
+      ≡ answer 2 (pick (isZero p v 0 && isZero p v 1 && isZero p v 2) 2 1)
   -- "and all operators keep it": it is part of `valid-kept`; here by itself. "Restoring to the byte means the new words
   -- from here on": `inverse-exact`, `undo-exact`, `undo-redo` and `inversion-exact` are of all words
   pub valence-kept : (x : List ℕ) (p : List ℤ) (o : Operator) → Passes x p → length (o .args) ≡ 8
@@ -312,10 +324,17 @@ pub record Requests : Type 0 where
   -- "A full redo log gives 9, and the operator that met it isn't undone: table and session are as before it" (by
   -- `move-apart`). So the room that the undo promise supposes is needed; a redo log as long as the bytes used is enough
   pub undo-full : (e : Editing) (ss : List (List ℕ)) → Passes (e .links) (e .points) → e .session .log ≤ length (e .log)
-      → e .session .redo ≤ length (e .redo) → editAll e ss .last .session .redo < length (doneScript (logState e) ss)
+      → editAll e ss .last .session .redo ≤ length (e .redo)
+      → editAll e ss .last .session .redo < length (doneScript (logState e) ss)
       → undoAll e ss .answer .answer .refusal ≡ 9
   pub used-room : (e : Editing) (ss : List (List ℕ)) → Passes (e .links) (e .points)
-      → e .session .redo ≤ length (e .redo) → usedAll (logState e) ss ≤ length (e .redo) → RedoRoom e ss
+      → editAll e ss .last .session .redo ≤ length (e .redo) → usedAll (logState e) ss ≤ length (e .redo)
+      → RedoRoom e ss
+  -- the start that undo meets is within the redo log where a run has done an operator, whatever the first session held,
+  -- and where the first start was within it
+  pub redo-met : (e : Editing) (ss : List (List ℕ))
+      → (editAll e ss .done ≡ 0 → e .session .redo ≤ length (e .redo))
+      → editAll e ss .last .session .redo ≤ length (e .redo)
   -- Job 6, "Full tables come down too". Which refusal is answered (`Answers`): 1 and 2 by the way in; 9, since "the
   -- log-space test comes ahead of it"; 10; and where no step lacks a number 0
   pub invert-answers : InvertAnswers

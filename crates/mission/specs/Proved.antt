@@ -10,7 +10,7 @@ use Rattle.table.specs.declared.check.CheckAnswer.{CheckAnswer}
 use Rattle.sound_tables.specs.Good.{marked}
 use Rattle.sound_tables.specs.ClearSound.{clear-valid}
 use Rattle.sound_cuts.specs.KefAmid.{kef-in-place}
-use Rattle.sound_valence.specs.WrongWord.{wrong-word}
+use Rattle.sound_valence.specs.WrongWord.{wrong-word, freed-word}
 use Rattle.sound_valence.specs.Kept.{valence-kept}
 use Rattle.sound_operators.specs.Theorems.{valid-kept, inverse-exact}
 use Rattle.runs.specs.Clauses.{run-out}
@@ -20,7 +20,7 @@ use Rattle.promises.specs.Carried.{step-refusal, run-carried, refused-apart}
 use Rattle.promises.specs.Moves.{move-sound}
 use Rattle.promises.specs.MoveParts.{move-apart}
 use Rattle.promises.specs.MoveSteps.{move-carried}
-use Rattle.promises.specs.Promises.{undo-exact, undo-full, used-room, runs-sound}
+use Rattle.promises.specs.Promises.{undo-exact, undo-full, used-room, redo-met, runs-sound}
 use Rattle.promises.specs.Redo.{undo-redo, redo-undo, undo-redo-less}
 use Rattle.promises.specs.Sessions.{redo-emptied, starts-answered, redo-ended, redo-beyond, undo-out, redo-out}
 use Rattle.promises.specs.Padded.{padded-run, padded-move}
@@ -122,6 +122,7 @@ requested = record {
   kef-in-place = λ x p h k. kef-in-place (marked (checked-good x p h)) k;
   vertex-words = λ x p h. checked-good x p h .valent;
   wrong-word = λ x p h. wrong-word x p (checked-valid x p h);
+  freed-word = λ x p h. freed-word x p (checked-valid x p h);
   valence-kept = λ x p o h len a. valence-kept o (checked-good x p h) len a;
   move-carried = move-carried;
   redo-emptied = redo-emptied;
@@ -134,6 +135,7 @@ requested = record {
   redo-beyond = redo-beyond;
   undo-full = undo-full;
   used-room = used-room;
+  redo-met = redo-met;
   invert-answers = invert-answers;
   ten-exactly = ten-exactly;
   refused-as-before = refused-as-before;

@@ -12,6 +12,7 @@ use native.Mathlib.Omega.{arith}
 use lib.Dec.{eqb}
 use lib.IntN.{ℤ}
 use lib.ListN.{length, drop}
+use borrow.Author.Tests.{eqb-true}
 use Rattle.laws.specs.Bools.{le?, split, eqb-other}
 use Rattle.layout.specs.Layout.{shapeOf}
 use Rattle.numbers.specs.PaddedLaws.{shorten-nil}
@@ -54,9 +55,10 @@ pub record Restored (e : Editing) (ss : List (List ℕ)) : Type 0 where
       ≡ doneScript (logState e) ss ++ drop (editAll e ss .last .session .redo) (e .redo)
 
 -- "every promise about undoing … supposes a redo start not beyond the redo log, and room in that log for the operators
--- undo writes there" (document 02, job 4): in front of the start that the last run left
+-- undo writes there" (document 02, job 4): both of the start that undo meets, which the last run left. The first
+-- session's redo start may be anything where a run that does an operator sets it
 pub record RedoRoom (e : Editing) (ss : List (List ℕ)) : Type 0 where
-  pub fits : e .session .redo ≤ length (e .redo)
+  pub fits : editAll e ss .last .session .redo ≤ length (e .redo)
   pub room : length (doneScript (logState e) ss) ≤ editAll e ss .last .session .redo
 
 -- ---- a start beyond the log: nothing is run
@@ -104,6 +106,17 @@ module _ (t : State) (ss : List (List ℕ)) (sound : checkOf (t .links) (t .poin
 
 -- ---- undo
 
+-- the start that undo meets is not beyond the redo log where an operator was done, or where the first was not
+pub redo-met : (e : Editing) (ss : List (List ℕ)) → (editAll e ss .done ≡ 0 → e .session .redo ≤ length (e .redo))
+    → editAll e ss .last .session .redo ≤ length (e .redo)
+redo-met e ss h =
+    let r = edited e ss in
+    let n = runAll (logState e) ss .done in
+    let k : emptiedBy e n ≤ length (e .redo) =
+    pick-by (λ m. m ≤ length (e .redo)) (eqb n 0) (e .session .redo) (length (e .redo))
+    (λ z. h (r .done ∙ eqb-true n 0 z)) (λ z. omega arith) in
+    omega (arith, k, r .start)
+
 module _ (e : Editing) (ss : List (List ℕ)) (sound : checkOf (e .links) (e .points) .refusal ≡ 0) where
   -- what the runs leave
   abbrev ran : Editing
@@ -118,14 +131,9 @@ module _ (e : Editing) (ss : List (List ℕ)) (sound : checkOf (e .links) (e .po
       state (e .links) (e .points) (below (ran .redo) (ran .session .redo) script)
       (ran .session .redo - length script)
 
-  -- the redo log's start behind the runs is not beyond it
-  redo-fits : e .session .redo ≤ length (e .redo) → ran .session .redo ≤ length (ran .redo)
-  redo-fits h =
-      let r = edited e ss in
-      let n = runAll (logState e) ss .done in
-      let k : emptiedBy e n ≤ length (e .redo) =
-      pick-by (λ m. m ≤ length (e .redo)) (eqb n 0) (e .session .redo) (length (e .redo)) (λ z. h) (λ z. omega arith) in
-      omega (arith, k, r .start, ap length (r .redo))
+  -- what the supposition comes to in the redo log that the runs leave, which is as long as it was
+  redo-room : RedoRoom e ss → (ran .session .redo ≤ length (ran .redo)) × (length script ≤ ran .session .redo)
+  redo-room q = (omega (arith, q .fits, ap length (edited e ss .redo)), omega (arith, q .room))
 
   -- of any move by what the runs left, said of what the runs without a session leave
   by-runs : (P : Moved → Type 0)
@@ -147,7 +155,8 @@ module _ (e : Editing) (ss : List (List ℕ)) (sound : checkOf (e .links) (e .po
   undone-is q h =
       let r = edited e ss in
       let g = all-gone (logState e) ss sound h in
-      let f = gone-back g (ran .redo) (ran .session .redo) (redo-fits (q .fits)) (q .room) in
+      let m = redo-room q in
+      let f = gone-back g (ran .redo) (ran .session .redo) (m .0) (m .1) in
       ap undoneSession (by-runs (λ m. m ≡ moved 0 (editAll e ss .done) (e .session .log) back) (rw (r .done) f))
 
   -- the log is what it was from the first start on
@@ -179,14 +188,14 @@ module _ (e : Editing) (ss : List (List ℕ)) (sound : checkOf (e .links) (e .po
   pub undo-exact : RedoRoom e ss → Restored e ss
   undo-exact q =
       ⊎-elim
-      (λ h. let f = undone-is q h in record {
+      (λ h. let f = undone-is q h in let m = redo-room q in record {
         links = ap (λ (u : Leaves UndoLeft). u .links) f;
         points = ap (λ (u : Leaves UndoLeft). u .points) f;
         start = ap (λ (u : Leaves UndoLeft). u .answer .session .log) f;
         log = log-kept;
         answer = λ i. ap (λ (u : Leaves UndoLeft). u .answer .answer) f;
         redo = ap (λ (u : Leaves UndoLeft). drop (u .answer .session .redo) (u .log)) f
-            ∙ below-live (ran .redo) (ran .session .redo) (redo-fits (q .fits)) script (q .room)
+            ∙ below-live (ran .redo) (ran .session .redo) (m .0) script (m .1)
             ∙ rw (edited e ss .redo);
       })
       (λ h. let f = stays h in record {
@@ -201,12 +210,13 @@ module _ (e : Editing) (ss : List (List ℕ)) (sound : checkOf (e .links) (e .po
       (le? (e .session .log) (length (e .log)))
 
   -- AND WITHOUT THAT ROOM IT IS NOT: undo is refused with 9
-  pub undo-full : e .session .log ≤ length (e .log) → e .session .redo ≤ length (e .redo)
+  pub undo-full : e .session .log ≤ length (e .log) → ran .session .redo ≤ length (e .redo)
       → ran .session .redo < length script → undoAll e ss .answer .answer .refusal ≡ 9
   unfolding sessionUndo
   undo-full h k short =
       by-runs (λ m. m .answer .refusal ≡ 9)
-      (gone-full (all-gone (logState e) ss sound h) (ran .redo) (ran .session .redo) (redo-fits k) short)
+      (gone-full (all-gone (logState e) ss sound h) (ran .redo) (ran .session .redo)
+      (omega (arith, k, ap length (edited e ss .redo))) short)
 
   -- where nothing was done there is nothing to write
   none-written : runAll (logState e) ss .done ≡ 0 → script ≡ []
@@ -215,7 +225,7 @@ module _ (e : Editing) (ss : List (List ℕ)) (sound : checkOf (e .links) (e .po
       (le? (e .session .log) (length (e .log)))
 
   -- A REDO LOG AS LONG AS THE BYTES USED IS ENOUGH: the sum of what the runs answer as used
-  pub used-room : e .session .redo ≤ length (e .redo) → usedAll (logState e) ss ≤ length (e .redo) → RedoRoom e ss
+  pub used-room : ran .session .redo ≤ length (e .redo) → usedAll (logState e) ss ≤ length (e .redo) → RedoRoom e ss
   used-room h k =
       let n = runAll (logState e) ss .done in
       let r = edited e ss in

@@ -2,7 +2,7 @@
 -- (kev, kef, kemr, jekv) are accepted on the same and have the same inverse, point and vertices to leave.
 use mathlib.Core.Path.{_≡_, refl, sym, ap, _∙_, subst}
 use mathlib.Core.Logic.{_≢_, _⊎_, inl, inr}
-use mathlib.Core.Bool.{Bool}
+use mathlib.Core.Bool.{Bool, true}
 use mathlib.Core.List.{List, [], _∷_}
 use Prim.Native.Nat.{ℕ, _*_, _≤_}
 use native.Mathlib.Omega.{arith}
@@ -18,7 +18,7 @@ use Rattle.codec.specs.Operands.{oldHalf, coordinate, pattern, rows}
 use Rattle.layout.specs.declared.shape.Shape.{Shape}
 use Rattle.layout.specs.Mate.{mate}
 use Rattle.layout.specs.MateLaws.{mate-range, mate-even}
-use Rattle.layout.specs.Layout.{loopFace, loopOf, nextOf, side}
+use Rattle.layout.specs.Layout.{shapeOf, loopFace, loopOf, nextOf, side}
 use Rattle.layout.specs.Fields.{Capacity, Face, Start, Loop, Next, groups}
 use Rattle.euler.specs.Surgery.{itemOf}
 use Rattle.euler.specs.EdgeOperators.{kevTest, kefTest, kemrTest, jekvTest}
@@ -26,24 +26,43 @@ use Rattle.euler.specs.Queries.{loopsIn}
 use Rattle.euler.specs.Valence.{leaveOf}
 use Rattle.euler.specs.Exec.{limits, useWord, useRefusal, useRefusals, condition, admitOf, refusalOf, killedVertex}
 use Rattle.euler.specs.Exec.{pointsBy, pointsAfter, inverse}
+use Rattle.table.specs.Sizes.{tableFits}
 use Rattle.sound_tables.specs.Sound.{SameElse, SameUsed, sound-alike}
 use Rattle.sound_tables.specs.Good.{own, Marked}
 use Rattle.sound_tables.specs.Caps.{loop-cap, next-cap, operand-cap}
 use Rattle.sound_tables.specs.Accepted.{limitOf}
 
+-- a table that differs in the words of vertices has the same shape
+pub shape-alike : (sh : Shape) (x y : List ℕ) → SameElse sh (own sh x) (own sh y) → sh ≡ shapeOf x → sh ≡ shapeOf y
+shape-alike sh x y e s =
+    rw (
+      e Capacity refl 1 (lit≤ tt),
+      e Capacity refl 2 (lit≤ tt),
+      e Capacity refl 3 (lit≤ tt),
+      e Capacity refl 4 (lit≤ tt),
+      e Capacity refl 5 (lit≤ tt),
+    )
+    s
+
+-- and, of the same length, the same size
+pub fits-alike : (sh : Shape) (x y : List ℕ) (p : List ℤ) → SameElse sh (own sh x) (own sh y) → length y ≡ length x
+    → tableFits x p ≡ true → tableFits y p ≡ true
+fits-alike sh x y p e l f =
+    rw (
+      l,
+      e Capacity refl 1 (lit≤ tt),
+      e Capacity refl 2 (lit≤ tt),
+      e Capacity refl 3 (lit≤ tt),
+      e Capacity refl 4 (lit≤ tt),
+      e Capacity refl 5 (lit≤ tt),
+    )
+    f
+
 -- a table whose words are of the same vertices is sound as well
 pub marked-alike : {sh : Shape} {x y : List ℕ} {p : List ℤ} → Marked sh x p → Chained 0 (groups sh) (length y)
     → SameElse sh (own sh x) (own sh y) → SameUsed sh (own sh x) (own sh y) → Marked sh y p
 marked-alike {sh} {x} {y} {p} g fit e u = record {
-  shape =
-      rw (
-        e Capacity refl 1 (lit≤ tt),
-        e Capacity refl 2 (lit≤ tt),
-        e Capacity refl 3 (lit≤ tt),
-        e Capacity refl 4 (lit≤ tt),
-        e Capacity refl 5 (lit≤ tt),
-      )
-      (g .shape);
+  shape = shape-alike sh x y e (g .shape);
   capacities = g .capacities;
   fit = fit;
   points = g .points;

@@ -3,4 +3,5 @@ pub mod Alike
 pub mod Marks
 pub mod Kept
 pub mod Undo
+pub mod OtherWords
 pub mod WrongWord
