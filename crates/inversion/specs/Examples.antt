@@ -27,7 +27,7 @@ use Rattle.check_items.specs.Rules.{faceNames, loopNames, halfNames, rule2, loo
 use Rattle.check_items.specs.Rules.{halfInLoop, rule4, vertexEither, halfAtVertex, rule5, halfSides, faceLinked, rule6}
 use Rattle.check_items.specs.Rules.{brokenRule}
 use Rattle.table.specs.Sizes.{sizesFit}
-use Rattle.table.specs.Check.{checkOf}
+use Rattle.table.specs.Check.{answer, checkOf}
 use Rattle.table.specs.Count.{itemUsed, tallyOf, counts, countOf}
 use Rattle.euler.specs.Surgery.{corner, edgeIn, edgeOut, relabel, seek, renew}
 use Rattle.euler.specs.EdgeOperators.{kevLinks, kefLinks, kemrLinks, mekrLinks}
@@ -36,7 +36,7 @@ use Rattle.euler.specs.Exec.{linksAfter, pointsAfter, killedVertex, inverse}
 use Rattle.euler.specs.Exec.{marksAfter}
 use Rattle.euler.specs.Valence.{lessStarts, moreStarts}
 use Rattle.runs.specs.Run.{state, inverseBytes, stepped, entry}
-use Rattle.inversion.specs.Promise.{Euler}
+use Rattle.inversion.specs.Promise.{OneHoles}
 use Rattle.takedown.specs.Inversion.{Inverted, ofSolid, crossedHalf, onRun, crossed, act, makeOuter, moveRings, turnB}
 use Rattle.takedown.specs.Inversion.{turned, lacksB, lacks, invertBy, invertOf}
 
@@ -222,16 +222,28 @@ unfolding checkOf sizesFit brokenRule rule1 rule2 rule3 rule4 rule5 rule6 solidR
     itemUsed
 full-counted = refl
 
--- ---- holes are not just the rest: a table that is not sound may have none
+-- ---- holes are not just the rest: two tables that fail the check, and for which no h fits the formula
 
--- capacities 1, one vertex in use and nothing else
+-- capacities 1, 1, 1, 1, 2, two vertices in use and nothing else: h would be −1
 abbrev linksStray : List ℕ
-linksStray = 1 ∷ 1 ∷ 1 ∷ 1 ∷ 1 ∷ replicate 14 0 ++ (1 ∷ [])
+linksStray = 1 ∷ 1 ∷ 1 ∷ 1 ∷ 2 ∷ replicate 14 0 ++ (1 ∷ 1 ∷ [])
 
--- it breaks a rule, and no number of holes fits the formula
-pub stray-none : (h : ℕ) → Euler (shapeOf linksStray) linksStray h → ⊥
-unfolding itemUsed sumTo
-stray-none h e = omega (arith, e)
+-- capacities 1, an edge in use and nothing else: h would be a half
+abbrev linksLoose : List ℕ
+linksLoose = 1 ∷ 1 ∷ 1 ∷ 1 ∷ 1 ∷ replicate 6 0 ++ (replicate 8 1 ++ (0 ∷ []))
+
+-- the first breaks rule 5, and has no number of holes
+pub stray-none : (checkOf linksStray (replicate 6 (pos 0)) ≡ answer 2 5) × (OneHoles linksStray → ⊥)
+unfolding checkOf sizesFit brokenRule rule1 rule2 rule3 rule4 rule5 solidRange faceRange loopRange halfRange vertexRange
+    solidNames faceNames loopNames halfNames loopEither halfLinks firstNames halfInLoop vertexEither halfAtVertex allTo
+    leastFrom sumTo meets mate itemUsed
+stray-none = (refl, λ o. omega (arith, o .formula))
+
+-- the second breaks rule 2, and has none either
+pub loose-none : (checkOf linksLoose (replicate 3 (pos 0)) ≡ answer 2 2) × (OneHoles linksLoose → ⊥)
+unfolding checkOf sizesFit brokenRule rule1 rule2 solidRange faceRange loopRange halfRange vertexRange solidNames
+    faceNames loopNames halfNames allTo leastFrom sumTo mate itemUsed
+loose-none = (refl, λ o. omega (arith, o .formula))
 
 -- ---- the crossing test has something to say: of the bridge's solid the least half-edge is 1, and the least crossed
 -- one is 3
