@@ -1,5 +1,6 @@
 """Rules of the sources that no proof sees: lines are at most 120 columns wide, a record's place is named in crate
-layout alone, and crates.txt lists just the crates that a crate names. Prints 'N passed, M failed'."""
+layout alone, every public function has a contract and no entry point asks anything of its caller, and crates.txt lists
+exactly the crates that a crate names. Prints 'N passed, M failed'."""
 import os
 import re
 import sys
@@ -11,6 +12,8 @@ WIDTH = 120
 PLACE = re.compile(r"\.\s?(?:face0|loop0|half0|vertex0)\b")
 # but a shape may be handed on whole
 HANDED = re.compile(r"^\s*(\w+0) = sh \.\1;$")
+# a public function, and whether it can be called from C
+PUBLIC = re.compile(r"^\s*pub\s+(extern\s+\"C\"\s+)?fn\s+(\w+)")
 # a crate, by its definitions or laws (`Rattle.NAME`), or by its code (`NAME::` at the head of a path)
 NAMED = re.compile(r"Rattle·([a-z_]+)|(?<![:\w·.])([a-z_]+)::")
 # types of these are reached by way of others, and the checker wants them listed all the same
@@ -48,6 +51,30 @@ def placed(path, text):
             if PLACE.search(line) and not HANDED.match(line)]
 
 
+def head(lines):
+    """The lines of a function from its name to where its body begins."""
+    for number, line in enumerate(lines):
+        clause = line.strip().startswith(("requires", "ensures"))
+        if line.strip() == "{" or (line.rstrip().endswith("{") and not clause):
+            return lines[:number + 1]
+    return lines
+
+
+def uncontracted(path, text):
+    """A line for each public function without a contract, and for each entry point that asks something of its caller."""
+    if not path.endswith(".rt"):
+        return []
+    bad, lines = [], text.splitlines()
+    for number, line in enumerate(lines):
+        found = PUBLIC.match(line)
+        clauses = [part.strip().split()[0] for part in head(lines[number:]) if part.strip()] if found else []
+        if found and "ensures" not in clauses:
+            bad.append(f"{path}:{number + 1}: {found.group(2)} has no contract")
+        if found and found.group(1) and "requires" in clauses:
+            bad.append(f"{path}:{number + 1}: {found.group(2)} asks something of its caller")
+    return bad
+
+
 def dependencies(root):
     """What crates.txt lists for each crate."""
     with open(os.path.join(root, "crates.txt"), encoding="utf-8") as f:
@@ -73,7 +100,7 @@ def undue(root, files):
 def faults(root):
     """How many files and crates were looked at, and a line for each fault."""
     files = list(sources(root))
-    bad = [line for path, text in files for line in wide(path, text) + placed(path, text)]
+    bad = [line for path, text in files for line in wide(path, text) + placed(path, text) + uncontracted(path, text)]
     return len(files) + len(dependencies(root)), bad + undue(root, files)
 
 

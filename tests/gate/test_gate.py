@@ -153,6 +153,16 @@ CASES = [
      == ["crates/a/specs/A.antt:1: a record's place"]),
     ("a shape handed on is no place", lambda: rule_faults(
         "crates/a/specs/A.antt", "  half0 = sh .half0;\n", ["a:"]) == []),
+    ("a public function with a contract passes", lambda: rule_faults(
+        "crates/a/src/lib.rt", "pub fn f() -> u8\n    ensures { λ r. ⌜ r ≡ 1 ⌝ }\n{\n    1\n}\n", ["a:"]) == []),
+    ("a public function without one is named", lambda: rule_faults(
+        "crates/a/src/lib.rt", "pub fn f() -> u8 {\n    1\n}\nfn g() -> u8\n    ensures { p }\n{\n}\n", ["a:"])
+     == ["crates/a/src/lib.rt:1: f has no contract"]),
+    ("a function that is not public needs none", lambda: rule_faults(
+        "crates/a/src/lib.rt", "fn f() -> u8 {\n    1\n}\n", ["a:"]) == []),
+    ("an entry point that asks something of its caller is named", lambda: rule_faults(
+        "crates/a/src/lib.rt", "pub extern \"C\" fn f(n: u8) -> u8\n    requires { n }\n    ensures { p }\n{\n}\n", ["a:"])
+     == ["crates/a/src/lib.rt:1: f asks something of its caller"]),
     ("a crate that is named has to be listed", lambda: rule_faults(
         "crates/a/specs/A.antt", "use Rattle.b.specs.B.{c}\n", ["a:", "b:"])
      == ["crates.txt: a names b and does not list it"]),
