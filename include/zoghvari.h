@@ -149,7 +149,8 @@ ZoghvariRan zoghvari_run(uint16_t *links, size_t links_n, int32_t *points, size_
  * the redo log just below the session's `redo`, which moves down; no other byte of the redo log changes.
  * Handed what the last run left and the sum of the done counts, it gives back every byte of links and points, where the
  * redo log has room for what is undone: as many bytes as the sum of the runs' `used` are enough, and so are 19 for each
- * operator. Lend a redo log as long as the log, and not the same memory. With one of no bytes nothing can be undone.
+ * operator. One as long as the log need not be enough, since an inverse is often shorter than its operator. It must not
+ * share memory with the log. With one of no bytes nothing can be undone.
  * Refusals: 1 of the table and of either start, 2, then of each operator 11 where the log has ended, 3 to 8 where it
  * does not fit the table, 9 where the redo log has no room for its inverse. What was undone before that stands, and the
  * operator refused has changed nothing. 1 and 2 leave the session. */

@@ -142,8 +142,8 @@ impl Table {
         (self.links, self.points, self.log, self.redo, self.session)
     }
 
-    /// Empties the table and both logs; the logs' bytes stay. Refusal 1 where the memory has other lengths than these
-    /// capacities need; all is then as it was.
+    /// Empties the table and both logs; the logs' bytes stay. Refusal 1 where a capacity is not 1 to 4,096, or the
+    /// memory has other lengths than these capacities need; all is then as it was.
     pub fn clear(&mut self, capacities: Capacities) -> Result<(), Refusal> {
         let logs = [self.log.len(), self.redo.len()];
         let answer = sys::clear(&mut self.links, &mut self.points, logs, &mut self.session, capacities.numbers());

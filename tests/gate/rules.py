@@ -13,7 +13,7 @@ PLACE = re.compile(r"\.\s?(?:face0|loop0|half0|vertex0)\b")
 # but a shape may be handed on whole
 HANDED = re.compile(r"^\s*(\w+0) = sh \.\1;$")
 # a public function, and whether it can be called from C
-PUBLIC = re.compile(r"^\s*pub\s+(extern\s+\"C\"\s+)?fn\s+(\w+)")
+PUBLIC = re.compile(r"^\s*pub\b(?:\([^)]*\))?((?:\s+(?:const|unsafe|extern|\"C\"))*)\s+fn\s+(\w+)")
 # a crate, by its definitions or laws (`Rattle.NAME`), or by its code (`NAME::` at the head of a path)
 NAMED = re.compile(r"Rattle·([a-z_]+)|(?<![:\w·.])([a-z_]+)::")
 # types of these are reached by way of others, and the checker wants them listed all the same
@@ -52,10 +52,12 @@ def placed(path, text):
 
 
 def head(lines):
-    """The lines of a function from its name to where its body begins."""
+    """The lines of a function from its name to where its body begins: at the first brace outside a clause."""
+    open_braces = 0
     for number, line in enumerate(lines):
-        clause = line.strip().startswith(("requires", "ensures"))
-        if line.strip() == "{" or (line.rstrip().endswith("{") and not clause):
+        if open_braces > 0 or line.strip().startswith(("requires", "ensures")):
+            open_braces += line.count("{") - line.count("}")
+        elif "{" in line:
             return lines[:number + 1]
     return lines
 
@@ -70,7 +72,7 @@ def uncontracted(path, text):
         clauses = [part.strip().split()[0] for part in head(lines[number:]) if part.strip()] if found else []
         if found and "ensures" not in clauses:
             bad.append(f"{path}:{number + 1}: {found.group(2)} has no contract")
-        if found and found.group(1) and "requires" in clauses:
+        if found and "extern" in found.group(1) and "requires" in clauses:
             bad.append(f"{path}:{number + 1}: {found.group(2)} asks something of its caller")
     return bad
 

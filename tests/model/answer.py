@@ -1,6 +1,6 @@
 """The model in the place of a compiled driver: cases on standard input, answers out.
 
-It shows that compare.py and the framing work before there is a driver.
+It shows that compare.py and the framing work, without a compiled driver.
 """
 
 import sys

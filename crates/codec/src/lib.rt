@@ -1,5 +1,5 @@
-// Numbers and operands as bytes: groups of seven bits, and for each code its operands' kinds, ranges and travelling
-// numbers.
+// Operands as bytes: for each code the kinds of its operands, their ranges, and the numbers as which they travel. (The
+// bytes of one number are in crate `numbers`.)
 pub mod operands; // what each operand is
 pub mod bytes; // operands as bytes
 

@@ -3,7 +3,9 @@
 -- to the links (`Steps`, from the first to the last; `Links` are the links after them), and the operator that undoes it
 -- (`Inverse`).
 -- `x` are the links before the first step, and what an operator names is read there. In the pictures m is k's mate.
--- Points are `pointsBy` in Exec: made with a vertex, cleared with it.
+-- Points are `pointsBy` in Exec: made with a vertex, cleared with it. The steps store the word of a vertex only where
+-- they make it (1) or kill it (0). After them the half-edges that vertex words count are added and taken off:
+-- `linksAfter` in Exec has the links with these words.
 -- Where a loop gets its first anew (`Renew`), no half-edge below the old firsts of the loops concerned and the new
 -- half-edges names it: the search begins at the least of these.
 use Prim.Native.Nat.{ℕ, _+_}

@@ -1,4 +1,5 @@
-// An edge goes in, an edge comes out: the only two changes that the edge operators make to the cycles.
+// An edge goes in, an edge comes out: all that mev, kev, mef, kef, kemr and mekr change in the cycles. (semv and jekv
+// put in and take out one half-edge at a time.)
 ghost use mathlib.Core.Path.{_≡_};
 ghost use Prim.Native.Nat.{ℕ, _<_, _≤_};
 ghost use Rattle.euler.specs.Surgery.{tie, between, edgeIn, edgeOut};

@@ -93,6 +93,8 @@ ruleRows =
     ∷ row (checked linksBare pointOne) sound
     -- half-edges at a vertex walked along their loop, not around the vertex: two cycles would do
     ∷ row (checked linksPinched pointOne) sound
+    -- two faces of a solid need not be linked
+    ∷ row (checked linksApart pointsZero) sound
     -- edges counted by the loops: with two loops, edge 3 would not link the two faces
     ∷ row (checked linksLate pointOne) (breaks 6)
     -- a capacity of 4,097 accepted

@@ -1,5 +1,6 @@
 -- A witness for a clause of an operator's condition: a sound table and an operator that fails in this clause alone, is
--- refused with 8, and, carried out all the same, leaves a table that the check refuses.
+-- refused with 8, and, carried out all the same, leaves a table that the check refuses (`breaks`), or a sound one, but
+-- its inverse is undone by another operator (`strays`).
 use Prim.Native.Nat.{ℕ}
 use mathlib.Core.Path.{_≡_}
 use mathlib.Core.Bool.{Bool}

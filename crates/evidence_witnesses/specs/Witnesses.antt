@@ -1,4 +1,4 @@
--- No clause of the operators' conditions can be dropped: a witness for each, one list under one theorem, by
+-- No clause of the operators' conditions but one can be dropped: a witness for each, one list under one theorem, by
 -- computation. Dropping a clause lets an unsound table through, but for one: mef's "h1 = h2" in the ways 2 and 3 keeps
 -- the inverse of the inverse exact. Of kvsf's "one face" there is no witness, since on a sound table it follows from
 -- the other two clauses (`Needless`).

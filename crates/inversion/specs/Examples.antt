@@ -1,9 +1,9 @@
 -- The take-down computed beyond example e of document 01 (which crate evidence_cases has): a table whose edge 1 is a
--- bridge between two handles, so that the least crossed k is not the least k; a table that takes every kind of turn;
--- two solids. And full tables: a torus of two edges with no number free: 10, with a start beyond the log 1; its holes
--- counted; one table for each kind of number that can lack, behind a step that is taken back, so that the table stays
--- and in front of the log's start stands what was logged; a byte less of log, which is told first; and two that come
--- down, one of which frees in time what it calls for.
+-- bridge between two handles, so that the least crossed k is not the least k; a table that takes every other kind of
+-- turn; two solids. And full tables: a torus of two edges with no number free: 10, with a start beyond the log 1; its
+-- holes counted; one table for each kind of number that can lack, behind a step that is taken back, so that the table
+-- stays and in front of the log's start stands what was logged; a byte less of log, which is told first; and two that
+-- come down, one of which frees in time what it calls for.
 use Prim.Native.Nat.{ℕ, _*_}
 use mathlib.Core.Path.{_≡_, refl}
 use mathlib.Core.List.{List, [], _∷_, _++_}
@@ -69,8 +69,8 @@ scriptBridge =
     1 ∷ 1 ∷ 1 ∷ 1 ∷ 1 ∷ 20 ∷ 0 ∷ 0 ∷ 5 ∷ 1 ∷ 0 ∷ 0 ∷ 5 ∷ 2 ∷ 2 ∷ 1 ∷ 9 ∷ 1 ∷ 2 ∷ 8 ∷ 1 ∷ 10 ∷ 2 ∷ 9 ∷ 4 ∷ 0 ∷ 3 ∷ 1 ∷ 7
     ∷ 1 ∷ 2 ∷ 0 ∷ 40 ∷ 0 ∷ 0 ∷ 5 ∷ 1 ∷ 2 ∷ 2 ∷ 3 ∷ 2 ∷ 2 ∷ 1 ∷ 9 ∷ 1 ∷ 2 ∷ 8 ∷ 1 ∷ 6 ∷ 2 ∷ 5 ∷ 2 ∷ 0 ∷ []
 
--- ---- all kinds of turn: rmov 1 3 (the swap), rmov 3 2, kef 6; kemr 1 1, mfkrh 1 1 0 (a face below the root, 2), kef
--- 3; mekr 2 0 3 0 1 0, kev 1; kvsf 1
+-- ---- all kinds of turn but kev of a spur, which the bridge has: rmov 1 3 (the swap), rmov 3 2, kef 6; kemr 1 1,
+-- mfkrh 1 1 0 (a face below the root, 2), kef 3; mekr 2 0 3 0 1 0, kev 1; kvsf 1
 
 abbrev linksAll : List ℕ
 linksAll =

@@ -34,7 +34,7 @@ pub record Ready (sh : Shape) (x : List ℕ) : Type 0 where
   pub edge : freeEdge sh x ≢ 0
   pub loop : (freeLoop sh x ≢ 0) ⊎ RingAt sh x
 
--- the sum that pays for the operators: v + loops + stray loops, less solids; a hole is worth three
+-- the sum that pays for the operators: v + loops + stray loops (`Change` takes the solids off and adds 3 for a hole)
 abbrev pub worth : Shape → List ℕ → ℕ
 worth sh x = vertices sh x + loops sh x + strays sh x
 

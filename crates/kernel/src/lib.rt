@@ -1,6 +1,6 @@
 // The kernel as its users meet it: every entry point, in the order in which they need it. Each takes any bytes
-// whatever, checks for itself, and answers a refusal by document 01's number; none asks anything of its caller. For C
-// they are in include/zoghvari.h.
+// whatever, checks for itself, and answers a refusal by its number in document 01 or 02; none asks anything of its
+// caller. For C they are in include/zoghvari.h.
 ghost use mathlib.Core.Path.{_≡_};
 ghost use Rattle.codec.specs.Operands.{widest};
 ghost use Rattle.script.specs.Operator.{readOperator, writeOperator, written};
@@ -169,10 +169,10 @@ pub extern "C" fn zoghvari_invert(
     r.answer
 }
 
-// Writes solid s of a sound table at the front of `out` as Wavefront OBJ text, its faces seen from outside
-// counterclockwise: refusal 1, or 2 with the rule; 5 for no number of a solid, 6 for a free one, 12 where a face has a
-// ring, a lone loop or under three sides, 13 where the text does not fit; or 0. The text's length is answered with 0
-// and with 13. `out` is left as it is by a refusal, and behind the text.
+// Writes solid s of a sound table at the front of `out` as Wavefront OBJ text, each loop backwards: a loop that is
+// clockwise seen from outside comes out counterclockwise. Refusal 1, or 2 with the rule; 5 for no number of a solid, 6
+// for a free one, 12 where a face has a ring, a lone loop or under three sides, 13 where the text does not fit; or 0.
+// The text's length is answered with 0 and with 13. `out` is left as it is by a refusal, and behind the text.
 #[no_mangle]
 pub extern "C" fn zoghvari_obj(
     links: &[u16],

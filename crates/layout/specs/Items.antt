@@ -25,6 +25,6 @@ halfUsed sh x k = some (startOf sh x k)
 abbrev pub faceIn : Shape → List ℕ → ℕ → ℕ
 faceIn sh x s = least (sh .faces) (λ f. eqb (faceSolid sh x f) s)
 
--- a ring: a loop that is not its face's outer loop
+-- a ring: a loop that is not its face's outer loop (asked of a loop in use; of a free one it says true)
 abbrev pub isRing : Shape → List ℕ → ℕ → Bool
 isRing sh x l = not (eqb (faceOuter sh x (loopFace sh x l)) l)

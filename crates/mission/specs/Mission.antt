@@ -10,16 +10,15 @@
 -- A contract says: for every input the answer, and every word, coordinate and byte that the call leaves, are the
 -- definition's. So what is said here of a definition is said of the call, and what is said of a list of acts
 -- (`Act`, `doAll` of crate `machine`: one act for each entry point) is said of these calls one after the other.
--- The calls that write no redo log are handed its length as a number: run and take-down; clearing is handed the lengths
--- of both logs so. Such a call is what the definition says for the numbers handed in. The statements about lists of
--- calls (`Editing`, `Act`) hand in the logs' own lengths; a caller who hands in another number is the "outside hand"
--- that they exclude.
+-- Run and take-down are handed the redo log's length as a number, clearing the lengths of both logs. Such a call is
+-- what the definition says for the numbers handed in. The statements about lists of calls (`Editing`, `Act`) hand in
+-- the logs' own lengths; a caller who hands in another number is the "outside hand" that they exclude.
 -- In quotes: documents 00 and 01; where it is document 02, it says so.
 use mathlib.Core.Path.{_≡_}
 use mathlib.Core.Logic.{_≢_}
 use mathlib.Core.Bool.{true, false, _&&_}
 use mathlib.Core.List.{List, [], _∷_, _++_}
-use Prim.Native.Nat.{ℕ, _+_, _-_, _≤_, _<_}
+use Prim.Native.Nat.{ℕ, _+_, _-_, _*_, _≤_, _<_}
 use lib.IntN.{ℤ}
 use lib.ListN.{length, getD, take, drop}
 use Rattle.laws.specs.Bools.{pick}
@@ -61,7 +60,7 @@ use Rattle.promises.specs.Promises.{undoAll, Restored, RedoRoom}
 use Rattle.promises.specs.Redo.{LetIn, Returned, undoRead, redoRead, UndoRedone, RedoUndone}
 use Rattle.promises.specs.Sessions.{Empties, Starts, LooksAtRedo, undoEntry, redoEntry, notUndone, notRedone}
 use Rattle.promises.specs.Padded.{shortUsed, shortSource}
-use Rattle.promises.specs.ShortLog.{live}
+use Rattle.promises.specs.ShortLog.{live, written}
 use Rattle.machine.specs.Machine.{Act, behind, onlyRuns}
 use Rattle.machine.specs.Acts.{scriptsOf, ActsUndone}
 use Rattle.inversion.specs.Promise.{clearLinks, clearPoints, InversionExact, TenExactly, RefusedAsBefore, LogEnough}
@@ -172,10 +171,13 @@ pub record Demand2 : Type 0 where
       → drop at s ≡ form g n ++ q → readNumber s at ≡ Got n (at + g)
   pub read-form : (s : List ℕ) (at n k : ℕ) → Bytes s → readNumber s at ≡ Got n k
       → (g : ℕ) × (k ≡ at + g) × (length (groups n) ≤ g) × (g ≤ 3) × (drop at s ≡ form g n ++ drop k s)
-  -- the same: "writing keeps the shortest". An operator that is written in front of shortest bytes leaves them so, and
-  -- runs do the log's live part
+  -- the same: "writing keeps the shortest". An operator that is written in front of shortest bytes leaves them so; what
+  -- runs write into the log is shortest, whatever it held (`written`: live now, and in front of the old start); so a
+  -- live part that was shortest stays so
   pub operator-shortest : (o : Operator) → Writable o → (q : List ℕ) → shortest q ≡ true
       → shortest (operatorBytes o ++ q) ≡ true
+  pub runs-written : (t : State) (ss : List (List ℕ)) → Passes (t .links) (t .points)
+      → shortest (written t (runAll t ss .last)) ≡ true
   pub log-shortest : (t : State) (ss : List (List ℕ)) → Passes (t .links) (t .points) → shortest (live t) ≡ true
       → shortest (live (runAll t ss .last)) ≡ true
   -- the same: "Refusal 3 then covers only cut-off and too-long numbers". An operator is refused so, whatever its
@@ -299,7 +301,8 @@ pub record Requests : Type 0 where
   pub move-carried : (source : List ℕ) (from : ℕ) (t : State) (n : ℕ) → moveEntry source from t .refusal ≡ 0
       → let m = moveOf source from t n in
       Moves (shapeOf (t .links)) source (m .answer .refusal) (m .answer .from) (movedTo m) n (m .answer .done) from t
-  -- "clearing, or an operator done by any call but these two, empties it" (`Empties`), and nothing else does
+  -- "clearing, or an operator done by any call but these two, empties it" (`Empties`); a run or a take-down that does
+  -- none leaves its start
   pub redo-emptied : (e : Editing) → Empties e
   -- "The editor lends one session record, … and the kernel updates that record": the log's start, which run, undo and
   -- take-down answer too
@@ -307,7 +310,7 @@ pub record Requests : Type 0 where
   -- "Undoing n and redoing as many as were undone must return table, session and live log bytes exactly, when no other
   -- call and no outside hand on table, session or logs comes between and the log is in shortest form." (`UndoRedone`:
   -- every byte of the log.) For any n and whatever undo answers; only what undo read need be in shortest form, and what
-  -- runs and redo log always is (`log-shortest`, `move-shortest`). `LetIn`: a sound table, neither start beyond its log
+  -- runs and redo log is (`runs-written`, `move-written`). `LetIn`: a sound table, neither start beyond its log
   pub undo-redo : (e : Editing) (n : ℕ) → LetIn e → Bytes (e .log) → shortest (undoRead e n) ≡ true → UndoRedone e n
   -- and the other way round
   pub redo-undo : (e : Editing) (n : ℕ) → LetIn e → Bytes (e .redo) → shortest (redoRead e n) ≡ true → RedoUndone e n
@@ -315,6 +318,9 @@ pub record Requests : Type 0 where
   pub undo-redo-less : (e : Editing) (m n : ℕ) → LetIn e → m ≤ n → undoIn e n .answer .answer .refusal ≡ 0
       → Bytes (e .log) → shortest (live (logState e)) ≡ true
       → Returned (undoneFrom e (n - m)) (redoneFrom (undoneFrom e n) m)
+  -- what undo writes into the redo log, and redo into the log, is shortest, whatever it held
+  pub move-written : (source : List ℕ) (from : ℕ) (t : State) (n : ℕ) → Passes (t .links) (t .points)
+      → shortest (written t (movedTo (moveOf source from t n))) ≡ true
   pub move-shortest : (source : List ℕ) (from : ℕ) (t : State) (n : ℕ) → Passes (t .links) (t .points)
       → shortest (live t) ≡ true → shortest (live (movedTo (moveOf source from t n))) ≡ true
   -- "Redo past its log's end gives 11; it and undo alone give 1 for a redo start beyond that log." (`LooksAtRedo`)
@@ -329,6 +335,10 @@ pub record Requests : Type 0 where
       → undoAll e ss .answer .answer .refusal ≡ 9
   pub used-room : (e : Editing) (ss : List (List ℕ)) → Passes (e .links) (e .points)
       → editAll e ss .last .session .redo ≤ length (e .redo) → usedAll (logState e) ss ≤ length (e .redo)
+      → RedoRoom e ss
+  -- and so are 19 bytes for each operator done
+  pub nineteen-room : (e : Editing) (ss : List (List ℕ)) → Passes (e .links) (e .points)
+      → editAll e ss .last .session .redo ≤ length (e .redo) → 19 * editAll e ss .done ≤ length (e .redo)
       → RedoRoom e ss
   -- the start that undo meets is within the redo log where a run has done an operator, whatever the first session held,
   -- and where the first start was within it

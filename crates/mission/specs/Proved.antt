@@ -20,11 +20,12 @@ use Rattle.promises.specs.Carried.{step-refusal, run-carried, refused-apart}
 use Rattle.promises.specs.Moves.{move-sound}
 use Rattle.promises.specs.MoveParts.{move-apart}
 use Rattle.promises.specs.MoveSteps.{move-carried}
-use Rattle.promises.specs.Promises.{undo-exact, undo-full, used-room, redo-met, runs-sound}
+use Rattle.promises.specs.Promises.{undo-exact, undo-full, used-room, nineteen-room, redo-met}
+use Rattle.promises.specs.Promises.{runs-sound}
 use Rattle.promises.specs.Redo.{undo-redo, redo-undo, undo-redo-less}
 use Rattle.promises.specs.Sessions.{redo-emptied, starts-answered, redo-ended, redo-beyond, undo-out, redo-out}
 use Rattle.promises.specs.Padded.{padded-run, padded-move}
-use Rattle.promises.specs.ShortLog.{log-shortest, move-shortest}
+use Rattle.promises.specs.ShortLog.{runs-written, log-shortest, move-written, move-shortest}
 use Rattle.machine.specs.Acts.{undo-acts}
 use Rattle.inversion.specs.Theorem.{inversion-exact, ten-exactly, refused-as-before, log-enough, spare-never-ten}
 use Rattle.inversion.specs.Theorem.{invert-answers, spare-exact, invert-out, holes-one, count-holes}
@@ -84,6 +85,7 @@ demand-2 = record {
   form-read = form-read;
   read-form = read-form;
   operator-shortest = operator-shortest;
+  runs-written = runs-written;
   log-shortest = log-shortest;
   refused-3 = refused-3;
   cut-refused = cut-refused;
@@ -130,11 +132,13 @@ requested = record {
   undo-redo = undo-redo;
   redo-undo = redo-undo;
   undo-redo-less = undo-redo-less;
+  move-written = move-written;
   move-shortest = move-shortest;
   redo-ended = redo-ended;
   redo-beyond = redo-beyond;
   undo-full = undo-full;
   used-room = used-room;
+  nineteen-room = nineteen-room;
   redo-met = redo-met;
   invert-answers = invert-answers;
   ten-exactly = ten-exactly;

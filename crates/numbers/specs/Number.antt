@@ -30,7 +30,7 @@ unfoldable pub readNumber : List ℕ → ℕ → Num
 unfolding first
 readNumber s at = first at (drop at s)
 
--- the bytes of a number below 2 ^ 21 (of a larger one, those of its lowest 21 bits)
+-- the bytes of a number below 2 ^ 21, in the fewest groups (of a larger one, three groups of its lowest 21 bits)
 unfoldable pub groups : ℕ → List ℕ
 groups n =
     pick (ltb n 128) (n ∷ [])

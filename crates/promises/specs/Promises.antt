@@ -6,7 +6,7 @@
 use mathlib.Core.Path.{_≡_, refl, sym, ap, _∙_, subst}
 use mathlib.Core.Logic.{⊎-elim}
 use mathlib.Core.List.{List, [], _∷_, _++_}
-use Prim.Native.Nat.{ℕ, _+_, _-_, _≤_, _<_}
+use Prim.Native.Nat.{ℕ, _+_, _-_, _*_, _≤_, _<_}
 use native.Mathlib.Nat.{zero-add}
 use native.Mathlib.Omega.{arith}
 use lib.Dec.{eqb}
@@ -27,7 +27,7 @@ use Rattle.promises.specs.RunAll.{runAll}
 use Rattle.promises.specs.Checked.{checked-good, good-checked}
 use Rattle.promises.specs.Logging.{below, below-live}
 use Rattle.promises.specs.OtherLog.{withLog, Same, same-run}
-use Rattle.promises.specs.Trail.{trail-none, Gone, gone-none, gone-length, gone-rest}
+use Rattle.promises.specs.Trail.{trail-none, trail-size, Gone, gone-none, gone-length, gone-rest}
 use Rattle.promises.specs.Moves.{gone-back, gone-full}
 use Rattle.promises.specs.Edits.{editAll, emptiedBy, edited, doneScript, gone-all, usedAll}
 use Rattle.promises.specs.Edits.{room-by-used}
@@ -236,6 +236,27 @@ module _ (e : Editing) (ss : List (List ℕ)) (sound : checkOf (e .links) (e .po
             (λ d.
             let f : ran .session .redo ≡ length (e .redo) = r .start ∙ rw (eqb-other d) in
             omega (arith, f, k, room-by-used (logState e) ss));
+      }
+
+  -- the operators done take at most 19 bytes each
+  script-size : length script ≤ 19 * runAll (logState e) ss .done
+  script-size =
+      ⊎-elim (λ h. trail-size (all-gone (logState e) ss sound h .trail)) (λ h. rw (none-done h) (omega arith))
+      (le? (e .session .log) (length (e .log)))
+
+  -- SO ARE 19 BYTES FOR EACH OPERATOR DONE
+  pub nineteen-room : ran .session .redo ≤ length (e .redo) → 19 * editAll e ss .done ≤ length (e .redo)
+      → RedoRoom e ss
+  nineteen-room h k =
+      let n = runAll (logState e) ss .done in
+      let r = edited e ss in
+      record {
+        fits = h;
+        room = split n 0
+            (λ z. rw (none-written z) (omega arith))
+            (λ d.
+            let f : ran .session .redo ≡ length (e .redo) = r .start ∙ rw (eqb-other d) in
+            omega (arith, f, k, r .done, script-size));
       }
 
   -- undo leaves the first table and the first start; only the log's bytes below it may be others

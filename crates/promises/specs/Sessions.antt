@@ -23,7 +23,8 @@ use Rattle.promises.specs.Checked.{checked-good}
 use Rattle.promises.specs.Moves.{good-move}
 use Rattle.promises.specs.Redo.{LetIn}
 
--- "clearing, or an operator done by any call but these two, empties it": and nothing else does
+-- "clearing, or an operator done by any call but these two, empties it"; a run or take-down that does none leaves its
+-- start
 pub record Empties (e : Editing) : Type 0 where
   -- clearing starts both logs at their ends
   pub cleared : (s f l d v : ℕ) → clearIn e s f l d v .answer .answer .refusal ≡ 0

@@ -5,7 +5,7 @@ use mathlib.Core.Path.{_≡_, refl, sym, ap, _∙_, subst}
 use mathlib.Core.Logic.{⊎-elim}
 use mathlib.Core.Bool.{true}
 use mathlib.Core.List.{List, [], _++_, append-assoc, append-nil}
-use Prim.Native.Nat.{ℕ, zero, suc, _+_, _-_, _≤_, _<_}
+use Prim.Native.Nat.{ℕ, zero, suc, _+_, _-_, _*_, _≤_, _<_}
 use native.Mathlib.Nat.{add-zero}
 use native.Mathlib.Omega.{arith}
 use lib.Dec.{eqb, ltb}
@@ -45,6 +45,14 @@ pub data Trail (sh : Shape) (x₀ : List ℕ) (p₀ : List ℤ) : ℕ → List �
 pub trail-none : {sh : Shape} {x₀ : List ℕ} {p₀ : List ℤ} {w q x : List ℕ} {p : List ℤ} → Trail sh x₀ p₀ 0 w q x p
     → w ≡ []
 trail-none (none ew eq ex ep) = ew
+
+-- each operator has at most 19 bytes
+pub trail-size : {sh : Shape} {x₀ : List ℕ} {p₀ : List ℤ} {n : ℕ} {w q x : List ℕ} {p : List ℤ}
+    → Trail sh x₀ p₀ n w q x p → length w ≤ 19 * n
+trail-size (none ew eq ex ep) = rw ew (omega arith)
+trail-size {sh} (more o v r y k t g len acc ew eq ex ep) =
+    let i = operator-size o (range-writable (good-within g) o len (accepted sh y o acc)) in
+    omega (arith, ap length ew, length-append v (operatorBytes o), trail-size t, i .1)
 
 -- ---- back
 

@@ -120,7 +120,8 @@ ran refusal done used t =
     leaves (record { refusal = refusal; rule = 0; done = done; used = used; start = t .start }) (t .links) (t .points)
     (t .log)
 
--- from a place of the script on, `done` operators done; at most n more, since each takes a byte
+-- from a place of the script on, `done` operators done; at most n more (a run has the script's length for n, which is
+-- enough, since each takes a byte; undo and redo have the number asked for)
 unfoldable pub runFrom : ℕ → Shape → List ℕ → ℕ → ℕ → State → Ran
 runFrom zero sh s at done t = ran 0 done at t
 runFrom (suc n) sh s at done t =

@@ -1,4 +1,4 @@
-// The way into a run, an undo and their operators: who is let in, and the ranges that the table's operands have.
+// The way into a run and into a move of operators, and the ranges that the table's operands have.
 ghost use mathlib.Core.Path.{_≡_};
 ghost use Rattle.codec.specs.Operands.{largests};
 ghost use Rattle.euler.specs.Exec.{limits};
@@ -10,7 +10,8 @@ use layout::shape::Shape;
 use table::check::CheckAnswer;
 use table::check::check;
 
-// May a run or an undo begin? 1 for a start beyond the log, else what the table's check answers.
+// May operators be carried out, with their inverses in this log? 1 for a start beyond the log, else what the table's
+// check answers. (Undo and redo test the start in the other log, from which they read, before that.)
 pub fn enter(links: &[u16], points: &[i32], log: &[u8], start: usize) -> CheckAnswer
     ensures { λ r. ⌜ r ≡ entry (state (now (links .entry)) (now (points .entry)) (now (log .entry)) start) ⌝ }
 {

@@ -1,4 +1,4 @@
-// Running a script with its inverse log, and undo: their definitions and answers, and the way in. The code of a run and
-// an undo rests on what is known of sound tables, and stands above that.
+// Running a script with its inverse log, and moving operators from log to log, as undo and redo do: the definitions,
+// the answers, and the way in. The code rests on what is known of sound tables, and stands above that.
 pub mod answers;
 pub mod enter;

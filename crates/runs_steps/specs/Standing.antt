@@ -1,5 +1,5 @@
--- What a run and an undo stand on from one operator to the next: the table is good, and the numbers of loops beside it
--- are right. Both begin with the check and the count, and each operator that is carried out keeps them.
+-- What a run, an undo and a redo stand on from one operator to the next: the table is good, and the numbers of loops
+-- beside it are right. Each begins with the check and the count, and each operator that is carried out keeps them.
 use mathlib.Core.Path.{_≡_, sym, _∙_}
 use mathlib.Core.List.{List}
 use Prim.Native.Nat.{ℕ}

@@ -1,5 +1,5 @@
--- What an accepted operator says of the bytes: the code, the numbers behind it, their ranges. From it: reading goes
--- forward and stays within the script, and an operator read within the limits of a table is the one read without.
+-- What an accepted operator says of the bytes: the code, the numbers after it, their ranges; and that such bytes are
+-- accepted. From it `RoundTrip` has that reading goes forward and stays within the script.
 use mathlib.Core.Path.{_≡_, refl}
 use mathlib.Core.Logic.{⊎-elim}
 use Prim.Native.Nat.{ℕ, _<_}

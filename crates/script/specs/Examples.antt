@@ -72,6 +72,13 @@ examples =
     -- mvsf s f l v x y z
     ∷ accepts (1 ∷ 1 ∷ 2 ∷ 3 ∷ 4 ∷ 10 ∷ 11 ∷ 14 ∷ [])
     (operator 1 7 (pos 1 ∷ pos 2 ∷ pos 3 ∷ pos 4 ∷ pos 5 ∷ negsuc 5 ∷ pos 7 ∷ pos 0 ∷ []))
+    -- the greatest number of each kind that mvsf makes, and one more of each
+    ∷ accepts (1 ∷ 128 ∷ 32 ∷ 128 ∷ 32 ∷ 128 ∷ 32 ∷ 128 ∷ 32 ∷ 0 ∷ 0 ∷ 0 ∷ [])
+    (operator 1 7 (pos 4096 ∷ pos 4096 ∷ pos 4096 ∷ pos 4096 ∷ pos 0 ∷ pos 0 ∷ pos 0 ∷ pos 0 ∷ []))
+    ∷ refuses (1 ∷ 129 ∷ 32 ∷ 1 ∷ 1 ∷ 1 ∷ 0 ∷ 0 ∷ 0 ∷ []) 5
+    ∷ refuses (1 ∷ 1 ∷ 129 ∷ 32 ∷ 1 ∷ 1 ∷ 0 ∷ 0 ∷ 0 ∷ []) 5
+    ∷ refuses (1 ∷ 1 ∷ 1 ∷ 129 ∷ 32 ∷ 1 ∷ 0 ∷ 0 ∷ 0 ∷ []) 5
+    ∷ refuses (1 ∷ 1 ∷ 1 ∷ 1 ∷ 129 ∷ 32 ∷ 0 ∷ 0 ∷ 0 ∷ []) 5
     -- kvsf s
     ∷ accepts (2 ∷ 1 ∷ [])
     (operator 2 1 (pos 1 ∷ pos 0 ∷ pos 0 ∷ pos 0 ∷ pos 0 ∷ pos 0 ∷ pos 0 ∷ pos 0 ∷ []))

@@ -1,5 +1,5 @@
--- mekr and kemr: a good table stays good, and each undoes the other to the word. The crate's two theorems, `mekr-holds`
--- and `kemr-holds`, stand at the end.
+-- mekr and kemr, vertex words read as marks (`Marked`): a marked table stays marked, and each undoes the other to the
+-- word. The crate's two theorems, `mekr-holds` and `kemr-holds`, stand at the end.
 use mathlib.Core.Path.{_≡_, refl, sym, ap, _∙_, subst}
 use mathlib.Core.Logic.{_≢_, inl, inr, ⊎-elim}
 use mathlib.Core.List.{List}
@@ -105,7 +105,7 @@ module _ {sh : Shape} {x : List ℕ} {p : List ℤ} (g : Marked sh x p) {l h1 l2
         keeps = g .sound .rules .loops .keeps;
       }
 
-  -- the table stays good
+  -- the table stays marked
   pub mekr-kept : Kept sh x p (mekrOf l h1 l2 h2 e w)
   mekr-kept = rw (mekr-links sh x (g .capacities) r k hk, mekr-points sh x (g .capacities) r p) (mekr-good g mekr-ends)
 
@@ -125,7 +125,7 @@ module _ {sh : Shape} {x : List ℕ} {p : List ℤ} (g : Marked sh x p) {l h1 l2
   s : Shows sh y d
   s = mekr-shows g mekr-ends
 
-  -- and is good
+  -- and is marked
   gy : Marked sh y p
   gy = mekr-good g mekr-ends
 
@@ -220,11 +220,11 @@ module _ {sh : Shape} {x : List ℕ} {p : List ℤ} (g : Marked sh x p) {k l2 : 
   sₖ : Shows sh yₖ cₖ
   sₖ = kemr-shows g o
 
-  -- and is good
+  -- and is marked
   gₖ : Marked sh yₖ p
   gₖ = kemr-good g o
 
-  -- the table stays good
+  -- the table stays marked
   kemr-kept : Kept sh x p (kemrOf k l2)
   kemr-kept = rw (kemr-links sh x (g .capacities) o, kemr-points sh x (g .capacities) o p) gₖ
 

@@ -1,4 +1,4 @@
--- kemr on the list: what it leaves shows the columns without the bridge, so a good table stays good.
+-- kemr on the list: what it leaves shows the columns without the bridge, so a marked table stays marked.
 use mathlib.Core.Path.{_≡_, refl, sym, ap, _∙_}
 use mathlib.Core.Logic.{_≢_, _⊎_, inl, inr, ⊎-elim}
 use mathlib.Core.List.{List}
@@ -118,6 +118,6 @@ module _ {sh : Shape} {x : List ℕ} {p : List ℤ} (g : Marked sh x p) {k l2 : 
       let s2 = renewed (corner2 B) cut-shows cy (λ i. refl) at-2 ring-in in-2 (off-a b) (inl refl) in
       renewed (corner1 B) s2 cy (λ i. refl) at-1 loop-in in-1 (off-k b) (inr refl)
 
-  -- the table is good afterwards
+  -- the table is marked afterwards
   pub kemr-good : Marked sh (kemrList sh x k l2) p
   kemr-good = marked-after g kemr-shows (λ i. sym (b .others Capacity refl i)) refl kemr-sound

@@ -1,5 +1,5 @@
--- mekr on the list: what it leaves shows the columns with the bridge, so a good table stays good. The walk that gives
--- the ring its new loop meets the ring's half-edges and no others.
+-- mekr on the list: what it leaves shows the columns with the bridge, so a marked table stays marked. The walk that
+-- gives the ring its new loop meets the ring's half-edges and no others.
 use mathlib.Core.Path.{_≡_, refl, sym, ap, _∙_, subst}
 use mathlib.Core.Logic.{_≢_, ⊎-elim}
 use mathlib.Core.List.{List, [], _∷_}
@@ -171,6 +171,6 @@ module _ {sh : Shape} {x : List ℕ} {p : List ℤ} (g : Marked sh x p) {B : Bri
       l low k 0 loop-in cycles (new-k b) (b .loop-k)
       (named-used mekr-sound (loop-in .0)) from
 
-  -- the table is good afterwards
+  -- the table is marked afterwards
   pub mekr-good : Marked sh (mekrList sh x B) p
   mekr-good = marked-after g mekr-shows (λ i. refl) refl mekr-sound

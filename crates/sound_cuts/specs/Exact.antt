@@ -1,5 +1,6 @@
--- mef and kef as a pair: on a good table each leaves a good one, and each gives back what the other did. For kef that
--- is said of the operator here; for mef, whose operands say where the edge goes, in `MefHolds`.
+-- mef and kef as a pair, vertex words read as marks (`Marked` of crate sound_tables): on a marked table each leaves a
+-- marked one, and each gives back what the other did. For kef that is said of the operator here; for mef, whose
+-- operands say where the edge goes, in `MefHolds`.
 use mathlib.Core.Path.{_≡_, refl, sym, _∙_, subst}
 use mathlib.Core.Bool.{true}
 use mathlib.Core.List.{List}
@@ -40,7 +41,7 @@ module _ {sh : Shape} {x : List ℕ} {p : List ℤ} (g : Marked sh x p) {d : Col
   y-shows : Shows sh y d
   y-shows = cut-shows k t (marked-shows g) (g .sound)
 
-  -- a good table stays good
+  -- a marked table stays marked
   pub mef-kept : Kept sh x p (mefAt q)
   mef-kept =
       rw (mef-links k t (marked-shows g) (g .capacities) (g .sound), mef-points sh x p q)
@@ -72,7 +73,7 @@ module _ {sh : Shape} {y : List ℕ} {p : List ℤ} (g : Marked sh y p) {c : Col
   x-shows : Shows sh x c
   x-shows = mend-shows k s (g .sound) (marked-shows g)
 
-  -- a good table stays good
+  -- a marked table stays marked
   pub kef-kept : Kept sh y p (kefOf (q .b))
   kef-kept = rw (kef-links k s (g .sound) (marked-shows g) (g .capacities), kef-points sh y p (q .b))
       (marked-after g x-shows (λ n. sym (k .others Capacity refl n)) refl s)

@@ -181,7 +181,7 @@ module _ {sh : Shape} {x : List ℕ} {p : List ℤ} (g : Marked sh x p) (k : ℕ
     points = λ q. kef-points sh x q k;
   }
 
--- for every good table and every kef that it accepts
+-- for every marked table and every kef that it accepts
 pub kef-in-place : {sh : Shape} {x : List ℕ} {p : List ℤ} → Marked sh x p → (k : ℕ) → refusalOf sh x (kefOf k) ≡ 0
     → KefInPlace sh x k
 kef-in-place {sh} {x} g k h =

@@ -1,5 +1,5 @@
--- mef as an operator: a good table stays good, and its inverse gives everything back. Here the operands (two corners
--- of a loop and a way) are turned into how the edge stands (`Choice`).
+-- mef as an operator: a marked table stays marked, and its inverse gives everything back. Here the operands (two
+-- corners of a loop and a way) are turned into how the edge stands (`Choice`).
 use mathlib.Core.Path.{_≡_, refl, sym, ap, _∙_, subst}
 use mathlib.Core.Logic.{_≢_, _⊎_, inl, inr, ⊎-elim}
 use mathlib.Core.Bool.{Bool, true, false, not, _&&_}

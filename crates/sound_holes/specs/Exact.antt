@@ -1,4 +1,5 @@
--- The pair kfmrh and mfkrh: a good table stays good, and each undoes the other to the word.
+-- The pair kfmrh and mfkrh, vertex words read as marks (`Marked`): a marked table stays marked, and each undoes the
+-- other to the word.
 use mathlib.Core.Path.{_≡_, refl, sym, ap, _∙_, subst}
 use mathlib.Core.Logic.{inl, inr, ⊎-elim}
 use mathlib.Core.Bool.{true, false, false≢true}
@@ -55,7 +56,7 @@ module _ {sh : Shape} {x : List ℕ} {p : List ℤ} (g : Marked sh x p) {l f f�
   y-shows : Shows sh y (cut (own sh x) l f s₀ s (movedTo sh x l f s₀ s))
   y-shows = mfkrh-shows (g .sound) (g .capacities) r u (marked-shows g) (old-solid (g .sound) r .1)
 
-  -- and is good
+  -- and is marked
   y-good : Marked sh y p
   y-good = marked-after g y-shows (λ n. refl) refl (cut-sound (g .sound) r what-moves)
 
@@ -70,7 +71,7 @@ module _ {sh : Shape} {x : List ℕ} {p : List ℤ} (g : Marked sh x p) {l f f�
       ∙ shows-ext (shows-joined y-shows f₀ f l s₀ s (r .face-in) (r .loop-in) (old-solid (g .sound) r .0)
       (what-moves .solid-in)) (marked-shows g) (cut-joined (g .sound) r what-moves)
 
-  -- a good table stays good, and kfmrh gives everything back
+  -- a marked table stays marked, and kfmrh gives everything back
   pub mfkrh-exact : Kept sh x p op × Undone sh x p op
   mfkrh-exact =
       let caps = g .capacities in
@@ -95,7 +96,7 @@ module _ {sh : Shape} {x : List ℕ} {p : List ℤ} (g : Marked sh x p) {f1 f2 l
   yk-shows = shows-joined (marked-shows g) f1 f2 l s1 s2 (r .second-in) (ring-in (g .sound) r)
       (first-marked (g .sound) r .0) (second-marked (g .sound) r .0)
 
-  -- and is good
+  -- and is marked
   yk-good : Marked sh yk p
   yk-good = marked-after g yk-shows (λ n. refl) refl (joined-sound (g .sound) r)
 
@@ -185,7 +186,7 @@ module _ {sh : Shape} {x : List ℕ} {p : List ℤ} (g : Marked sh x p) {f1 f2 l
   joined-back = shows-ext (mfkrh-shows (yk-good .sound) (g .capacities) yk-ring yk-outcome yk-shows (upd-same _ s1 1))
       (marked-shows g) (joined-cut (g .sound) r (movedTo sh yk l f2 s1 s2) moved-second unmoved)
 
-  -- a good table stays good, and mfkrh gives everything back
+  -- a marked table stays marked, and mfkrh gives everything back
   pub kfmrh-exact : Kept sh x p (kfmrhOf f1 f2) × Undone sh x p (kfmrhOf f1 f2)
   kfmrh-exact =
       let caps = g .capacities in

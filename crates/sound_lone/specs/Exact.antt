@@ -1,5 +1,6 @@
--- The pair mvsf and kvsf: a good table stays good, and each undoes the other to the word. Both are `placed` on the
--- columns; going there and back is `place-back`, one lemma for both ways.
+-- The pair mvsf and kvsf, vertex words read as marks (`Marked`): a marked table stays marked, and each undoes the other
+-- to the word, kvsf where the word of the vertex that it kills is 1. Both are `placed` on the columns; going there and
+-- back is `place-back`, one lemma for both ways.
 use mathlib.Core.Path.{_≡_, refl, sym, ap, _∙_, subst}
 use mathlib.Core.Logic.{_≢_, inl, inr}
 use mathlib.Core.List.{List}
@@ -61,7 +62,7 @@ module _ {sh : Shape} {x : List ℕ} {p : List ℤ} (g : Marked sh x p) {s f l v
   y-shows : Shows sh y d
   y-shows = shows-placed (marked-shows g) s f l v 1 s l f v (r .solid-in) (r .face-in) (r .loop-in) (r .vertex-in)
 
-  -- list and points are good
+  -- list and points are marked
   y-good : Marked sh y q
   y-good = marked-after g y-shows (λ n. refl) (put-length p v a b z) (mvsf-sound (g .sound) r
       (points-new sh p (own sh x) d v (g .points) (r .vertex-in) (g .sound .point)
@@ -96,7 +97,7 @@ module _ {sh : Shape} {x : List ℕ} {p : List ℤ} (g : Marked sh x p) {s f l v
   point-at : (i : ℕ) → i < pointWidth → coordinate q v i ≡ three a b z i
   point-at = put-at p v a b z (r .vertex-in .0) (omega (arith, g .points, r .vertex-in .1))
 
-  -- a good table stays good, and kvsf gives everything back
+  -- a marked table stays marked, and kvsf gives everything back
   pub mvsf-exact : Kept sh x p (mvsfOf s f l v a b z) × Undone sh x p (mvsfOf s f l v a b z)
   mvsf-exact =
       let caps = g .capacities in
@@ -134,7 +135,7 @@ module _ {sh : Shape} {x : List ℕ} {p : List ℤ} (g : Marked sh x p) {s f l v
   ky-shows : Shows sh ky kd
   ky-shows = shows-placed (marked-shows g) s f l v 0 0 0 0 0 (o .solid-in) (o .face-in) (o .loop-in) (o .vertex-in)
 
-  -- list and points are good
+  -- list and points are marked
   ky-good : Marked sh ky kq
   ky-good = marked-after g ky-shows (λ n. refl) (put-length p v (pos 0) (pos 0) (pos 0)) (kvsf-sound (g .sound) o
       (points-cleared sh p (own sh x) kd v (g .points) (o .vertex-in) (g .sound .point)
@@ -164,7 +165,7 @@ module _ {sh : Shape} {x : List ℕ} {p : List ℤ} (g : Marked sh x p) {s f l v
       (marked-shows g) (λ F n i j. place-back (own sh x) s f l v 0 0 0 0 0 1 s l f v
       (s-mark, (o .solid, (o .outer, (o .face, (o .first, (o .isolated, (v-mark, tt))))))) F n)
 
-  -- a good table stays good, and mvsf gives everything back
+  -- a marked table stays marked, and mvsf gives everything back
   kvsf-exact : own sh x VertexUsed v ≡ 1 → Kept sh x p (kvsfOf s) × Undone sh x p (kvsfOf s)
   kvsf-exact v-mark =
       let caps = g .capacities in

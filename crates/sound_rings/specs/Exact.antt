@@ -1,4 +1,5 @@
--- rmov, its own inverse: a good table stays good, and the inverse gives every word back.
+-- rmov, its own inverse, vertex words read as marks (`Marked`): a marked table stays marked, and the inverse gives
+-- every word back.
 use mathlib.Core.Path.{_≡_, refl, sym, ap, _∙_, subst}
 use mathlib.Core.Logic.{_≢_, _⊎_, inl, inr, ⊎-elim}
 use mathlib.Core.Bool.{Bool, true, not, _||_}
@@ -193,7 +194,7 @@ module _ {sh : Shape} {x : List ℕ} {p : List ℤ} (g : Marked sh x p) {l f : �
   swap-back : setFaceOuter sh y f l₀ ≡ x
   swap-back = put-back (marked-shows g) Outer f l l₀ (r .face-in .0) (r .face-in .1) refl
 
-  -- a good table stays good, and the inverse gives everything back
+  -- a marked table stays marked, and the inverse gives everything back
   swap-exact : Kept sh x p (rmovOf l f) × Undone sh x p (rmovOf l f)
   swap-exact = exact
       (swap-links sh x l f (g .capacities) r e) (rmov-points sh x l f p) (swap-inverse sh x l f (g .capacities) r p e)
@@ -269,7 +270,7 @@ module _ {sh : Shape} {x : List ℕ} {p : List ℤ} (g : Marked sh x p) {l f k :
   move-back : setLoopFace sh ym l f₀ ≡ x
   move-back = put-back (marked-shows g) Face l f f₀ (r .loop-in .0) (r .loop-in .1) refl
 
-  -- a good table stays good, and the inverse gives everything back
+  -- a marked table stays marked, and the inverse gives everything back
   move-exact : Kept sh x p (rmovOf l f) × Undone sh x p (rmovOf l f)
   move-exact = exact
       (move-links sh x l f (g .capacities) r n) (rmov-points sh x l f p) (move-inverse sh x l f (g .capacities) r p n)
@@ -301,7 +302,7 @@ rmov-either sh x p o Q g swap move len e h =
     } in
     subst Q (sym (k .is)) (⊎-elim (swap (k .m) (k .n) r) (λ a. move (k .m) (k .n) (a .1) r (a .0) (a .2)) (q .1))
 
--- a good table stays good, and the inverse gives everything back
+-- a marked table stays marked, and the inverse gives everything back
 pub rmov-holds : (sh : Shape) (x : List ℕ) (p : List ℤ) (o : Operator) → Marked sh x p → length (o .args) ≡ 8
     → o .code ≡ 13 → refusalOf sh x o ≡ 0 → Kept sh x p o × Undone sh x p o
 rmov-holds sh x p o g = rmov-either sh x p o (λ o. Kept sh x p o × Undone sh x p o) g (λ l f r. swap-exact g r)

@@ -1,5 +1,6 @@
--- The pair semv and jekv: a good table stays good, and each undoes the other to the word. Both are one relation between
--- the columns (`Split`), which each side settles.
+-- The pair semv and jekv, vertex words read as marks (`Marked`): a marked table stays marked, and each undoes the other
+-- to the word, jekv where the word of the vertex that it kills is 1. Both are one relation between the columns
+-- (`Split`), which each side settles.
 use mathlib.Core.Path.{_≡_, refl, sym, ap, _∙_, subst}
 use mathlib.Core.Logic.{inr, ⊎-elim}
 use mathlib.Core.List.{List}
@@ -95,7 +96,7 @@ module _ {sh : Shape} {x : List ℕ} {p : List ℤ} (g : Marked sh x p) {m : Sem
       (m .x) (m .y) (m .z) (r .range 0 (lit≤ tt)) (r .range 1 (lit≤ tt)) (r .range 2 (lit≤ tt))
       (upd-same (own sh x VertexUsed) v 1))
 
-  -- a good table stays good
+  -- a marked table stays marked
   semv-kept : Kept sh x p (semvOf m)
   semv-kept = rw (semv-links sh x (g .capacities) r, semv-points sh x (g .capacities) r p)
       (marked-after g y-shows (λ i. refl) (put-length p v (m .x) (m .y) (m .z)) d-sound)
@@ -189,7 +190,7 @@ module _ {sh : Shape} {x : List ℕ} {p : List ℤ} (g : Marked sh x p) {k n : �
       (points-cleared sh p (own sh x) kc kv (g .points) (rejoined .place .v-in) (g .sound .point)
       (λ w h. sym (rejoined .used w h)))
 
-  -- a good table stays good
+  -- a marked table stays marked
   jekv-kept : Kept sh x p (jekvOf k)
   jekv-kept = rw (jekv-links sh x k n (g .capacities) o n1, jekv-points sh x k n (g .capacities) o n1 p)
       (marked-after g ky-shows (λ i. refl) (put-length p kv (pos 0) (pos 0) (pos 0)) c-sound)

@@ -1,5 +1,6 @@
--- The pair mev and kev: a good table stays good, and each undoes the other to the word. What the one stores the other
--- stores back (`restored`).
+-- The pair mev and kev, vertex words read as marks (`Marked`): a marked table stays marked, and each undoes the other
+-- to the word, kev where the word of the vertex that it kills is 1. What the one stores the other stores back
+-- (`restored`).
 use mathlib.Core.Path.{_≡_, refl, sym, ap, _∙_, subst}
 use mathlib.Core.Logic.{_≢_, inl, inr, ⊎-elim}
 use mathlib.Core.List.{List, [], _∷_, _++_}
@@ -170,7 +171,7 @@ module _ {sh : Shape} {x : List ℕ} {p : List ℤ} (g : Marked sh x p) {m : Mev
       ((λ h. refl), ((λ h. refl), ((λ h. sym (r .vertex-free)), tt))) F n
       (λ h. out-back F n j (h 0, (h 1, (h 2, tt)))))
 
-  -- a good table stays good
+  -- a marked table stays marked
   mev-kept : Kept sh x p (mevOf m)
   mev-kept = rw (mev-links sh x (g .capacities) r, mev-points sh x (g .capacities) r p) (mev-good g r)
 
@@ -233,7 +234,7 @@ module _ {sh : Shape} {x : List ℕ} {p : List ℤ} (g : Marked sh x p) {k : ℕ
   abbrev kq : List ℤ
   kq = kevPoints sh x p k
 
-  -- they are good
+  -- they are marked
   gy : Marked sh ky kq
   gy = killed-good g uk nk left
 
@@ -337,7 +338,7 @@ module _ {sh : Shape} {x : List ℕ} {p : List ℤ} (g : Marked sh x p) {k : ℕ
       ((λ h. first-again), ((λ h. sym (not-isolated (g .sound) k uk refl)), ((λ h. sym far-mark), tt))) F n
       (λ h. in-back F n j (h 0, (h 1, (h 2, tt)))))
 
-  -- a good table stays good
+  -- a marked table stays marked
   kev-kept : Kept sh x p (kevOf k)
   kev-kept = rw (kev-links g uk nk, kev-points g uk nk) gy
 

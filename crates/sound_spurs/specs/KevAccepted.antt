@@ -1,5 +1,5 @@
--- kev as an operator: what it says that it is accepted, what it does to links and points, and that a good table stays
--- good.
+-- kev as an operator: what it says that it is accepted, what it does to links and points, and that a marked table stays
+-- marked.
 use mathlib.Core.Path.{_≡_, refl, sym, ap, _∙_}
 use mathlib.Core.Logic.{⊎-elim}
 use mathlib.Core.Bool.{true}
@@ -185,6 +185,6 @@ module _ {sh : Shape} {x : List ℕ} {p : List ℤ} (g : Marked sh x p) {k : ℕ
     pub kev-shows : Shows sh (kevList sh x k) d
     kev-shows = shows-put first-shows VertexUsed v 0 (far-in sp .0) (far-in sp .1)
 
-    -- the table is good afterwards
+    -- the table is marked afterwards
     pub killed-good : Marked sh (kevList sh x k) (kevPoints sh x p k)
     killed-good = marked-after g kev-shows (λ n. refl) (put-length p v (pos 0) (pos 0) (pos 0)) d-sound

@@ -1,5 +1,5 @@
 -- mev as an operator: its operands, what it says that they are accepted, what it does to links and points, and that a
--- good table stays good.
+-- marked table stays marked.
 use mathlib.Core.Path.{_≡_, refl, sym, ap, _∙_, subst}
 use mathlib.Core.Logic.{_≢_, inl, inr, ⊎-elim}
 use mathlib.Core.Bool.{true}
@@ -243,7 +243,7 @@ module _ (sh : Shape) (x : List ℕ) (caps : Capacities sh) {m : Mev} (r : MevFi
         (corner-test sh x (m .loop) (m .half) (r .corner));
   })
 
--- ---- a good table stays good
+-- ---- a marked table stays marked
 
 module _ {sh : Shape} {x : List ℕ} {p : List ℤ} (g : Marked sh x p) {m : Mev} (r : MevFits sh (own sh x) m) where
   -- the columns
@@ -338,6 +338,6 @@ module _ {sh : Shape} {x : List ℕ} {p : List ℤ} (g : Marked sh x p) {m : Mev
       (λ y z. first-low (g .sound) (m .loop) i (o .loop-in .0) j (sym (loop-old o i y z) ∙ e))) in
       shows-put s2 VertexUsed (m .vertex) 1 (o .vertex-in .0) (o .vertex-in .1)
 
-  -- the table is good afterwards
+  -- the table is marked afterwards
   pub mev-good : Marked sh (mevList sh x (newEdge (own sh x) m)) (mevPoints p m)
   mev-good = marked-after g mev-shows (λ n. refl) (put-length p (m .vertex) (m .x) (m .y) (m .z)) d-sound

@@ -27,7 +27,7 @@ pub record Spur (sh : Shape) (p : List ℤ) (c : Columns) (k : ℕ) : Type 0 whe
   pub used : HalfUsed sh c k
   pub next : c Next k ≡ mate k
 
--- the spur at k of a good table
+-- the spur at k of a marked table
 abbrev pub spurOf : {sh : Shape} {x : List ℕ} {p : List ℤ} → Marked sh x p → {k : ℕ} → HalfUsed sh (own sh x) k
     → own sh x Next k ≡ mate k → Spur sh p (own sh x) k
 spurOf g u n = record { sound = g .sound; used = u; next = n }

@@ -1,6 +1,6 @@
 -- A sound table in plain words, over its columns. `Sound` is what the six rules say, with nothing said twice: next,
 -- previous and start are two labelled permutations (`Rules`), first is a function of the loop column, and rule 6 is
--- `Solids`.
+-- `Solids`. Of a vertex word it says only whether it is 0; that it counts the half-edges is `Valent` in Good.
 use mathlib.Core.Path.{_≡_, refl, sym, ap, _∙_}
 use mathlib.Core.Bool.{false}
 use mathlib.Core.Logic.{_≢_, _⊎_, inl, inr, ⊎-elim}

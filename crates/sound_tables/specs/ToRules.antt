@@ -1,4 +1,4 @@
--- And a sound table keeps the six rules, in the words of `table`.
+-- And a sound table keeps the six rules, in the words of `table`: rule 5 where its vertex words are right (`Valent`).
 use mathlib.Core.Path.{_≡_, refl, sym, ap, _∙_, subst}
 use mathlib.Core.Logic.{_≢_, inl, inr, ⊎-elim}
 use mathlib.Core.List.{List}

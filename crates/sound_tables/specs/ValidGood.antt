@@ -1,4 +1,5 @@
--- A table passes the check just if it is good: of the right size, and sound in the words of `Sound`.
+-- A table passes the check just if it is good: of the right size, sound in the words of `Sound`, and with the right
+-- vertex words.
 use mathlib.Core.Path.{_≡_, refl}
 use mathlib.Core.Bool.{true}
 use mathlib.Core.List.{List}

@@ -1,5 +1,6 @@
--- A smallest table for each way to break a rule, as rows of one list under one theorem, by computation. (Sound tables,
--- those of document 01's examples, are checked and counted in crate evidence_cases.)
+-- Small tables that the check refuses, four with 1 and at least two for each rule, as rows of one list under one
+-- theorem, by computation. (Sound tables, those of document 01's examples, are checked and counted in crate
+-- evidence_cases.)
 use mathlib.Core.Path.{_≡_, refl}
 use mathlib.Core.Bool.{Bool, true, _&&_}
 use mathlib.Core.List.{List, [], _∷_}

@@ -1,6 +1,6 @@
--- The take-down as the code does it: the same turns, but what a turn finds out is carried on, so that searches do not
--- begin anew at 1. Carried are the solid at hand, its root, the number of its faces, and lower ends (`Ends`): numbers
--- below which a search finds nothing. Nobody has to believe this file: `swift-same` of crate inversion proves
+-- The take-down as the code does it: the same turns, but what a turn finds out is carried on, so that most searches do
+-- not begin anew at 1. Carried are the solid at hand, its root, the number of its faces, and lower ends (`Ends`):
+-- numbers below which a search finds nothing. Nobody has to believe this file: `swift-same` of crate inversion proves
 -- `swiftOf` to be `invertOf`, whatever the words.
 use Prim.Native.Nat.{ℕ, zero, suc, _+_, _-_, _*_}
 use mathlib.Core.Bool.{Bool, true, false, not, _&&_}

@@ -1,4 +1,4 @@
-// What the take-down carries from turn to turn, so that no search begins anew at 1: how each turn moves the lower ends.
+// What the take-down carries from turn to turn, so that most searches go on from a lower end: how a turn moves these.
 pub mod moves;
 pub mod numbers;
 pub mod tips;

@@ -1,5 +1,5 @@
--- A number in decimal, as bytes: its digits give the number back, are fewer than its size, and the first of them is no
--- 0 but for 0 itself.
+-- A number in decimal, as bytes: its digits give the number back, a number below 10 ^ k has at most k of them (k at
+-- least 1), and the first of them is no 0 but for 0 itself.
 use mathlib.Core.Path.{_≡_, refl, sym, ap, _∙_}
 use mathlib.Core.Logic.{⊎-elim}
 use mathlib.Core.List.{List, [], _∷_, _++_}
