@@ -26,8 +26,8 @@
 /* The word of a vertex: 0 where it is free, else 1 plus the number of half-edges that start there, so 1 where it is the
  * lone vertex of a loop. Of a table that is sound one read tells how many edges meet at a corner; an edge from a vertex
  * to itself counts twice. The words of the vertices are the last ones of links: that of vertex v stands 5 + s + 2f + 3l
- * + 8e + (v - 1) words into links, s, f, l, e being the capacities. All operators keep it; a table with another word
- * breaks rule 5. */
+ * + 8e + (v - 1) words into links, s, f, l, e being the capacities. All operators keep it. Another word than 0 that
+ * is not this number breaks rule 5; 0 for a vertex in use breaks rule 1, or 2 where its point is zero. */
 
 #ifdef __cplusplus
 extern "C" {
@@ -65,7 +65,7 @@ typedef struct {
 
 typedef struct {
     uint8_t refusal; /* 0, 3, 4 or 5 */
-    size_t next;     /* the place behind the operator */
+    size_t next;     /* the place after the operator */
     ZoghvariOperator op;
 } ZoghvariRead;
 
@@ -109,9 +109,9 @@ typedef struct {
 } ZoghvariText;
 
 /* Makes an empty table of the capacities s, f, l, e, v (solids, faces, loops, edges, vertices), each 1 to 4,096.
- * links has ZOGHVARI_LINKS_LENGTH(s, f, l, e, v) words, points ZOGHVARI_POINTS_LENGTH(v) numbers. Of the two logs only
- * the lengths are told: their bytes stay, and both are empty afterwards, the session being {log_n, redo_n}. What the
- * session holds before is not looked at. Refusal 1 leaves it, and every word of links and points. */
+ * links has ZOGHVARI_LINKS_LENGTH(s, f, l, e, v) words, points ZOGHVARI_POINTS_LENGTH(v) numbers. Only the
+ * lengths of the two logs are passed: their bytes stay, and both are empty afterwards, the session being {log_n,
+ * redo_n}. What the session holds before is ignored. Refusal 1 leaves it, and every word of links and points. */
 ZoghvariCleared zoghvari_clear(uint16_t *links, size_t links_n, int32_t *points, size_t points_n, size_t log_n,
                                size_t redo_n, ZoghvariSession *session, uint16_t s, uint16_t f, uint16_t l, uint16_t e,
                                uint16_t v);
@@ -129,7 +129,7 @@ ZoghvariCounted zoghvari_count(const uint16_t *links, size_t links_n, const int3
 ZoghvariRead zoghvari_read(const uint8_t *script, size_t script_n, size_t at);
 
 /* Writes an operator at the front of out, each number in its fewest groups: 19 bytes at most. There are always eight
- * args; those behind count are 0. */
+ * args; those after count are 0. */
 ZoghvariWritten zoghvari_write(ZoghvariOperator op, uint8_t *out, size_t out_n);
 
 /* Carries out a script, operator by operator, up to its end or the first refusal; what was done before that stands.
@@ -144,7 +144,7 @@ ZoghvariWritten zoghvari_write(ZoghvariOperator op, uint8_t *out, size_t out_n);
 ZoghvariRan zoghvari_run(uint16_t *links, size_t links_n, int32_t *points, size_t points_n, uint8_t *log, size_t log_n,
                          size_t redo_n, ZoghvariSession *session, const uint8_t *script, size_t script_n);
 
-/* Takes back n operators: carries out the first n of the live log and moves the session's `log` up behind them. The log
+/* Takes back n operators: carries out the first n of the live log and moves the session's `log` up past them. The log
  * is only read, and its numbers may come in any form too. For each of them the inverse, in fewest groups, is put into
  * the redo log just below the session's `redo`, which moves down; no other byte of the redo log changes.
  * Handed what the last run left and the sum of the done counts, it gives back every byte of links and points, where the
@@ -158,7 +158,7 @@ ZoghvariUndone zoghvari_undo(uint16_t *links, size_t links_n, int32_t *points, s
                              size_t log_n, uint8_t *redo, size_t redo_n, ZoghvariSession *session, size_t n);
 
 /* Does again n operators that were undone, the last undone first: undo with the two logs exchanged. It carries out the
- * first n of the live redo log and moves the session's `redo` up behind them; each one's inverse is put into the log
+ * first n of the live redo log and moves the session's `redo` up past them; each one's inverse is put into the log
  * just below the session's `log`, as in a run. The redo log is only read.
  * Undo and then redo by the number undone leave links, points, the session and the live log as they were, to the byte,
  * where no other call comes between and the log is in fewest groups, as what runs have logged always is.
@@ -181,7 +181,7 @@ ZoghvariRedone zoghvari_redo(uint16_t *links, size_t links_n, int32_t *points, s
 ZoghvariInverted zoghvari_invert(uint16_t *links, size_t links_n, int32_t *points, size_t points_n, uint8_t *log,
                                  size_t log_n, size_t redo_n, ZoghvariSession *session);
 
-/* Writes one solid of a sound table as Wavefront OBJ text, for a viewer, at the front of out; the bytes behind it stay.
+/* Writes one solid of a sound table as Wavefront OBJ text, for a viewer, at the front of out; the bytes after it stay.
  * A line ends with a line feed, one space parts its words. First come lines "v x y z", one for each vertex of the solid
  * by number, in millimetres with two decimals; then lines "f a b c ..", one for each face by number: its corners, by
  * their places among the v lines, counted from 1. A loop is written from the start of its first half-edge and then

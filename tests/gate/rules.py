@@ -12,8 +12,10 @@ WIDTH = 120
 PLACE = re.compile(r"\.\s?(?:face0|loop0|half0|vertex0)\b")
 # but a shape may be handed on whole
 HANDED = re.compile(r"^\s*(\w+0) = sh \.\1;$")
-# a public function, and whether it can be called from C
-PUBLIC = re.compile(r"^\s*pub\b(?:\([^)]*\))?((?:\s+(?:const|unsafe|extern|\"C\"))*)\s+fn\s+(\w+)")
+# comments of Rattle; a function's name with what stands before it since the last item; what can stand in its head
+COMMENT = re.compile(r"//[^\n]*|/\*.*?\*/", re.S)
+FUNCTION = re.compile(r"(?P<before>[^{};]*)\bfn\s+(?P<name>\w+)")
+CLAUSE = re.compile(r"\b(requires|ensures)\b|\{")
 # a crate, by its definitions or laws (`Rattle.NAME`), or by its code (`NAME::` at the head of a path)
 NAMED = re.compile(r"Rattle·([a-z_]+)|(?<![:\w·.])([a-z_]+)::")
 # types of these are reached by way of others, and the checker wants them listed all the same
@@ -26,7 +28,7 @@ def sources(root):
     for folder, _, names in sorted(os.walk(os.path.join(root, "crates"))):
         for name in sorted(names):
             written = os.path.basename(os.path.dirname(folder)) == "evidence_rows" and name.startswith("Rows")
-            if name.endswith((".rt", ".antt")) and not written:
+            if name.endswith(".rt") or (name.endswith(".antt") and not written):
                 path = os.path.join(folder, name)
                 with open(path, encoding="utf-8") as f:
                     yield os.path.relpath(path, root), f.read()
@@ -51,29 +53,39 @@ def placed(path, text):
             if PLACE.search(line) and not HANDED.match(line)]
 
 
-def head(lines):
-    """The lines of a function from its name to where its body begins: at the first brace outside a clause."""
-    open_braces = 0
-    for number, line in enumerate(lines):
-        if open_braces > 0 or line.strip().startswith(("requires", "ensures")):
-            open_braces += line.count("{") - line.count("}")
-        elif "{" in line:
-            return lines[:number + 1]
-    return lines
+def closed(text, at):
+    """The place after the brace that closes the one at this place."""
+    depth = 0
+    for place in range(at, len(text)):
+        depth += {"{": 1, "}": -1}.get(text[place], 0)
+        if depth == 0:
+            return place + 1
+    return len(text)
+
+
+def clauses(text, at):
+    """The clauses of a function from this place up to the brace that opens its body."""
+    found = []
+    while True:
+        part = CLAUSE.search(text, at)
+        if part is None or part.group() == "{":
+            return found
+        found.append(part.group())
+        at = closed(text, text.find("{", part.end()))
 
 
 def uncontracted(path, text):
     """A line for each public function without a contract, and for each entry point that asks something of its caller."""
     if not path.endswith(".rt"):
         return []
-    bad, lines = [], text.splitlines()
-    for number, line in enumerate(lines):
-        found = PUBLIC.match(line)
-        clauses = [part.strip().split()[0] for part in head(lines[number:]) if part.strip()] if found else []
-        if found and "ensures" not in clauses:
-            bad.append(f"{path}:{number + 1}: {found.group(2)} has no contract")
-        if found and "extern" in found.group(1) and "requires" in clauses:
-            bad.append(f"{path}:{number + 1}: {found.group(2)} asks something of its caller")
+    text, bad = COMMENT.sub("", text), []
+    for function in FUNCTION.finditer(text):
+        before, name = function.group("before"), function.group("name")
+        has = clauses(text, function.end())
+        if re.search(r"\bpub\b", before) and "ensures" not in has:
+            bad.append(f"{path}: {name} has no contract")
+        if re.search(r"\bextern\b|\bno_mangle\b", before) and "requires" in has:
+            bad.append(f"{path}: {name} asks something of its caller")
     return bad
 
 

@@ -157,22 +157,30 @@ CASES = [
         "crates/a/src/lib.rt", "pub fn f() -> u8\n    ensures { λ r. ⌜ r ≡ 1 ⌝ }\n{\n    1\n}\n", ["a:"]) == []),
     ("a public function without one is named", lambda: rule_faults(
         "crates/a/src/lib.rt", "pub fn f() -> u8 {\n    1\n}\nfn g() -> u8\n    ensures { p }\n{\n}\n", ["a:"])
-     == ["crates/a/src/lib.rt:1: f has no contract"]),
+     == ["crates/a/src/lib.rt: f has no contract"]),
     ("a function of one line does not borrow its neighbour's contract", lambda: rule_faults(
         "crates/a/src/lib.rt", "pub fn f() -> u8 { 1 }\npub fn g() -> u8\n    ensures { p }\n{\n}\n", ["a:"])
-     == ["crates/a/src/lib.rt:1: f has no contract"]),
+     == ["crates/a/src/lib.rt: f has no contract"]),
     ("a constant function is public too", lambda: rule_faults(
         "crates/a/src/lib.rt", "pub const fn f() -> u8 {\n    1\n}\n", ["a:"])
-     == ["crates/a/src/lib.rt:1: f has no contract"]),
+     == ["crates/a/src/lib.rt: f has no contract"]),
     ("a function that is not public needs none", lambda: rule_faults(
         "crates/a/src/lib.rt", "fn f() -> u8 {\n    1\n}\n", ["a:"]) == []),
     ("an entry point that asks something of its caller is named", lambda: rule_faults(
         "crates/a/src/lib.rt", "pub extern \"C\" fn f(n: u8) -> u8\n    requires { n }\n    ensures { p }\n{\n}\n", ["a:"])
-     == ["crates/a/src/lib.rt:1: f asks something of its caller"]),
-    ("also after a clause of two lines", lambda: len(rule_faults(
-        "crates/a/src/lib.rt",
-        "pub extern \"C\" fn f(n: u8) -> u8\n    ensures { p\n        (record { a = n }) }\n    requires { n }\n{\n}\n",
-        ["a:"])) == 1),
+     == ["crates/a/src/lib.rt: f asks something of its caller"]),
+    ("wherever the clause stands", lambda: all(len(rule_faults("crates/a/src/lib.rt", text, ["a:"])) == 1 for text in (
+        "pub extern \"C\" fn f() -> u8\n    ensures { p\n        (record { a = n }) }\n    requires { n }\n{\n}\n",
+        "pub extern \"C\" fn f() -> u8\n    ensures { p } requires{ n }\n{\n}\n",
+        "pub extern \"C\" fn f() -> u8\n    ensures\n    { p }\n    requires { n }\n{\n}\n",
+        "#[no_mangle] pub fn f() -> u8\n    requires { n }\n    ensures { p }\n{\n}\n"))),
+    ("wherever the function stands", lambda: all(len(rule_faults("crates/a/src/lib.rt", text, ["a:"])) == 1 for text in (
+        "impl C { pub fn f(self) -> u8 { 1 } }\n",
+        "pub\nfn f() -> [u8; 4] {\n    [0; 4]\n}\n",
+        "pub fn f() -> u8\n    requires { n } // {\n{\n}\npub fn g() -> u8\n    ensures { p }\n{\n}\n",
+        "pub fn f() -> u8\n/*\n    ensures { p }\n*/\n{\n}\n"))),
+    ("a clause of its own name passes", lambda: rule_faults(
+        "crates/a/src/lib.rt", "pub fn f() -> u8\n    ensures bounded { λ r. ⌜ r ≡ 1 ⌝ }\n{\n    1\n}\n", ["a:"]) == []),
     ("a crate that is named has to be listed", lambda: rule_faults(
         "crates/a/specs/A.antt", "use Rattle.b.specs.B.{c}\n", ["a:", "b:"])
      == ["crates.txt: a names b and does not list it"]),

@@ -46,7 +46,7 @@ pub trail-none : {sh : Shape} {x₀ : List ℕ} {p₀ : List ℤ} {w q x : List 
     → w ≡ []
 trail-none (none ew eq ex ep) = ew
 
--- each operator has at most 19 bytes
+-- n operators have at most 19 n bytes
 pub trail-size : {sh : Shape} {x₀ : List ℕ} {p₀ : List ℤ} {n : ℕ} {w q x : List ℕ} {p : List ℤ}
     → Trail sh x₀ p₀ n w q x p → length w ≤ 19 * n
 trail-size (none ew eq ex ep) = rw ew (omega arith)

@@ -1,6 +1,6 @@
--- The pair mvsf and kvsf, vertex words read as marks (`Marked`): a marked table stays marked, and each undoes the other
--- to the word, kvsf where the word of the vertex that it kills is 1. Both are `placed` on the columns; going there and
--- back is `place-back`, one lemma for both ways.
+-- The pair mvsf and kvsf, vertex words read as marks (`Marked`): a marked table stays marked, and each is undone by
+-- the other to the word, kvsf where the word of the vertex that it kills is 1. Both are `placed` on the columns; going
+-- there and back is `place-back`, one lemma for both ways.
 use mathlib.Core.Path.{_≡_, refl, sym, ap, _∙_, subst}
 use mathlib.Core.Logic.{_≢_, inl, inr}
 use mathlib.Core.List.{List}

@@ -1,6 +1,6 @@
--- The pair semv and jekv, vertex words read as marks (`Marked`): a marked table stays marked, and each undoes the other
--- to the word, jekv where the word of the vertex that it kills is 1. Both are one relation between the columns
--- (`Split`), which each side settles.
+-- The pair semv and jekv, vertex words read as marks (`Marked`): a marked table stays marked, and each is undone by
+-- the other to the word, jekv where the word of the vertex that it kills is 1. Both are one relation between the
+-- columns (`Split`), which each side settles.
 use mathlib.Core.Path.{_≡_, refl, sym, ap, _∙_, subst}
 use mathlib.Core.Logic.{inr, ⊎-elim}
 use mathlib.Core.List.{List}

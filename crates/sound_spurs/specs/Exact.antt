@@ -1,5 +1,5 @@
--- The pair mev and kev, vertex words read as marks (`Marked`): a marked table stays marked, and each undoes the other
--- to the word, kev where the word of the vertex that it kills is 1. What the one stores the other stores back
+-- The pair mev and kev, vertex words read as marks (`Marked`): a marked table stays marked, and each is undone by the
+-- other to the word, kev where the word of the vertex that it kills is 1. What the one stores the other stores back
 -- (`restored`).
 use mathlib.Core.Path.{_≡_, refl, sym, ap, _∙_, subst}
 use mathlib.Core.Logic.{_≢_, inl, inr, ⊎-elim}

@@ -1,6 +1,7 @@
 -- The take-down as the code does it: the same turns, but what a turn finds out is carried on, so that most searches do
--- not begin anew at 1. Carried are the solid at hand, its root, the number of its faces, and lower ends (`Ends`):
--- numbers below which a search finds nothing. Nobody has to believe this file: `swift-same` of crate inversion proves
+-- not begin anew at 1. Carried (`Ends`) are the solid at hand, its root, the number of its faces, lower ends, which are
+-- numbers below which a search finds nothing, a flag for the ring turn after kemr, and four places below the lower end
+-- of spurs where one may be all the same. Nobody has to believe this file: `swift-same` of crate inversion proves
 -- `swiftOf` to be `invertOf`, whatever the words.
 use Prim.Native.Nat.{ℕ, zero, suc, _+_, _-_, _*_}
 use mathlib.Core.Bool.{Bool, true, false, not, _&&_}
