@@ -71,7 +71,10 @@ def clauses(text, at):
         if part is None or part.group() == "{":
             return found
         found.append(part.group())
-        at = closed(text, text.find("{", part.end()))
+        opened = text.find("{", part.end())
+        if opened < 0:
+            return found
+        at = closed(text, opened)
 
 
 def uncontracted(path, text):

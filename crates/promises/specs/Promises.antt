@@ -224,19 +224,16 @@ module _ (e : Editing) (ss : List (List ℕ)) (sound : checkOf (e .links) (e .po
       ⊎-elim (λ h. trail-none (rw z at (all-gone (logState e) ss sound h .trail))) none-done
       (le? (e .session .log) (length (e .log)))
 
-  -- A REDO LOG AS LONG AS THE BYTES USED IS ENOUGH: the sum of what the runs answer as used
-  pub used-room : ran .session .redo ≤ length (e .redo) → usedAll (logState e) ss ≤ length (e .redo) → RedoRoom e ss
-  used-room h k =
-      let n = runAll (logState e) ss .done in
-      let r = edited e ss in
-      record {
-        fits = h;
-        room = split n 0
-            (λ z. rw (none-written z) (omega arith))
-            (λ d.
-            let f : ran .session .redo ≡ length (e .redo) = r .start ∙ rw (eqb-other d) in
-            omega (arith, f, k, room-by-used (logState e) ss));
-      }
+  -- a redo log as long as these operators is enough, where the start that undo meets is within it
+  length-room : ran .session .redo ≤ length (e .redo) → length script ≤ length (e .redo) → RedoRoom e ss
+  length-room h k = record {
+    fits = h;
+    room = split (runAll (logState e) ss .done) 0
+        (λ z. rw (none-written z) (omega arith))
+        (λ d.
+        let f : ran .session .redo ≡ length (e .redo) = edited e ss .start ∙ rw (eqb-other d) in
+        omega (arith, f, k));
+  }
 
   -- the operators done take at most 19 bytes each
   script-size : length script ≤ 19 * runAll (logState e) ss .done
@@ -244,20 +241,14 @@ module _ (e : Editing) (ss : List (List ℕ)) (sound : checkOf (e .links) (e .po
       ⊎-elim (λ h. trail-size (all-gone (logState e) ss sound h .trail)) (λ h. rw (none-done h) (omega arith))
       (le? (e .session .log) (length (e .log)))
 
-  -- SO ARE 19 BYTES FOR EACH OPERATOR DONE
+  -- SO IS ONE AS LONG AS THE BYTES USED: the sum of what the runs answer as used
+  pub used-room : ran .session .redo ≤ length (e .redo) → usedAll (logState e) ss ≤ length (e .redo) → RedoRoom e ss
+  used-room h k = length-room h (omega (arith, k, room-by-used (logState e) ss))
+
+  -- AND ONE OF 19 BYTES FOR EACH OPERATOR DONE
   pub nineteen-room : ran .session .redo ≤ length (e .redo) → 19 * editAll e ss .done ≤ length (e .redo)
       → RedoRoom e ss
-  nineteen-room h k =
-      let n = runAll (logState e) ss .done in
-      let r = edited e ss in
-      record {
-        fits = h;
-        room = split n 0
-            (λ z. rw (none-written z) (omega arith))
-            (λ d.
-            let f : ran .session .redo ≡ length (e .redo) = r .start ∙ rw (eqb-other d) in
-            omega (arith, f, k, r .done, script-size));
-      }
+  nineteen-room h k = length-room h (omega (arith, k, edited e ss .done, script-size))
 
   -- undo leaves the first table and the first start; only the log's bytes below it may be others
   pub undone-first : RedoRoom e ss → logState (undoneAll e ss) ≡ withLog (logState e) (ran .log)

@@ -62,16 +62,16 @@ gone-written {t₀ = t₀} {t = t} g =
     ∙ take-append-seam (g .logged) (live t₀) in
     rw s (rw (append-nil (g .logged)) at (trail-shortest (g .trail) [] refl))
 
--- where nothing was written
-none-written : (t : State) → shortest (written t t) ≡ true
+-- where the start has not moved nothing was written
+unmoved-written : (t : State) → shortest (written t t) ≡ true
 unfolding shortest
-none-written t = let z : t .start - t .start ≡ 0 = omega arith in rw z refl
+unmoved-written t = let z : t .start - t .start ≡ 0 = omega arith in rw z refl
 
 -- WHAT RUNS WRITE IS SHORTEST, whatever the log held: of a table that passes the check, any list of scripts
 pub runs-written : (t : State) (ss : List (List ℕ)) → checkOf (t .links) (t .points) .refusal ≡ 0
     → shortest (written t (runAll t ss .last)) ≡ true
 runs-written t ss sound =
-    ⊎-elim (λ h. gone-written (all-gone t ss sound h)) (λ h. rw (all-beyond t ss h) (none-written t))
+    ⊎-elim (λ h. gone-written (all-gone t ss sound h)) (λ h. rw (all-beyond t ss h) (unmoved-written t))
     (le? (t .start) (length (t .log)))
 
 -- AND SO IS WHAT A MOVE WRITES: undo into the redo log, redo into the log
@@ -81,7 +81,7 @@ move-written source from t n sound = split (moveEntry source from t .refusal) 0
     (λ h.
     let p = move-passed source from t h in
     gone-written (gone-after source from t n sound (p .0) (entry-passed t (p .1) .0)))
-    (λ d. rw (move-out source from t n d) (none-written t))
+    (λ d. rw (move-out source from t n d) (unmoved-written t))
 
 -- SO A SHORTEST LOG STAYS SO: of a table that passes the check, any list of scripts, refused runs included
 pub log-shortest : (t : State) (ss : List (List ℕ)) → checkOf (t .links) (t .points) .refusal ≡ 0

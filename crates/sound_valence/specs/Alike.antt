@@ -2,7 +2,7 @@
 -- (kev, kef, kemr, jekv) are accepted on the same and have the same inverse, point and vertices to leave.
 use mathlib.Core.Path.{_≡_, refl, sym, ap, _∙_, subst}
 use mathlib.Core.Logic.{_≢_, _⊎_, inl, inr}
-use mathlib.Core.Bool.{Bool, true}
+use mathlib.Core.Bool.{Bool}
 use mathlib.Core.List.{List, [], _∷_}
 use Prim.Native.Nat.{ℕ, _*_, _≤_}
 use native.Mathlib.Omega.{arith}
@@ -26,7 +26,6 @@ use Rattle.euler.specs.Queries.{loopsIn}
 use Rattle.euler.specs.Valence.{leaveOf}
 use Rattle.euler.specs.Exec.{limits, useWord, useRefusal, useRefusals, condition, admitOf, refusalOf, killedVertex}
 use Rattle.euler.specs.Exec.{pointsBy, pointsAfter, inverse}
-use Rattle.table.specs.Sizes.{tableFits}
 use Rattle.sound_tables.specs.Sound.{SameElse, SameUsed, sound-alike}
 use Rattle.sound_tables.specs.Good.{own, Marked}
 use Rattle.sound_tables.specs.Caps.{loop-cap, next-cap, operand-cap}
@@ -43,20 +42,6 @@ shape-alike sh x y e s =
       e Capacity refl 5 (lit≤ tt),
     )
     s
-
--- and, of the same length, the same size
-pub fits-alike : (sh : Shape) (x y : List ℕ) (p : List ℤ) → SameElse sh (own sh x) (own sh y) → length y ≡ length x
-    → tableFits x p ≡ true → tableFits y p ≡ true
-fits-alike sh x y p e l f =
-    rw (
-      l,
-      e Capacity refl 1 (lit≤ tt),
-      e Capacity refl 2 (lit≤ tt),
-      e Capacity refl 3 (lit≤ tt),
-      e Capacity refl 4 (lit≤ tt),
-      e Capacity refl 5 (lit≤ tt),
-    )
-    f
 
 -- a table whose words are of the same vertices is sound as well
 pub marked-alike : {sh : Shape} {x y : List ℕ} {p : List ℤ} → Marked sh x p → Chained 0 (groups sh) (length y)

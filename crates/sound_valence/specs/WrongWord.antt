@@ -21,6 +21,7 @@ use Rattle.check_rules.specs.Says.{Says, says-and, says-leZ}
 use Rattle.check_rules.specs.RulesSay.{IsZero, VertexRange, VertexEither, Rule2, says-rule1}
 use Rattle.check_rules.specs.RulesSay.{says-rule2, says-rule3}
 use Rattle.check_rules.specs.CyclesSay.{says-rule4, says-rule5}
+use Rattle.table.specs.Sizes.{sizesFit, tableFits}
 use Rattle.table.specs.Check.{answer, checkOf}
 use Rattle.table.specs.Valid.{Valid, valid-parts}
 use Rattle.sound_tables.specs.Sound.{In, VertexSound, alone, joined}
@@ -31,17 +32,24 @@ use Rattle.sound_tables.specs.Good.{own, Good, marked}
 use Rattle.sound_tables.specs.ToRules.{to-rule1, to-rule2, to-rule3, to-rule4}
 use Rattle.sound_tables.specs.ValidGood.{valid-good}
 use Rattle.sound_valence.specs.Words.{Reworded, stored}
-use Rattle.sound_valence.specs.Alike.{shape-alike, fits-alike}
+use Rattle.sound_valence.specs.Alike.{shape-alike}
 use Rattle.sound_valence.specs.Kept.{starts-same, free-starts}
 use Rattle.sound_valence.specs.OtherWords.{rule1-else, rule2-else, rule3-else, rule4-else}
+
+-- links of one shape and length have one size
+size-same : (x y : List ℕ) (p : List ℤ) → shapeOf x ≡ shapeOf y → length y ≡ length x → tableFits x p ≡ true
+    → tableFits y p ≡ true
+size-same x y p s l f =
+    subst (λ (t : Shape). sizesFit (length y) (length p) (t .solids) (t .faces) (t .loops) (t .edges) (t .vertices)
+    ≡ true) s (rw l f)
 
 -- the links have the size of the table's, so the check names the broken rule
 rule-named : (x : List ℕ) (p : List ℤ) → Valid x p → (y : List ℕ) {f : ℕ → ℕ} → Reworded (shapeOf x) x y f
     → length y ≡ length x → (n : ℕ) → n ≢ 0 → brokenRule (shapeOf x) y p ≡ n → checkOf y p ≡ answer 2 n
 unfolding checkOf
 rule-named x p c y R l n d b =
-    let fits = fits-alike (shapeOf x) x y p (R .else) l (valid-parts x p c .fits) in
     let s = shape-alike (shapeOf x) x y (R .else) refl in
+    let fits = size-same x y p s l (valid-parts x p c .fits) in
     let named : brokenRule (shapeOf y) y p ≡ n = subst (λ t. brokenRule t y p ≡ n) s b in
     rw (fits, named, eqb-other d)
 
@@ -187,5 +195,5 @@ freed-word x p c v i used =
     let g = valid-good x p c in
     rule-named x p c (setVertexUsed (shapeOf x) x v 0) (R g v 0 i)
     (omega (arith, g .fit, R g v 0 i .fit)) _
-    (pick-ind (λ n. n ≢ 0) (isZero p v 0 && isZero p v 1 && isZero p v 2) 2 1 (λ z. omega (arith, z))
+    (pick-ind (λ n. n ≢ 0) (isZero p v 0 && isZero p v 1 && isZero p v 2) _ _ (λ z. omega (arith, z))
     (λ z. omega (arith, z))) (freed-broken g v 0 i used refl)
