@@ -1,5 +1,6 @@
 #!/usr/bin/env python3
-"""Writes the proofs of the entry points that are lent a session by reference (crates/kernel/proofs/zoghvari_*).
+"""Writes the proofs of the entry points that are lent a session by reference: those of the kernel
+(crates/kernel/proofs/zoghvari_*) and of what stands above it (crates/sweep/proofs/zoghvari_sweep).
 
     python3 tools/walks.py           writes them; then `rt fmt`
     python3 tools/walks.py --check   says whether they are as it writes them
@@ -7,38 +8,46 @@
 Rattle's borrow checker covers no reference to a struct, so these functions are proved by a walk of their MIR. Each is
 
     let held = *session;
-    let r = sessions_entry::CALL(.., held, ..);    the parameters in their order, `held` in the session's place
+    let r = CALLEE::CALL(.., held, ..);    the parameters in their order, `held` in the session's place
     *session = r.session;
     r.answer
 
-and both it and the function that it calls promise the call's relation in `Rattle.sessions.specs.Session`: of the
-parameters in their order, the answer with the session, and the &mut slices as they are left. That the callee keeps its
-promise is all that a walk knows of it, so it need not change when the definition behind the relation does. `CALLS` are
-the five functions. What is the same in every walk is in walks_text.py; here is what differs.
+and both it and the function that it calls promise the call's relation: of the parameters in their order, the answer with
+the session, and the &mut slices as they are left. That the callee keeps its promise is all that a walk knows of it, so it
+need not change when the definition behind the relation does. `CALLS` are the functions. What is the same in every walk is
+in walks_text.py; here is what differs.
 """
 import os
 import re
 import sys
 
 from walks_steps import exiting, handing, nest, part, product, row, tokens, walk
-from walks_text import TEXT
+from walks_text import SIGNED, TEXT
 
-# the call, its relation, the answer's struct and its fields; the parameters: slices lent (mut) and shared (shr),
-# numbers by value, and the session
+# where a call is: the crate of its entry point, the crate of the function that is called, and the module of the relation
+KERNEL = ("kernel", "sessions_entry", "sessions.specs.Session")
+SWEEP = ("sweep", "sweep_call", "sweeps.specs.Swept")
+# where it is, the call, its relation, the answer with the session, the answer's struct and its fields; the parameters:
+# slices lent (mut) and shared (shr), numbers by value, and the session
 CALLS = (
-    ("clear", "Clears", "table.proofs.clear.ClearAnswer", "refusal:u8",
+    (KERNEL, "clear", "Clears", "sessions.ClearLeft", "table.proofs.clear.ClearAnswer", "refusal:u8",
      "links:mut:u16 points:mut:i32 log:num:usize redo:num:usize session s:num:u16 f:num:u16 l:num:u16 e:num:u16 "
      "v:num:u16"),
-    ("run", "Runs", "runs.proofs.answers.RunAnswer", "refusal:u8 rule:u8 done:usize used:usize start:usize",
+    (KERNEL, "run", "Runs", "sessions.RunLeft", "runs.proofs.answers.RunAnswer",
+     "refusal:u8 rule:u8 done:usize used:usize start:usize",
      "links:mut:u16 points:mut:i32 log:mut:u8 redo:num:usize session script:shr:u8"),
-    ("undo", "Undoes", "sessions.proofs.UndoAnswer", "refusal:u8 rule:u8 undone:usize start:usize",
+    (KERNEL, "undo", "Undoes", "sessions.UndoLeft", "sessions.proofs.UndoAnswer",
+     "refusal:u8 rule:u8 undone:usize start:usize",
      "links:mut:u16 points:mut:i32 log:shr:u8 redo:mut:u8 session n:num:usize"),
-    ("redo", "Redoes", "sessions.proofs.RedoAnswer", "refusal:u8 rule:u8 done:usize",
+    (KERNEL, "redo", "Redoes", "sessions.RedoLeft", "sessions.proofs.RedoAnswer", "refusal:u8 rule:u8 done:usize",
      "links:mut:u16 points:mut:i32 log:mut:u8 redo:shr:u8 session n:num:usize"),
-    ("invert", "Inverts", "takedown.proofs.answer.InvertAnswer", "refusal:u8 rule:u8 done:usize start:usize",
+    (KERNEL, "invert", "Inverts", "sessions.InvertLeft", "takedown.proofs.answer.InvertAnswer",
+     "refusal:u8 rule:u8 done:usize start:usize",
      "links:mut:u16 points:mut:i32 log:mut:u8 redo:num:usize session"),
+    (SWEEP, "sweep", "Sweeps", "chains.DoneLeft", "chains.proofs.DoneAnswer", "refusal:u8 rule:u8 done:usize",
+     "links:mut:u16 points:mut:i32 log:mut:u8 redo:num:usize session face:num:usize dx:num:i32 dy:num:i32 dz:num:i32"),
 )
-BITS = {"u8": 8, "u16": 16, "usize": 64}
+BITS = {"u8": 8, "u16": 16, "i32": 32, "usize": 64}
 # lines are at most 120 columns wide, and `rt fmt` may move them to the right
 WIDTH = 112
 
@@ -89,9 +98,11 @@ class Param:
         self.list = "List ℤ" if of.startswith("i") else "List ℕ"
         self.last, self.same = name + "′", "same-" + name
         room = f"(tt, (tt, (record {{ fits = room-{name} .0 }}, tt)))"
-        self.typed = self.pick(room, room, "(tt, tt)", f"(tt, record {{ fits = {name}-fits }})")
-        self.value = self.pick("s" + name, "s" + name, "vptr b′ o′", f"vint w{BITS.get(of)} {name}")
-        self.denoted = self.pick(f"RefT ({self.list})", f"RefT ({self.list})", "RefT Session", "ℕ")
+        self.signed, self.width = of.startswith("i"), f"w{BITS.get(of)}"
+        self.int, self.number = ("sint", "ℤ") if self.signed else ("uint", "ℕ")
+        self.typed = self.pick(room, room, "(tt, tt)", f"(tt, {self.fitting()})")
+        self.value = self.pick("s" + name, "s" + name, "vptr b′ o′", f"vint {self.width} {self.word()}")
+        self.denoted = self.pick(f"RefT ({self.list})", f"RefT ({self.list})", "RefT Session", self.number)
         self.entry = self.pick(f"({name} .now)", f"({name} .now)", "h", name)
         lent = f"(named {index}) {self.life}"
         self.row = self.pick(f"MutSlice {lent} {of}", f"ShrSlice {lent} {of}", f"MutRef {lent} S.the-row", of)
@@ -101,9 +112,24 @@ class Param:
         """The one for a parameter of this kind."""
         return {"mut": mut, "shr": shr, "session": session, "num": num}[self.kind]
 
+    def word(self):
+        """A number's bits."""
+        return f"(ofZ {self.width} {self.name})" if self.signed else self.name
+
+    def fitting(self):
+        """That its bits fit its width."""
+        if self.signed:
+            return f"ofZ-fits {self.width} {self.name} (record {{ sfits = {self.name}-fits }})"
+        return f"record {{ fits = {self.name}-fits }}"
+
+    def bound(self):
+        """Its range, as the walk is handed it."""
+        size = f"mag {self.name} < 2 ^ {BITS[self.type] - 1}" if self.signed else f"{self.name} < 2 ^ {BITS[self.type]}"
+        return f"({self.name} : {self.number}) ({self.name}-fits : {size})"
+
     def made(self):
         """A step: the number is owned."""
-        return f"owned ! {self.type} (Is {self.type}) (uint-makes 𝓤 H A W w{BITS[self.type]}) {self.name} _ " \
+        return f"owned ! {self.type} (Is {self.type}) ({self.int}-makes 𝓤 H A W {self.width}) {self.name} _ " \
                f"(refl, {self.name}-fits)"
 
     def stays(self):
@@ -121,15 +147,15 @@ class Param:
     def tells(self):
         lent = f"(named {self.index}) {part(self.index or 0, 'κs')}"
         return self.pick(f"mut-slice-tells {lent} {self.type}", f"shr-slice-tells {lent} {self.type}",
-                         f"mut-tells {lent} S.the-row", f"uint-tells w{BITS.get(self.type)}")
+                         f"mut-tells {lent} S.the-row", f"{self.int}-tells {self.width}")
 
 
 class Call:
     """A call: its names, its parameters by kind, and the places of its function's MIR."""
 
-    def __init__(self, name, relation, answer, fields, params):
-        self.name, self.relation, self.answer = name, relation, answer
-        self.left = name.capitalize() + "Left"
+    def __init__(self, where, name, relation, left, answer, fields, params):
+        (self.crate, self.callee, self.module), self.name, self.relation = where, name, relation
+        (self.owner, self.left), self.answer = left.split("."), answer
         self.fields = [field.split(":") for field in fields.split()]
         self.params, references = [], 0
         for place, word in enumerate(params.split()):
@@ -210,7 +236,9 @@ def names_of(call):
     """The values of the text's names that are names themselves."""
     return {
         "call": call.name, "own": f"zoghvari_{call.name}", "symbol": f"zoghvari-{call.name}", "left": call.left,
-        "relation": call.relation, "answer": call.answer, "count": str(len(call.references)),
+        "crate": call.crate, "callee": call.callee, "called": call.callee.replace("_", "-"), "owner": call.owner,
+        "module": call.module, "relation": call.relation, "answer": call.answer, "count": str(len(call.references)),
+        "signed": SIGNED if any(p.signed for p in call.numbers) else "",
         "types": ", ".join(sorted({p.type for p in call.params if p.type} | {"usize"})),
         "lives": " ".join(p.life for p in call.references), "shares": " ".join(p.share for p in call.references),
         "last-names": " ".join(p.last for p in call.muts), "length-names": " ".join(p.same for p in call.muts),
@@ -223,7 +251,7 @@ def types_of(call):
     return {
         "shared": shared_slots(call),
         "lent": " ".join(f"({p.name} : {p.denoted})" for p in call.slices),
-        "numbers": " ".join(f"({p.name} : ℕ) ({p.name}-fits : {p.name} < 2 ^ {BITS[p.type]})" for p in call.numbers),
+        "numbers": " ".join(p.bound() for p in call.numbers),
         "slices": "\n".join(map(slice_value, call.slices)),
         "arg-type": product([p.denoted for p in call.params]), "vals-type": product(["List Val"] * len(call.params)),
         "args": nest(["y" if p is call.session else p.name for p in call.params]),
@@ -252,7 +280,7 @@ def parts_of(call):
         "ends": nest([p.pick(p.last, "tt", "r .session", "tt") for p in call.params]),
         "fits": nest([p.pick(p.same, "tt", "tt", "tt") for p in call.params]),
         "small": small_fields(call), "walk": walk(call), "walk-args": walk_args(call),
-        "all-vals": nest([p.pick("slice-vals", "slice-vals", "ptr-vals", f"uint-vals w{BITS.get(p.type)}")
+        "all-vals": nest([p.pick("slice-vals", "slice-vals", "ptr-vals", f"{p.int}-vals {p.width}")
                           for p in call.params]),
         "all-tells": nest([p.tells() for p in call.params]),
         "all-goes": nest([p.goes(len(call.references)) for p in call.params]),
@@ -273,7 +301,7 @@ def main(words):
     root = os.path.dirname(os.path.dirname(os.path.abspath(__file__)))
     others = 0
     for call in (Call(*line) for line in CALLS):
-        path = os.path.join(root, "crates", "kernel", "proofs", f"zoghvari_{call.name}", "Proof.antt")
+        path = os.path.join(root, "crates", call.crate, "proofs", f"zoghvari_{call.name}", "Proof.antt")
         if words != ["--check"]:
             os.makedirs(os.path.dirname(path), exist_ok=True)
             with open(path, "w", encoding="utf-8") as f:

@@ -24,6 +24,7 @@ def steps():
         ("rules of the sources", ["tests/gate/rules.py", "."]),
         ("kef has no scratch memory", ["tests/gate/scratch.py", "."]),
         ("the middle of kef", ["tests/gate/amid.py", "."]),
+        ("the sweep is above the kernel", ["tests/gate/above.py", "."]),
         ("walks of the calls that are lent a session", ["tools/walks.py", "--check"]),
         ("the gate itself", ["tests/gate/test_gate.py"]),
         ("model", ["tests/model/test_model.py"]),

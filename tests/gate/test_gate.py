@@ -1,12 +1,13 @@
 """The gate refuses what it must refuse: an unlisted crate, a theorem that is not where the table says, a name that is
 not where the architecture says, a line too wide, a record's place named outside layout, a dependency that is not named
-or not listed, scratch memory in what kef reaches, a walk that no invariant holds, a failed step, a step that tested
-nothing or was cut short."""
+or not listed, scratch memory in what kef reaches, a walk that no invariant holds, a sweep that reaches below the kernel,
+a failed step, a step that tested nothing or was cut short."""
 import os
 import sys
 import tempfile
 
 sys.path.insert(0, os.path.dirname(os.path.abspath(__file__)))
+import above
 import amid
 import architecture
 import gate
@@ -115,6 +116,25 @@ def amid_faults(turn="put(links, k, l);", walk="k = pass_one(links, k, l);", inv
             with open(os.path.join(folder, path), "w", encoding="utf-8") as f:
                 f.write(text)
         return amid.faults(folder)
+
+
+
+def above_faults(body="sessions_entry::run(links);", uses="runs sessions_entry", unfolded="runOf"):
+    """What is wrong with a sweep of this body, with these dependencies, whose proof unfolds this."""
+    run = "pub fn run(links: &mut [u16]) { links[0] = 1; }\n"
+    files = [("sweep_call/src/lib.rt", f"pub fn sweep(links: &mut [u16]) {{ {body} }}\n"),
+             ("sweep_call/specs/A.antt", f"law : T\nunfolding {unfolded}\nlaw = refl\n"),
+             ("sessions_entry/src/lib.rt", run), ("euler_edges/src/lib.rt", run),
+             ("runs/src/lib.rt", "pub fn enter(links: &[u16]) {}\n")]
+    files += [(f"euler/specs/{name}.antt", f"unfoldable pub of{name} : T\nof{name} = one\n") for name in above.OPENED]
+    with tempfile.TemporaryDirectory() as folder:
+        tree(folder, [], [f"sweep_call: {uses}"])
+        for path, text in files:
+            os.makedirs(os.path.dirname(os.path.join(folder, "crates", path)), exist_ok=True)
+            with open(os.path.join(folder, "crates", path), "w", encoding="utf-8") as f:
+                f.write(text)
+        return above.faults(folder)[1]
+
 
 CASES = [
     ("`rt ci` is a step", lambda: ("rt ci", ["rt", "ci"]) in gate.steps()),
@@ -236,6 +256,18 @@ CASES = [
     ("a walk that stores by itself fails", lambda: len(amid_faults(
         walk="k = pass_one(links, k, l); links[k] = l;")) == 1),
     ("another invariant fails", lambda: len(amid_faults(invariant="(relabel sh left links k stop l ≡ whole)")) == 1),
+    ("a sweep that reads and runs passes", lambda: above_faults("runs::enter(links); sessions_entry::run(links);") == []),
+    ("a sweep that lists operator code fails", lambda: above_faults(uses="euler_edges runs_steps takedown_acts")
+     == [f"crates.txt: sweep_call lists {name}, which is operator code"
+         for name in ("euler_edges", "runs_steps", "takedown_acts")]),
+    ("a sweep that lends the table to an operator fails", lambda: above_faults("euler_edges::run(links);")
+     == ["sweep_call::sweep lends the table to euler_edges::run"]),
+    ("a sweep that stores into the table fails", lambda: above_faults("links[3] = 1;")
+     == ["sweep_call::sweep stores into links"]),
+    ("a call of the sweep that is nowhere fails", lambda: above_faults("lost(links);")
+     == ["sweep_call::sweep calls lost, which is not found"]),
+    ("a proof that unfolds an operator fails", lambda: above_faults(unfolded="runOf\n    ofSurgery")
+     == ["crates/sweep_call/specs/A.antt: unfolds ofSurgery".replace("/", os.sep)]),
     ("a good step counts", lambda: gate.judge(0, "ok\n3 passed, 0 failed\n") == (3, 0)),
     ("a failed test fails the step", lambda: gate.judge(1, "2 passed, 1 failed\n") == (2, 1)),
     ("a bad exit status fails the step", lambda: gate.judge(1, "3 passed, 0 failed\n") == (3, 1)),

@@ -1,5 +1,8 @@
 pub mod Refusals
-pub mod TakeDown
+pub mod SweepRefusals
 pub mod SoundActs
+pub mod SweepActs
+pub mod TakeDown
+pub mod Sweeping
 pub mod Mission
 pub mod Proved

@@ -1,17 +1,18 @@
 -- THE MISSION, in statements: types only. `Proved` has a proof of each, by the theorem of the field's name.
--- They speak of the definitions that the contracts of crate `kernel` cite:
+-- They speak of the definitions that the contracts of crate `kernel`, and of crate `sweep` above it, cite:
 --     sessionClear  zoghvari_clear     checkOf  zoghvari_check     readOperator widest  zoghvari_read
 --     sessionRun    zoghvari_run       countOf  zoghvari_count     writeOperator        zoghvari_write
 --     sessionUndo   zoghvari_undo      objOf    zoghvari_obj
---     sessionRedo   zoghvari_redo
+--     sessionRedo   zoghvari_redo      sweepOf  zoghvari_sweep
 --     sessionInvert zoghvari_invert
 -- Those with a session are a line each over `clearOf`, `runOf`, `moveOf` (undo and redo) and `invertOf`, whose answer,
 -- table and log they give as they are (crates/sessions/specs/Session.antt).
 -- A contract says: for every input the answer, and every word, coordinate and byte that the call leaves, are the
 -- definition's. So what is said here of a definition is said of the call, and what is said of a list of acts
--- (`Act`, `doAll` of crate `machine`: one act for each entry point) is said of these calls one after the other.
--- Run and take-down are handed the redo log's length as a number, clearing the lengths of both logs. Such a call is
--- what the definition says for the numbers handed in. The statements about lists of calls (`Editing`, `Act`) hand in
+-- (`Act`, `doAll` of crate `machine`: one act for each entry point of the kernel) is said of these calls one after the
+-- other; with sweeps among them by `calls-acts`.
+-- Run, take-down and sweep are handed the redo log's length as a number, clearing the lengths of both logs. Such a call
+-- is what the definition says for the numbers handed in. The statements about lists of calls (`Editing`, `Act`) hand in
 -- the logs' own lengths; a caller who hands in another number is the "outside hand" that they exclude.
 -- In quotes: documents 00 and 01; where it is document 02, it says so.
 use mathlib.Core.Path.{_≡_}
@@ -68,7 +69,10 @@ use Rattle.inversion.specs.Promise.{InvertAnswers, SpareNeverTen, SpareExact, H
 use Rattle.wavefront.specs.Obj.{solidRefusal, objOf}
 use Rattle.wavefront_read.specs.Refused.{RefusedAs}
 use Rattle.wavefront_read.specs.Written.{TextEnds, TextRead}
+use Rattle.sweeps.specs.Sweep.{Vector}
+use Rattle.sweeps.specs.Swept.{sweepIn}
 use Rattle.mission.specs.Refusals.{OneOf, Named}
+use Rattle.mission.specs.Sweeping.{Sweeping}
 
 -- a table passes the check
 abbrev pub Passes : List ℕ → List ℤ → Type 0
@@ -79,7 +83,7 @@ Passes x p = checkOf x p .refusal ≡ 0
 -- caller, and each function is proved to end.
 
 -- "A refusal carries one of eleven numbers." Each entry point answers 0 or one of those that document 01 gives it.
--- Document 02, job 2: "These and later jobs' new numbers join the mission's eleven": 12 and 13
+-- Document 02, job 2: "These and later jobs' new numbers join the mission's eleven": 12 and 13, by job 7 also 14
 pub record RefusalsNumbered : Type 0 where
   pub clear : (x : List ℕ) (p : List ℤ) (s f l e v : ℕ) → OneOf (0 ∷ 1 ∷ []) (clearOf x p s f l e v .answer .refusal)
   pub check : (x : List ℕ) (p : List ℤ) → OneOf (0 ∷ 1 ∷ 2 ∷ []) (checkOf x p .refusal)
@@ -95,6 +99,8 @@ pub record RefusalsNumbered : Type 0 where
   pub invert : (t : State) → OneOf (0 ∷ 1 ∷ 2 ∷ 9 ∷ 10 ∷ []) (invertOf t .answer .refusal)
   pub obj : (x : List ℕ) (p : List ℤ) (s : ℕ) (out : List ℕ)
       → OneOf (0 ∷ 1 ∷ 2 ∷ 5 ∷ 6 ∷ 12 ∷ 13 ∷ []) (objOf x p s out .answer .refusal)
+  pub sweep : (e : Editing) (f : ℕ) (v : Vector)
+      → OneOf (0 ∷ 1 ∷ 2 ∷ 5 ∷ 6 ∷ 9 ∷ 10 ∷ 14 ∷ []) (sweepIn e f v .answer .answer .refusal)
 
 -- the first demand
 pub record Demand1 : Type 0 where
@@ -103,6 +109,8 @@ pub record Demand1 : Type 0 where
   pub rule-named : (x : List ℕ) (p : List ℤ) → Named (checkOf x p .refusal) (checkOf x p .rule)
   pub obj-named : (x : List ℕ) (p : List ℤ) (s : ℕ) (out : List ℕ)
       → Named (objOf x p s out .answer .refusal) (objOf x p s out .answer .rule)
+  pub sweep-named : (e : Editing) (f : ℕ) (v : Vector)
+      → Named (sweepIn e f v .answer .answer .refusal) (sweepIn e f v .answer .answer .rule)
   -- "The refused operator changes neither table nor log; operators before it in the script stand." The bytes used, run
   -- alone, do as many operators and leave the same table, log and start; only the entry refuses them
   pub refused-apart : (t : State) (s : List ℕ)
@@ -249,7 +257,8 @@ pub record Demand3 : Type 0 where
 
 -- ---- DOCUMENT 02, what its jobs ask beside the demands (job 1 changed some of them, and stands there)
 
--- job 2: the text of a solid; job 3: kef in place; job 4: redo; job 5: the words of vertices; job 6: full tables
+-- job 2: the text of a solid; job 3: kef in place; job 4: redo; job 5: the words of vertices; job 6: full tables;
+-- job 7: the sweep
 pub record Requests : Type 0 where
   -- "(After 5 and 6 for the solid: 12, …; then 13, the text doesn't fit.)" Every call ends in one of four ways
   -- (`TextEnds`), each with its answer and every byte of the buffer: what the check refuses; what is refused of the
@@ -361,6 +370,8 @@ pub record Requests : Type 0 where
   -- "The rebuild promise then holds for each table that isn't refused." With the mission's supposition none is by 10
   pub inversion-exact : InversionExact
   pub spare-never-ten : SpareNeverTen
+  -- Job 7, the sweep, has a page of its own
+  pub sweeping : Sweeping
 
 -- the whole
 pub record Mission : Type 0 where

@@ -34,6 +34,11 @@ use Rattle.wavefront_read.specs.Written.{obj-ends, obj-out, obj-reads}
 use Rattle.mission.specs.Refusals.{clear-numbered, check-numbered, count-numbered, read-numbered, write-numbered}
 use Rattle.mission.specs.Refusals.{run-numbered, undo-numbered, redo-numbered, invert-numbered, obj-numbered}
 use Rattle.mission.specs.Refusals.{rule-named, entry-numbered, clear-out, write-out}
+use Rattle.sweeps.specs.Swept.{sweep-not, sweep-whole, sweep-run, sweep-least, sweep-left, sweep-counted, sweep-sound}
+use Rattle.sweeps.specs.Swept.{sweep-undone}
+use Rattle.mission.specs.SweepRefusals.{sweep-numbered, sweep-named}
+use Rattle.mission.specs.SweepActs.{calls-acts, calls-sound, calls-undone}
+use Rattle.mission.specs.Sweeping.{Sweeping}
 use Rattle.mission.specs.TakeDown.{clear-own, invert-asked, session-as-before, invert-sound}
 use Rattle.mission.specs.SoundActs.{sound-acts}
 use Rattle.mission.specs.Mission.{RefusalsNumbered, Demand1, Demand2, Demand3, Requests, Mission}
@@ -51,6 +56,7 @@ refusals-numbered = record {
   redo = redo-numbered;
   invert = invert-numbered;
   obj = λ x p s out. obj-numbered x p s out .0;
+  sweep = sweep-numbered;
 }
 
 -- a result for whoever hands over bytes
@@ -59,6 +65,7 @@ demand-1 = record {
   refusals-numbered = refusals-numbered;
   rule-named = rule-named;
   obj-named = λ x p s out. obj-numbered x p s out .1;
+  sweep-named = sweep-named;
   refused-apart = refused-apart;
   move-apart = move-apart;
   entry-numbered = entry-numbered;
@@ -115,6 +122,22 @@ demand-3 = record {
   count-holes = count-holes;
 }
 
+-- the sweep
+pub swept : Sweeping
+swept = record {
+  sweep-not = sweep-not;
+  sweep-whole = sweep-whole;
+  sweep-run = sweep-run;
+  sweep-least = sweep-least;
+  sweep-left = sweep-left;
+  sweep-counted = sweep-counted;
+  sweep-sound = sweep-sound;
+  sweep-undone = sweep-undone;
+  calls-acts = calls-acts;
+  calls-sound = calls-sound;
+  calls-undone = calls-undone;
+}
+
 -- document 02
 pub requested : Requests
 requested = record {
@@ -147,6 +170,7 @@ requested = record {
   log-enough = log-enough;
   inversion-exact = inversion-exact;
   spare-never-ten = spare-never-ten;
+  sweeping = swept;
 }
 
 -- all of it

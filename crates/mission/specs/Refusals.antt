@@ -57,7 +57,7 @@ abbrev pub OneOf : List ℕ → ℕ → Type 0
 OneOf ms n = T (among ms n)
 
 -- one of fewer is one of more
-wider : (ks ms : List ℕ) → T (allb (map (among ms) ks)) → (n : ℕ) → OneOf ks n → OneOf ms n
+pub wider : (ks ms : List ℕ) → T (allb (map (among ms) ks)) → (n : ℕ) → OneOf ks n → OneOf ms n
 wider [] ms h n t = absurd t
 wider (k ∷ ks) ms h n t =
     let a = and-T (among ms k) (allb (map (among ms) ks)) h in
@@ -72,7 +72,7 @@ looked-up ms (a ∷ l) d h t (suc k) = looked-up ms l d (and-T (among ms a) (all
 
 -- what can come of the check; of reading; of an operator's items; of them and its condition; of an operator of a script
 -- or log
-abbrev checks : List ℕ
+abbrev pub checks : List ℕ
 checks = 0 ∷ 1 ∷ 2 ∷ []
 
 abbrev reads : List ℕ
