@@ -1,5 +1,5 @@
 //! Half-edge tables and the thirteen Euler operators, with undo and redo to the byte, a take-down that turns a table
-//! into a script, and solids as OBJ text for a viewer: the proved kernel's archive behind safe types.
+//! into a script, solids as OBJ text for a viewer, and the sweep of a face: the proved archive behind safe types.
 //!
 //! What is proved is the archive, not this wrapper, which does no more than hand slices over and give numbers names.
 //! docs/GUIDE.md says what each call promises.

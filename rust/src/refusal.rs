@@ -5,11 +5,13 @@
 pub enum Cause {
     /// Who lends the memory: links, points and where the two logs start.
     Lender,
-    /// Who wrote the script or the log, and so made the part; of a solid that is asked for, who named it.
+    /// Who wrote the script or the log, and so made the part; of a solid, a face or a vector that is asked for, who
+    /// named it.
     Author,
     /// Who chose how long the memory is.
     Sizer,
-    /// Who asked for more operators than there are, to be undone or done again.
+    /// Who asked for more operators than there are, to be undone or done again, or for the sweep of a face with a lone
+    /// loop.
     Asker,
 }
 
@@ -26,20 +28,23 @@ pub enum Refusal {
     Number,
     /// 4: a code is not 1 to 13.
     Code,
-    /// 5: an operand is out of range, or the number of a solid that is asked for.
+    /// 5: an operand is out of range, or the number of a solid or face that is asked for; of a sweep also a moved
+    /// point.
     Range,
-    /// 6: an old item is free, or the solid that is asked for.
+    /// 6: an old item is free, or the solid or face that is asked for.
     Free,
     /// 7: a new number is in use.
     InUse,
     /// 8: the operator's condition fails.
     Condition,
     /// 9: the log, or the destination of a write, is too short; for undo, the redo log; for the take-down, shorter than
-    /// [`Counts::invert_log_length`](crate::Counts::invert_log_length) in front of its start. The operator that met it
-    /// has changed nothing, and what was done or undone before it stands.
+    /// [`Counts::invert_log_length`](crate::Counts::invert_log_length) in front of its start; for the sweep, shorter
+    /// there than all its inverses. The operator that met it has changed nothing, and what was done or undone before it
+    /// stands; of a sweep nothing was done.
     NoRoom,
-    /// 10: a step of the take-down lacked a free face, loop or edge number. The table is as it was, and so are the log
-    /// from its start on, the redo log and both starts.
+    /// 10: a step of the take-down lacked a free face, loop or edge number; or fewer vertices, edges, faces or loops
+    /// are free than the sweep makes. The table is as it was, and so are the log from its start on, the redo log and
+    /// both starts.
     NoNumber,
     /// 11: undo finds the log ended, or redo the redo log, where its next operator should begin; what was undone or
     /// done before that stands.
@@ -48,10 +53,12 @@ pub enum Refusal {
     NoPolygon,
     /// 13: the text is longer than the buffer; [`Table::obj`](crate::Table::obj) lends one that is long enough.
     TooLong,
+    /// 14: a loop of the face that is to be swept is lone.
+    LoneLoop,
 }
 
 impl Refusal {
-    /// The refusal of a number, `None` for 0. The kernel answers no number above 13.
+    /// The refusal of a number, `None` for 0. No call answers a number above 14.
     pub(crate) fn of(number: u8, rule: u8) -> Option<Refusal> {
         Some(match number {
             0 => return None,
@@ -68,11 +75,12 @@ impl Refusal {
             11 => Refusal::LogEnded,
             12 => Refusal::NoPolygon,
             13 => Refusal::TooLong,
-            other => unreachable!("the kernel has no refusal {other}"),
+            14 => Refusal::LoneLoop,
+            other => unreachable!("no call has refusal {other}"),
         })
     }
 
-    /// The specification's number, 1 to 13.
+    /// The specification's number, 1 to 14.
     pub fn number(self) -> u8 {
         match self {
             Refusal::Lengths => 1,
@@ -88,6 +96,7 @@ impl Refusal {
             Refusal::LogEnded => 11,
             Refusal::NoPolygon => 12,
             Refusal::TooLong => 13,
+            Refusal::LoneLoop => 14,
         }
     }
 

@@ -1,6 +1,7 @@
-//! The archive's functions as include/zoghvari.h declares them, and a safe function for each. All `unsafe` is here.
+//! The archive's functions as include/zoghvari.h and include/zoghvari_sweep.h declare them, and a safe function for
+//! each. All `unsafe` is here.
 //!
-//! Why each call is safe: the kernel asks nothing of the bytes it is lent, reads and writes only inside the slices (a
+//! Why each call is safe: the archive asks nothing of the bytes it is lent, reads and writes only inside the slices (a
 //! pointer and a count of elements) and the session, and keeps no pointer. A `&mut` is lent to no one else during the
 //! call.
 
@@ -92,8 +93,15 @@ pub struct Text {
     pub length: usize,
 }
 
+#[repr(C)]
+pub struct Done {
+    pub refusal: u8,
+    pub rule: u8,
+    pub done: usize,
+}
+
 mod c {
-    use super::{Checked, Cleared, Counted, Inverted, Operator, Ran, Read, Redone, Session, Text, Undone, Written};
+    use super::{Checked, Cleared, Counted, Done, Inverted, Operator, Ran, Read, Redone, Session, Text, Undone, Written};
 
     extern "C" {
         #[rustfmt::skip]
@@ -175,6 +183,21 @@ mod c {
             out: *mut u8,
             out_n: usize,
         ) -> Text;
+        #[rustfmt::skip]
+        pub fn zoghvari_sweep(
+            links: *mut u16,
+            links_n: usize,
+            points: *mut i32,
+            points_n: usize,
+            log: *mut u8,
+            log_n: usize,
+            redo_n: usize,
+            session: *mut Session,
+            face: usize,
+            dx: i32,
+            dy: i32,
+            dz: i32,
+        ) -> Done;
     }
 }
 
@@ -261,4 +284,20 @@ pub fn invert(
 pub fn obj(links: &[u16], points: &[i32], solid: usize, out: &mut [u8]) -> Text {
     let (lp, ln, pp, pn) = (links.as_ptr(), links.len(), points.as_ptr(), points.len());
     unsafe { c::zoghvari_obj(lp, ln, pp, pn, solid, out.as_mut_ptr(), out.len()) }
+}
+
+/// Of the redo log only the length is handed in.
+#[rustfmt::skip]
+pub fn sweep(
+    links: &mut [u16],
+    points: &mut [i32],
+    log: &mut [u8],
+    redo_n: usize,
+    session: &mut Session,
+    face: usize,
+    vector: [i32; 3],
+) -> Done {
+    let (lp, ln, pp, pn) = (links.as_mut_ptr(), links.len(), points.as_mut_ptr(), points.len());
+    let ((gp, gn), [dx, dy, dz]) = ((log.as_mut_ptr(), log.len()), vector);
+    unsafe { c::zoghvari_sweep(lp, ln, pp, pn, gp, gn, redo_n, session, face, dx, dy, dz) }
 }

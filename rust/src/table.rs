@@ -92,9 +92,9 @@ pub struct Inverted {
     pub script: Vec<u8>,
 }
 
-/// A table with its log and its redo log. Nobody else can write into them, so undo by the sum of the runs' `done`
-/// counts gives back every byte, where no clearing, undo, redo or take-down came between and the redo log has room for
-/// what is undone; and redo by the number undone then gives back every byte of the table and of the log.
+/// A table with its log and its redo log. Nobody else can write into them, so undo by the sum of the `done` counts of
+/// runs and sweeps gives back every byte, where no clearing, undo, redo or take-down came between and the redo log has
+/// room for what is undone; and redo by the number undone then gives back every byte of the table and of the log.
 #[derive(Clone, Debug, PartialEq, Eq)]
 pub struct Table {
     links: Vec<u16>,
@@ -294,6 +294,39 @@ impl Table {
         let mut text = vec![0; asked.length];
         let answer = sys::obj(&self.links, &self.points, solid, &mut text);
         Refusal::of(answer.refusal, answer.rule).map_or(Ok(text), Err)
+    }
+
+    /// Lifts a face by a vector, in hundredths of a millimetre, and answers the number of operators done: the number to
+    /// undo, two for each corner. A corner gets a new vertex and an edge to it, a side a new edge and a new face; all
+    /// loops of the face are lifted, rings too, and the face keeps its number. For n corners n vertices, 2n edges, n
+    /// faces and n loops have to be free. What is logged is what a run of these operators logs, and the redo log is
+    /// emptied as by a run.
+    ///
+    /// Refusals, in this order: 1 and 2; 5 where the table has no such number of a face, 6 where that face is free; 14
+    /// where a loop of it is lone; 5 where a corner's point plus the vector is out of range; 10 where too few numbers
+    /// are free; 9 where the log has no room for all inverses, of 2 or 3 bytes each. A refusal changes nothing.
+    ///
+    /// ```
+    /// # fn main() -> Result<(), zoghvari::Refusal> {
+    /// # use zoghvari::{script_bytes, Capacities, Operator, Table};
+    /// # let triangle = [
+    /// #     Operator::new(1, &[1, 1, 1, 1, 0, 0, 0]),
+    /// #     Operator::new(3, &[1, 0, 1, 2, 0, 1_000, 0, 0]),
+    /// #     Operator::new(3, &[1, 2, 2, 3, 0, 500, -250, 0]),
+    /// #     Operator::new(5, &[1, 1, 4, 3, 2, 2, 0]),
+    /// # ];
+    /// # let mut table = Table::new(Capacities::all(9), 256)?;
+    /// # assert_eq!(table.run(&script_bytes(&triangle)?).refusal, None);
+    /// let done = table.sweep(2, [0, 0, 2_000])?; // a triangle becomes a prism
+    /// assert_eq!((done, table.count()?.faces), (6, 5));
+    /// assert_eq!(table.undo(done).undone, 6);
+    /// # Ok(())
+    /// # }
+    /// ```
+    pub fn sweep(&mut self, face: usize, vector: [i32; 3]) -> Result<usize, Refusal> {
+        let (log, redo_n, session) = (&mut self.log, self.redo.len(), &mut self.session);
+        let answer = sys::sweep(&mut self.links, &mut self.points, log, redo_n, session, face, vector);
+        Refusal::of(answer.refusal, answer.rule).map_or(Ok(answer.done), Err)
     }
 
     /// How many half-edges start at vertex `v`: at a corner of a part, how many edges meet there, an edge from a vertex

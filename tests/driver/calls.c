@@ -1,8 +1,8 @@
 #include "calls.h"
 
-#include "zoghvari.h"
+#include "zoghvari_sweep.h"
 
-enum { CLEAR = 1, CHECK, COUNT, READ, WRITE, RUN, UNDO, TAKEDOWN, OBJ, REDO };
+enum { CLEAR = 1, CHECK, COUNT, READ, WRITE, RUN, UNDO, TAKEDOWN, OBJ, REDO, SWEEP };
 
 /* A session is lent as the frame has it: two numbers of u64. */
 _Static_assert(sizeof(ZoghvariSession) == 16, "a session is two numbers of u64");
@@ -97,6 +97,16 @@ static uint32_t answer_obj(const Frame *f, uint64_t *out) {
     return 3;
 }
 
+/* The vector's numbers come as two's complements of 64 bits, and are in the range of 32. */
+static uint32_t answer_sweep(const Frame *f, uint64_t *out) {
+    const uint64_t *a = f->numbers.data;
+    ZoghvariDone r = zoghvari_sweep(f->links.data, f->links.n, f->points.data, f->points.n, f->log.data, f->log.n,
+                                    f->redo.n, f->session.data, a[0], (int32_t)a[1], (int32_t)a[2], (int32_t)a[3]);
+    const uint64_t all[3] = {r.refusal, r.rule, r.done};
+    for (int i = 0; i < 3; i++) out[i] = all[i];
+    return 3;
+}
+
 typedef struct {
     uint32_t numbers; /* how many numbers the case has to hold */
     uint32_t session; /* and its session: 2 where the call is lent one */
@@ -107,10 +117,11 @@ static const Kind KINDS[] = {[CLEAR] = {5, 2, answer_clear}, [CHECK] = {0, 0, an
                              [COUNT] = {0, 0, answer_count}, [READ] = {1, 0, answer_read},
                              [WRITE] = {11, 0, answer_write}, [RUN] = {0, 2, answer_run},
                              [UNDO] = {1, 2, answer_undo},   [TAKEDOWN] = {0, 2, answer_takedown},
-                             [OBJ] = {1, 0, answer_obj},     [REDO] = {1, 2, answer_redo}};
+                             [OBJ] = {1, 0, answer_obj},     [REDO] = {1, 2, answer_redo},
+                             [SWEEP] = {4, 2, answer_sweep}};
 
 uint32_t call(const Frame *f, uint64_t *out) {
-    if (f->kind < CLEAR || f->kind > REDO) fail("a kind that the kernel does not have");
+    if (f->kind < CLEAR || f->kind > SWEEP) fail("a kind that the library does not have");
     if (f->numbers.n < KINDS[f->kind].numbers) fail("a case with too few numbers");
     if (f->session.n < KINDS[f->kind].session) fail("a case without its session");
     return KINDS[f->kind].answer(f, out);

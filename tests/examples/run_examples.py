@@ -1,26 +1,28 @@
-"""Runs what examples/, docs/GUIDE.md and the header show: python3 tests/examples/run_examples.py [ARCHIVE]
+"""Runs what examples/, docs/GUIDE.md and the headers show:
 
-The C examples and the guide's C programs are built with the kernel's archive and run; what the take-down of the pocket
-logs is held to the model; the pocket's script is held to its source, to the model, to the solid that it is meant to be,
-and to the program where that is built, and in padded numbers to what it does in shortest ones; parts as OBJ text are
-held to what viewing.py says of them, the header and the archive to what header.py says. The last line is 'N passed, M
-failed'.
+    python3 tests/examples/run_examples.py [KERNEL'S ARCHIVE SWEEP'S ARCHIVE]
+
+The C examples and the guide's C programs are built with the kernel's archive, those that sweep with the sweep's too, and
+run; what the take-down of the pocket logs is held to the model; the pocket's script is held to its source, to the
+model, to the solid that it is meant to be, and to the program where that is built, and in padded numbers to what it
+does in shortest ones; parts as OBJ text are held to what viewing.py says of them, the sweep's example to what
+sweeping.py says, headers and archives to what header.py says. The last line is 'N passed, M failed'.
 """
 
 import os
 import re
-import struct
 import sys
 import tempfile
 
-from files import ROOT, output_of, read
+from files import ROOT, digest_of, output_of, read
 
 sys.path[:0] = [os.path.join(ROOT, "tests", "model"), os.path.join(ROOT, "examples")]
 import header
 import library
 import pocket
+import sweeping
 import viewing
-from geometry import flat, six_volumes
+from geometry import body
 from kernel import Session, program, run
 from layout import cleared_table
 from rules import check
@@ -85,15 +87,7 @@ def rebuild_example(tally, folder, kernel):
     tally.holds("the script's length and how many operators it has", last in wanted)
 
 
-def digest_of(table):
-    """What examples/digest.h computes: FNV-1a, 64 bits, over links and points with the low byte first."""
-    digest = 0xCBF29CE484222325
-    for byte in struct.pack(f"<{len(table.links)}H{len(table.points)}i", *table.links, *table.points):
-        digest = (digest ^ byte) * 0x100000001B3 % 2 ** 64
-    return f"{digest:016x}"
-
-
-def guide(tally, folder, kernel):
+def guide(tally, folder, kernel, sweep):
     """Each whole C program of the guide is built and has to end well, with the output that the guide says."""
     text = read("docs/GUIDE.md")
     programs = re.findall(r"```c\n(.*?)```\s+prints\s+```\n(.*?)```", text, re.DOTALL)
@@ -103,7 +97,7 @@ def guide(tally, folder, kernel):
         path = os.path.join(folder, f"guide{number}")
         with open(path + ".c", "w", encoding="utf-8") as file:
             file.write(source)
-        built = library.compile_c([path + ".c"], path, kernel)
+        built = library.compile_c([path + ".c"], path, kernel, [sweep] * (os.path.basename(header.SWEEP) in source))
         tally.equal(f"program {number + 1} of the guide", output_of([built]), (0, wanted))
 
 
@@ -113,9 +107,7 @@ def pocket_script(tally):
     tally.equal("pocket.expected is what the model prints", wanted, program(data))
     table = table_of(part.table)
     tally.equal("the pocket's table is sound", check(table.links, table.points), (0, 0))
-    turned = [corners(part.table, loop)[::-1] for loop in part.table.loop_face]
-    tally.equal("the pocket's volume", six_volumes(turned), 6 * VOLUME * 100 ** 3)
-    tally.equal("its faces are flat", [f for f in part.table.face_solid if not flat(face_points(part.table, f))], [])
+    body(tally, "the pocket", part.table, VOLUME)
     if os.path.exists(PROGRAM):
         tally.equal("the program on pocket.script", output_of([PROGRAM], data), (0, wanted))
 
@@ -136,25 +128,15 @@ def padded_script(tally):
         tally.equal("the program on pocket-padded.script", output_of([PROGRAM], padded), (0, wanted))
 
 
-def corners(b, loop):
-    return [b.points[b.start[half]] for half in b.cycles[loop]]
-
-
-def face_points(b, face):
-    """The corners of a face and its rings."""
-    return [point for loop in b.loops_of_face(face) for point in corners(b, loop)]
-
-
 def main(arguments):
-    tally, kernel = Tally(), arguments[0] if arguments else library.archive()
-    header.one_version(tally)
-    header.names(tally, kernel)
+    tally, (kernel, sweep) = Tally(), arguments or (library.archive(), library.archive("sweep"))
     with tempfile.TemporaryDirectory() as folder:
-        header.both_languages(tally, folder, kernel)
+        header.all_headers(tally, folder, kernel, sweep)
         edit_example(tally, folder, kernel)
         rebuild_example(tally, folder, kernel)
         viewing.view_example(tally, folder, kernel, VOLUME)
-        guide(tally, folder, kernel)
+        sweeping.wizard_example(tally, folder, kernel, sweep)
+        guide(tally, folder, kernel, sweep)
     pocket_script(tally)
     padded_script(tally)
     viewing.insert_script(tally)

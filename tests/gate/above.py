@@ -1,6 +1,7 @@
 """The sweep stands above the kernel and is proved from the operators' contracts alone (document 01, "The form for each
 place"): its code lists no crate of operator code, no function of it stores into the table or lends it to be written but
-to one run, and neither its theory nor its proofs unfold the definition of an operator. Prints 'N passed, M failed'."""
+to one run, and neither its theory nor its proofs unfold the definition of an operator. (The list of inverses they do
+read, for how many bytes those of mev and mef take.) Prints 'N passed, M failed'."""
 import os
 import re
 import sys

@@ -12,6 +12,7 @@ from layout import cleared_table
 from operators import plan
 from padding import half_padded, padded_log
 from script import number_bytes, operator, operator_bytes, script_bytes
+from sweep_cases import sweep_case
 from takedown_cases import takedown_case
 from wavefront_cases import obj_case
 
@@ -21,7 +22,8 @@ TOO_MANY = (1_000, 1 << 32, (1 << 64) - 1)
 
 def random_case(rng):
     kind = rng.choice((wire.CLEAR, wire.CHECK, wire.COUNT, wire.READ, wire.WRITE,
-                       wire.RUN, wire.RUN, wire.RUN, wire.UNDO, wire.UNDO, wire.REDO, wire.TAKEDOWN, wire.OBJ))
+                       wire.RUN, wire.RUN, wire.RUN, wire.UNDO, wire.UNDO, wire.REDO, wire.TAKEDOWN, wire.OBJ,
+                       wire.SWEEP))
     return CASES[kind](rng)
 
 
@@ -217,7 +219,7 @@ def log_of_bytes(rng, table):
 
 CASES = {wire.CLEAR: clear_case, wire.CHECK: table_case(wire.CHECK), wire.COUNT: table_case(wire.COUNT),
          wire.READ: read_case, wire.WRITE: write_case, wire.RUN: run_case, wire.UNDO: undo_case,
-         wire.REDO: redo_case, wire.TAKEDOWN: takedown_case, wire.OBJ: obj_case}
+         wire.REDO: redo_case, wire.TAKEDOWN: takedown_case, wire.OBJ: obj_case, wire.SWEEP: sweep_case}
 
 
 # The program

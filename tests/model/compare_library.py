@@ -1,4 +1,5 @@
-"""Compares the compiled kernel with the model: builds the static library and the driver, asks both the same cases.
+"""Compares the compiled library with the model: builds the archives of the kernel and of the sweep, and the driver, and
+asks both the same cases. With --library the archives are this one of the kernel and the libsweep.a in its folder.
 
     python3 tests/model/compare_library.py [MODE [COUNT [SEED]]] [--library ARCHIVE]
 
@@ -21,6 +22,9 @@ MODE  entries    COUNT cases each of clearing, checking, counting, reading and w
                  redos taken back; half as many lists of scripts undone with just the room for it, or a byte less
       words      COUNT sound tables with one vertex word changed: the check's answer to each, and that of another call;
                  from 1,000 on every operator that a sound table of capacities 1 or 2 accepts
+      sweep      COUNT sweeps, half of them refused, by every reason; accepted ones undone, redone, and done by a run of
+                 their operators; besides every face of every table of two edges at most, the ends of the range, and
+                 the longest sweep
       all        every mode, with a count of its own (the default)
 
 Every answer and every byte of links, points, both logs, script and session afterwards must be equal; a crash or a hang
@@ -47,6 +51,9 @@ from redo_met import WANTED as WANTED_HISTORIES
 from redo_promise import WANTED as WANTED_TRIPS, keep_exchange, keep_promise as keep_trips, trip_case
 from rules import check
 from small_tables import ACCEPTED, operator_cases
+from sweep_cases import longest_cases as longest_sweeps, range_cases, small_cases as small_sweeps, sweep_case
+from sweep_met import add_sweep, want_sweeps
+from sweep_promise import keep_promise as keep_sweep_promise
 from takedown_cases import LISTED, LISTED_TOO, NONE_OF_SOME, full_trials, listed_trials, takedown_trial
 from takedown_full import ROUND
 from takedown_met import WANTED, WANTED_FULL, WANTED_LACKS, case_situations
@@ -71,6 +78,8 @@ KEFS_ENOUGH = 500
 WORDS_MANY, WORDS_ENOUGH, CHANGED_OFTEN = 1_000, 3_000, 200
 # From so many full tables on each kind of number has to be lacking so often, and so often behind steps.
 FULL_ENOUGH, LACKING_OFTEN = 4_500, 100
+# From so many sweeps on each of what they are made for has to be met, and most of it often.
+SWEEPS_ENOUGH = 3_000
 # So often histories have to be refused by each number, and half as often to meet each situation.
 OFTEN = 8
 
@@ -299,10 +308,33 @@ def compare_changes(driver, tally, met, rng, changes):
             met.situations.update(change_situations(change, wanted.numbers))
 
 
+def sweep(driver, tally, met, rng, count):
+    """Small tables first, so that a slip shows on one that can be read. What has to be met has to be met by the others.
+    """
+    listed = small_sweeps() + range_cases() + longest_sweeps(rng)
+    for place in range(0, len(listed), PORTION):
+        compare_sweeps(driver, tally, Met(), listed[place:place + PORTION])
+    for size in portions(count):
+        compare_sweeps(driver, tally, met, [sweep_case(rng) for _ in range(size)])
+    if count >= SWEEPS_ENOUGH:
+        want_sweeps(tally, met)
+
+
+def compare_sweeps(driver, tally, met, cases):
+    """The answers to the cases, and then the promise, with what the library has left."""
+    lifted = []
+    for case, answer in zip(cases, ask(driver, cases)):
+        if tally.equal(f"sweep: {case}", answer, wire.answer_case(case)):
+            add_sweep(met, case, answer)
+            lifted += [(case, answer)] if answer.numbers[0] == 0 else []
+    keep_sweep_promise(lambda asked: ask(driver, asked), tally, met, lifted)
+
+
 # Name, comparison, and the count with which the gate runs it.
 MODES = {"entries": (entries, 500), "operators": (operators, 3_000), "runs": (runs, 4_500), "promise": (promise, 2_000),
          "padded": (padded, 4_500), "numbers": (numbers, 2_000), "takedown": (takedown, 5_000),
-         "full": (full, 4_500), "obj": (obj, 5_000), "kef": (kef, 500), "redo": (redo, 4_000), "words": (words, 3_000)}
+         "full": (full, 4_500), "obj": (obj, 5_000), "kef": (kef, 500), "redo": (redo, 4_000), "words": (words, 3_000),
+         "sweep": (sweep, 3_000)}
 
 
 def run_mode(driver, name, count, seed):

@@ -1,4 +1,5 @@
-"""The compiled kernel for tests: its archive, a driver linked with it, and cases asked of the driver.
+"""The compiled library for tests: the archives of the kernel and of the sweep, a driver linked with both, and cases
+asked of the driver.
 
 A driver that crashes or hangs on a case costs that case its answer (None) and nothing more: it is started again behind it.
 """
@@ -9,7 +10,7 @@ import subprocess
 import wire
 
 ROOT = os.path.dirname(os.path.dirname(os.path.dirname(os.path.abspath(__file__))))
-ARCHIVE = os.path.join(ROOT, "target", "staticlib", "libkernel.a")
+ARCHIVES = os.path.join(ROOT, "target", "staticlib")
 # So many cases go to one process, which gets so many seconds; after so many cases without an answer the rest is given up.
 BATCH, SECONDS, LOST = 500, 120, 5
 
@@ -20,11 +21,17 @@ def newest_source():
     return max(os.path.getmtime(path) for path in files)
 
 
-def archive():
-    """The kernel's archive; made where it is missing or older than the code it is made of."""
-    if not os.path.exists(ARCHIVE) or os.path.getmtime(ARCHIVE) < newest_source():
-        subprocess.run(["rt", "staticlib", "kernel"], cwd=ROOT, check=True, stdout=subprocess.DEVNULL)
-    return ARCHIVE
+def archive(name="kernel"):
+    """The archive of the kernel or of "sweep"; made where it is missing or older than the code it is made of."""
+    path = os.path.join(ARCHIVES, f"lib{name}.a")
+    if not os.path.exists(path) or os.path.getmtime(path) < newest_source():
+        subprocess.run(["rt", "staticlib", name], cwd=ROOT, check=True, stdout=subprocess.DEVNULL)
+    return path
+
+
+def sweep_beside(kernel):
+    """The sweep's archive in the folder of a kernel's."""
+    return os.path.join(os.path.dirname(kernel), "libsweep.a")
 
 
 def compile_c(sources, output, kernel=None, flags=()):
@@ -36,14 +43,16 @@ def compile_c(sources, output, kernel=None, flags=()):
 
 
 def build_driver(folder, kernel=None, name="driver"):
-    """A program of tests/driver that answers frames by calls of the kernel. Its symbols are bound before it begins: a
-    call that had to bind memset first would take some KB of stack for it."""
+    """A program of tests/driver that answers frames by calls of the kernel and of the sweep, whose archive lies beside
+    the kernel's where that is given. Its symbols are bound before it begins: a call that had to bind memset first would
+    take some KB of stack for it."""
     sources = [f"tests/driver/{part}.c" for part in (name, "calls", "frames")]
-    return compile_c(sources, os.path.join(folder, name), kernel, ["-Wl,-z,now"])
+    sweep = sweep_beside(kernel) if kernel else archive("sweep")
+    return compile_c(sources, os.path.join(folder, name), kernel, [sweep, "-Wl,-z,now"])
 
 
 def library_given(arguments):
-    """The archive behind --library, None without it; and the other arguments."""
+    """The kernel's archive behind --library, None without it; and the other arguments."""
     if "--library" not in arguments:
         return None, arguments
     place = arguments.index("--library")

@@ -1,4 +1,4 @@
-"""How much stack the compiled kernel takes, by tests/driver/stack.c, which makes each call on a stack of its own.
+"""How much stack the compiled library takes, by tests/driver/stack.c, which makes each call on a stack of its own.
 
 Scratch memory of kef could only be stack: the library has no variables of its own and asks for no memory. A run takes
 most of its stack in the check at its head, so that scratch memory of an operator could hide in the room that the check
@@ -18,6 +18,7 @@ from generate import grown, pools_of, renumbered
 from layout import CAPACITY_LIMIT, links_length, points_length
 from library import ask
 from script import PATTERNS, operator, operator_bytes
+from sweep_cases import FARTHEST, long_face
 from takedown import LONGEST_OPERATOR, bytes_needed
 from takedown_tables import body_of
 from watch_cases import kef_bytes, long_kef
@@ -25,8 +26,9 @@ from wavefront_cases import large_cases
 
 LARGEST = (CAPACITY_LIMIT,) * 5
 SHORT, LONG = 3, 8_000
-# What docs/GUIDE.md tells callers to allow for a call.
-ALLOWED = 64 * 1024
+# What docs/GUIDE.md tells callers to allow for a call. A sweep has its whole script on the stack: it may take more, but
+# not all that the guide allows for it.
+ALLOWED, ALLOWED_BY = 64 * 1024, {"sweep": 200 * 1024}
 # What the library may ask for: functions that move or compare bytes in memory that they are handed.
 ASKED = {"memset", "memcpy", "memmove", "memcmp", "bcmp"}
 
@@ -78,16 +80,17 @@ def compare_written(tally, short, long, small):
     print(f"  stack that the kef alone writes to, read, admitted, carried out and logged: {short}, {long}; {small}")
 
 
-def compare_memory(tally, archive):
+def compare_memory(tally, archives):
     """The library has no variables, and asks for nothing that could lend it memory."""
     if shutil.which("nm") is None:
         print("  nm is not installed: whether the library has memory of its own was not looked at")
         return
-    lines = subprocess.run(["nm", "-P", archive], stdout=subprocess.PIPE, text=True, check=True).stdout.splitlines()
-    # name, kind, and for what is defined its place and size; a line of one word names a file of the archive
+    lines = subprocess.run(["nm", "-P", *archives], stdout=subprocess.PIPE, text=True, check=True).stdout.splitlines()
+    # name, kind, and for what is defined its place and size; a line of one word names a file of an archive
     kinds = [(line.split()[0], line.split()[1]) for line in lines if len(line.split()) > 1]
     there = {name for name, kind in kinds if kind not in "Uw"}
-    tally.holds("the library's functions are listed", ("zoghvari_run", "T") in kinds)
+    wanted = {("zoghvari_run", "T"), ("zoghvari_sweep", "T")}
+    tally.equal("the library's functions are listed", wanted - set(kinds), set())
     tally.equal("the library's variables", [name for name, kind in kinds if kind not in "TtRrUw"], [])
     tally.equal("the library asks for no memory", {name for name, _ in kinds} - there - ASKED, set())
 
@@ -119,6 +122,13 @@ def lacking_take_down(rng):
     return wire.case(wire.TAKEDOWN, (), table.links, table.points, bytes(need), session=(need, 0))
 
 
+def large_sweep(rng, edges):
+    """The face around so many edges has twice as many corners; a corner has two inverses of at most three bytes."""
+    table, room = renumbered(rng, long_face(edges), LARGEST), 2 * edges * 2 * 3
+    face = min(table.used("face"))
+    return wire.case(wire.SWEEP, (face, *FARTHEST), table.links, table.points, bytes(room), session=(room, 0))
+
+
 def large_calls(rng):
     """A case or more of each kind at the largest capacities, all accepted, and a take-down that is refused with 10."""
     operators, texts = one_of_each(rng), large_cases(rng)[:1]
@@ -128,6 +138,7 @@ def large_calls(rng):
         wire.case(wire.CLEAR, LARGEST, [0] * links_length(LARGEST), [0] * points_length(LARGEST), session=(0, 0)),
         wire.case(wire.CHECK, (), *lent), wire.case(wire.COUNT, (), *lent),
         wire.case(wire.TAKEDOWN, (), *lent, bytes(need), session=(need, 0)), lacking_take_down(rng),
+        large_sweep(rng, 2), large_sweep(rng, CAPACITY_LIMIT // 5),
         wire.case(wire.READ, (0,), script=operators[0].script),
         wire.case(wire.WRITE, (2, 1, 1) + (0,) * 8, script=bytes(LONGEST_OPERATOR))]
 
@@ -140,11 +151,12 @@ def compare_calls(tally, driver, rng):
             most[name] = max(most.get(name, 0), taken[0])
     print("  stack of calls at the largest capacities, in bytes: "
           + ", ".join(f"{name} {taken}" for name, taken in most.items()))
-    tally.holds(f"no call takes more stack than the {ALLOWED} bytes that the guide allows",
-                max(most.values(), default=0) <= ALLOWED)
+    for name, taken in most.items():
+        allowed = ALLOWED_BY.get(name, ALLOWED)
+        tally.holds(f"{name} takes no more stack than the {allowed} bytes that it may", taken <= allowed)
 
 
-def compare_stacks(tally, driver, archive, rng):
-    compare_memory(tally, archive)
+def compare_stacks(tally, driver, archives, rng):
+    compare_memory(tally, archives)
     compare_kef_stacks(tally, driver, rng)
     compare_calls(tally, driver, rng)

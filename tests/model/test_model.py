@@ -17,6 +17,8 @@ from padded_properties import PADDED_PROPERTIES
 from properties import PROPERTIES
 from redo_examples import REDO_EXAMPLES
 from redo_properties import REDO_PROPERTIES
+from sweep_examples import SWEEP_EXAMPLES
+from sweep_properties import SWEEP_PROPERTIES
 from takedown_examples import TAKEDOWN_EXAMPLES
 from takedown_properties import TAKEDOWN_PROPERTIES
 from tally import Tally
@@ -31,11 +33,11 @@ def main(arguments):
     seed = int(arguments[1]) if len(arguments) > 1 else 1
     tally = Tally()
     for example in (EXAMPLES + OPERATOR_EXAMPLES + PADDED_EXAMPLES + TAKEDOWN_EXAMPLES + WAVEFRONT_EXAMPLES
-                    + REDO_EXAMPLES + VALENCE_EXAMPLES):
+                    + REDO_EXAMPLES + VALENCE_EXAMPLES + SWEEP_EXAMPLES):
         example(tally)
     print(f"examples: {tally.passed} checks")
     properties = (PROPERTIES + EXHAUSTIVE + TAKEDOWN_PROPERTIES + PADDED_PROPERTIES + WAVEFRONT_PROPERTIES
-                  + KEF_PROPERTIES + REDO_PROPERTIES + VALENCE_PROPERTIES)
+                  + KEF_PROPERTIES + REDO_PROPERTIES + VALENCE_PROPERTIES + SWEEP_PROPERTIES)
     for number, prop in enumerate(properties):
         before, began = tally.passed, time.process_time()
         # A seed of its own, so that one property's cases do not hang on another's.

@@ -25,7 +25,7 @@ from kef_met import RESTS
 from kef_properties import WRONG_WALKS, edge_vertices, loop_place, loop_word, mate_relabelled, run_behind, some_kefs
 from kef_properties import walk as walk_right
 from layout import Table, mate
-from library import archive, ask, build_driver, library_given
+from library import archive, ask, build_driver, library_given, sweep_beside
 from stack_use import compare_stacks
 from tally import Tally
 from watch_cases import long_kefs, random_kefs
@@ -209,11 +209,11 @@ def main(arguments):
     kernel, arguments = library_given(arguments)
     count, seed = (int(n) for n in (arguments + [60, 1][len(arguments):])[:2])
     rng, tally, began = seeded(seed), Tally(), time.time()
-    kernel = kernel or archive()
+    kernel, sweep = (kernel, sweep_beside(kernel)) if kernel else (archive(), archive("sweep"))
     with tempfile.TemporaryDirectory() as folder:
         print(f"stores of kef: {count} random tables of each situation, seed {seed}")
         watch_all(tally, build_driver(folder, kernel, "stores"), rng, count)
-        compare_stacks(tally, build_driver(folder, kernel, "stack"), kernel, rng)
+        compare_stacks(tally, build_driver(folder, kernel, "stack"), (kernel, sweep), rng)
     print(f"{time.time() - began:.0f} s")
     print(f"{tally.passed} passed, {tally.failed} failed")
     return 0 if tally.failed == 0 and tally.passed > 0 else 1

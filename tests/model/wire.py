@@ -14,7 +14,7 @@ One frame, the same for a case and for its answer; all numbers are little-endian
 A stream is frames one after the other up to its end. The answer to a case has the
 case's kind, the numbers below, and links, points, log, script, redo log and session
 as the call left them (a call that is not handed one of them passes it on unchanged).
-Kinds 1, 6, 7, 8 and 10 are lent a session.
+Kinds 1, 6, 7, 8, 10 and 11 are lent a session.
 
     kind        numbers of the case             numbers of the answer
     1 clear     S F L E V                       refusal
@@ -29,6 +29,7 @@ Kinds 1, 6, 7, 8 and 10 are lent a session.
     8 takedown  -                               refusal rule done start
     9 obj       solid                           refusal rule length (script: the buffer)
     10 redo     n                               refusal rule done
+    11 sweep    face dx dy dz                   refusal rule done
 
 rule is 0 unless the refusal is 2. What document 01 leaves free is 0 in the model's
 answers, and mask_free sets it to 0 in any answer before two are compared.
@@ -40,14 +41,15 @@ from collections import namedtuple
 from kernel import Session, clear, redo, run, undo
 from rules import check, count
 from script import Operator, read_operator, write_operator
+from sweep import sweep
 from takedown import take_down
 from wavefront import obj
 
-CLEAR, CHECK, COUNT, READ, WRITE, RUN, UNDO, TAKEDOWN, OBJ, REDO = range(1, 11)
+CLEAR, CHECK, COUNT, READ, WRITE, RUN, UNDO, TAKEDOWN, OBJ, REDO, SWEEP = range(1, 12)
 WORD = 1 << 64
 KIND_NAMES = {CLEAR: "clear", CHECK: "check", COUNT: "count", READ: "read",
               WRITE: "write", RUN: "run", UNDO: "undo", TAKEDOWN: "takedown", OBJ: "obj",
-              REDO: "redo"}
+              REDO: "redo", SWEEP: "sweep"}
 
 Frame = namedtuple("Frame", "kind numbers links points log script redo session")
 
@@ -150,4 +152,5 @@ LENT_SESSIONS = {
     UNDO: lambda frame, lent: undo(*lent, frame.numbers[0]),
     TAKEDOWN: lambda frame, lent: take_down(*lent),
     REDO: lambda frame, lent: redo(*lent, frame.numbers[0]),
+    SWEEP: lambda frame, lent: sweep(*lent, frame.numbers[0], *map(signed, frame.numbers[1:])),
 }

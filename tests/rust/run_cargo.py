@@ -1,4 +1,4 @@
-"""Runs the Rust wrapper's tests against the kernel's archive: python3 tests/rust/run_cargo.py [ARCHIVE'S FOLDER]
+"""Runs the Rust wrapper's tests against the two archives: python3 tests/rust/run_cargo.py [ARCHIVES' FOLDER]
 
 What cargo counts is added up; the last line is 'N passed, M failed'. A build that fails is one failure.
 """
@@ -32,7 +32,8 @@ def run(folder):
 
 def main(arguments):
     try:
-        status, output = run(os.path.abspath(arguments[0]) if arguments else os.path.dirname(library.archive()))
+        made = [os.path.dirname(library.archive(name)) for name in ("kernel", "sweep") if not arguments]
+        status, output = run(os.path.abspath(arguments[0]) if arguments else made[0])
     except FileNotFoundError:
         status, output = 1, "cargo is not there\n"
     counted = [(int(passed), int(failed)) for passed, failed in RESULT.findall(output)]

@@ -1,4 +1,4 @@
--- For code: a series grows at its end, and so does its script; the next free number is looked for behind the last.
+-- For code: a series grows at its end, and so does its script; the next free number comes after the last one.
 use mathlib.Core.Path.{_≡_, refl, sym, ap, _∙_}
 use mathlib.Core.Logic.{_⊎_, inl, inr}
 use mathlib.Core.Bool.{Bool, true, false}

@@ -8,7 +8,7 @@ use lib.Dec.{eqb}
 use Rattle.laws.specs.Bools.{pick, ask, split, le?, eqb-other}
 use Rattle.laws.specs.Sums.{bit}
 
--- 0 where there are not so many
+-- the j-th number from k on that passes, of the n numbers there; 0 if fewer pass
 unfoldable pub nthFrom : ℕ → ℕ → (ℕ → Bool) → ℕ → ℕ
 nthFrom zero k p j = 0
 nthFrom (suc n) k p j = pick (p k) (pick (eqb j 0) k (nthFrom n (suc k) p (j - 1))) (nthFrom n (suc k) p j)

@@ -57,7 +57,7 @@ unfoldable pub roomFor : Shape → List ℕ → List ℤ → List Operator → �
 roomFor sh x p [] = 0
 roomFor sh x p (o ∷ os) = length (operatorBytes (inverse sh x p o)) + roomFor sh x p os
 
--- its inverse is told by its operands alone
+-- its inverse depends on its operands alone, not on the table
 abbrev pub Plain : Operator → Type 0
 Plain o = (sh : Shape) (x y : List ℕ) (p q : List ℤ) → inverse sh x p o ≡ inverse sh y q o
 
@@ -80,7 +80,7 @@ unfolding joined
 plain-joined f i zero h = tt
 plain-joined f i (suc n) h = plain-append (f i) (joined (suc i) n f) (h i) (plain-joined f (suc i) n h)
 
--- then the room is told before anything is done
+-- then the room that a run takes is known before anything is done
 pub room-is : {sh : Shape} → Within (limits sh) → (x₀ : List ℕ) (p₀ : List ℤ) → {y : List ℕ} {q : List ℤ} {os : List
     Operator}
     {x : List ℕ} {p : List ℤ} → Path sh y q os x p → AllPlain os

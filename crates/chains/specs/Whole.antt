@@ -1,5 +1,5 @@
 -- A CALL THAT DOES A LIST OF OPERATORS WHOLE OR NOT AT ALL, on all that the editor lends: 1, or 2 with the rule; then
--- the call's own refusal, told before anything is done; then the run of the list's script.
+-- the call's own refusal, looked for before anything is done; then the run of the list's script.
 use mathlib.Core.Path.{_≡_, refl, sym, _∙_, subst}
 use mathlib.Core.Logic.{_≢_, _⊎_, ⊎-elim}
 use mathlib.Core.List.{List, [], _∷_}
@@ -41,7 +41,7 @@ doneBy r =
     (answered (r .answer .answer .refusal) (r .answer .answer .rule) (r .answer .answer .done) (r .answer .session))
     (r .links) (r .points) (r .log)
 
--- of the redo log only the length is told
+-- the call: 1, or 2 with the rule; the refusal; else the run. Only the length of the redo log is passed
 unfoldable pub wholeOf : List ℕ → List ℤ → List ℕ → ℕ → Session → ℕ → List Operator → Leaves DoneLeft
 wholeOf x p log redo s refusal os =
     pick (eqb (entry (state x p log (s .log)) .refusal) 0)

@@ -52,7 +52,8 @@ pub record Sweeping : Type 0 where
   -- "Lift a face by a whole-number vector …" (`SweptFace`): of each loop, from its first half-edge on, over each corner
   -- a side, whose loop is the corner's half-edge, the next riser up, the new edge and the riser down, in a new face;
   -- each riser leads to a new vertex at the corner's point moved; "the lifted face keeps its number", and its loops are
-  -- the new edges in order; nothing else of the table changes
+  -- the new edges in order; half-edges of other faces, all starts, the face of each loop, the solid of each face and
+  -- the point of each vertex are as they were (every word is settled by `sweep-whole`)
   pub sweep-left : (e : Editing) (f : ℕ) (v : Vector) → Done e f v
       → SweptFace (shapeOf (e .links)) (e .links) (e .points) f v (sweptFrom e f v .links) (sweptFrom e f v .points)
   -- "A loop of n corners adds n vertices, 2n edges and n faces and leaves s, r and h": for all loops of the face

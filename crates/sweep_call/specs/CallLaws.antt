@@ -128,7 +128,7 @@ every-four false b c d = refl
 
 -- ---- the whole refusal
 
--- the four tests of the face, and what comes behind them
+-- the four tests of the face, and what comes after them
 abbrev tests : Bool → Bool → Bool → Bool → ℕ → ℕ
 tests a b c d r = pick a (pick b (pick c 14 (pick d r 5)) 6) 5
 

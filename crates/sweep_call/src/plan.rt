@@ -81,8 +81,8 @@ fn write_script(
     }
 }
 
-// The script at the front of `out`, where a sweep of face f with so many bytes free in the log is not refused: 5 and 6
-// for the face, 14, 5 for a moved point, 10, 9.
+// The script of a sweep of face f at the front of `out`, or its refusal: 5 and 6 for the face, 14, 5 for a moved point,
+// 10; 9 where the inverses take more than `start` bytes.
 pub fn plan(
     links: &[u16],
     points: &[i32],

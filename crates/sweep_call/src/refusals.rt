@@ -1,4 +1,4 @@
-// The refusals of a sweep that are told before anything is written: the face, lone loops, points, free numbers.
+// The refusals of a sweep that come before its script is written: the face, lone loops, points, free numbers.
 ghost use mathlib.Core.Path.{_≡_};
 ghost use mathlib.Core.List.{[], _∷_};
 ghost use Prim.Native.Nat.{_*_, _≤_};

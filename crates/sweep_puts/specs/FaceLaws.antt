@@ -109,7 +109,7 @@ loop-laid sh x p edges vertices faces loops v u l n b out at room out′ at′ r
     laid-join (subst (λ os. Laid os out at room out′ at′ room′) r i)
     (subst (λ os. Laid os out′ at′ room′ out″ at″ room″) (sides-same sh x edges vertices faces loops l (n - 1) b e) k)
 
--- what stands behind the risers
+-- how far the risers go
 pub risers-far : (sh : Shape) (x : List ℕ) (p : List ℤ) (v : Vector) (l n b : ℕ) (out : List ℕ) (at room : ℕ)
     (out′ : List ℕ) (at′ room′ : ℕ) → Laid (series 0 n (riserOf sh x p v l b)) out at room out′ at′ room′
     → (at′ ≤ at + 27 * n) × (room′ ≤ room + 27 * n) × (length out′ ≡ length out)
@@ -158,7 +158,7 @@ part-is sh x p f v l g h = split (loopFace sh x (suc l)) f
     rw (eqb-same e, eqb-other n) refl)
     (λ e. rw (eqb-other e) refl)
 
--- amid the loops
+-- the loop's invariant: the loops up to l are written
 abbrev pub Facing : Shape → List ℕ → List ℤ → ℕ → Vector → List ℕ → List ℕ → ℕ → ℕ → ℕ → ℕ → Type 0
 Facing sh x p f v out₀ out at room b l =
     (l ≤ sh .loops) × (at ≤ 54 * b) × (room ≤ 54 * b) × (length out ≡ length out₀) × (b ≡ cornersTo sh x f l)

@@ -1,4 +1,4 @@
--- Operators written one behind the other, with the room that their inverses take.
+-- Operators written one after the other, with the bytes that their inverses take.
 use mathlib.Core.Path.{_≡_, refl, sym, ap, _∙_, subst}
 use mathlib.Core.List.{List, [], _∷_, _++_, append-nil}
 use Prim.Native.Nat.{ℕ, suc, _+_, _*_, _≤_}

@@ -177,7 +177,7 @@ pub corner-first : (sh : Shape) (t : List ℕ) (l k : ℕ) → k ≡ loopFirst s
 unfolding iter
 corner-first sh t l k e = e
 
--- amid the risers: j of them stand in the buffer
+-- the loop's invariant: j risers are written
 abbrev pub Rising : Shape → List ℕ → List ℤ → Vector → ℕ → ℕ → ℕ → List ℕ → ℕ → ℕ → List ℕ → ℕ → ℕ → ℕ → ℕ → Type 0
 Rising sh t p v l n b out₀ at room out k place sum j =
     (j ≤ n) × (k < 65536) × (place ≤ at + 27 * j) × (sum ≤ room + 27 * j) × (length out ≡ length out₀)

@@ -84,7 +84,7 @@ pub only-undone : (l d t e f m : ℕ) (op : Operator) (n : ℕ) → e ≤ 4096 �
     → n ≡ length (operatorBytes (mefInverse (mate (2 * e - 1)))) → n ≤ 27 → Undone op n
 only-undone l d t e f m op n h q r b = subst (λ o. Undone o n) (sym q) (mef-undone-2 l d t e f m n h r b)
 
--- amid the sides
+-- the loop's invariant: j sides are written
 abbrev pub Siding : Names → ℕ → ℕ → ℕ → List ℕ → ℕ → ℕ → List ℕ → ℕ → ℕ → ℕ → Type 0
 Siding N l z b out₀ at room out place sum j =
     (j ≤ suc z) × (place ≤ at + 27 * j) × (sum ≤ room + 27 * j) × (length out ≡ length out₀)

@@ -1,4 +1,4 @@
-// One operator more behind the others.
+// One operator more after the others.
 ghost use mathlib.Core.Path.{_≡_};
 ghost use mathlib.Core.List.{[], _∷_};
 ghost use Prim.Native.Nat.{_+_, _≤_};
@@ -12,7 +12,7 @@ use codec::operands::to_wires;
 use numbers::write_number;
 use script::Operator;
 
-// The place behind what is written, and the room that the inverses take.
+// The place after what is written, and the bytes that the inverses take.
 pub struct Place {
     pub at: usize,
     pub room: usize,

@@ -20,7 +20,7 @@ walked sh x l j k k′ h e q =
     let z : suc (j - 1) ≡ j = omega arith in
     q ∙ ap (nextOf sh x) e ∙ sym (iter-last (nextOf sh x) (j - 1) (loopFirst sh x l)) ∙ ap (cornerOf sh x l) z
 
--- amid the count: k is the corner before j, and none of 1 to j - 1 leads back
+-- the loop's invariant: k is the corner before j, and none of 1 to j - 1 leads back
 pub record Rounding (sh : Shape) (x : List ℕ) (l first n k j : ℕ) : Type 0 where
   pub low : 1 ≤ j
   pub high : j ≤ n + 1

@@ -20,7 +20,7 @@ fn narrow(n: usize) -> u16
     n as u16
 }
 
-// Number n is put behind the others if it is free.
+// Number n is put after the others if it is free.
 fn take(out: &mut [u16; ITEM_PLACES], count: usize, n: usize, free: bool) -> usize
     requires { ⌜ (count ≤ mostItems) × (n < 65536) ⌝ }
     ensures { λ r. ⌜ r ≡ count + bit free ⌝ }

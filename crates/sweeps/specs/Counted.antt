@@ -49,7 +49,7 @@ module _ {sh : Shape} {x : List ℕ} {p : List ℤ} (g : Good sh x p) {start f :
         solids = s;
         faces = a;
         loops = b;
-        edges = c;
+        edges = omega (arith, c);
         vertices = d;
         rings = e;
         holes = rw (s, a, c, d, e) (holes-same (solids sh x) (faces sh x) (edges sh x) (vertices sh x) (rings sh x) n);

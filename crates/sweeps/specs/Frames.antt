@@ -176,7 +176,7 @@ lapped-keeps {sh} {c = c} {d} {l} {h} {a} {f} {m} S A B u lo af bf mf ff pt = re
 
 -- ---- counts
 
--- so many edges, vertices, faces and loops more than in c₀, and as many solids
+-- e edges, v vertices, f faces and f loops more than in c₀, and the same number of solids
 pub record Grew (sh : Shape) (c₀ c : Columns) (e v f : ℕ) : Type 0 where
   pub edges : words (sh .edges) (λ i. c Start (2 * i)) ≡ words (sh .edges) (λ i. c₀ Start (2 * i)) + e
   pub vertices : words (sh .vertices) (c VertexUsed) ≡ words (sh .vertices) (c₀ VertexUsed) + v
