@@ -29,6 +29,7 @@ def steps():
         ("the gate itself", ["tests/gate/test_gate.py"]),
         ("model", ["tests/model/test_model.py"]),
         ("rows of the examples", ["tests/model/rows.py", "--check"]),
+        ("rows of the sweep", ["tests/model/sweep_rows.py", "--check"]),
         ("rt ci", None),
         ("library against model", ["tests/model/compare_library.py"]),
         ("stores of kef, watched", ["tests/model/watch_kef.py"]),

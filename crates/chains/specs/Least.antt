@@ -14,6 +14,7 @@ use Rattle.codec.specs.Operands.{pattern, largests}
 use Rattle.script.specs.declared.Operator.{Operator}
 use Rattle.script.specs.Operator.{operandOf}
 use Rattle.layout.specs.declared.shape.Shape.{Shape}
+use Rattle.layout.specs.Items.{some}
 use Rattle.euler.specs.Exec.{limits, useWord, whenUsed}
 use Rattle.sound_tables.specs.Sound.{In}
 use Rattle.chains.specs.Ranks.{countFrom, nth}
@@ -21,11 +22,12 @@ use Rattle.chains.specs.Cursor.{before-first, between}
 
 -- ---- what is said
 
--- the operand n of a kind: where the kind is of new numbers (7), n is the least that is free in x, or 0 for none
+-- the operand n of a kind: where the kind is of new numbers (7), n is the least that is free in x; so it is not 0,
+-- which `least` gives where none is free
 unfoldable pub isLeast : Shape → List ℕ → ℕ → ℕ → Bool
 isLeast sh x kind n =
     not (eqb (getD whenUsed kind 0) 7)
-    || eqb n (least (getD (largests (limits sh)) kind 0) (λ m. eqb (useWord sh x kind m) 0)) || eqb n 0
+    || some n && eqb n (least (getD (largests (limits sh)) kind 0) (λ m. eqb (useWord sh x kind m) 0))
 
 -- all operands of these kinds from place i on
 unfoldable pub allLeast : Shape → List ℕ → Operator → List ℕ → ℕ → Bool

@@ -1,13 +1,15 @@
 -- A list of operators run: the script of operators that are accepted one after the other, as a run and as room in the
 -- log.
-use mathlib.Core.Path.{_≡_, refl, _∙_}
+use mathlib.Core.Path.{_≡_, refl, ap, _∙_}
 use mathlib.Core.List.{List, [], _∷_, _++_}
 use Prim.Native.Nat.{ℕ, zero, suc, _+_, _≤_}
 use native.Mathlib.Nat.{zero-add}
 use native.Mathlib.Omega.{arith}
 use lib.IntN.{ℤ}
-use lib.ListN.{length, length-append}
-use Rattle.laws.specs.Bools.{eqb-same}
+use lib.ListN.{length, drop, length-append, length-drop}
+use borrow.Author.Tests.{lt-ltb, le-ltb}
+use Rattle.laws.specs.Bools.{split, eqb-same, eqb-other}
+use Rattle.numbers.specs.PaddedLaws.{drop-part}
 use Rattle.script.specs.declared.Operator.{Operator}
 use Rattle.script.specs.Operator.{operatorBytes, writeScript}
 use Rattle.script.specs.Scripts.{operator-size}
@@ -17,8 +19,8 @@ use Rattle.layout.specs.Layout.{shapeOf}
 use Rattle.euler.specs.Exec.{limits, inverse}
 use Rattle.sound_tables.specs.Accepted.{accepted}
 use Rattle.sound_tables.specs.Good.{Good}
-use Rattle.runs.specs.Run.{State, entry, runOf}
-use Rattle.promises.specs.Reading.{range-writable}
+use Rattle.runs.specs.Run.{State, inverseBytes, stepped, runRefusal, runFrom, entry, runOf}
+use Rattle.promises.specs.Reading.{range-writable, written-at}
 use Rattle.promises.specs.Checked.{good-within}
 use Rattle.inversion.specs.Path.{Path, there, first}
 use Rattle.inversion.specs.Script.{roomOf, room-first}
@@ -90,3 +92,43 @@ room-is v x₀ p₀ (there e f) a = refl
 room-is {sh} v x₀ p₀ {x = x} {p} (first {os} o len acc r) a =
     room-first sh v x o len acc (operatorBytes o ++ writeScript os) (writeScript os) refl (length os) p
     ∙ rw (room-is v x₀ p₀ r (a .1), a .0 sh x x₀ p p₀)
+
+-- THE RUN TAKES JUST THIS ROOM: so many bytes lie between the start that it leaves and the old one
+path-start : {sh : Shape} (t : State) → Within (limits sh) → {y : List ℕ} {q : List ℤ} {os : List Operator}
+    → Path sh y q os (t .links) (t .points) → (s : List ℕ) (at done fuel : ℕ) → at ≤ length s
+    → drop at s ≡ writeScript os → length os ≤ fuel
+    → roomOf (length os) sh (writeScript os) (t .links) (t .points) ≤ t .start
+    → runFrom fuel sh s at done t .answer .start + roomOf (length os) sh (writeScript os) (t .links) (t .points)
+    ≡ t .start
+unfolding runFrom stepped inverseBytes writeScript roomOf
+path-start t v (there e f) s at done zero h d l m = omega arith
+path-start t v (there e f) s at done (suc fuel) h d l m =
+    let k : at ≡ length s = omega (arith, length-drop at s, ap length d, h) in
+    rw (le-ltb at (length s) (omega (arith, k))) (omega arith)
+path-start {sh} t v (first {os} o len acc r) s at done zero h d l m = absurd (omega arith)
+path-start {sh} t v (first {os} o len acc r) s at done (suc fuel) h d l m =
+    let a = accepted sh (t .links) o acc in
+    let rest = writeScript os in
+    let size = operator-size o (range-writable v o len a) in
+    let w = room-first sh v (t .links) o len acc (operatorBytes o ++ rest) rest refl (length os) (t .points) in
+    let n : length (drop at s) ≡ length (operatorBytes o) + length rest =
+    ap length d ∙ length-append (operatorBytes o) rest in
+    let b = leads-run sh t v (path-leads (first o len acc r)) s at done (suc fuel) h d l m in
+    let i = path-start (stepped sh t o) v r s (at + length (operatorBytes o)) (done + 1) fuel
+    (omega (arith, length-drop at s, n, h)) (drop-part s at (operatorBytes o) rest d) (omega (arith, l))
+    (omega (arith, w, m)) in
+    let y = lt-ltb at (length s) (omega (arith, length-drop at s, n, h, size .0)) in
+    split (runRefusal sh t s at) 0
+    (λ z. rw (y, eqb-same z, written-at v o len a s at rest d) (omega (arith, i, w, m)))
+    (λ z. absurd (z (rw (y, eqb-other z) at (b .refusal))))
+
+-- of a whole run
+pub room-taken : (t : State) {y : List ℕ} {q : List ℤ} {os : List Operator} → entry t .refusal ≡ 0
+    → Good (shapeOf (t .links)) (t .links) (t .points) → Path (shapeOf (t .links)) y q os (t .links) (t .points)
+    → AllPlain os → (x₀ : List ℕ) (p₀ : List ℤ) → roomFor (shapeOf (t .links)) x₀ p₀ os ≤ t .start
+    → runOf t (writeScript os) .answer .start + roomFor (shapeOf (t .links)) x₀ p₀ os ≡ t .start
+unfolding runOf
+room-taken t e g r a x₀ p₀ m =
+    let i = room-is (good-within g) x₀ p₀ r a in
+    rw (eqb-same e, ← i) (path-start t (good-within g) r _ 0 0 _ (omega arith) refl (script-long (good-within g) r)
+    (omega (arith, i, m)))

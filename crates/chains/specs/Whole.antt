@@ -1,5 +1,6 @@
--- A CALL THAT DOES A LIST OF OPERATORS WHOLE OR NOT AT ALL, on all that the editor lends: 1, or 2 with the rule; then
--- the call's own refusal, looked for before anything is done; then the run of the list's script.
+-- A CALL THAT RUNS A LIST OF OPERATORS, on all that the editor lends: 1, or 2 with the rule; then the call's own
+-- refusal, looked for before anything is done; then the run of the list's script. Where that run accepts the list whole
+-- whenever the refusal is 0, the call is done whole or not at all.
 use mathlib.Core.Path.{_≡_, refl, sym, _∙_, subst}
 use mathlib.Core.Logic.{_≢_, _⊎_, ⊎-elim}
 use mathlib.Core.List.{List, [], _∷_}
@@ -19,6 +20,7 @@ use Rattle.chains.specs.declared.DoneLeft.{DoneLeft}
 use Rattle.sessions.specs.declared.RunLeft.{RunLeft}
 use Rattle.sessions.specs.Session.{sessionRun}
 use Rattle.sessions.specs.Editing.{Editing, logState, logged, runIn, undoIn, undoneFrom}
+use Rattle.promises.specs.Sessions.{withRedoStart}
 use Rattle.promises.specs.Edits.{editAll, usedAll}
 use Rattle.promises.specs.Promises.{Restored, redo-met, undo-exact, used-room, nineteen-room}
 use Rattle.inversion.specs.Rebuild.{Builds}
@@ -65,24 +67,33 @@ pub record UndoneTo (e s : Editing) (n : ℕ) : Type 0 where
   pub answer : undoIn s n .answer .answer ≡ record { refusal = 0; rule = 0; undone = n; start = e .session .log }
 
 -- the undo promise is such
-undone-to : (e : Editing) (ss : List (List ℕ)) → e .session .log ≤ length (e .log) → Restored e ss
+pub undone-to : (e : Editing) (ss : List (List ℕ)) → e .session .log ≤ length (e .log) → Restored e ss
     → UndoneTo e (editAll e ss .last) (editAll e ss .done)
 undone-to e ss h r =
     record { links = r .links; points = r .points; start = r .start; log = r .log; answer = r .answer h }
 
-module _ (e : Editing) (refusal : ℕ) (os : List Operator) where
-  -- what is refused before anything is done
-  abbrev pub early : ℕ
-  early = pick (eqb (entry (logState e) .refusal) 0) refusal (entry (logState e) .refusal)
+-- what is refused before anything is done: 1 or 2, then the call's own refusal
+abbrev pub early : Editing → ℕ → ℕ
+early e refusal = pick (eqb (entry (logState e) .refusal) 0) refusal (entry (logState e) .refusal)
 
+module _ (e : Editing) (refusal : ℕ) (os : List Operator) where
   -- A REFUSAL LEAVES EVERYTHING
-  pub whole-not : early ≢ 0
-      → (wholeIn e refusal os .answer .answer .refusal ≡ early) × (wholeIn e refusal os .answer .answer .done ≡ 0)
+  pub whole-unchanged : early e refusal ≢ 0
+      → (wholeIn e refusal os .answer .answer .refusal ≡ early e refusal) ×
+      (wholeIn e refusal os .answer .answer .done ≡ 0)
       × (wholeFrom e refusal os ≡ e)
   unfolding wholeOf
-  whole-not = split (entry (logState e) .refusal) 0
+  whole-unchanged = split (entry (logState e) .refusal) 0
       (λ a. rw (eqb-same a) (λ n. rw (eqb-other n) (refl, refl, refl)))
       (λ a. rw (eqb-other a) (λ n. (refl, refl, refl)))
+
+  -- the redo log's start is ignored
+  pub whole-any-redo : (k : ℕ)
+      → wholeIn (withRedoStart e k) refusal os .answer .answer ≡ wholeIn e refusal os .answer .answer
+  unfolding wholeOf sessionRun
+  whole-any-redo k = split (entry (logState e) .refusal) 0
+      (λ a. rw (eqb-same a) (split refusal 0 (λ b. rw (eqb-same b) refl) (λ b. rw (eqb-other b) refl)))
+      (λ a. rw (eqb-other a) refl)
 
   -- 0 is answered only where nothing is refused before
   pub whole-answered : wholeIn e refusal os .answer .answer .refusal ≡ 0

@@ -1,6 +1,6 @@
--- THE SWEEP ON SMALL TABLES, by computation: its operators, each refusal with those that come before it, and a call
--- with every byte. What is said here is what the independent model answers (tests/model/sweep.py); a slip in the
--- definition makes a row false.
+-- THE SWEEP ON SMALL TABLES, by computation: its operators, its new numbers, each refusal with those that come before
+-- it, and a call with every byte. What is said here is what the independent model answers: tests/model/sweep_rows.py
+-- holds the tables and the rows to it.
 use mathlib.Core.Path.{_≡_, refl}
 use mathlib.Core.Bool.{false}
 use mathlib.Core.List.{List, [], _∷_}
@@ -40,6 +40,7 @@ use Rattle.sweeps.specs.Sweep.{Vector, vector, mevAt, mefAt, cornersIn, corners
 use Rattle.sweeps.specs.Swept.{Sweeps}
 use Rattle.evidence_sweeps.specs.Tables.{lone, loneAt, spur, spurAt, round, roundAt, path, pathAt, ringed}
 use Rattle.evidence_sweeps.specs.Tables.{ringedAt}
+use Rattle.evidence_sweeps.specs.Tables.{turned, turnedAt, others, othersAt, farBeside, farBesideAt}
 use Rattle.evidence_sweeps.specs.Tables.{loneRing, loneRingAt, fewFaces, fewLoops, fewEdges, fewVertices}
 use Rattle.evidence_sweeps.specs.Tables.{fewVerticesAt}
 
@@ -74,8 +75,13 @@ pub operators-as-said :
     ≡ mevAt 1 1 2 5 (pos 0) (pos 0) (pos 500) ∷ mevAt 1 2 4 6 (pos 10) (pos 0) (pos 500) ∷ mefAt 1 4 8 5 2 3 0
     ∷ mefAt 1 8 9 6 3 4 0 ∷ mevAt 2 5 7 7 (pos 40000) (pos 0) (pos 500)
     ∷ mevAt 2 6 8 8 (pos 40010) (pos 0) (pos 500) ∷ mefAt 2 14 16 9 4 5 0 ∷ mefAt 2 16 17 10 5 6 0 ∷ [])
+    -- by number, also where the outer loop is not the first
+    × (lifting turned turnedAt
+    ≡ mevAt 1 1 2 5 (pos 0) (pos 0) (pos 500) ∷ mevAt 1 2 4 6 (pos 10) (pos 0) (pos 500) ∷ mefAt 1 4 8 5 2 3 0
+    ∷ mefAt 1 8 9 6 3 4 0 ∷ mevAt 2 5 7 7 (pos 40000) (pos 0) (pos 500)
+    ∷ mevAt 2 6 8 8 (pos 40010) (pos 0) (pos 500) ∷ mefAt 2 14 16 9 4 5 0 ∷ mefAt 2 16 17 10 5 6 0 ∷ [])
 unfolding sweepOps cornersIn cornersOf series joined nthFrom mate iter sumTo leastFrom
-operators-as-said = (refl, refl, refl, refl)
+operators-as-said = (refl, refl, refl, refl, refl)
 
 -- ---- new numbers
 
@@ -85,8 +91,13 @@ pub least-as-said :
     -- edge 3 is not the least, nor is vertex 4
     × (allLeast (shapeOf spur) spur (mevAt 1 1 3 3 (pos 0) (pos 0) (pos 500)) (pattern 3 .kinds) 0 ≡ false)
     × (allLeast (shapeOf spur) spur (mevAt 1 1 2 4 (pos 0) (pos 0) (pos 500)) (pattern 3 .kinds) 0 ≡ false)
+    -- of a mef: edge 2, face 2, loop 2; not edge 0, nor face 3, nor loop 3
+    × LeastNew (shapeOf spur) spur (mefAt 1 1 2 2 2 2 0)
+    × (allLeast (shapeOf spur) spur (mefAt 1 1 2 0 2 2 0) (pattern 5 .kinds) 0 ≡ false)
+    × (allLeast (shapeOf spur) spur (mefAt 1 1 2 2 3 2 0) (pattern 5 .kinds) 0 ≡ false)
+    × (allLeast (shapeOf spur) spur (mefAt 1 1 2 2 2 3 0) (pattern 5 .kinds) 0 ≡ false)
 unfolding isLeast allLeast pattern useWord mate leastFrom
-least-as-said = (refl, refl, refl)
+least-as-said = (refl, refl, refl, refl, refl, refl, refl)
 
 -- ---- refusals: each with all later ones due as well, as far as that can be
 
@@ -98,6 +109,11 @@ pub refusals-as-said :
     -- a lone loop, as the outer loop and as a ring
     × (refusing lone loneAt 0 1 (vector (pos 60000) (pos 0) (pos 0)) ≡ 14)
     × (refusing loneRing loneRingAt 0 1 (vector (pos 60000) (pos 0) (pos 0)) ≡ 14)
+    -- but not of another face
+    × (refusing others othersAt 8 1 (vector (pos 10000) (pos 0) (pos 0)) ≡ 0)
+    -- a moved point of another face does not count, be it of this solid
+    × (refusing farBeside farBesideAt 4 1 (vector (pos 20000) (pos 0) (pos 0)) ≡ 0)
+    × (refusing farBeside farBesideAt 4 2 (vector (pos 20000) (pos 0) (pos 0)) ≡ 5)
     -- a moved point: of a ring alone; with too few numbers; the range's ends along each coordinate
     × (refusing ringed ringedAt 0 1 (vector (pos 20000) (pos 0) (pos 0)) ≡ 5)
     × (refusing fewFaces spurAt 0 1 (vector (pos 60000) (pos 0) (pos 0)) ≡ 5)
@@ -113,8 +129,29 @@ pub refusals-as-said :
     × (refusing spur spurAt 7 1 up ≡ 9) × (refusing spur spurAt 8 1 up ≡ 0)
 unfolding groups operandsBytes operandBytes pattern wire sweepRefusal roomFor inverse operatorBytes countFrom allTo
     anyTo sweepOps cornersIn cornersOf series joined nthFrom mate iter sumTo leastFrom
-refusals-as-said =
-    (refl, refl, refl, refl, refl, refl, refl, refl, refl, refl, refl, refl, refl, refl, refl, refl, refl, refl)
+refusals-as-said = (
+  refl,
+  refl,
+  refl,
+  refl,
+  refl,
+  refl,
+  refl,
+  refl,
+  refl,
+  refl,
+  refl,
+  refl,
+  refl,
+  refl,
+  refl,
+  refl,
+  refl,
+  refl,
+  refl,
+  refl,
+  refl,
+)
 
 -- ---- a call
 

@@ -34,10 +34,11 @@ use Rattle.wavefront_read.specs.Written.{obj-ends, obj-out, obj-reads}
 use Rattle.mission.specs.Refusals.{clear-numbered, check-numbered, count-numbered, read-numbered, write-numbered}
 use Rattle.mission.specs.Refusals.{run-numbered, undo-numbered, redo-numbered, invert-numbered, obj-numbered}
 use Rattle.mission.specs.Refusals.{rule-named, entry-numbered, clear-out, write-out}
-use Rattle.sweeps.specs.Swept.{sweep-not, sweep-whole, sweep-run, sweep-least, sweep-left, sweep-counted, sweep-sound}
-use Rattle.sweeps.specs.Swept.{sweep-undone}
+use Rattle.sweeps.specs.Swept.{sweep-unchanged, sweep-whole, sweep-run, sweep-least, sweep-left, sweep-counted}
+use Rattle.sweeps.specs.Swept.{sweep-sound}
+use Rattle.sweeps.specs.Swept.{sweep-undone, sweep-refused, sweep-room, sweep-empties, sweep-any-redo}
 use Rattle.mission.specs.SweepRefusals.{sweep-numbered, sweep-named}
-use Rattle.mission.specs.SweepActs.{calls-acts, calls-sound, calls-undone}
+use Rattle.mission.specs.SweepActs.{calls-acts, calls-sound, calls-undone, calls-room}
 use Rattle.mission.specs.Sweeping.{Sweeping}
 use Rattle.mission.specs.TakeDown.{clear-own, invert-asked, session-as-before, invert-sound}
 use Rattle.mission.specs.SoundActs.{sound-acts}
@@ -125,9 +126,13 @@ demand-3 = record {
 -- the sweep
 pub swept : Sweeping
 swept = record {
-  sweep-not = sweep-not;
+  sweep-unchanged = sweep-unchanged;
+  sweep-refused = sweep-refused;
   sweep-whole = sweep-whole;
   sweep-run = sweep-run;
+  sweep-room = sweep-room;
+  sweep-empties = sweep-empties;
+  sweep-any-redo = sweep-any-redo;
   sweep-least = sweep-least;
   sweep-left = sweep-left;
   sweep-counted = sweep-counted;
@@ -136,6 +141,7 @@ swept = record {
   calls-acts = calls-acts;
   calls-sound = calls-sound;
   calls-undone = calls-undone;
+  calls-room = calls-room;
 }
 
 -- document 02

@@ -24,7 +24,7 @@ use Rattle.chains.specs.Runs.{roomFor}
 use Rattle.chains.specs.Whole.{wholeOf}
 use Rattle.sweeps.specs.Sweep.{Vector, cornersTo, loneIn, moves, spare, sweepOps, sweepRefusal}
 use Rattle.sweeps.specs.Run.{sweep-accepted}
-use Rattle.sweeps.specs.Swept.{refusalIn, opsIn, sweepIn, sweep-not}
+use Rattle.sweeps.specs.Swept.{refusalIn, opsIn, sweepIn, sweep-unchanged}
 use Rattle.mission.specs.Refusals.{OneOf, Named, wider, checks, entry-numbered, rule-named}
 
 -- 0, 1 and 2 as at every entry; 5, 6, 14, 10 and 9
@@ -50,7 +50,7 @@ face-numbered sh x p start f v =
 pub sweep-numbered : (e : Editing) (f : ℕ) (v : Vector) → OneOf sweeps (sweepIn e f v .answer .answer .refusal)
 sweep-numbered e f v = split (sweepIn e f v .answer .answer .refusal) 0
     (λ z. rw z tt)
-    (λ d. rw (sweep-not e f v d .0) (pick-ind (OneOf sweeps) (eqb (entry (logState e) .refusal) 0) _ _
+    (λ d. rw (sweep-unchanged e f v d .0) (pick-ind (OneOf sweeps) (eqb (entry (logState e) .refusal) 0) _ _
     (face-numbered _ (e .links) (e .points) (e .session .log) f v)
     (wider checks sweeps tt (entry (logState e) .refusal) (entry-numbered (logState e)))))
 

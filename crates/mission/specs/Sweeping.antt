@@ -6,20 +6,23 @@ use mathlib.Core.Path.{_≡_}
 use mathlib.Core.Logic.{_≢_, _⊎_}
 use mathlib.Core.Bool.{true}
 use mathlib.Core.List.{List}
-use Prim.Native.Nat.{ℕ, _*_, _≤_}
+use Prim.Native.Nat.{ℕ, _+_, _*_, _≤_}
 use lib.ListN.{length}
 use Rattle.script.specs.Operator.{writeScript}
 use Rattle.layout.specs.Layout.{shapeOf}
 use Rattle.table.specs.Check.{checkOf}
 use Rattle.table.specs.Count.{countOf}
-use Rattle.sessions.specs.Editing.{Editing, runIn, ranFrom, undoneFrom}
+use Rattle.sessions.specs.Editing.{Editing, runIn, ranFrom}
 use Rattle.promises.specs.Promises.{RedoRoom}
+use Rattle.promises.specs.Sessions.{withRedoStart}
 use Rattle.machine.specs.Machine.{behind, doneBy, onlyRuns}
 use Rattle.machine.specs.Acts.{scriptsOf}
 use Rattle.chains.specs.Series.{Each}
 use Rattle.chains.specs.Least.{LeastNew}
+use Rattle.chains.specs.Runs.{roomFor}
 use Rattle.chains.specs.Whole.{early, UndoneTo}
 use Rattle.sweeps.specs.Sweep.{Vector}
+use Rattle.sweeps.specs.Refused.{RefusedAs}
 use Rattle.sweeps.specs.Counted.{CountsGrown}
 use Rattle.sweeps.specs.Result.{SweptFace}
 use Rattle.sweeps.specs.Swept.{refusalIn, opsIn, sweepIn, sweptFrom, cornersLent}
@@ -33,9 +36,13 @@ pub record Sweeping : Type 0 where
   -- "The sweep is done whole or not at all": a refusal is the first that is due (`early`: 1 and 2, then "before
   -- anything is done, in this order: …", `sweepRefusal`), none is done, and every byte of table, logs and session is as
   -- before
-  pub sweep-not : (e : Editing) (f : ℕ) (v : Vector) → sweepIn e f v .answer .answer .refusal ≢ 0
-      → (sweepIn e f v .answer .answer .refusal ≡ early e (refusalIn e f v) (opsIn e f v))
+  pub sweep-unchanged : (e : Editing) (f : ℕ) (v : Vector) → sweepIn e f v .answer .answer .refusal ≢ 0
+      → (sweepIn e f v .answer .answer .refusal ≡ early e (refusalIn e f v))
       × (sweepIn e f v .answer .answer .done ≡ 0) × (sweptFrom e f v ≡ e)
+  -- which is due: each where it is so and never otherwise, by the loops and half-edges that lie in the face
+  -- (`RefusedAs`)
+  pub sweep-refused : (e : Editing) (f : ℕ) (v : Vector)
+      → RefusedAs (shapeOf (e .links)) (e .links) (e .points) (e .session .log) f v (refusalIn e f v)
   -- else all of it: "one riser per corner and one side face per side", two operators for each corner, and it leaves
   -- what the run of their script leaves
   pub sweep-whole : (e : Editing) (f : ℕ) (v : Vector) → Done e f v
@@ -46,14 +53,24 @@ pub record Sweeping : Type 0 where
       → (runIn e (writeScript (opsIn e f v)) .answer .answer .refusal ≡ 0)
       × (runIn e (writeScript (opsIn e f v)) .answer .answer .done ≡ length (opsIn e f v))
       × (runIn e (writeScript (opsIn e f v)) .answer .answer .used ≡ length (writeScript (opsIn e f v)))
+  -- "9 for a log too short for all their inverses": what is asked for is what they take, to the byte
+  pub sweep-room : (e : Editing) (f : ℕ) (v : Vector) → Done e f v
+      → sweptFrom e f v .session .log + roomFor (shapeOf (e .links)) (e .links) (e .points) (opsIn e f v)
+      ≡ e .session .log
+  -- job 4: "an operator done by any call but these two empties it", and the redo log's start is not looked at
+  pub sweep-empties : (e : Editing) (f : ℕ) (v : Vector) → Done e f v
+      → sweptFrom e f v .session .redo ≡ length (e .redo)
+  pub sweep-any-redo : (e : Editing) (f : ℕ) (v : Vector) (k : ℕ)
+      → sweepIn (withRedoStart e k) f v .answer .answer ≡ sweepIn e f v .answer .answer
   -- "new numbers the least free": each of them, in the table that its operator meets
   pub sweep-least : (e : Editing) (f : ℕ) (v : Vector) → Done e f v
       → Each (shapeOf (e .links)) (LeastNew (shapeOf (e .links))) (opsIn e f v) (e .links)
   -- "Lift a face by a whole-number vector …" (`SweptFace`): of each loop, from its first half-edge on, over each corner
-  -- a side, whose loop is the corner's half-edge, the next riser up, the new edge and the riser down, in a new face;
-  -- each riser leads to a new vertex at the corner's point moved; "the lifted face keeps its number", and its loops are
-  -- the new edges in order; half-edges of other faces, all starts, the face of each loop, the solid of each face and
-  -- the point of each vertex are as they were (every word is settled by `sweep-whole`)
+  -- a side, whose loop is the corner's half-edge, the next riser up, the new edge and the riser down, as the outer loop
+  -- of a new face of the solid; each riser leads to a new vertex at the corner's point moved; "the lifted face keeps
+  -- its number", and its loops are the new edges in order; all new numbers were free and differ. As they were:
+  -- half-edges of other faces, all starts, the face and the lone vertex of each loop, the solid and the outer loop of
+  -- each face, marks of solids, and the point of each vertex. (Every word is settled by `sweep-whole`)
   pub sweep-left : (e : Editing) (f : ℕ) (v : Vector) → Done e f v
       → SweptFace (shapeOf (e .links)) (e .links) (e .points) f v (sweptFrom e f v .links) (sweptFrom e f v .points)
   -- "A loop of n corners adds n vertices, 2n edges and n faces and leaves s, r and h": for all loops of the face
@@ -75,8 +92,11 @@ pub record Sweeping : Type 0 where
       → (afterCalls e cs ≡ behind e (actsFor e cs)) × (doneCalls e cs ≡ doneBy e (actsFor e cs))
   pub calls-sound : (e : Editing) (cs : List Call) → checkOf (e .links) (e .points) .refusal ≡ 0
       → checkOf (afterCalls e cs .links) (afterCalls e cs .points) .refusal ≡ 0
+  -- undo by the sum of the done counts, where runs and sweeps alone have written: with room in the redo log, of which
+  -- 19 bytes for each operator are enough
   pub calls-undone : (e : Editing) (cs : List Call) → onlyRuns (actsFor e cs) ≡ true
-      → checkOf (e .links) (e .points) .refusal ≡ 0 → RedoRoom e (scriptsOf (actsFor e cs))
-      → (undoneFrom (afterCalls e cs) (doneCalls e cs) .links ≡ e .links)
-      × (undoneFrom (afterCalls e cs) (doneCalls e cs) .points ≡ e .points)
-      × (undoneFrom (afterCalls e cs) (doneCalls e cs) .session .log ≡ e .session .log)
+      → checkOf (e .links) (e .points) .refusal ≡ 0 → e .session .log ≤ length (e .log)
+      → RedoRoom e (scriptsOf (actsFor e cs)) → UndoneTo e (afterCalls e cs) (doneCalls e cs)
+  pub calls-room : (e : Editing) (cs : List Call) → onlyRuns (actsFor e cs) ≡ true
+      → checkOf (e .links) (e .points) .refusal ≡ 0 → (doneCalls e cs ≡ 0 → e .session .redo ≤ length (e .redo))
+      → 19 * doneCalls e cs ≤ length (e .redo) → RedoRoom e (scriptsOf (actsFor e cs))

@@ -148,7 +148,7 @@ module _ {sh : Shape} {x : List ℕ} {p : List ℤ} (g : Good sh x p) {start f :
       (leb→le _ _ (t .0), leb→le _ _ (t .1 .0), leb→le _ _ (t .1 .1 .0), leb→le _ _ (t .1 .1 .1 .0))
 
   -- the numbers that are free at the call
-  supply : Supply sh (own sh x) (freeNames sh x) (2 * n) n
+  pub supply : Supply sh (own sh x) (freeNames sh x) (2 * n) n
   supply = record {
     edge-below = λ j h. nth-below (sh .edges) (λ i. own sh x Start (2 * i)) j (omega (arith, counts .1));
     edge-in = λ j h. nth-stands (sh .edges) (edgeFree sh x) j (omega (arith, counts .1));
@@ -296,7 +296,7 @@ module _ {sh : Shape} {x : List ℕ} {p : List ℤ} (g : Good sh x p) {start f :
       let h = corner-rank (setting l li lf (cornersTo sh x f (l - 1)) refl) j u in (
         λ e. l-used m mi mf (ap (own sh x Face) (sym e) ∙ fresh .loops _ (omega arith) h),
         supply .loop-in _ h,
-        supply .face-in _ h .0,
+        supply .face-in _ h,
       )) d
 
   -- the sweep of loop j + 1, if it lies in the face

@@ -10,8 +10,8 @@ use Rattle.laws.specs.Bools.{eqb-same, eqb-other}
 use Rattle.layout.specs.declared.shape.Shape.{Shape}
 use Rattle.layout.specs.Mate.{mate}
 use Rattle.layout.specs.MateLaws.{mate-range}
-use Rattle.layout.specs.Fields.{Field, SolidUsed, Solid, Face, Start, Loop, Next, Prev, VertexUsed, Columns, capOf}
-use Rattle.layout.specs.Fields.{sameField}
+use Rattle.layout.specs.Fields.{Field, SolidUsed, Solid, Outer, Face, Isolated, Start, Loop, Next, Prev, VertexUsed}
+use Rattle.layout.specs.Fields.{Columns, capOf, sameField}
 use Rattle.euler.specs.Exec.{refusalOf, linksAfter, pointsAfter}
 use Rattle.sound_tables.specs.EdgeIn.{prev-in, next-prev, prev-loop}
 use Rattle.sound_tables.specs.Sound.{In, HalfUsed, Sound}
@@ -37,7 +37,8 @@ pub record MefFits (sh : Shape) (c : Columns) (l e f m : ℕ) : Type 0 where
   pub m-in : In (sh .loops) m
   pub m-free : c Face m ≡ 0
 
--- what it leaves of all that it does not touch, and of the loops: half a in loop l, its mate b in loop m
+-- what it leaves of all that it does not touch, and of the loops: half a in loop l, which has no lone vertex, its mate
+-- b in loop m, the outer one of the new face f
 pub record Parted (sh : Shape) (c d : Columns) (l a b f m : ℕ) : Type 0 where
   pub start-a : d Start a ≢ 0
   pub start-b : d Start b ≢ 0
@@ -48,7 +49,15 @@ pub record Parted (sh : Shape) (c d : Columns) (l a b f m : ℕ) : Type 0 where
   pub loop-else : (i : ℕ) → i ≤ 2 * sh .edges → i ≢ a → d Loop i ≢ m → d Loop i ≡ c Loop i
   pub face-new : d Face m ≡ f
   pub face-else : (n : ℕ) → n ≤ sh .loops → n ≢ m → d Face n ≡ c Face n
+  -- loop l has no lone vertex
+  pub isolated-l : d Isolated l ≡ 0
+  -- a loop that is neither l nor m has the one it had, 0 for none
+  pub isolated-else : (n : ℕ) → n ≤ sh .loops → n ≢ l → n ≢ m → d Isolated n ≡ c Isolated n
   pub solid-else : (n : ℕ) → n ≤ sh .faces → n ≢ f → d Solid n ≡ c Solid n
+  -- the new face has loop m as its outer one
+  pub outer-new : d Outer f ≡ m
+  -- each other face has its outer loop
+  pub outer-else : (n : ℕ) → n ≤ sh .faces → n ≢ f → d Outer n ≡ c Outer n
   pub vertex : (w : ℕ) → In (sh .vertices) w → c VertexUsed w ≡ 0 → d VertexUsed w ≡ 0
   pub vertex-back : (w : ℕ) → In (sh .vertices) w → d VertexUsed w ≡ 0 → c VertexUsed w ≡ 0
   pub solid-new : d Solid f ≢ 0
@@ -110,7 +119,11 @@ module _ {sh : Shape} {x : List ℕ} {p : List ℤ} (g : Good sh x p) {q : Spot}
     loop-else = λ i u f z. read Loop refl i u ∙ k .loop-else i u f (λ y. z (read Loop refl i u ∙ y));
     face-new = read Face refl (q .m) (o .m-in .1) ∙ k .face-new;
     face-else = λ n u f. read Face refl n u ∙ k .face-else n f;
+    isolated-l = read Isolated refl (q .l) (o .l-in .1) ∙ k .isolated-l;
+    isolated-else = λ n u f h. read Isolated refl n u ∙ k .isolated-else n f h;
     solid-else = λ n u f. read Solid refl n u ∙ k .solid-else n f;
+    outer-new = read Outer refl (q .f) (o .f-in .1) ∙ k .outer-new;
+    outer-else = λ n u f. read Outer refl n u ∙ k .outer-else n f;
     vertex = λ w i z.
         links-used (mefAt q) g refl accepted w i .1
         (ap (λ y. own sh y VertexUsed w) (mef-links k t (good-shows g) (g .capacities) (g .sound))

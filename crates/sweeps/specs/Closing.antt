@@ -49,7 +49,7 @@ module _ {sh : Shape} {p p′ : List ℤ} {c d : Columns} {l a f m h k s t : ℕ
     pub closed-side : Side sh d m f k s (mate a) h
     closed-side = side-round S′ (bin .0, bin .1, A .start-b) (A .loop-b) (B .next-b)
         (next-on h k (oh .0) (oh .2) (λ z. hk (sym z)) hs) (next-on k s (ok .0) (ok .2) (λ z. hs (sym z)) ks)
-        (ap (d Next) (sym Q-is) ∙ B .next-Q) (A .face-new)
+        (ap (d Next) (sym Q-is) ∙ B .next-Q) (A .face-new) (A .solid-new) (A .outer-new)
 
     -- A HALF-EDGE OF l THAT IS NONE OF THESE STAYS IN l
     loop-on : (n : ℕ) → HalfUsed sh c n → n ≢ h → n ≢ k → n ≢ s → d Loop n ≡ c Loop n
@@ -86,4 +86,4 @@ module _ {sh : Shape} {p p′ : List ℤ} {c d : Columns} {l a f m h k s : ℕ} 
     pub lapped-side : Side sh d m f k s (mate a) h
     lapped-side = side-round S′ (bin .0, bin .1, A .start-b) (A .loop-b) (B .next-b)
         (next-same h (oh .0) hs ∙ oh .2) (next-same k (ok .0) ks ∙ ok .2) (ap (d Next) (sym prev-is) ∙ B .next-Q)
-        (A .face-new)
+        (A .face-new) (A .solid-new) (A .outer-new)

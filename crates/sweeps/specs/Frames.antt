@@ -1,5 +1,5 @@
--- What a sweep of loop l leaves alone: half-edges of other loops, starts, faces of loops, points of vertices. And how
--- the counts grow.
+-- What a sweep of loop l leaves alone: half-edges of other loops, starts, loops' faces and lone vertices, faces' solids
+-- and outer loops, marks of solids, points of vertices. And how the counts grow.
 use mathlib.Core.Path.{_≡_, refl, sym, ap, _∙_, subst}
 use mathlib.Core.Logic.{_≢_}
 use Prim.Native.Nat.{ℕ, suc, _+_, _-_, _*_, _<_}
@@ -7,15 +7,17 @@ use native.Mathlib.Omega.{arith}
 use lib.IntN.{ℤ}
 use mathlib.Core.List.{List}
 use mathlib.Core.Bool.{not}
-use Rattle.laws.specs.Bools.{eqb-same, eqb-other}
+use Rattle.laws.specs.Bools.{split, eqb-same, eqb-other}
 use Rattle.inversion.specs.Same.{words, words-same, words-fewer, count-fewer-in}
 use Rattle.inversion.specs.Counts.{count-same}
 use Rattle.layout.specs.declared.shape.Shape.{Shape}
 use Rattle.layout.specs.Mate.{mate}
 use Rattle.layout.specs.Points.{pointWidth, coordinate}
-use Rattle.layout.specs.Fields.{SolidUsed, Solid, Face, Start, Loop, Next, Prev, VertexUsed, Columns}
+use Rattle.layout.specs.Fields.{SolidUsed, Solid, Outer, Face, Isolated, Start, Loop, Next, Prev, VertexUsed}
+use Rattle.layout.specs.Fields.{Columns}
 use Rattle.sound_tables.specs.EdgeIn.{prev-loop}
 use Rattle.sound_tables.specs.Sound.{In, HalfUsed, Sound}
+use Rattle.sound_tables.specs.Names.{not-isolated}
 use Rattle.chains.specs.Numbers.{odd-mate, same-some, edge-more}
 use Rattle.sweeps.specs.Raised.{Raised}
 use Rattle.sweeps.specs.Rising.{On}
@@ -35,13 +37,26 @@ abbrev pub SamePoint : List ℤ → List ℤ → ℕ → Type 0
 SamePoint p q w = (i : ℕ) → i < pointWidth → coordinate q w i ≡ coordinate p w i
 
 -- from the table c, p to d, q: the half-edges of loops of which Out holds are the same, each half-edge starts where it
--- did, each loop lies in its face, each face in its solid, and each vertex stays in use and lies where it lay
+-- did, each loop lies in its face and has its lone vertex or none, each face is of its solid and has its outer loop,
+-- each solid has its mark, and each vertex stays in use and lies where it lay
 pub record Keeps (sh : Shape) (c : Columns) (p : List ℤ) (d : Columns) (q : List ℤ) (Out : ℕ → Type 0) : Type 0 where
+  -- a half-edge in use of such a loop has its start, loop, next and previous one as before
   pub half : (i : ℕ) → HalfUsed sh c i → Out (c Loop i) → SameHalf c d i
+  -- each half-edge in use starts where it did
   pub start : (i : ℕ) → HalfUsed sh c i → d Start i ≡ c Start i
+  -- each loop in use lies in its face
   pub face : (n : ℕ) → In (sh .loops) n → c Face n ≢ 0 → d Face n ≡ c Face n
+  -- and has the lone vertex that it had, 0 if it had none
+  pub isolated : (n : ℕ) → In (sh .loops) n → c Face n ≢ 0 → d Isolated n ≡ c Isolated n
+  -- each face in use is of its solid
   pub solid : (n : ℕ) → In (sh .faces) n → c Solid n ≢ 0 → d Solid n ≡ c Solid n
+  -- and has its outer loop
+  pub outer : (n : ℕ) → In (sh .faces) n → c Solid n ≢ 0 → d Outer n ≡ c Outer n
+  -- each solid, in use or not, has its mark
+  pub solid-mark : (n : ℕ) → In (sh .solids) n → d SolidUsed n ≡ c SolidUsed n
+  -- each vertex in use stays in use
   pub used : (w : ℕ) → In (sh .vertices) w → c VertexUsed w ≢ 0 → d VertexUsed w ≢ 0
+  -- and lies where it lay
   pub point : (w : ℕ) → In (sh .vertices) w → c VertexUsed w ≢ 0 → SamePoint p q w
 
 -- at first
@@ -50,7 +65,10 @@ keeps-all sh c p Out = record {
   half = λ i u h. record { start = refl; loop = refl; next = refl; prev = refl };
   start = λ i u. refl;
   face = λ n i h. refl;
+  isolated = λ n i h. refl;
   solid = λ n i h. refl;
+  outer = λ n i h. refl;
+  solid-mark = λ n i. refl;
   used = λ w i h. h;
   point = λ w i h j b. refl;
 }
@@ -62,7 +80,10 @@ keeps-less k h = record {
   half = λ i u o. k .half i u (h _ o);
   start = k .start;
   face = k .face;
+  isolated = k .isolated;
   solid = k .solid;
+  outer = k .outer;
+  solid-mark = k .solid-mark;
   used = k .used;
   point = k .point;
 }
@@ -75,6 +96,10 @@ module _ {sh : Shape} {c d : Columns} {p q : List ℤ} {O : ℕ → Type 0} (k :
   -- loops stay in use
   pub loop-keeps : (n : ℕ) → In (sh .loops) n → c Face n ≢ 0 → d Face n ≢ 0
   loop-keeps n i u z = u (sym (k .face n i u) ∙ z)
+
+  -- faces too
+  pub face-keeps : (n : ℕ) → In (sh .faces) n → c Solid n ≢ 0 → d Solid n ≢ 0
+  face-keeps n i u z = u (sym (k .solid n i u) ∙ z)
 
   -- and half-edges of such a loop are followed as they were
   pub on-keeps : (m i j : ℕ) → O m → On sh c m i j → On sh d m i j
@@ -97,7 +122,10 @@ module _ {sh : Shape} {c d : Columns} {p q : List ℤ} {O : ℕ → Type 0} (k :
         };
     start = λ i u. t .start i (half-keeps i u) ∙ k .start i u;
     face = λ n i u. t .face n i (loop-keeps n i u) ∙ k .face n i u;
-    solid = λ n i u. t .solid n i (λ z. u (sym (k .solid n i u) ∙ z)) ∙ k .solid n i u;
+    isolated = λ n i u. t .isolated n i (loop-keeps n i u) ∙ k .isolated n i u;
+    solid = λ n i u. t .solid n i (face-keeps n i u) ∙ k .solid n i u;
+    outer = λ n i u. t .outer n i (face-keeps n i u) ∙ k .outer n i u;
+    solid-mark = λ n i. t .solid-mark n i ∙ k .solid-mark n i;
     used = λ w i u. t .used w i (k .used w i u);
     point = λ w i u j h. t .point w i (k .used w i u) j h ∙ k .point w i u j h;
   }
@@ -120,7 +148,12 @@ raised-keeps {sh} {c = c} {d} {l} {h} {k} {v} S R u lo kf bf vf pt = record {
       };
   start = λ i w. R .start-else i (w .1) (λ z. w .2 (ap (c Start) z ∙ kf)) (λ z. w .2 (ap (c Start) z ∙ bf));
   face = λ n i e. R .face n (i .1);
+  isolated = λ n i e. split n l
+      (λ z. rw z (R .isolated-l ∙ sym (not-isolated S h u lo)))
+      (λ z. R .isolated-else n (i .1) z);
   solid = λ n i e. R .solid n (i .1);
+  outer = λ n i e. R .outer n (i .1);
+  solid-mark = λ n i. R .solids n (i .1);
   used = λ w i e z. e (R .vertex-back w i (λ y. e (ap (c VertexUsed) y ∙ vf)) z);
   point = λ w i e. pt w (λ y. e (ap (c VertexUsed) y ∙ vf));
 }
@@ -146,7 +179,12 @@ closed-keeps {sh} {c = c} {d} {l} {h1} {h2} {a} {f} {m} S A B u1 l1 u2 l2 af bf 
       };
   start = λ i w. A .start-else i (w .1) (λ z. w .2 (ap (c Start) z ∙ af)) (λ z. w .2 (ap (c Start) z ∙ bf));
   face = λ n i e. A .face-else n (i .1) (λ z. e (ap (c Face) z ∙ mf));
+  isolated = λ n i e. split n l
+      (λ z. rw z (A .isolated-l ∙ sym (not-isolated S h1 u1 l1)))
+      (λ z. A .isolated-else n (i .1) z (λ y. e (ap (c Face) y ∙ mf)));
   solid = λ n i e. A .solid-else n (i .1) (λ z. e (ap (c Solid) z ∙ ff));
+  outer = λ n i e. A .outer-else n (i .1) (λ z. e (ap (c Solid) z ∙ ff));
+  solid-mark = λ n i. A .solids n (i .1);
   used = λ w i e z. e (A .vertex-back w i z);
   point = λ w i e j h. ap (λ t. coordinate t w j) pt;
 }
@@ -169,7 +207,12 @@ lapped-keeps {sh} {c = c} {d} {l} {h} {a} {f} {m} S A B u lo af bf mf ff pt = re
       };
   start = λ i w. A .start-else i (w .1) (λ z. w .2 (ap (c Start) z ∙ af)) (λ z. w .2 (ap (c Start) z ∙ bf));
   face = λ n i e. A .face-else n (i .1) (λ z. e (ap (c Face) z ∙ mf));
+  isolated = λ n i e. split n l
+      (λ z. rw z (A .isolated-l ∙ sym (not-isolated S h u lo)))
+      (λ z. A .isolated-else n (i .1) z (λ y. e (ap (c Face) y ∙ mf)));
   solid = λ n i e. A .solid-else n (i .1) (λ z. e (ap (c Solid) z ∙ ff));
+  outer = λ n i e. A .outer-else n (i .1) (λ z. e (ap (c Solid) z ∙ ff));
+  solid-mark = λ n i. A .solids n (i .1);
   used = λ w i e z. e (A .vertex-back w i z);
   point = λ w i e j h. ap (λ t. coordinate t w j) pt;
 }

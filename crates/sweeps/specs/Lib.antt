@@ -13,6 +13,7 @@ pub mod OneLoop
 pub mod Laps
 pub mod Accepted
 pub mod Result
+pub mod Refused
 pub mod Run
 pub mod Swept
 pub mod Counted

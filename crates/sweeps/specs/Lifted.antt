@@ -13,13 +13,13 @@ use Rattle.laws.specs.Cycles.{Cycles, forwards}
 use Rattle.layout.specs.declared.shape.Shape.{Shape}
 use Rattle.layout.specs.Mate.{mate}
 use Rattle.layout.specs.Points.{pointWidth, coordinate}
-use Rattle.layout.specs.Fields.{Face, Start, Loop, Next, VertexUsed, Columns}
+use Rattle.layout.specs.Fields.{Solid, Outer, Face, Start, Loop, Next, VertexUsed, Columns}
 use Rattle.sound_tables.specs.Sound.{In, HalfUsed, Sound}
 use Rattle.sound_tables.specs.PointLists.{three}
 use Rattle.chains.specs.Numbers.{Names}
 use Rattle.sweeps.specs.Sweep.{downAt}
 use Rattle.sweeps.specs.Rising.{On}
-use Rattle.sweeps.specs.Frames.{Keeps, half-keeps, on-keeps}
+use Rattle.sweeps.specs.Frames.{Keeps, half-keeps, face-keeps, on-keeps}
 
 -- ---- half-edges
 
@@ -45,12 +45,22 @@ endAt N z b j = pick (eqb j z) (topAt N z b 0) (downAt N b (suc j))
 
 -- ---- a side
 
--- in loop m of face g follow each other: the corner k, the riser s up after it, the new edge's half t, the riser h down
+-- loop m lies in face g, which is in use and has it as its outer loop; in it follow each other, round: the corner k,
+-- the riser s up after it, the new edge's half t, the riser h down
 pub record Side (sh : Shape) (d : Columns) (m g k s t h : ℕ) : Type 0 where
+  -- the loop lies in the face
   pub face : d Face m ≡ g
+  -- the face is of some solid
+  pub used : d Solid g ≢ 0
+  -- the loop is its outer one
+  pub outer : d Outer g ≡ m
+  -- after the corner comes the riser up
   pub corner : On sh d m k s
+  -- after it the new edge's half
   pub up : On sh d m s t
+  -- after it the riser down
   pub back : On sh d m t h
+  -- after it the corner
   pub down : On sh d m h k
 
 -- one of four
@@ -73,8 +83,8 @@ only-in {f = f} y P h b u v i w e =
 module _ {sh : Shape} {p : List ℤ} {d : Columns} {m g k s t h : ℕ} (S : Sound sh p d) where
   -- it is a side if one of the four lies in the loop
   pub side-round : HalfUsed sh d t → d Loop t ≡ m → d Next t ≡ h → d Next h ≡ k → d Next k ≡ s → d Next s ≡ t
-      → d Face m ≡ g → Side sh d m g k s t h
-  side-round u lo eh ek es et f =
+      → d Face m ≡ g → d Solid g ≢ 0 → d Outer g ≡ m → Side sh d m g k s t h
+  side-round u lo eh ek es et f su out =
       let next : (i j : ℕ) → HalfUsed sh d i × (d Loop i ≡ m) → d Next i ≡ j → HalfUsed sh d j × (d Loop j ≡ m) =
       λ i j q e. (
         subst (HalfUsed sh d) e (S .rules .loops .perm .f-in i (q .0)),
@@ -85,6 +95,8 @@ module _ {sh : Shape} {p : List ℤ} {d : Columns} {m g k s t h : ℕ} (S : Soun
       let os = next k s ok es in
       record {
         face = f;
+        used = su;
+        outer = out;
         corner = (ok .0, ok .1, es);
         up = (os .0, os .1, et);
         back = (u, lo, eh);
@@ -126,9 +138,12 @@ pub record Lifted (sh : Shape) (N : Names) (k : ℕ → ℕ) (X Y Z : ℕ → �
 
 module _ {sh : Shape} {c d : Columns} {p q : List ℤ} {O : ℕ → Type 0} (K : Keeps sh c p d q O) where
   -- a side of a loop that is kept
-  pub side-keeps : {m g k s t h : ℕ} → O m → In (sh .loops) m → 1 ≤ g → Side sh c m g k s t h → Side sh d m g k s t h
+  pub side-keeps : {m g k s t h : ℕ} → O m → In (sh .loops) m → In (sh .faces) g → Side sh c m g k s t h
+      → Side sh d m g k s t h
   side-keeps {m} {g} {k} {s} {t} {h} o i n y = record {
-    face = K .face m i (λ z. omega (arith, n, sym (y .face) ∙ z)) ∙ y .face;
+    face = K .face m i (λ z. omega (arith, n .0, sym (y .face) ∙ z)) ∙ y .face;
+    used = face-keeps K g n (y .used);
+    outer = K .outer g n (y .used) ∙ y .outer;
     corner = on-keeps K m k s o (y .corner);
     up = on-keeps K m s t o (y .up);
     back = on-keeps K m t h o (y .back);
@@ -147,7 +162,7 @@ module _ {sh : Shape} {c d : Columns} {p q : List ℤ} {O : ℕ → Type 0} (K :
 
   -- ANOTHER LOOP
   pub lifted-keeps : {N : Names} {k : ℕ → ℕ} {X Y Z : ℕ → ℤ} {l z b : ℕ} → O l
-      → ((j : ℕ) → j ≤ z → O (N .loop (b + j)) × In (sh .loops) (N .loop (b + j)) × (1 ≤ N .face (b + j)))
+      → ((j : ℕ) → j ≤ z → O (N .loop (b + j)) × In (sh .loops) (N .loop (b + j)) × In (sh .faces) (N .face (b + j)))
       → Lifted sh N k X Y Z l z b c p → Lifted sh N k X Y Z l z b d q
   lifted-keeps {l = l} ol h y = record {
     side = λ j u. let w = h j u in side-keeps (w .0) (w .1) (w .2) (y .side j u);

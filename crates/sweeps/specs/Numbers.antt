@@ -2,12 +2,13 @@
 -- use at the call are in use. So the next of a kind is the least that is free.
 use mathlib.Core.Path.{_≡_, refl, sym, ap, _∙_}
 use mathlib.Core.Logic.{_≢_}
+use mathlib.Core.Bool.{false}
 use mathlib.Core.List.{List}
 use Prim.Native.Nat.{ℕ, _+_, _-_, _*_, _≤_, _<_}
 use native.Mathlib.Omega.{arith}
 use lib.Dec.{eqb}
 use lib.IntN.{ℤ}
-use Rattle.laws.specs.Bools.{eqb-same}
+use Rattle.laws.specs.Bools.{eqb-same, eqb-other}
 use Rattle.laws.specs.Search.{least}
 use Rattle.codec.specs.Operands.{pattern, rows}
 use Rattle.layout.specs.declared.shape.Shape.{Shape}
@@ -139,20 +140,26 @@ module _ {sh : Shape} {c₀ c d : Columns} {N : Names} {e v f l : ℕ} (q : Taki
 
 -- ---- the least
 
+-- a number that is not 0
+one : (n : ℕ) → 1 ≤ n → eqb n 0 ≡ false
+one n h = let f : n ≢ 0 = λ z. omega (arith, h, z) in eqb-other f
+
 -- mev with the least edge and vertex
-mev-least : (sh : Shape) (x : List ℕ) (m : Mev) → least (sh .edges) (λ i. eqb (own sh x Start (2 * i)) 0) ≡ m .edge
+mev-least : (sh : Shape) (x : List ℕ) (m : Mev) → 1 ≤ m .edge → 1 ≤ m .vertex
+    → least (sh .edges) (λ i. eqb (own sh x Start (2 * i)) 0) ≡ m .edge
     → least (sh .vertices) (λ i. eqb (own sh x VertexUsed i) 0) ≡ m .vertex → LeastNew sh x (mevOf m)
 unfolding isLeast allLeast pattern rows useWord
-mev-least sh x m a b = rw (a, b, eqb-same {m = m .edge} refl, eqb-same {m = m .vertex} refl)
+mev-least sh x m ei vi a b =
+    rw (a, b, eqb-same {m = m .edge} refl, eqb-same {m = m .vertex} refl, one (m .edge) ei, one (m .vertex) vi)
 
 -- mef with the least edge, face and loop
-mef-least : (sh : Shape) (x : List ℕ) (l h1 h2 e f m w : ℕ)
+mef-least : (sh : Shape) (x : List ℕ) (l h1 h2 e f m w : ℕ) → 1 ≤ e → 1 ≤ f → 1 ≤ m
     → least (sh .edges) (λ i. eqb (own sh x Start (2 * i)) 0) ≡ e
     → least (sh .faces) (λ i. eqb (own sh x Solid i) 0) ≡ f → least (sh .loops) (λ i. eqb (own sh x Face i) 0) ≡ m
     → LeastNew sh x (mefOf l h1 h2 e f m w)
 unfolding isLeast allLeast pattern rows useWord
-mef-least sh x l h1 h2 e f m w a b c =
-    rw (a, b, c, eqb-same {m = e} refl, eqb-same {m = f} refl, eqb-same {m = m} refl)
+mef-least sh x l h1 h2 e f m w ei fi mi a b c =
+    rw (a, b, c, eqb-same {m = e} refl, eqb-same {m = f} refl, eqb-same {m = m} refl, one e ei, one f fi, one m mi)
 
 module _ {sh : Shape} {x : List ℕ} {c₀ : Columns} {N : Names} {ne n e v f : ℕ} (s : Supply sh c₀ N ne n)
     (q : Fresh (own sh x) N ne n e v f) (t : Taking sh c₀ (own sh x) N e v f) (ej : e < ne) where
@@ -172,13 +179,14 @@ module _ {sh : Shape} {x : List ℕ} {c₀ : Columns} {N : Names} {ne n e v f : 
     y = Y;
     z = Z;
   }))
-  next-mev vj l h w X Y Z = mev-least sh x _ edge-least (name-least (sh .vertices) (c₀ VertexUsed)
-      (own sh x VertexUsed) (N .vertex) v (s .vertex-in v vj) (s .vertex-below v vj) (t .vertices) (q .vertices v
-      (omega arith) vj))
+  next-mev vj l h w X Y Z = mev-least sh x _ (s .edge-in e ej .0) (s .vertex-in v vj .0) edge-least
+      (name-least (sh .vertices) (c₀ VertexUsed) (own sh x VertexUsed) (N .vertex) v (s .vertex-in v vj)
+      (s .vertex-below v vj) (t .vertices) (q .vertices v (omega arith) vj))
 
   -- MEF WITH THE NEXT NUMBERS has the least
   pub next-mef : f < n → (l h1 h2 w : ℕ) → LeastNew sh x (mefOf l h1 h2 (N .edge e) (N .face f) (N .loop f) w)
-  next-mef fj l h1 h2 w = mef-least sh x l h1 h2 _ _ _ w edge-least
+  next-mef fj l h1 h2 w = mef-least sh x l h1 h2 _ _ _ w (s .edge-in e ej .0) (s .face-in f fj .0) (s .loop-in f fj .0)
+      edge-least
       (name-least (sh .faces) (c₀ Solid) (own sh x Solid) (N .face) f (s .face-in f fj) (s .face-below f fj)
       (t .faces) (q .faces f (omega arith) fj))
       (name-least (sh .loops) (c₀ Face) (own sh x Face) (N .loop) f (s .loop-in f fj) (s .loop-below f fj)

@@ -11,8 +11,8 @@ use Rattle.laws.specs.Bools.{eqb-other}
 use Rattle.laws.specs.Update.{upd-same, upd-off}
 use Rattle.layout.specs.declared.shape.Shape.{Shape}
 use Rattle.layout.specs.Mate.{mate}
-use Rattle.layout.specs.Fields.{Field, SolidUsed, Solid, Face, Start, Loop, Next, Prev, VertexUsed, Columns, capOf}
-use Rattle.layout.specs.Fields.{sameField}
+use Rattle.layout.specs.Fields.{Field, SolidUsed, Solid, Outer, Face, Isolated, Start, Loop, Next, Prev, VertexUsed}
+use Rattle.layout.specs.Fields.{Columns, capOf, sameField}
 use Rattle.layout.specs.Points.{pointWidth, coordinate}
 use Rattle.euler.specs.Exec.{linksAfter, pointsAfter}
 use Rattle.sound_tables.specs.Mates.{mate-other}
@@ -26,7 +26,9 @@ use Rattle.sound_spurs.specs.MevAccepted.{Mev, mevOf, newHalf, MevFits, newEdge
 use Rattle.sound_spurs.specs.MevAccepted.{mev-shows, mev-points}
 use Rattle.sound_valence.specs.Kept.{links-else, links-used}
 
--- columns d are c with half-edge k of loop l, and its mate, put in before h, from h's vertex to the new vertex v
+-- columns d are c with half-edge k of loop l, and its mate, put in before h, from h's vertex to the new vertex v; loop
+-- l has no lone vertex then, the other loops have theirs; the faces of loops, the solids and outer loops of faces and
+-- the marks of solids are as they were
 pub record Raised (sh : Shape) (c d : Columns) (l h k v : ℕ) : Type 0 where
   pub next-P : d Next (c Prev h) ≡ k
   pub next-k : d Next k ≡ mate k
@@ -40,7 +42,13 @@ pub record Raised (sh : Shape) (c d : Columns) (l h k v : ℕ) : Type 0 where
   pub start-b : d Start (mate k) ≡ v
   pub start-else : (i : ℕ) → i ≤ 2 * sh .edges → i ≢ k → i ≢ mate k → d Start i ≡ c Start i
   pub face : (n : ℕ) → n ≤ sh .loops → d Face n ≡ c Face n
+  -- loop l has no lone vertex
+  pub isolated-l : d Isolated l ≡ 0
+  -- another has the one it had, 0 for none
+  pub isolated-else : (n : ℕ) → n ≤ sh .loops → n ≢ l → d Isolated n ≡ c Isolated n
   pub solid : (n : ℕ) → n ≤ sh .faces → d Solid n ≡ c Solid n
+  -- each face has its outer loop
+  pub outer : (n : ℕ) → n ≤ sh .faces → d Outer n ≡ c Outer n
   pub vertex : (w : ℕ) → In (sh .vertices) w → w ≢ v → c VertexUsed w ≡ 0 → d VertexUsed w ≡ 0
   pub vertex-back : (w : ℕ) → In (sh .vertices) w → w ≢ v → d VertexUsed w ≡ 0 → c VertexUsed w ≡ 0
   pub vertex-new : d VertexUsed v ≢ 0
@@ -98,7 +106,10 @@ module _ {sh : Shape} {x : List ℕ} {p : List ℤ} (g : Good sh x p) {m : Mev} 
         start-b = read Start refl b (o .mate-in .1) ∙ upd-same _ b _;
         start-else = λ i u f n. read Start refl i u ∙ upd-off _ _ n ∙ upd-off _ _ f;
         face = λ n u. read Face refl n u;
+        isolated-l = read Isolated refl (m .loop) (r .loop-in .1) ∙ upd-same _ (m .loop) 0;
+        isolated-else = λ n u e. read Isolated refl n u ∙ upd-off _ _ e;
         solid = λ n u. read Solid refl n u;
+        outer = λ n u. read Outer refl n u;
         vertex = λ w i e z.
             links-used (mevOf m) g refl (mev-accepted sh x (g .capacities) r) w i .1
             (ap (λ y. own sh y VertexUsed w) (mev-links sh x (g .capacities) r)

@@ -242,7 +242,7 @@ module _ {sh : Shape} {c₀ : Columns} {N : Names} {ne nn l z B : ℕ} {k : ℕ 
           (λ e.
           let u : i ≤ z = omega arith in
           let b = corner-rank Q i u in
-          side-keeps K (new-loop Q i u) (Q .supply .loop-in (B + i) b) (Q .supply .face-in (B + i) b .0)
+          side-keeps K (new-loop Q i u) (Q .supply .loop-in (B + i) b) (Q .supply .face-in (B + i) b)
           (o (omega arith)))
 
       -- what is left

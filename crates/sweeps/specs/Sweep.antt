@@ -5,8 +5,8 @@
 -- least free when its operator comes is a theorem (`names-least`), and so is what the table looks like in the end
 -- (`sweep-sides`).
 --
---            <---- a j ----          k j    the half-edge of corner j
---          o ----- mate ---> o       r j    riser j, up; its mate H j, down: both just before k j (mev)
+--            ----- a j ---->         k j    the half-edge of corner j
+--          o <---- mate ---- o       r j    riser j, up; its mate H j, down: both just before k j (mev)
 --     H j  |     side j      ^ r j+1 a j    the new edge in the lifted loop; its mate in side j (mef from H j to H j+1)
 --          v                 |
 --          o ----- k j ----> o

@@ -2,7 +2,7 @@
 use mathlib.Core.Path.{_≡_, refl, ap, _∙_, subst}
 use mathlib.Core.Logic.{_≢_, _⊎_, inl, inr, ⊎-elim}
 use mathlib.Core.List.{List}
-use Prim.Native.Nat.{ℕ, _*_, _≤_}
+use Prim.Native.Nat.{ℕ, _+_, _*_, _≤_}
 use Rattle.laws.specs.Bools.{split, eqb-same, eqb-other}
 use native.Mathlib.Omega.{arith}
 use lib.IntN.{ℤ}
@@ -21,18 +21,22 @@ use Rattle.chains.specs.declared.DoneLeft.{DoneLeft}
 use Rattle.sessions.specs.Session.{sessionRun}
 use Rattle.sessions.specs.Editing.{Editing, logState, logged, runIn, ranFrom}
 use Rattle.promises.specs.Checked.{good-checked}
+use Rattle.promises.specs.Sessions.{withRedoStart}
 use Rattle.inversion.specs.Rebuild.{Builds}
 use Rattle.chains.specs.Series.{Each, Reach}
 use Rattle.chains.specs.Least.{LeastNew}
-use Rattle.chains.specs.Whole.{wholeOf, wholeIn, wholeFrom, early, UndoneTo, whole-not, whole-answered, whole-run}
+use Rattle.chains.specs.Runs.{roomFor, room-taken}
+use Rattle.chains.specs.Whole.{wholeOf, wholeIn, wholeFrom, early, UndoneTo, whole-unchanged, whole-answered, whole-run}
+use Rattle.chains.specs.Whole.{whole-any-redo}
 use Rattle.chains.specs.Whole.{whole-all, whole-undone}
 use Rattle.sweeps.specs.Sweep.{Vector, vector, cornersTo, sweepOps, sweepRefusal}
-use Rattle.sweeps.specs.Run.{sweep-accepted, sweep-many, sweep-any, sweep-good, sweep-able}
+use Rattle.sweeps.specs.Run.{sweep-accepted, sweep-many, sweep-any, sweep-good, sweep-able, sweep-plain}
 use Rattle.sweeps.specs.Accepted.{Midway, sweep-reach, names-least}
+use Rattle.sweeps.specs.Refused.{RefusedAs, refused-as}
 use Rattle.sweeps.specs.Counted.{CountsGrown, sweep-counts}
 use Rattle.sweeps.specs.Result.{SweptFace, sweep-sides}
 
--- SWEEP: refusals 1 and 2 as at every entry, then those of `sweepRefusal`, then the run of the operators' script
+-- SWEEP: refusals 1 and 2 as in a run, then those of `sweepRefusal`, then the run of the operators' script
 abbrev pub sweepOf : List ℕ → List ℤ → List ℕ → ℕ → Session → ℕ → Vector → Leaves DoneLeft
 sweepOf x p log redo s f v =
     wholeOf x p log redo s (sweepRefusal (shapeOf x) x p (s .log) f v) (sweepOps (shapeOf x) x p f v)
@@ -81,14 +85,22 @@ module _ (e : Editing) (f : ℕ) (v : Vector) where
     all = whole-all e (refusalIn e f v) (opsIn e f v) ok free built
 
   -- DONE WHOLE OR NOT AT ALL: a refusal answers the first that is due, and leaves every byte that is lent
-  pub sweep-not : sweepIn e f v .answer .answer .refusal ≢ 0
-      → (sweepIn e f v .answer .answer .refusal ≡ early e (refusalIn e f v) (opsIn e f v))
+  pub sweep-unchanged : sweepIn e f v .answer .answer .refusal ≢ 0
+      → (sweepIn e f v .answer .answer .refusal ≡ early e (refusalIn e f v))
       × (sweepIn e f v .answer .answer .done ≡ 0) × (sweptFrom e f v ≡ e)
-  sweep-not n = whole-not e (refusalIn e f v) (opsIn e f v) (λ z. n (go z))
+  sweep-unchanged n = whole-unchanged e (refusalIn e f v) (opsIn e f v) (λ z. n (go z))
     where
-      go : early e (refusalIn e f v) (opsIn e f v) ≡ 0 → sweepIn e f v .answer .answer .refusal ≡ 0
+      go : early e (refusalIn e f v) ≡ 0 → sweepIn e f v .answer .answer .refusal ≡ 0
       go = split (entry (logState e) .refusal) 0 (λ a. rw (eqb-same a) (λ b. all a b .0))
           (λ a. rw (eqb-other a) (λ b. absurd (a b)))
+
+  -- THE REFUSAL IS DUE: after 1 and 2, each of the others where the table says so and never otherwise
+  pub sweep-refused : RefusedAs (shapeOf (e .links)) (e .links) (e .points) (e .session .log) f v (refusalIn e f v)
+  sweep-refused = refused-as (shapeOf (e .links)) (e .links) (e .points) (e .session .log) f v
+
+  -- the redo log's start is ignored
+  pub sweep-any-redo : (k : ℕ) → sweepIn (withRedoStart e k) f v .answer .answer ≡ sweepIn e f v .answer .answer
+  sweep-any-redo = whole-any-redo e (refusalIn e f v) (opsIn e f v)
 
   module _ (h : sweepIn e f v .answer .answer .refusal ≡ 0) where
     ok : entry (logState e) .refusal ≡ 0
@@ -118,6 +130,25 @@ module _ (e : Editing) (f : ℕ) (v : Vector) where
     unfolding sessionRun
     sweep-run = let b = built ok free in (b .refusal, b .done-is, b .used-is)
 
+    -- 9 IS EXACT: the log's start has moved down by just the bytes that were asked for
+    pub sweep-room : sweptFrom e f v .session .log
+        + roomFor (shapeOf (e .links)) (e .links) (e .points) (opsIn e f v) ≡ e .session .log
+    unfolding sessionRun
+    sweep-room =
+        let g = sweep-good (logState e) f v ok free in
+        let r = sweep-able (logState e) f v ok free in
+        rw (sweep-whole .3) (room-taken (logState e) ok g (sweep-reach g r .path)
+        (sweep-plain (shapeOf (e .links)) (e .links) (e .points) f v) (e .links) (e .points) (r .room))
+
+    -- the redo log is emptied
+    pub sweep-empties : sweptFrom e f v .session .redo ≡ length (e .redo)
+    unfolding sessionRun
+    sweep-empties =
+        let w = sweep-whole in
+        let d : runIn e (writeScript (opsIn e f v)) .answer .answer .done ≢ 0 =
+        λ z. omega (arith, z, sweep-run .1, w .1, w .2) in
+        ap (λ (t : Editing). t .session .redo) (w .3) ∙ rw (eqb-other d) refl
+
     -- UNDOING ITS OPERATORS GIVES THE EARLIER TABLE, if the redo log is as long as their script, or has 19 bytes for
     -- each; its start may be any
     pub sweep-undone : (length (writeScript (opsIn e f v)) ≤ length (e .redo))
@@ -129,7 +160,7 @@ module _ (e : Editing) (f : ℕ) (v : Vector) where
 
     -- ---- the table that it leaves
 
-    -- WHAT IT LOOKS LIKE: sides, lifted loops, points, and the rest as it was
+    -- WHAT IT LOOKS LIKE: sides, lifted loops, points, and what stays (`SweptFace`)
     pub sweep-left : SweptFace (shapeOf (e .links)) (e .links) (e .points) f v (sweptFrom e f v .links)
         (sweptFrom e f v .points)
     sweep-left =
