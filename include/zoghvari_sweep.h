@@ -19,9 +19,9 @@ typedef struct {
 
 /* Lifts a face of a sound table by the vector (dx, dy, dz), in hundredths of a millimetre. Each corner of the face gets
  * a new vertex at its point plus the vector and an edge to it, the riser; each side of the face gets a new edge between
- * two risers, and the new face that this closes. The lifted face keeps its number and its loops keep theirs; all its
+ * the risers at its ends (one riser where the loop has one corner), and the new face that this closes. The lifted face keeps its number and its loops keep theirs; all its
  * loops are lifted, rings too. A loop of n corners adds n vertices, 2n edges, n faces and n loops; solids, rings and
- * holes stay. A vertex that the loop meets twice is two corners. Any vector is taken, also 0 0 0.
+ * holes stay. A vertex that the loop meets twice is two corners. No vector is refused for itself, not even 0 0 0.
  *
  * The sweep is a run of 2n operators for n corners: the loops of the face by number; in each, from its first half-edge
  * on, a mev at every corner and then a mef over every side; every way 0, but 2 in the mef of a loop of one corner; new
@@ -34,8 +34,9 @@ typedef struct {
  * not fit below the session's `log`: 2 bytes for each operator, 3 where the half-edge that its inverse names is above
  * 127.
  * The call is atomic: a refusal changes no byte, not even the session. Otherwise the log holds the inverses just below
- * where its live part began, as after a run, and the redo log is emptied: the session's `redo` is redo_n then. The
- * session's `redo` is ignored. */
+ * where its live part began, as after a run, and the redo log is emptied: the session's `redo` is redo_n then. What it
+ * was before is ignored. redo_n is the redo log's true length, which the call cannot check. It takes more stack than
+ * other calls: allow 256 KB. */
 ZoghvariDone zoghvari_sweep(uint16_t *links, size_t links_n, int32_t *points, size_t points_n, uint8_t *log,
                             size_t log_n, size_t redo_n, ZoghvariSession *session, size_t face, int32_t dx, int32_t dy,
                             int32_t dz);

@@ -119,10 +119,10 @@ def amid_faults(turn="put(links, k, l);", walk="k = pass_one(links, k, l);", inv
 
 
 
-def above_faults(body="sessions_entry::run(links);", uses="runs sessions_entry", unfolded="runOf"):
-    """What is wrong with a sweep of this body, with these dependencies, whose proof unfolds this."""
+def above_faults(body="sessions_entry::run(links);", uses="runs sessions_entry", unfolded="runOf", more=""):
+    """What is wrong with a sweep of this body, with these dependencies and further code, whose proof unfolds this."""
     run = "pub fn run(links: &mut [u16]) { links[0] = 1; }\n"
-    files = [("sweep_call/src/lib.rt", f"pub fn sweep(links: &mut [u16]) {{ {body} }}\n"),
+    files = [("sweep_call/src/lib.rt", f"pub fn sweep(links: &mut [u16]) {{ {body} }}\n{more}"),
              ("sweep_call/specs/A.antt", f"law : T\nunfolding {unfolded}\nlaw = refl\n"),
              ("sessions_entry/src/lib.rt", run), ("euler_edges/src/lib.rt", run),
              ("runs/src/lib.rt", "pub fn enter(links: &[u16]) {}\n")]
@@ -261,13 +261,22 @@ CASES = [
      == [f"crates.txt: sweep_call lists {name}, which is operator code"
          for name in ("euler_edges", "runs_steps", "takedown_acts")]),
     ("a sweep that lends the table to an operator fails", lambda: above_faults("euler_edges::run(links);")
-     == ["sweep_call::sweep lends the table to euler_edges::run"]),
-    ("a sweep that stores into the table fails", lambda: above_faults("links[3] = 1;")
-     == ["sweep_call::sweep stores into links"]),
-    ("a call of the sweep that is nowhere fails", lambda: above_faults("lost(links);")
-     == ["sweep_call::sweep calls lost, which is not found"]),
+     == ["sweep_call::sweep lends links to euler_edges::run to be written"]),
+    ("a sweep that runs twice fails", lambda: above_faults("sessions_entry::run(links); sessions_entry::run(links);")
+     == ["sweep_call::sweep hands links on to be written 2 times"]),
+    ("a sweep that does anything else with the table fails", lambda: all(len(above_faults(
+        f"{store} sessions_entry::run(links);")) == 1 for store in (
+            "links[3] = 1;", "links[a[0]] = 1;", "let t = links;", "links[0] <<= 1;", "links.fill(0);", "lost(links);",
+            "*links = t;", "runs::enter(&mut links[..]);"))),
+    ("another function that holds a table fails", lambda: above_faults(more="fn f(points: &mut [i32]) {}\n")
+     == ["sweep_call::f holds a table to write"]),
+    ("a function that cannot be read fails", lambda: above_faults(more="fn f(p: (u8, u8)) -> u8 { 0 }\n")
+     == ["crates/sweep_call/src/lib.rt: f could not be read".replace("/", os.sep)]),
+    ("scratch arrays are no tables", lambda: above_faults(more="fn f(a: &mut [u16; 4]) { a[0] = 1; }\n") == []),
     ("a proof that unfolds an operator fails", lambda: above_faults(unfolded="runOf\n    ofSurgery")
      == ["crates/sweep_call/specs/A.antt: unfolds ofSurgery".replace("/", os.sep)]),
+    ("by another name too", lambda: above_faults(unfolded="m\nlaw = refl\n-- use x.{ofExec as m}")
+     == ["crates/sweep_call/specs/A.antt: unfolds ofExec".replace("/", os.sep)]),
     ("a good step counts", lambda: gate.judge(0, "ok\n3 passed, 0 failed\n") == (3, 0)),
     ("a failed test fails the step", lambda: gate.judge(1, "2 passed, 1 failed\n") == (2, 1)),
     ("a bad exit status fails the step", lambda: gate.judge(1, "3 passed, 0 failed\n") == (3, 1)),

@@ -77,43 +77,43 @@ liftable-of {sh} {x} {p} {start} {f} {v} g r = record {
 
 -- ---- refusals before anything is written
 
-unfoldable pub earlyOf : Shape → List ℕ → List ℤ → ℕ → Vector → ℕ
-earlyOf sh x p f v =
+unfoldable pub faceRefusalOf : Shape → List ℕ → List ℤ → ℕ → Vector → ℕ
+faceRefusalOf sh x p f v =
     pick (some f && leb f (sh .faces))
     (pick (some (faceSolid sh x f))
     (pick (anyTo (sh .loops) (loneIn sh x f)) 14 (pick (allTo (2 * sh .edges) (moves sh x p f v)) 0 5)) 6) 5
 
 module _ (sh : Shape) (x : List ℕ) (p : List ℤ) (f : ℕ) (v : Vector) where
-  pub early-none : f ≡ 0 → 5 ≡ earlyOf sh x p f v
-  unfolding earlyOf
+  pub early-none : f ≡ 0 → 5 ≡ faceRefusalOf sh x p f v
+  unfolding faceRefusalOf
   early-none e = rw (eqb-same e) refl
 
-  pub early-high : (f ≡ 0 → ⊥) → sh .faces < f → 5 ≡ earlyOf sh x p f v
-  unfolding earlyOf
+  pub early-high : (f ≡ 0 → ⊥) → sh .faces < f → 5 ≡ faceRefusalOf sh x p f v
+  unfolding faceRefusalOf
   early-high n h = rw (eqb-other n, lt-leb h) refl
     where
       lt-leb : sh .faces < f → leb f (sh .faces) ≡ false
       lt-leb h = T-false (λ t. omega (arith, h, leb→le f (sh .faces) t))
 
   module _ (n : f ≡ 0 → ⊥) (h : f ≤ sh .faces) where
-    pub early-free : (s : ℕ) → s ≡ faceSolid sh x f → s ≡ 0 → 6 ≡ earlyOf sh x p f v
-    unfolding earlyOf
+    pub early-free : (s : ℕ) → s ≡ faceSolid sh x f → s ≡ 0 → 6 ≡ faceRefusalOf sh x p f v
+    unfolding faceRefusalOf
     early-free s e z = rw (eqb-other n, le-leb f (sh .faces) h, eqb-same (sym e ∙ z)) refl
 
     module _ (s : ℕ) (e : s ≡ faceSolid sh x f) (z : s ≡ 0 → ⊥) where
-      pub early-lone : (b : Bool) → b ≡ anyTo (sh .loops) (loneIn sh x f) → b ≡ true → 14 ≡ earlyOf sh x p f v
-      unfolding earlyOf
+      pub early-lone : (b : Bool) → b ≡ anyTo (sh .loops) (loneIn sh x f) → b ≡ true → 14 ≡ faceRefusalOf sh x p f v
+      unfolding faceRefusalOf
       early-lone b q t = rw (eqb-other n, le-leb f (sh .faces) h, eqb-other (λ y. z (e ∙ y)), sym q ∙ t) refl
 
       pub early-far : (b d : Bool) → b ≡ anyTo (sh .loops) (loneIn sh x f) → b ≡ false
-          → d ≡ allTo (2 * sh .edges) (moves sh x p f v) → d ≡ false → 5 ≡ earlyOf sh x p f v
-      unfolding earlyOf
+          → d ≡ allTo (2 * sh .edges) (moves sh x p f v) → d ≡ false → 5 ≡ faceRefusalOf sh x p f v
+      unfolding faceRefusalOf
       early-far b d q t r u =
           rw (eqb-other n, le-leb f (sh .faces) h, eqb-other (λ y. z (e ∙ y)), sym q ∙ t, sym r ∙ u) refl
 
       pub early-all : (b d : Bool) → b ≡ anyTo (sh .loops) (loneIn sh x f) → b ≡ false
-          → d ≡ allTo (2 * sh .edges) (moves sh x p f v) → d ≡ true → 0 ≡ earlyOf sh x p f v
-      unfolding earlyOf
+          → d ≡ allTo (2 * sh .edges) (moves sh x p f v) → d ≡ true → 0 ≡ faceRefusalOf sh x p f v
+      unfolding faceRefusalOf
       early-all b d q t r u =
           rw (eqb-other n, le-leb f (sh .faces) h, eqb-other (λ y. z (e ∙ y)), sym q ∙ t, sym r ∙ u) refl
 
@@ -142,20 +142,20 @@ chain true true false true r = ((λ n. absurd (n refl)), (λ e. refl))
 
 module _ (sh : Shape) (x : List ℕ) (p : List ℤ) (start f : ℕ) (v : Vector) where
   -- what is left once the face is looked at
-  abbrev pub laterOf : ℕ
-  laterOf =
+  abbrev pub spaceRefusalOf : ℕ
+  spaceRefusalOf =
       pick (every (spare sh x (cornersTo sh x f (sh .loops))))
       (pick (leb (roomFor sh x p (sweepOps sh x p f v)) start) 0
       9) 10
 
   -- 5, 6, 14 and 5 come first
-  pub refusal-early : earlyOf sh x p f v ≢ 0 → sweepRefusal sh x p start f v ≡ earlyOf sh x p f v
-  unfolding earlyOf sweepRefusal
+  pub refusal-early : faceRefusalOf sh x p f v ≢ 0 → sweepRefusal sh x p start f v ≡ faceRefusalOf sh x p f v
+  unfolding faceRefusalOf sweepRefusal
   refusal-early = chain (some f && leb f (sh .faces)) (some (faceSolid sh x f)) (anyTo (sh .loops) (loneIn sh x f))
-      (allTo (2 * sh .edges) (moves sh x p f v)) laterOf .0
+      (allTo (2 * sh .edges) (moves sh x p f v)) spaceRefusalOf .0
 
   -- then 10 and 9
-  pub refusal-later : earlyOf sh x p f v ≡ 0 → sweepRefusal sh x p start f v ≡ laterOf
-  unfolding earlyOf sweepRefusal
+  pub refusal-later : faceRefusalOf sh x p f v ≡ 0 → sweepRefusal sh x p start f v ≡ spaceRefusalOf
+  unfolding faceRefusalOf sweepRefusal
   refusal-later = chain (some f && leb f (sh .faces)) (some (faceSolid sh x f)) (anyTo (sh .loops) (loneIn sh x f))
-      (allTo (2 * sh .edges) (moves sh x p f v)) laterOf .1
+      (allTo (2 * sh .edges) (moves sh x p f v)) spaceRefusalOf .1

@@ -27,7 +27,8 @@ use Rattle.sweeps.specs.Run.{sweep-length}
 use Rattle.sweep_puts.specs.FaceLaws.{Named, Liftable}
 use Rattle.sweep_puts.specs.Laid.{Laid}
 use Rattle.sweep_call.specs.declared.plan.Script.{Script}
-use Rattle.sweep_call.specs.CallLaws.{earlyOf, laterOf, refusal-early, refusal-later, named-of, liftable-of}
+use Rattle.sweep_call.specs.CallLaws.{faceRefusalOf, spaceRefusalOf, refusal-early, refusal-later, named-of}
+use Rattle.sweep_call.specs.CallLaws.{liftable-of}
 
 -- ---- what is asked for, and what is promised
 
@@ -38,7 +39,7 @@ scriptBytes = 27 * mostItems
 -- a face that can be lifted, if there are numbers
 pub record Ready (sh : Shape) (x : List ℕ) (p : List ℤ) (f : ℕ) (v : Vector) : Type 0 where
   pub good : Good sh x p
-  pub early : earlyOf sh x p f v ≡ 0
+  pub early : faceRefusalOf sh x p f v ≡ 0
 
 -- the script stands at the front of the buffer, and the bytes of the inverses are counted
 pub record Scripted (sh : Shape) (x : List ℕ) (p : List ℤ) (f : ℕ) (v : Vector) (out : List ℕ) (r : Script) : Type 0
@@ -164,9 +165,9 @@ written-none sh x p f v out r n nv ne nf nl b ev ee ef el en t z e =
 -- ---- the plan; u is the vector as the callees get it
 
 module _ (sh : Shape) (x : List ℕ) (p : List ℤ) (start f : ℕ) (u v : Vector) (uv : u ≡ v) (out : List ℕ) (r : Script)
-    (n : ℕ) (e₀ : n ≡ earlyOf sh x p f u) where
-  e : n ≡ earlyOf sh x p f v
-  e = e₀ ∙ ap (earlyOf sh x p f) uv
+    (n : ℕ) (e₀ : n ≡ faceRefusalOf sh x p f u) where
+  e : n ≡ faceRefusalOf sh x p f v
+  e = e₀ ∙ ap (faceRefusalOf sh x p f) uv
 
   -- 5, 6, 14 or 5
   pub plan-early : n ≢ 0 → r ≡ record { refusal = n; length = 0; room = 0 } → Planned sh x p start f v out r
@@ -183,7 +184,7 @@ module _ (sh : Shape) (x : List ℕ) (p : List ℤ) (start f : ℕ) (u v : Vecto
     abbrev room : ℕ
     room = roomFor sh x p (sweepOps sh x p f v)
 
-    later : sweepRefusal sh x p start f v ≡ laterOf sh x p start f v
+    later : sweepRefusal sh x p start f v ≡ spaceRefusalOf sh x p start f v
     later = refusal-later sh x p start f v (sym e ∙ z)
 
     -- 10

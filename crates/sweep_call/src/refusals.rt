@@ -5,12 +5,12 @@ ghost use Prim.Native.Nat.{_*_, _≤_};
 ghost use lib.Dec.{leb};
 ghost use Rattle.laws.specs.Every.{every};
 ghost use Rattle.layout.specs.Small.{Small};
-ghost use Rattle.sweep_call.specs.CallLaws.{earlyOf};
+ghost use Rattle.sweep_call.specs.CallLaws.{faceRefusalOf};
 ghost use Rattle.sweeps.specs.Sweep.{vector};
 use layout::columns::face_solid;
 use layout::shape::Shape;
-use sweep_reads::tests::all_move;
-use sweep_reads::tests::some_lone;
+use sweep_reads::conditions::all_move;
+use sweep_reads::conditions::some_lone;
 
 // 5 and 6 for the face, 14, 5 for a moved point; 0 for none.
 pub fn face_refusal(
@@ -23,7 +23,7 @@ pub fn face_refusal(
     dz: i32,
 ) -> u8
     requires { ⌜ Small sh ⌝ }
-    ensures { λ r. ⌜ r ≡ earlyOf sh (now (links .entry)) (now (points .entry)) f (vector dx dy dz) ⌝ }
+    ensures { λ r. ⌜ r ≡ faceRefusalOf sh (now (links .entry)) (now (points .entry)) f (vector dx dy dz) ⌝ }
 {
     if f == 0 {
         return 5;

@@ -3,4 +3,4 @@ pub mod FreeLaws
 pub mod CornerLaws
 pub mod MovedLaws
 pub mod PointLaws
-pub mod TestLaws
+pub mod ConditionLaws

@@ -47,7 +47,8 @@ vector x y z = record { x = x; y = y; z = z }
 abbrev pub cornerOf : Shape → List ℕ → ℕ → ℕ → ℕ
 cornerOf sh x l j = iter (nextOf sh x) j (loopFirst sh x l)
 
--- the number of corners of loop l: after so many steps the first half-edge comes again
+-- the number of corners of loop l: after so many steps the first half-edge comes again (l is not lone: 14 is asked
+-- first)
 unfoldable pub cornersIn : Shape → List ℕ → ℕ → ℕ
 cornersIn sh x l = least (2 * sh .edges) (λ j. eqb (cornerOf sh x l j) (loopFirst sh x l))
 

@@ -1,7 +1,7 @@
 use mathlib.Core.Path.{sym}
 use lib.Seq.{length-take-le}
 use Rattle.promises.specs.Checked.{entered-good}
-use Rattle.sweep_reads.specs.TestLaws.{vector-back}
+use Rattle.sweep_reads.specs.ConditionLaws.{vector-back}
 use Rattle.sweep_call.specs.ExitLaws.{call-not-entered, call-refused, call-done}
 use borrow.Author.Needs.{needs}
 use Rattle.sweep_call.proofs.sweep.Statement.{statement}

@@ -1,6 +1,6 @@
 use mathlib.Core.Path.{refl, sym, _∙_}
 use native.Mathlib.Omega.{arith}
-use Rattle.sweep_reads.specs.TestLaws.{vector-back}
+use Rattle.sweep_reads.specs.ConditionLaws.{vector-back}
 use Rattle.sweep_call.specs.PlanLaws.{good-small, plan-early, plan-few, plan-short, plan-all}
 use borrow.Author.Needs.{needs}
 use Rattle.sweep_call.proofs.plan.plan.Statement.{statement}

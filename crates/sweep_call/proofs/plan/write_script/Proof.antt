@@ -1,6 +1,6 @@
 use native.Mathlib.Omega.{arith}
 use borrow.Author.Tests.{not-true, not-false}
-use Rattle.sweep_reads.specs.TestLaws.{vector-back}
+use Rattle.sweep_reads.specs.ConditionLaws.{vector-back}
 use Rattle.sweep_call.specs.PlanLaws.{good-small, all-set, written-all, written-none}
 use borrow.Author.Needs.{needs}
 use Rattle.sweep_reads.proofs.free.free_numbers.Reads as free-numbers-reads

@@ -1,8 +1,8 @@
 use mathlib.Core.Path.{ap, _∙_}
 use native.Mathlib.Omega.{arith}
 use borrow.Author.Tests.{not-true, not-false}
-use Rattle.sweep_reads.specs.TestLaws.{vector-back}
-use Rattle.sweep_call.specs.CallLaws.{earlyOf, early-none, early-high, early-free, early-lone, early-far}
+use Rattle.sweep_reads.specs.ConditionLaws.{vector-back}
+use Rattle.sweep_call.specs.CallLaws.{faceRefusalOf, early-none, early-high, early-free, early-lone, early-far}
 use Rattle.sweep_call.specs.CallLaws.{early-all}
 use borrow.Author.Needs.{needs}
 use Rattle.sweep_call.proofs.refusals.face_refusal.Statement.{statement}
@@ -10,8 +10,8 @@ use Rattle.sweep_call.proofs.refusals.face_refusal.Tie as tie
 use Rattle.sweep_call.proofs.refusals.face_refusal.Reads as reads
 use Rattle.sweep_call.proofs.refusals.face_refusal.Lts as lts
 use Rattle.layout.proofs.columns.face_solid.Reads as face-solid-reads
-use Rattle.sweep_reads.proofs.tests.all_move.Reads as all-move-reads
-use Rattle.sweep_reads.proofs.tests.some_lone.Reads as some-lone-reads
+use Rattle.sweep_reads.proofs.conditions.all_move.Reads as all-move-reads
+use Rattle.sweep_reads.proofs.conditions.some_lone.Reads as some-lone-reads
 
 returns : tie.Need-returns
 returns c = early-none (c .before .before .args .sh) (c .before .before .args .links .now)
@@ -61,7 +61,7 @@ returns-5 c = early-far (c .before .before .before .before .before .before .befo
     (c .before .before .before .before .before .face-solid .ensures .0)
     (c .before .before .before .before .if3 .left) _ _ (c .before .before .before .some-lone .ensures)
     (c .before .before .if4 .left) (c .before .all-move .ensures) (not-true _ (c .if5 .taken)) ∙ ap
-    (earlyOf (c .before .before .before .before .before .before .before .before .before .before .args .sh)
+    (faceRefusalOf (c .before .before .before .before .before .before .before .before .before .before .args .sh)
     (c .before .before .before .before .before .before .before .before .before .before .args .links .now)
     (c .before .before .before .before .before .before .before .before .before .before .args .points .now)
     (c .before .before .before .before .before .before .before .before .before .before .args .f))
@@ -79,7 +79,7 @@ returns-6 c = early-all (c .before .before .before .before .before .before .befo
     (c .before .before .before .before .before .face-solid .ensures .0)
     (c .before .before .before .before .if3 .left) _ _ (c .before .before .before .some-lone .ensures)
     (c .before .before .if4 .left) (c .before .all-move .ensures) (not-false _ (c .if5 .left)) ∙ ap
-    (earlyOf (c .before .before .before .before .before .before .before .before .before .before .args .sh)
+    (faceRefusalOf (c .before .before .before .before .before .before .before .before .before .before .args .sh)
     (c .before .before .before .before .before .before .before .before .before .before .args .links .now)
     (c .before .before .before .before .before .before .before .before .before .before .args .points .now)
     (c .before .before .before .before .before .before .before .before .before .before .args .f))

@@ -8,7 +8,7 @@ use mir.Val.{toZ}
 use Rattle.chains.specs.Series.{joined}
 use Rattle.sweeps.specs.Sweep.{vector, cornersTo, opsOf}
 use Rattle.sweep_reads.specs.CornerLaws.{to-none}
-use Rattle.sweep_reads.specs.TestLaws.{vector-back}
+use Rattle.sweep_reads.specs.ConditionLaws.{vector-back}
 use Rattle.sweep_puts.specs.Laid.{Laid, laid-empty, joined-zero}
 use Rattle.sweep_puts.specs.FaceLaws.{named-less, moving-at, face-few, face-turn, face-end}
 use Rattle.sweep_puts.proofs.faces.put_face.Statement.{statement}

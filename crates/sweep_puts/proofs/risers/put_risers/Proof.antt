@@ -7,7 +7,7 @@ use mir.Syntax.{w32}
 use mir.Val.{toZ}
 use Rattle.chains.specs.Series.{series}
 use Rattle.sweeps.specs.Sweep.{vector, cornerOf}
-use Rattle.sweep_reads.specs.TestLaws.{vector-back}
+use Rattle.sweep_reads.specs.ConditionLaws.{vector-back}
 use Rattle.sweep_puts.specs.Laid.{Laid, laid-empty, series-zero}
 use Rattle.sweep_puts.specs.RiserLaws.{riserOf, riser-undone, corner-first, risers-turn, risers-end}
 use Rattle.sweep_puts.proofs.risers.put_risers.Statement.{statement}

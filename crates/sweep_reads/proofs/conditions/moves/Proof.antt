@@ -1,9 +1,9 @@
-use Rattle.sweep_reads.specs.TestLaws.{moves-free, moves-else, moves-is}
+use Rattle.sweep_reads.specs.ConditionLaws.{moves-free, moves-else, moves-is}
 use borrow.Author.Needs.{needs}
-use Rattle.sweep_reads.proofs.tests.moves.Statement.{statement}
-use Rattle.sweep_reads.proofs.tests.moves.Tie as tie
-use Rattle.sweep_reads.proofs.tests.moves.Reads as reads
-use Rattle.sweep_reads.proofs.tests.moves.Lts as lts
+use Rattle.sweep_reads.proofs.conditions.moves.Statement.{statement}
+use Rattle.sweep_reads.proofs.conditions.moves.Tie as tie
+use Rattle.sweep_reads.proofs.conditions.moves.Reads as reads
+use Rattle.sweep_reads.proofs.conditions.moves.Lts as lts
 use Rattle.layout.proofs.columns.side_of.Reads as side-of-reads
 use Rattle.layout.proofs.columns.start_of.Reads as start-of-reads
 use Rattle.sweep_reads.proofs.moved.fits.Reads as fits-reads

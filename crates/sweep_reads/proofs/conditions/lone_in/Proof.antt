@@ -1,8 +1,8 @@
 use borrow.Author.Needs.{needs}
-use Rattle.sweep_reads.proofs.tests.lone_in.Statement.{statement}
-use Rattle.sweep_reads.proofs.tests.lone_in.Tie as tie
-use Rattle.sweep_reads.proofs.tests.lone_in.Reads as reads
-use Rattle.sweep_reads.proofs.tests.lone_in.Lts as lts
+use Rattle.sweep_reads.proofs.conditions.lone_in.Statement.{statement}
+use Rattle.sweep_reads.proofs.conditions.lone_in.Tie as tie
+use Rattle.sweep_reads.proofs.conditions.lone_in.Reads as reads
+use Rattle.sweep_reads.proofs.conditions.lone_in.Lts as lts
 use Rattle.layout.proofs.columns.loop_face.Reads as loop-face-reads
 use Rattle.layout.proofs.columns.loop_isolated.Reads as loop-isolated-reads
 

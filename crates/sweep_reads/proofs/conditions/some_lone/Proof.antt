@@ -5,12 +5,12 @@ use Prim.Native.Nat.{_≤_, _-_}
 use native.Mathlib.Omega.{arith}
 use Rattle.laws.specs.Search.{anyTo}
 use Rattle.sweeps.specs.Sweep.{loneIn}
-use Rattle.sweep_reads.specs.TestLaws.{any-start, any-here, any-turn, any-end}
-use Rattle.sweep_reads.proofs.tests.some_lone.Statement.{statement}
-use Rattle.sweep_reads.proofs.tests.some_lone.Tie as tie
-use Rattle.sweep_reads.proofs.tests.some_lone.Reads as reads
-use Rattle.sweep_reads.proofs.tests.some_lone.Lts as lts
-use Rattle.sweep_reads.proofs.tests.lone_in.Reads as lone-in-reads
+use Rattle.sweep_reads.specs.ConditionLaws.{any-start, any-here, any-turn, any-end}
+use Rattle.sweep_reads.proofs.conditions.some_lone.Statement.{statement}
+use Rattle.sweep_reads.proofs.conditions.some_lone.Tie as tie
+use Rattle.sweep_reads.proofs.conditions.some_lone.Reads as reads
+use Rattle.sweep_reads.proofs.conditions.some_lone.Lts as lts
+use Rattle.sweep_reads.proofs.conditions.lone_in.Reads as lone-in-reads
 
 abbrev Inv-loop : tie.InvT-loop
 Inv-loop links sh f n l₀ l = (l ≤ n) × (anyTo l (loneIn sh links f) ≡ false)

@@ -1,7 +1,7 @@
 use mathlib.Core.Path.{ap, _∙_}
 use mir.Syntax.{w32}
 use mir.Val.{toZ}
-use Rattle.sweep_reads.specs.TestLaws.{vector-back}
+use Rattle.sweep_reads.specs.ConditionLaws.{vector-back}
 use borrow.Author.Needs.{needs}
 use mathlib.Core.Bool.{true}
 use mathlib.Core.Path.{_≡_}
@@ -10,12 +10,12 @@ use native.Mathlib.Omega.{arith}
 use Rattle.laws.specs.Search.{allTo}
 use Rattle.laws.specs.ScanLaws.{all-start, all-fail, all-end}
 use Rattle.sweeps.specs.Sweep.{vector, moves}
-use Rattle.sweep_reads.specs.TestLaws.{all-on}
-use Rattle.sweep_reads.proofs.tests.all_move.Statement.{statement}
-use Rattle.sweep_reads.proofs.tests.all_move.Tie as tie
-use Rattle.sweep_reads.proofs.tests.all_move.Reads as reads
-use Rattle.sweep_reads.proofs.tests.all_move.Lts as lts
-use Rattle.sweep_reads.proofs.tests.moves.Reads as moves-reads
+use Rattle.sweep_reads.specs.ConditionLaws.{all-on}
+use Rattle.sweep_reads.proofs.conditions.all_move.Statement.{statement}
+use Rattle.sweep_reads.proofs.conditions.all_move.Tie as tie
+use Rattle.sweep_reads.proofs.conditions.all_move.Reads as reads
+use Rattle.sweep_reads.proofs.conditions.all_move.Lts as lts
+use Rattle.sweep_reads.proofs.conditions.moves.Reads as moves-reads
 
 abbrev Inv-loop : tie.InvT-loop
 Inv-loop links points sh f dx dy dz n k₀ k = (k ≤ n) × (allTo k
