@@ -1,7 +1,7 @@
 """The gate refuses what it must refuse: an unlisted crate, a theorem that is not where the table says, a name that is
 not where the architecture says, a line too wide, a record's place named outside layout, a dependency that is not named
-or not listed, scratch memory in what kef reaches, a walk that no invariant holds, a sweep that reaches below the kernel,
-a failed step, a step that tested nothing or was cut short."""
+or not listed, scratch memory in what kef reaches, a walk that no invariant holds, a sweep that reaches below the
+kernel, a failed step, a step that tested nothing or was cut short."""
 import os
 import sys
 import tempfile
@@ -119,16 +119,20 @@ def amid_faults(turn="put(links, k, l);", walk="k = pass_one(links, k, l);", inv
 
 
 
-def above_faults(body="sessions_entry::run(links);", uses="runs sessions_entry", unfolded="runOf", more=""):
-    """What is wrong with a sweep of this body, with these dependencies and further code, whose proof unfolds this."""
+def above_faults(body="sessions_entry::run(links);", uses="runs sessions_entry", unfolded="runOf", more="",
+                 named="inverse"):
+    """What is wrong with a sweep of this body, with these dependencies and further code, whose proof unfolds this and
+    names that of the operators."""
     run = "pub fn run(links: &mut [u16]) { links[0] = 1; }\n"
     files = [("sweep_call/src/lib.rt", f"pub fn sweep(links: &mut [u16]) {{ {body} }}\n{more}"),
-             ("sweep_call/specs/A.antt", f"law : T\nunfolding {unfolded}\nlaw = refl\n"),
+             ("sweep_call/specs/A.antt",
+              f"use Rattle.euler.specs.Exec.{{{named}}}\nlaw : T\nunfolding {unfolded}\nlaw = refl\n"),
              ("sessions_entry/src/lib.rt", run), ("euler_edges/src/lib.rt", run),
              ("runs/src/lib.rt", "pub fn enter(links: &[u16]) {}\n")]
     files += [(f"euler/specs/{name}.antt", f"unfoldable pub of{name} : T\nof{name} = one\n") for name in above.OPENED]
     with tempfile.TemporaryDirectory() as folder:
-        tree(folder, [], [f"sweep_call: {uses}"])
+        tree(folder, [], ["runs:", "sessions_entry:", "kernel: runs sessions_entry", f"sweep_call: {uses}",
+                          "sweep: sweep_call"])
         for path, text in files:
             os.makedirs(os.path.dirname(os.path.join(folder, "crates", path)), exist_ok=True)
             with open(os.path.join(folder, "crates", path), "w", encoding="utf-8") as f:
@@ -256,7 +260,8 @@ CASES = [
     ("a walk that stores by itself fails", lambda: len(amid_faults(
         walk="k = pass_one(links, k, l); links[k] = l;")) == 1),
     ("another invariant fails", lambda: len(amid_faults(invariant="(relabel sh left links k stop l ≡ whole)")) == 1),
-    ("a sweep that reads and runs passes", lambda: above_faults("runs::enter(links); sessions_entry::run(links);") == []),
+    ("a sweep that reads and runs passes", lambda: above_faults("runs::enter(links); sessions_entry::run(links);")
+     == []),
     ("a sweep that lists operator code fails", lambda: above_faults(uses="euler_edges runs_steps takedown_acts")
      == [f"crates.txt: sweep_call lists {name}, which is operator code"
          for name in ("euler_edges", "runs_steps", "takedown_acts")]),
@@ -268,15 +273,22 @@ CASES = [
         f"{store} sessions_entry::run(links);")) == 1 for store in (
             "links[3] = 1;", "links[a[0]] = 1;", "let t = links;", "links[0] <<= 1;", "links.fill(0);", "lost(links);",
             "*links = t;", "runs::enter(&mut links[..]);"))),
-    ("another function that holds a table fails", lambda: above_faults(more="fn f(points: &mut [i32]) {}\n")
-     == ["sweep_call::f holds a table to write"]),
+    ("a sweep that runs in a loop fails", lambda: above_faults("while i < 3 { sessions_entry::run(links); }")
+     == ["sweep_call::sweep has a loop"]),
+    ("another function that holds a table fails", lambda: all(above_faults(more=f"fn f({p}) {{}}\n")
+     == ["sweep_call::f holds a table to write"] for p in (
+         "points: &mut [i32]", "mut links: &mut [u16]", "a: &mut [u16; 61445]"))),
     ("a function that cannot be read fails", lambda: above_faults(more="fn f(p: (u8, u8)) -> u8 { 0 }\n")
      == ["crates/sweep_call/src/lib.rt: f could not be read".replace("/", os.sep)]),
-    ("scratch arrays are no tables", lambda: above_faults(more="fn f(a: &mut [u16; 4]) { a[0] = 1; }\n") == []),
-    ("a proof that unfolds an operator fails", lambda: above_faults(unfolded="runOf\n    ofSurgery")
-     == ["crates/sweep_call/specs/A.antt: unfolds ofSurgery".replace("/", os.sep)]),
-    ("by another name too", lambda: above_faults(unfolded="m\nlaw = refl\n-- use x.{ofExec as m}")
-     == ["crates/sweep_call/specs/A.antt: unfolds ofExec".replace("/", os.sep)]),
+    ("what could hide a holder fails", lambda: all(len(above_faults(more=text)) == 1 for text in (
+        "type T = u8;\n", "mod m { }\n", "struct S { a: &mut [u16] }\n"))),
+    ("scratch arrays are no tables", lambda: above_faults(more="fn f(a: &mut [u16; ITEM_PLACES]) { a[0] = 1; }\n")
+     == []),
+    ("a proof that unfolds an operator fails", lambda: all(above_faults(unfolded=text)
+     == ["crates/sweep_call/specs/A.antt: unfolds ofSurgery".replace("/", os.sep)] for text in (
+         "runOf\n    ofSurgery", "Surgery.ofSurgery", "runOf -- so: it is\n    ofSurgery"))),
+    ("a name of an operator fails", lambda: above_faults(named="inverse, ofExec as m")
+     == ["crates/sweep_call/specs/A.antt: names ofExec as m of Exec".replace("/", os.sep)]),
     ("a good step counts", lambda: gate.judge(0, "ok\n3 passed, 0 failed\n") == (3, 0)),
     ("a failed test fails the step", lambda: gate.judge(1, "2 passed, 1 failed\n") == (2, 1)),
     ("a bad exit status fails the step", lambda: gate.judge(1, "3 passed, 0 failed\n") == (3, 1)),

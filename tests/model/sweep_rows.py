@@ -4,8 +4,8 @@
     python3 tests/model/sweep_rows.py --check   compares that file, layout aside, with what it would write, and with the
                                                 model every row of Rows.antt, which are written by hand
 
-A table is said by its capacities and the script that leads to it. The last line printed is 'N passed, M failed', and the
-exit status is 0 only when nothing failed.
+A table is said by its capacities and the script that leads to it. The last line printed is 'N passed, M failed', and
+the exit status is 0 only when nothing failed.
 """
 
 import os
@@ -14,11 +14,12 @@ import sys
 
 from boundary import Boundary, write_back
 from kernel import Session
-from layout import cleared_table
+from layout import Table, cleared_table
 from operators import carry_out
 from rows import parsed
 from rules import check
 from sweep import sweep, swept
+from takedown import least_free
 from tally import Tally
 
 FOLDER = os.path.join(os.path.dirname(os.path.abspath(__file__)), "..", "..", "crates", "evidence_sweeps", "specs")
@@ -32,11 +33,14 @@ TABLES = (
      ("mef 1 0 0 1 2 2 0",)),
     ("path", "two edges in a row: four corners, the middle vertex met twice", (1, 5, 5, 10, 7),
      (SPUR, "mev 1 2 2 3 0 20 0 0")),
-    ("ringed", "an edge and, as ring 2 of the same face, another, far away; edge 2 is free", (1, 5, 6, 10, 8), FAR_RING),
-    ("turned", "the same with loop 2 as the outer loop and loop 1 as the ring", (1, 5, 6, 10, 8), FAR_RING + ("rmov 2 1",)),
+    ("ringed", "an edge and, as ring 2 of the same face, another, far away; edge 2 is free", (1, 5, 6, 10, 8),
+     FAR_RING),
+    ("turned", "the same with loop 2 as the outer loop and loop 1 as the ring", (1, 5, 6, 10, 8),
+     FAR_RING + ("rmov 2 1",)),
     ("loneRing", "an edge, and a lone vertex as a ring of the same face", (1, 3, 4, 6, 5),
      (SPUR, "mev 1 2 2 3 0 20 0 0", "kemr 3 2")),
-    ("others", "an edge, and in another solid a lone vertex far away", (2, 4, 4, 5, 6), (SPUR, "mvsf 2 2 2 3 49000 0 0")),
+    ("others", "an edge, and in another solid a lone vertex far away", (2, 4, 4, 5, 6),
+     (SPUR, "mvsf 2 2 2 3 49000 0 0")),
     ("farBeside", "the round edge, with an edge to a vertex far away in its second face", (1, 4, 4, 6, 4),
      ("mef 1 0 0 1 2 2 0", "mev 2 2 2 2 0 45000 0 0")),
     ("fewFaces", "the one edge, with one face too few", (1, 2, 3, 5, 4), (SPUR,)),
@@ -47,9 +51,19 @@ TABLES = (
 UP = (0, 0, 500)
 LIFTING = re.compile(r"\(lifting (\w+) (\w+) ≡ ((?:(?:mev|mef)At [^∷]*∷ )+\[\])\)")
 REFUSING = re.compile(r"\(refusing (\w+) (\w+) (\d+) (\d+) (up|\(vector [^≡]*\)) ≡ (\d+)\)")
-CALL = re.compile(r"Sweeps (\w+) (\w+) \(([\d∷ ]*)\[\]\) (\d+) \(starts (\d+) (\d+)\) (\d+) (\([a-z]+ \d+\) \([a-z]+ \d+\) "
-                  r"\([a-z]+ \d+\)) \(answered (\d+) (\d+) (\d+) \(starts (\d+) (\d+)\)\) \(([\d∷ ]*)\[\]\) "
+LEAST = re.compile(r"(?:LeastNew|\(allLeast) \(shapeOf (\w+)\) (\w+) (\((?:mev|mef)At (?:[^()]|\([^()]*\))*\))"
+                   r"(?: \(pattern \d+ \.kinds\) 0 ≡ (false)\))?")
+CALL = re.compile(r"Sweeps (\w+) (\w+) \(([\d∷ ]*)\[\]\) (\d+) \(starts (\d+) (\d+)\) (\d+) "
+                  r"(\([a-z]+ \d+\) \([a-z]+ \d+\) \([a-z]+ \d+\)) "
+                  r"\(answered (\d+) (\d+) (\d+) \(starts (\d+) (\d+)\)\) \(([\d∷ ]*)\[\]\) "
                   r"\(((?:[a-z]+ \d+ ∷ )*)\[\]\) \(([\d∷ ]*)\[\]\)")
+
+
+# What the rows ask, in Rows.antt before the first of them.
+ASKED = """abbrev up : Vector up = vector (pos 0) (pos 0) (pos 500)
+abbrev lifting : List ℕ → List ℤ → List Operator lifting x p = sweepOps (shapeOf x) x p 1 up
+abbrev refusing : List ℕ → List ℤ → ℕ → ℕ → Vector → ℕ
+refusing x p start f v = sweepRefusal (shapeOf x) x p start f v"""
 
 
 def made(capacities, script):
@@ -103,6 +117,11 @@ def check_rows(tally, text):
         lent = [list(tables[links][0]), list(tables[points[:-2]][1]), bytearray(int(start)), bytearray()]
         answer = sweep(*lent, Session(int(start), 0), int(face), *(UP if vector == "up" else signed(vector)))
         tally.equal(f"refusal of {links}, {start} bytes, face {face}, {vector}", answer.refusal, int(refusal))
+    for links, same, said_least, wrong in LEAST.findall(text):
+        (code, numbers), body = operators_said(said_least[1:-1] + " ∷")[0], Boundary(Table(*tables[links]))
+        new = dict(zip(("edge", "vertex"), numbers[2:4]) if code == 3 else zip(("edge", "face", "loop"), numbers[3:6]))
+        least = all(n == least_free(body, kind) for kind, n in new.items())
+        tally.equal(f"least numbers of {links}: {said_least}", (links, least), (same, not wrong))
     for call in CALL.findall(text):
         check_call(tally, tables, call)
 
@@ -129,8 +148,13 @@ def main(words):
         tally.equal("the tables", f.read().split(), tables_text().split())
     with open(os.path.join(FOLDER, "Rows.antt"), encoding="utf-8") as f:
         text = " ".join(re.sub(r"--[^\n]*", "", f.read()).split())
-    rows = text.count("(lifting ") + text.count("(refusing ") + text.count(": Sweeps ")
-    tally.equal("every row is looked at", len(LIFTING.findall(text)) + len(REFUSING.findall(text)) + len(CALL.findall(text)), rows)
+    text = text[text.index("abbrev up"):]
+    tally.equal("what the rows ask", text[:text.index("pub operators-as-said")].split(), ASKED.split())
+    rows = text[text.index("pub operators-as-said"):]
+    words = len(re.findall(r"\b(?:lifting|refusing|Sweeps|sweepOps|sweepRefusal|LeastNew|allLeast) [(\w]",
+                           re.sub(r"\bunfolding [^=]*", "", rows)))
+    seen = sum(len(row.findall(rows)) for row in (LIFTING, REFUSING, LEAST, CALL))
+    tally.equal("every row is looked at", seen, words)
     check_rows(tally, text)
     print(f"{tally.passed} passed, {tally.failed} failed")
     return 0 if tally.failed == 0 and tally.passed > 0 else 1

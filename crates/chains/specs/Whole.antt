@@ -88,12 +88,14 @@ module _ (e : Editing) (refusal : ℕ) (os : List Operator) where
       (λ a. rw (eqb-other a) (λ n. (refl, refl, refl)))
 
   -- the redo log's start is ignored
-  pub whole-any-redo : (k : ℕ)
-      → wholeIn (withRedoStart e k) refusal os .answer .answer ≡ wholeIn e refusal os .answer .answer
+  pub whole-any-redo : (k : ℕ) → let w = wholeIn (withRedoStart e k) refusal os in
+      (w .answer .answer ≡ wholeIn e refusal os .answer .answer) × (w .links ≡ wholeIn e refusal os .links)
+      × (w .points ≡ wholeIn e refusal os .points) × (w .log ≡ wholeIn e refusal os .log)
   unfolding wholeOf sessionRun
   whole-any-redo k = split (entry (logState e) .refusal) 0
-      (λ a. rw (eqb-same a) (split refusal 0 (λ b. rw (eqb-same b) refl) (λ b. rw (eqb-other b) refl)))
-      (λ a. rw (eqb-other a) refl)
+      (λ a. rw (eqb-same a) (split refusal 0 (λ b. rw (eqb-same b) (refl, refl, refl, refl))
+      (λ b. rw (eqb-other b) (refl, refl, refl, refl))))
+      (λ a. rw (eqb-other a) (refl, refl, refl, refl))
 
   -- 0 is answered only where nothing is refused before
   pub whole-answered : wholeIn e refusal os .answer .answer .refusal ≡ 0

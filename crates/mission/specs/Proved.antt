@@ -36,7 +36,7 @@ use Rattle.mission.specs.Refusals.{run-numbered, undo-numbered, redo-num
 use Rattle.mission.specs.Refusals.{rule-named, entry-numbered, clear-out, write-out}
 use Rattle.sweeps.specs.Swept.{sweep-unchanged, sweep-whole, sweep-run, sweep-least, sweep-left, sweep-counted}
 use Rattle.sweeps.specs.Swept.{sweep-sound}
-use Rattle.sweeps.specs.Swept.{sweep-undone, sweep-refused, sweep-room, sweep-empties, sweep-any-redo}
+use Rattle.sweeps.specs.Swept.{sweep-undone, sweep-answers, sweep-refused, sweep-room, sweep-empties, sweep-any-redo}
 use Rattle.mission.specs.SweepRefusals.{sweep-numbered, sweep-named}
 use Rattle.mission.specs.SweepActs.{calls-acts, calls-sound, calls-undone, calls-room}
 use Rattle.mission.specs.Sweeping.{Sweeping}
@@ -126,6 +126,7 @@ demand-3 = record {
 -- the sweep
 pub swept : Sweeping
 swept = record {
+  sweep-answers = sweep-answers;
   sweep-unchanged = sweep-unchanged;
   sweep-refused = sweep-refused;
   sweep-whole = sweep-whole;

@@ -33,6 +33,10 @@ abbrev pub Done : Editing → ℕ → Vector → Type 0
 Done e f v = sweepIn e f v .answer .answer .refusal ≡ 0
 
 pub record Sweeping : Type 0 where
+  -- "(Before anything is done, in this order: …)": the answer is what is refused before anything is done (`early`: 1
+  -- and 2, then `sweepRefusal`), 0 where nothing is
+  pub sweep-answers : (e : Editing) (f : ℕ) (v : Vector)
+      → sweepIn e f v .answer .answer .refusal ≡ early e (refusalIn e f v)
   -- "The sweep is done whole or not at all": a refusal is the first that is due (`early`: 1 and 2, then "before
   -- anything is done, in this order: …", `sweepRefusal`), none is done, and every byte of table, logs and session is as
   -- before
@@ -60,8 +64,9 @@ pub record Sweeping : Type 0 where
   -- job 4: "an operator done by any call but these two empties it", and the redo log's start is not looked at
   pub sweep-empties : (e : Editing) (f : ℕ) (v : Vector) → Done e f v
       → sweptFrom e f v .session .redo ≡ length (e .redo)
-  pub sweep-any-redo : (e : Editing) (f : ℕ) (v : Vector) (k : ℕ)
-      → sweepIn (withRedoStart e k) f v .answer .answer ≡ sweepIn e f v .answer .answer
+  pub sweep-any-redo : (e : Editing) (f : ℕ) (v : Vector) (k : ℕ) → let w = sweepIn (withRedoStart e k) f v in
+      (w .answer .answer ≡ sweepIn e f v .answer .answer) × (w .links ≡ sweepIn e f v .links)
+      × (w .points ≡ sweepIn e f v .points) × (w .log ≡ sweepIn e f v .log)
   -- "new numbers the least free": each of them, in the table that its operator meets
   pub sweep-least : (e : Editing) (f : ℕ) (v : Vector) → Done e f v
       → Each (shapeOf (e .links)) (LeastNew (shapeOf (e .links))) (opsIn e f v) (e .links)
@@ -87,7 +92,7 @@ pub record Sweeping : Type 0 where
       ⊎ (19 * sweepIn e f v .answer .answer .done ≤ length (e .redo))
       → UndoneTo e (sweptFrom e f v) (sweepIn e f v .answer .answer .done)
   -- Sweeps among other calls: a list of calls with sweeps leaves what a list of the kernel's acts leaves (`actsFor`: of
-  -- a sweep the run of its operators, or nothing), so what is said of acts is said of them
+  -- a sweep the run of its operators, or a check, which changes nothing), so what is said of acts is said of them
   pub calls-acts : (e : Editing) (cs : List Call)
       → (afterCalls e cs ≡ behind e (actsFor e cs)) × (doneCalls e cs ≡ doneBy e (actsFor e cs))
   pub calls-sound : (e : Editing) (cs : List Call) → checkOf (e .links) (e .points) .refusal ≡ 0

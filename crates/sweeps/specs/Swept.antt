@@ -1,5 +1,5 @@
 -- THE CALL: what a sweep leaves of all that is lent, and the promises about it.
-use mathlib.Core.Path.{_≡_, refl, ap, _∙_, subst}
+use mathlib.Core.Path.{_≡_, refl, sym, ap, _∙_, subst}
 use mathlib.Core.Logic.{_≢_, _⊎_, inl, inr, ⊎-elim}
 use mathlib.Core.List.{List}
 use Prim.Native.Nat.{ℕ, _+_, _*_, _≤_}
@@ -84,22 +84,30 @@ module _ (e : Editing) (f : ℕ) (v : Vector) where
         × (sweepIn e f v .links ≡ reached .links) × (sweepIn e f v .points ≡ reached .points)
     all = whole-all e (refusalIn e f v) (opsIn e f v) ok free built
 
-  -- DONE WHOLE OR NOT AT ALL: a refusal answers the first that is due, and leaves every byte that is lent
+  -- nothing is refused on the way
+  done-all : early e (refusalIn e f v) ≡ 0 → sweepIn e f v .answer .answer .refusal ≡ 0
+  done-all = split (entry (logState e) .refusal) 0 (λ a. rw (eqb-same a) (λ b. all a b .0))
+      (λ a. rw (eqb-other a) (λ b. absurd (a b)))
+
+  -- THE ANSWER: what is refused before anything is done, and nothing else
+  pub sweep-answers : sweepIn e f v .answer .answer .refusal ≡ early e (refusalIn e f v)
+  sweep-answers = split (early e (refusalIn e f v)) 0 (λ z. done-all z ∙ sym z)
+      (λ n. whole-unchanged e (refusalIn e f v) (opsIn e f v) n .0)
+
+  -- DONE WHOLE OR NOT AT ALL: a refusal leaves every byte that is lent
   pub sweep-unchanged : sweepIn e f v .answer .answer .refusal ≢ 0
       → (sweepIn e f v .answer .answer .refusal ≡ early e (refusalIn e f v))
       × (sweepIn e f v .answer .answer .done ≡ 0) × (sweptFrom e f v ≡ e)
-  sweep-unchanged n = whole-unchanged e (refusalIn e f v) (opsIn e f v) (λ z. n (go z))
-    where
-      go : early e (refusalIn e f v) ≡ 0 → sweepIn e f v .answer .answer .refusal ≡ 0
-      go = split (entry (logState e) .refusal) 0 (λ a. rw (eqb-same a) (λ b. all a b .0))
-          (λ a. rw (eqb-other a) (λ b. absurd (a b)))
+  sweep-unchanged n = whole-unchanged e (refusalIn e f v) (opsIn e f v) (λ z. n (done-all z))
 
   -- THE REFUSAL IS DUE: after 1 and 2, each of the others where the table says so and never otherwise
   pub sweep-refused : RefusedAs (shapeOf (e .links)) (e .links) (e .points) (e .session .log) f v (refusalIn e f v)
   sweep-refused = refused-as (shapeOf (e .links)) (e .links) (e .points) (e .session .log) f v
 
   -- the redo log's start is ignored
-  pub sweep-any-redo : (k : ℕ) → sweepIn (withRedoStart e k) f v .answer .answer ≡ sweepIn e f v .answer .answer
+  pub sweep-any-redo : (k : ℕ) → let w = sweepIn (withRedoStart e k) f v in
+      (w .answer .answer ≡ sweepIn e f v .answer .answer) × (w .links ≡ sweepIn e f v .links)
+      × (w .points ≡ sweepIn e f v .points) × (w .log ≡ sweepIn e f v .log)
   sweep-any-redo = whole-any-redo e (refusalIn e f v) (opsIn e f v)
 
   module _ (h : sweepIn e f v .answer .answer .refusal ≡ 0) where
