@@ -3,12 +3,12 @@
  *   sweep [-w WORD]
  *     -w  only rows with this word in their name
  *
- * The script is written here by hand, from document 02. A sweep checks the table, tests its refusals, writes the script
- * and runs it; the run checks the table again. So there is also a ratio for the sweep less one check, measured in the
- * same turn. What the sweep does between its check and the run is the difference of two refused sweeps. All take turns
- * in one program: trust the ratios, not the times. Nothing is timed before sweep and run have left the same table, log
- * and session to the byte, undo has given the table back and written the script, and the refused sweeps have changed
- * nothing. */
+ * The script is written here by hand, from document 02. A sweep checks the table, tests its refusals, writes the
+ * script and runs it; the run checks the table again. So there is also a ratio for the sweep less one check, measured
+ * in the same turn. What the sweep does between its check and the run is the difference of two refused sweeps, but for
+ * setting the script's memory to 0, which both do. All take turns in one program: trust the ratios, not the times.
+ * Nothing is timed before sweep and run have left the same table, log and session to the byte, undo has given the
+ * table back and written the script, and the refused sweeps have changed nothing. */
 #include <stdio.h>
 #include <stdlib.h>
 #include <string.h>

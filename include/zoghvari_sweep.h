@@ -17,16 +17,17 @@ typedef struct {
     size_t done;     /* operators done, the number to undo; 0 with a refusal */
 } ZoghvariDone;
 
-/* Lifts a face of a sound table by the vector (dx, dy, dz), in hundredths of a millimetre. Each corner of the face gets
- * a new vertex at its point plus the vector and an edge to it, the riser; each side of the face gets a new edge between
- * the risers at its ends (one riser where the loop has one corner), and the new face that this closes. The lifted face keeps its number and its loops keep theirs; all its
- * loops are lifted, rings too. A loop of n corners adds n vertices, 2n edges, n faces and n loops; solids, rings and
- * holes stay. A vertex that the loop meets twice is two corners. No vector is refused for itself, not even 0 0 0.
+/* Lifts a face of a sound table by the vector (dx, dy, dz), in hundredths of a millimetre. Each corner of the face
+ * gets a new vertex at its point plus the vector and an edge to it, the riser; each side of the face gets a new edge
+ * between the risers at its ends (one riser where the loop has one corner), and the new face that this closes. The
+ * lifted face keeps its number and its loops keep theirs; all its loops are lifted, rings too. A loop of n corners
+ * adds n vertices, 2n edges, n faces and n loops; solids, rings and holes stay. A vertex that the loop meets twice is
+ * two corners. No vector is refused for itself, not even 0 0 0.
  *
- * The sweep is a run of 2n operators for n corners: the loops of the face by number; in each, from its first half-edge
- * on, a mev at every corner and then a mef over every side; every way 0, but 2 in the mef of a loop of one corner; new
- * numbers the least free. `done` is 2n; undo by it gives back every byte of links and points where the redo log has
- * room: 19 bytes for each operator are enough.
+ * From here on n is the number of corners in all loops of the face. The sweep is a run of 2n operators: the loops by
+ * number; in each, from its first half-edge on, a mev at every corner and then a mef over every side; every way 0, but
+ * 2 in the mef of a loop of one corner; new numbers the least free. `done` is 2n; undo by it gives back every byte of
+ * links and points where the redo log has room: 19 bytes for each operator are enough.
  *
  * Refusals, in this order: 1 and 2 of the table and the session's `log`, as in a run; 5 where `face` is 0 or above the
  * capacity; 6 where it is free; 14 where a loop of it is lone; 5 where a corner's point plus the vector leaves the

@@ -142,13 +142,17 @@ fn a_face_that_is_not_there() {
     }
 }
 
+/// The block with a lone ring in its top, which has corners too: an edge to a new vertex there, taken away again.
+fn spotted(capacities: Capacities) -> Table {
+    let spot = [Operator::new(3, &[2, 17, 13, 9, 0, 0, 0, 3_000]), Operator::new(7, &[25, 7])];
+    after_on(drawn(capacities, BLOCK), &[&script_bytes(&spot).unwrap()])
+}
+
 #[test]
 fn a_lone_loop_is_not_lifted() {
     refused(after(&[&B]), 1, UP, Refusal::LoneLoop);
     assert_eq!((Refusal::LoneLoop.number(), Refusal::LoneLoop.cause()), (14, Cause::Asker));
-    // A lone ring in a face that has corners too: an edge to a new vertex on the box's top, taken away again.
-    let spot = [Operator::new(3, &[2, 17, 13, 9, 0, 0, 0, 3_000]), Operator::new(7, &[25, 7])];
-    let table = after_on(drawn(Capacities::all(64), BLOCK), &[&script_bytes(&spot).unwrap()]);
+    let table = spotted(Capacities::all(64));
     refused(table.clone(), 2, UP, Refusal::LoneLoop);
     assert_eq!(table.clone().sweep(1, UP), Ok(8));
 }
@@ -201,11 +205,11 @@ fn an_inverse_of_a_high_half_edge_takes_three_bytes() {
 
 #[test]
 fn refusals_come_in_their_order() {
-    // No log byte is free, and in the first two tables no number. Each call has the reasons for later refusals too.
+    // No log byte is free, and in the first two tables too few numbers. Each call has the reasons for what comes later.
     let far = [0, 0, 60_000];
-    let lone = with_free_bytes(after_on(Table::new(Capacities::all(1), 2).unwrap(), &[&B]), 0);
-    refused(lone.clone(), 2, far, Refusal::Range);
-    refused(lone, 1, far, Refusal::LoneLoop);
+    let lone = with_free_bytes(spotted(Capacities { loops: 7, edges: 13, vertices: 9, ..BOX }), 0);
+    refused(lone.clone(), 7, far, Refusal::Range);
+    refused(lone, 2, far, Refusal::LoneLoop);
     let full = with_free_bytes(drawn(BOX, BLOCK), 0);
     refused(full.clone(), 2, far, Refusal::Range);
     refused(full, 2, UP, Refusal::NoNumber);

@@ -1,7 +1,8 @@
 /* The sweep's header by itself: its function has this type and answers these fields, the kernel's functions are
  * declared with it, and a slice of no elements may have a null pointer.
  *
- * Built as C and as C++, as header.c is, and linked with the sweep's archive alone: the tables are written down here. */
+ * Built as C and as C++, as header.c is, and linked with the sweep's archive alone: the tables are written down here.
+ */
 #include "zoghvari_sweep.h"
 
 #include <stdio.h>
@@ -71,6 +72,9 @@ static ZoghvariDone sweep(uint8_t *log, size_t log_n, size_t face, int32_t dx) {
 
 static void no_table(void) {
     session.log = session.redo = 0;
+    if (sizeof zoghvari_check(NULL, 0, NULL, 0) != sizeof(ZoghvariChecked)) {
+        wrong = 1; /* the kernel's functions are declared */
+    }
     swept("no table", function(NULL, 0, NULL, 0, NULL, 0, 7, &session, 1, 0, 0, 500), 1, 0, 0);
     swept("no points", function(links, LINKS, NULL, 0, NULL, 0, 7, &session, 1, 0, 0, 500), 1, 0, 0);
     left("the session after 1", 0, 0);

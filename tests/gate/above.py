@@ -12,6 +12,7 @@ import sys
 sys.path.insert(0, os.path.dirname(os.path.abspath(__file__)))
 import rules
 import scratch
+from closing import close
 
 # the product, and what it stands on
 PRODUCT, BASE = "sweep", "kernel"
@@ -20,7 +21,7 @@ OPERATORS = re.compile(r"^(euler|runs|takedown)_\w+$")
 # what a table is lent as to be written (a lent array is no table), and who holds one: to whom it is handed on
 TABLE = re.compile(r"^(?:mut\s+)?(\w+)\s*:\s*&\s*mut\s+\[\s*(?:u16|i32)\s*(?:;(?!\s*ITEM_PLACES\s*\])[^\]]*)?\]$")
 # what could hide a table or a function: another name for a type, a module in a file, a struct with a reference
-HIDING = re.compile(r"\btype\s+\w+|\bmod\s+\w+\s*\{|:\s*&[^,)]*,?\s*\}")
+HIDING = re.compile(r"\btype\s+\w+|\bmod\s+\w+\s*\{|\bstruct\s+\w+[^{(;]*[{(][^})]*&")
 LOOPS = re.compile(r"\b(while|loop|for)\b")
 HOLDERS = {"sweep::zoghvari_sweep": "sweep_call::sweep", "sweep_call::sweep": "sessions_entry::run"}
 # the files that define the operators, and what of them may be unfolded
@@ -159,10 +160,7 @@ def faults(root):
 
 def main(root):
     looked, bad = faults(root)
-    for line in bad:
-        print(line)
-    print(f"{looked} passed, {len(bad)} failed")
-    return 1 if bad else 0
+    return close(looked, bad)
 
 
 if __name__ == "__main__":

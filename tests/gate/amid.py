@@ -8,6 +8,7 @@ import sys
 sys.path.insert(0, os.path.dirname(os.path.abspath(__file__)))
 
 import scratch
+from closing import close
 
 WALK, TURN = "euler_walks::walks::relabel_steps", "euler_walks::walks::pass_one"
 PROOF = os.path.join("crates", "euler_walks", "proofs", "walks", "relabel_steps", "Proof.antt")
@@ -45,10 +46,7 @@ def faults(root):
 
 def main(root):
     bad = faults(root)
-    for line in bad:
-        print(line)
-    print(f"{4 - len(bad)} passed, {len(bad)} failed")
-    return 1 if bad else 0
+    return close(4 - len(bad), bad)
 
 
 if __name__ == "__main__":

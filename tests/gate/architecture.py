@@ -6,6 +6,7 @@ import re
 import sys
 
 sys.path.insert(0, os.path.dirname(os.path.abspath(__file__)))
+from closing import close
 from theorems import TICKED, defines
 
 TEXT = os.path.join("docs", "ARCHITECTURE.md")
@@ -61,10 +62,7 @@ def faults(root):
 
 def main(root):
     looked, bad = faults(root)
-    for line in bad:
-        print(line)
-    print(f"{looked - len(bad)} passed, {len(bad)} failed")
-    return 1 if bad else 0
+    return close(looked - len(bad), bad)
 
 
 if __name__ == "__main__":

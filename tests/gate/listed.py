@@ -1,6 +1,10 @@
-"""Each folder under crates/ is listed in crates.txt, and each crate listed there has a folder. Prints 'N passed, M failed'."""
+"""Each folder under crates/ is listed in crates.txt, and each crate listed there has a folder. Prints
+'N passed, M failed'."""
 import os
 import sys
+
+sys.path.insert(0, os.path.dirname(os.path.abspath(__file__)))
+from closing import close
 
 
 def listed(root):
@@ -21,10 +25,7 @@ def faults(root):
 
 def main(root):
     names, bad = faults(root)
-    for line in bad:
-        print(line)
-    print(f"{len(names)} passed, {len(bad)} failed")
-    return 1 if bad else 0
+    return close(len(names), bad)
 
 
 if __name__ == "__main__":

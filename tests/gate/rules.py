@@ -6,6 +6,7 @@ import re
 import sys
 
 sys.path.insert(0, os.path.dirname(os.path.abspath(__file__)))
+from closing import close
 
 WIDTH = 120
 # where the records of a kind begin: words of `Shape` that only `layout` may look at
@@ -123,10 +124,7 @@ def faults(root):
 
 def main(root):
     looked, bad = faults(root)
-    for line in bad:
-        print(line)
-    print(f"{looked} passed, {len(bad)} failed")
-    return 1 if bad else 0
+    return close(looked, bad)
 
 
 if __name__ == "__main__":

@@ -281,7 +281,8 @@ CASES = [
     ("a function that cannot be read fails", lambda: above_faults(more="fn f(p: (u8, u8)) -> u8 { 0 }\n")
      == ["crates/sweep_call/src/lib.rt: f could not be read".replace("/", os.sep)]),
     ("what could hide a holder fails", lambda: all(len(above_faults(more=text)) == 1 for text in (
-        "type T = u8;\n", "mod m { }\n", "struct S { a: &mut [u16] }\n"))),
+        "type T = u8;\n", "mod m { }\n", "struct S { a: &mut [u16] }\n", "struct S { a: &mut [u16], b: u8 }\n",
+        "struct S(&mut [u16]);\n"))),
     ("scratch arrays are no tables", lambda: above_faults(more="fn f(a: &mut [u16; ITEM_PLACES]) { a[0] = 1; }\n")
      == []),
     ("a proof that unfolds an operator fails", lambda: all(above_faults(unfolded=text)

@@ -4,6 +4,9 @@ import os
 import re
 import sys
 
+sys.path.insert(0, os.path.dirname(os.path.abspath(__file__)))
+from closing import close
+
 TABLE = os.path.join("docs", "THEOREMS.md")
 TICKED = re.compile(r"`([^`]+)`")
 
@@ -56,10 +59,7 @@ def faults(root):
 
 def main(root):
     looked, bad = faults(root)
-    for line in bad:
-        print(line)
-    print(f"{looked - len(bad)} passed, {len(bad)} failed")
-    return 1 if bad else 0
+    return close(looked - len(bad), bad)
 
 
 if __name__ == "__main__":

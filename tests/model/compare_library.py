@@ -52,7 +52,7 @@ from redo_promise import WANTED as WANTED_TRIPS, keep_exchange, keep_promise as 
 from rules import check
 from small_tables import ACCEPTED, operator_cases
 from sweep_cases import longest_cases as longest_sweeps, range_cases, small_cases as small_sweeps, sweep_case
-from sweep_met import add_sweep, want_sweeps
+from sweep_met import add_sweep, want_small, want_sweeps
 from sweep_promise import keep_promise as keep_sweep_promise
 from takedown_cases import LISTED, LISTED_TOO, NONE_OF_SOME, full_trials, listed_trials, takedown_trial
 from takedown_full import ROUND
@@ -311,9 +311,10 @@ def compare_changes(driver, tally, met, rng, changes):
 def sweep(driver, tally, met, rng, count):
     """Small tables first, so that a slip shows on one that can be read. What has to be met has to be met by the others.
     """
-    listed = small_sweeps() + range_cases() + longest_sweeps(rng)
+    listed, seen = small_sweeps() + range_cases() + longest_sweeps(rng), Met()
     for place in range(0, len(listed), PORTION):
-        compare_sweeps(driver, tally, Met(), listed[place:place + PORTION])
+        compare_sweeps(driver, tally, seen, listed[place:place + PORTION])
+    want_small(tally, seen)
     for size in portions(count):
         compare_sweeps(driver, tally, met, [sweep_case(rng) for _ in range(size)])
     if count >= SWEEPS_ENOUGH:

@@ -5,6 +5,7 @@ from boundary import Boundary
 from layout import COORDINATE_LIMIT, Table, mate
 from rules import check
 from sweep import TAKEN, bytes_needed, corners_of_face, free_counts, lacking_kinds, moved_points, swept
+from sweep_cases import HIGHEST, LOWEST
 from wavefront_met import LARGEST, holding
 
 REFUSALS = (0, 1, 2, 5, 6, 9, 10, 14)
@@ -12,7 +13,6 @@ REFUSALS = (0, 1, 2, 5, 6, 9, 10, 14)
 # the average.
 OFTEN, CORNERS_AT_LEAST = 100, 5
 CORNERS = "corners of accepted sweeps"
-LOWEST, HIGHEST = -(1 << 31), (1 << 31) - 1
 
 
 def asked_for(case):
@@ -173,6 +173,12 @@ def want_sweeps(tally, met):
     corners, accepted = met.situations[CORNERS], met.answers["sweep", 0]
     tally.holds(f"accepted sweeps have {CORNERS_AT_LEAST} corners on the average: {corners} in {accepted}",
                 corners >= CORNERS_AT_LEAST * accepted > 0)
+
+
+def want_small(tally, met):
+    """Of the sweeps that are listed: some are done, and some have each refusal that they can get."""
+    for refusal in (0, 5, 14):
+        tally.holds(f"listed sweeps with {refusal}", met.answers["sweep", refusal] >= 10)
 
 
 def add_sweep(met, case, answer):

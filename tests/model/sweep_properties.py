@@ -10,9 +10,9 @@ from layout import Table
 from met import Met
 from rules import check, count
 from sweep import corners_of_face, sweep
-from sweep_cases import (chosen_face, exact_case, range_cases, ranges_of, small_cases, sweep_trial, table_for, taken_by,
-                         vector_for, whole_body, whole_faces)
-from sweep_met import WANTED, add_sweep, asked_for
+from sweep_cases import (KINDS, chosen_face, exact_case, range_cases, ranges_of, small_cases, sweep_trial, table_for,
+                         taken_by, vector_for, whole_body, whole_faces)
+from sweep_met import WANTED, add_sweep, asked_for, want_small
 from sweep_promise import keep_promise
 from takedown_tables import capacities_with
 from wavefront_parts import parts
@@ -60,9 +60,10 @@ def random_sweeps(tally, rng, scale):
 
 def small_sweeps(tally, _rng, scale):
     """Every table of two edges at most, every face; with a large scale by three vectors, else by one."""
-    cases = small_cases()
-    keep(tally, Met(), cases if scale >= 5 else cases[1::3])
-    keep(tally, Met(), range_cases())
+    cases, met = small_cases(), Met()
+    keep(tally, met, cases if scale >= 5 else cases[1::3])
+    keep(tally, met, range_cases())
+    want_small(tally, met)
 
 
 # Sizes
@@ -94,7 +95,9 @@ def by_size(tally, case, lacking):
 # In a row
 
 def sweeps_in_a_row(tally, rng, scale):
-    """Up to four sweeps of any faces, undone together and in parts, and redone: each time the table that there was."""
+    """Up to four sweeps of any faces, undone together and in parts, and redone: each time the table that there was.
+    Log and points have room, so that 10 is due where numbers are lacking, and nothing else is."""
+    several = 0
     for _ in range(int(60 * scale)):
         b = whole_body(rng, ())
         table = renumbered(rng, b, capacities_with(b, (150, 150, 150, 300, 150)))
@@ -103,14 +106,24 @@ def sweeps_in_a_row(tally, rng, scale):
         for _ in range(rng.randint(1, 4)):
             body = Boundary(table)
             face = rng.choice(whole_faces(body))
+            n, full = len(corners_of_face(body, face)), too_few(body, len(corners_of_face(body, face)))
             answer = sweep(*lent, face, *vector_for(rng, ranges_of(body, face), False))
-            if tally.equal(f"in a row: {table.links}", answer[:2], (0, 0) if answer.done else (10, 0)) and answer.done:
+            if tally.equal(f"in a row: {table.links}", answer, (10, 0, 0) if full else (0, 0, 2 * n)) and not full:
                 seen.append((list(table.links), list(table.points), answer.done))
+        several += len(seen) > 2
         for back, (links, points, _) in reversed(list(enumerate(seen[:-1]))):
             undone = undo(*lent, seen[back + 1][2])
             tally.equal(f"one undone: {links}", (undone[:2], table.links, table.points), ((0, 0), links, points))
         redone = redo(*lent, sum(done for _, _, done in seen))
         tally.equal(f"all redone: {seen[0][0]}", (redone[:2], table.links, table.points), ((0, 0), *seen[-1][:2]))
+    tally.equal(f"two sweeps or more in a row: {several}", several >= int(20 * scale), True)
+
+
+def too_few(b, n):
+    """Numbers are lacking for n corners: by the items of the body, against its capacities."""
+    used = {"face": len(b.face_solid), "loop": len(b.items("loop")), "edge": len(b.start) // 2, "vertex": len(b.points)}
+    capacities = dict(zip(KINDS, b.capacities))
+    return any(capacities[kind] - used[kind] < (2 * n if kind == "edge" else n) for kind in used)
 
 
 # Volumes

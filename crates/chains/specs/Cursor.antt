@@ -36,11 +36,6 @@ write-append [] ns = refl
 write-append (o ∷ os) ns = ap (λ l. operatorBytes o ++ l) (write-append os ns)
     ∙ sym (append-assoc (operatorBytes o) (writeScript os) (writeScript ns))
 
--- and one more operator
-pub write-last : (os : List Operator) (o : Operator) → writeScript (os ++ (o ∷ [])) ≡ writeScript os ++ operatorBytes o
-unfolding writeScript
-write-last os o = write-append os (o ∷ []) ∙ ap (λ l. writeScript os ++ l) (append-nil (operatorBytes o))
-
 -- ---- the next free number
 
 -- none in front of the first passes

@@ -87,15 +87,16 @@ module _ (e : Editing) (refusal : ℕ) (os : List Operator) where
       (λ a. rw (eqb-same a) (λ n. rw (eqb-other n) (refl, refl, refl)))
       (λ a. rw (eqb-other a) (λ n. (refl, refl, refl)))
 
-  -- the redo log's start is ignored
+  -- the redo log's start is ignored: answer, table, log and the log's start do not depend on it
   pub whole-any-redo : (k : ℕ) → let w = wholeIn (withRedoStart e k) refusal os in
       (w .answer .answer ≡ wholeIn e refusal os .answer .answer) × (w .links ≡ wholeIn e refusal os .links)
       × (w .points ≡ wholeIn e refusal os .points) × (w .log ≡ wholeIn e refusal os .log)
+      × (w .answer .session .log ≡ wholeIn e refusal os .answer .session .log)
   unfolding wholeOf sessionRun
   whole-any-redo k = split (entry (logState e) .refusal) 0
-      (λ a. rw (eqb-same a) (split refusal 0 (λ b. rw (eqb-same b) (refl, refl, refl, refl))
-      (λ b. rw (eqb-other b) (refl, refl, refl, refl))))
-      (λ a. rw (eqb-other a) (refl, refl, refl, refl))
+      (λ a. rw (eqb-same a) (split refusal 0 (λ b. rw (eqb-same b) (refl, refl, refl, refl, refl))
+      (λ b. rw (eqb-other b) (refl, refl, refl, refl, refl))))
+      (λ a. rw (eqb-other a) (refl, refl, refl, refl, refl))
 
   -- 0 is answered only where nothing is refused before
   pub whole-answered : wholeIn e refusal os .answer .answer .refusal ≡ 0

@@ -67,6 +67,7 @@ pub record Sweeping : Type 0 where
   pub sweep-any-redo : (e : Editing) (f : ℕ) (v : Vector) (k : ℕ) → let w = sweepIn (withRedoStart e k) f v in
       (w .answer .answer ≡ sweepIn e f v .answer .answer) × (w .links ≡ sweepIn e f v .links)
       × (w .points ≡ sweepIn e f v .points) × (w .log ≡ sweepIn e f v .log)
+      × (w .answer .session .log ≡ sweepIn e f v .answer .session .log)
   -- "new numbers the least free": each of them, in the table that its operator meets
   pub sweep-least : (e : Editing) (f : ℕ) (v : Vector) → Done e f v
       → Each (shapeOf (e .links)) (LeastNew (shapeOf (e .links))) (opsIn e f v) (e .links)
@@ -78,7 +79,8 @@ pub record Sweeping : Type 0 where
   -- each face, marks of solids, and the point of each vertex. (Every word is settled by `sweep-whole`)
   pub sweep-left : (e : Editing) (f : ℕ) (v : Vector) → Done e f v
       → SweptFace (shapeOf (e .links)) (e .links) (e .points) f v (sweptFrom e f v .links) (sweptFrom e f v .points)
-  -- "A loop of n corners adds n vertices, 2n edges and n faces and leaves s, r and h": for all loops of the face
+  -- "A loop of n corners adds n vertices, 2n edges and n faces and leaves s, r and h": said of all loops of the face
+  -- together, n the sum of their corners
   pub sweep-counted : (e : Editing) (f : ℕ) (v : Vector) → Done e f v
       → CountsGrown (countOf (e .links) (e .points)) (countOf (sweptFrom e f v .links) (sweptFrom e f v .points))
       (cornersLent e f)

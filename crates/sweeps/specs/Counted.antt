@@ -1,4 +1,4 @@
--- A loop of n corners adds n vertices, 2n edges, n faces (and n loops) and leaves s, r and h; for a whole face.
+-- A face of n corners in all its loops: its sweep adds n vertices, 2n edges, n faces and n loops and leaves s, r and h.
 use mathlib.Core.Path.{_≡_, sym, _∙_}
 use mathlib.Core.List.{List}
 use Prim.Native.Nat.{ℕ, _+_, _-_, _*_}

@@ -108,6 +108,7 @@ module _ (e : Editing) (f : ℕ) (v : Vector) where
   pub sweep-any-redo : (k : ℕ) → let w = sweepIn (withRedoStart e k) f v in
       (w .answer .answer ≡ sweepIn e f v .answer .answer) × (w .links ≡ sweepIn e f v .links)
       × (w .points ≡ sweepIn e f v .points) × (w .log ≡ sweepIn e f v .log)
+      × (w .answer .session .log ≡ sweepIn e f v .answer .session .log)
   sweep-any-redo = whole-any-redo e (refusalIn e f v) (opsIn e f v)
 
   module _ (h : sweepIn e f v .answer .answer .refusal ≡ 0) where
