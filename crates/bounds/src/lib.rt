@@ -1,5 +1,7 @@
 // How large a table may be, as the code has it; `Bounds` in the specs has the same numbers.
 
+#![tactic(auto)]
+
 // Items of a kind (document 01: each capacity is at most 4,096).
 pub const MOST_ITEMS: usize = 4096;
 

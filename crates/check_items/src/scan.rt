@@ -9,7 +9,7 @@ use crate::ranges::{face_range, half_range, loop_range, solid_range, vertex_rang
 use layout::shape::Shape;
 
 // The tests of one item that read the table and nothing else.
-#[derive(Drop)]
+#[derive(Clone, Copy)]
 pub enum Test {
     SolidRange,
     FaceRange,

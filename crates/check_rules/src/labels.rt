@@ -11,7 +11,7 @@ use layout::columns::{solid_used, vertex_used};
 use layout::shape::Shape;
 
 // The tests of one item that read an array too.
-#[derive(Drop)]
+#[derive(Clone, Copy)]
 pub enum LabelTest {
     SolidNames,
     VertexEither,

@@ -9,7 +9,7 @@ use crate::operands::NONE;
 use numbers::{Num, number_size, read_number, write_before, write_number};
 
 // What reading eight operands answers. On a refusal `next` is the place handed in and the numbers are 0.
-#[derive(Drop)]
+#[derive(Clone, Copy)]
 pub struct NumbersAnswer {
     pub refusal: u8,
     pub next: usize,

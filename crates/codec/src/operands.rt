@@ -37,7 +37,7 @@ pub const WAY_3: u8 = 13; // way of mef, 0 to 3
 pub const COORD: u8 = 14; // coordinate
 
 // How many operands a code has, and their kinds, unused ones behind them.
-#[derive(Drop)]
+#[derive(Clone, Copy)]
 pub struct Pattern {
     pub count: u8,
     pub kinds: [u8; 8],

@@ -11,7 +11,7 @@ use layout::shape::Shape;
 use script::{Operator, operand};
 
 // Two vertices, which may be one; 0 is none.
-#[derive(Drop)]
+#[derive(Clone, Copy)]
 pub struct Two {
     pub one: usize,
     pub other: usize,
@@ -101,7 +101,7 @@ pub fn corner_vertex(links: &[u16], sh: Shape, l: usize, h: usize) -> usize
 }
 
 // A half-edge's four words; `owner` is its loop.
-#[derive(Drop)]
+#[derive(Clone, Copy)]
 pub struct Half {
     pub start: usize,
     pub owner: usize,

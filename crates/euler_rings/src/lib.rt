@@ -1,2 +1,5 @@
 // rmov moves a ring: test, effect and inverse.
+
+#![tactic(auto)]
+
 pub mod rings;

@@ -1,2 +1,5 @@
 // The vertex words under an operator.
+
+#![tactic(auto)]
+
 pub mod valence;

@@ -1,6 +1,9 @@
 // The kernel as its users meet it: every entry point, in the order in which they need it. Each takes any bytes
 // whatever, checks for itself, and answers a refusal by its number in document 01 or 02; none asks anything of its
 // caller. For C they are in include/zoghvari.h.
+
+#![tactic(auto)]
+
 ghost use Rattle.std.specs.Prelude.{◌≡◌};
 ghost use Rattle.codec.specs.Operands.{widest};
 ghost use Rattle.script.specs.Operator.{read_operator, write_operator, written};

@@ -142,7 +142,7 @@ restored =
     one : (j n : ℕ) → j < 2 → 1 ≤ n → n ≤ 2 → col pairs j (store pairs 1 (store pairs 1 words 2 7) 2 13) n
         ≡ col pairs j words n
     one zero n hj l u =
-        col_store_other 0 pairs 0 1 _ (omega arith) (omega arith) (omega arith) 2 13 n
+        col_store_other 0 pairs 0 1 (store pairs 1 words 2 7) (omega arith) (omega arith) (omega arith) 2 13 n
         ∙ col_store_other 0 pairs 0 1 words (omega arith) (omega arith) (omega arith) 2 7 n
     one (suc zero) zero hj l u = refl
     one (suc zero) (suc zero) hj l u = refl

@@ -1,1 +1,3 @@
 // Mathematics only: the definitions and theorems stand in specs/.
+
+#![tactic(auto)]

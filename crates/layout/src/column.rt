@@ -9,7 +9,7 @@ use crate::fields::{
 };
 use crate::shape::Shape;
 
-#[derive(Drop)]
+#[derive(Clone, Copy)]
 pub struct Column {
     pub base: u32,
     pub width: u32,

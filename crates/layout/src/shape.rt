@@ -5,7 +5,7 @@ ghost use Rattle.layout.specs.Layout.{shape_from, length_of, shape_of};
 use crate::cells::word;
 use crate::fields::{FACE_WIDTH, HALF_WIDTH, HEAD, LOOP_WIDTH, SOLID_WIDTH, VERTEX_WIDTH};
 
-#[derive(Drop)]
+#[derive(Clone, Copy)]
 pub struct Shape {
     pub solids: u32,
     pub faces: u32,

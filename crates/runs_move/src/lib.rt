@@ -1,5 +1,8 @@
 // Operators moved from one log to another: undo moves them from the log to the redo log, redo moves them back. No byte
 // of the source changes.
+
+#![tactic(auto)]
+
 ghost use Rattle.std.specs.Prelude.{◌≡◌};
 ghost use Rattle.runs.specs.Run.{state, leaves};
 ghost use Rattle.runs.specs.Move.{due_refusal, move_of};

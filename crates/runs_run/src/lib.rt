@@ -1,6 +1,9 @@
 // Running a script: operator after operator up to the script's end or the first refusal, each with its inverse in the
 // log. Undo and redo run a part of a log in the same way. The loops of each face are counted once, and kept up from
 // there.
+
+#![tactic(auto)]
+
 ghost use Rattle.std.specs.Prelude.{◌≡◌, ℕ, ◌≤◌, length};
 ghost use Rattle.codec.specs.Operands.{largests};
 ghost use Rattle.euler.specs.Exec.{limits};

@@ -16,7 +16,7 @@ use script::{Operator, operator_size, put_before};
 
 // What a step of a run answers: its refusal, the place behind the operator that was read, and where the log's live part
 // begins now.
-#[derive(Drop)]
+#[derive(Clone, Copy)]
 pub struct Step {
     pub refusal: u8,
     pub next: usize,

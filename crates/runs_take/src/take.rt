@@ -15,7 +15,7 @@ use layout::shape::Shape;
 use numbers::{Num, read_number};
 
 // What taking an operator answers. On 3, 4 and 5 `next` is the place handed in.
-#[derive(Drop)]
+#[derive(Clone, Copy)]
 pub struct Taken {
     pub refusal: u8,
     pub code: u8,
@@ -23,7 +23,7 @@ pub struct Taken {
 }
 
 // What the pass over the operands answers: 3, 5, 6, 7 or 0, and the place behind the last number read.
-#[derive(Drop)]
+#[derive(Clone, Copy)]
 pub struct Scanned {
     pub refusal: u8,
     pub next: usize,

@@ -1,4 +1,7 @@
 // Operators as bytes: the code and the operands, one behind the other.
+
+#![tactic(auto)]
+
 ghost use Rattle.std.specs.Prelude.{◌≡◌, ℕ, ◌+◌, ◌-◌, ◌≤◌, ◌<◌, length};
 ghost use Rattle.codec.specs.Operands.{widest};
 ghost use Rattle.script.specs.Operator.{blank_of, operand_of, with_number, refused, read_behind, read_operator};
@@ -11,7 +14,7 @@ use numbers::{Num, number_size, read_number, write_before, write_number};
 
 // An operator: its code, how many operands it has, and the operands, zeros behind them.
 #[repr(C)]
-#[derive(Drop)]
+#[derive(Clone, Copy)]
 pub struct Operator {
     pub code: u8,
     pub count: u8,
@@ -20,7 +23,7 @@ pub struct Operator {
 
 // What reading an operator answers. On a refusal `next` is the place handed in and `op` the blank operator 0.
 #[repr(C)]
-#[derive(Drop)]
+#[derive(Clone, Copy)]
 pub struct ReadAnswer {
     pub refusal: u8,
     pub next: usize,
@@ -29,7 +32,7 @@ pub struct ReadAnswer {
 
 // What writing an operator answers: the bytes it took, 0 on a refusal.
 #[repr(C)]
-#[derive(Drop)]
+#[derive(Clone, Copy)]
 pub struct WriteAnswer {
     pub refusal: u8,
     pub length: usize,

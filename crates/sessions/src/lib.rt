@@ -1,11 +1,14 @@
 // The session that an editor lends, and what the five calls that are lent one answer (document 02, job 4).
+
+#![tactic(auto)]
+
 use runs::answers::RunAnswer;
 use table::clear::ClearAnswer;
 use takedown::answer::InvertAnswer;
 
 // Where the live parts of the log and of the redo log start.
 #[repr(C)]
-#[derive(Drop)]
+#[derive(Clone, Copy)]
 pub struct Session {
     pub log: usize,
     pub redo: usize,
@@ -14,7 +17,7 @@ pub struct Session {
 // What undo answers: the refusal, 0 for none; with refusal 2 the broken rule; the operators undone and the log's new
 // start.
 #[repr(C)]
-#[derive(Drop)]
+#[derive(Clone, Copy)]
 pub struct UndoAnswer {
     pub refusal: u8,
     pub rule: u8,
@@ -24,7 +27,7 @@ pub struct UndoAnswer {
 
 // What redo answers: the refusal, 0 for none; with refusal 2 the broken rule; the operators done again.
 #[repr(C)]
-#[derive(Drop)]
+#[derive(Clone, Copy)]
 pub struct RedoAnswer {
     pub refusal: u8,
     pub rule: u8,
@@ -32,31 +35,31 @@ pub struct RedoAnswer {
 }
 
 // Each answer with the session that the call leaves.
-#[derive(Drop)]
+#[derive(Clone, Copy)]
 pub struct ClearLeft {
     pub answer: ClearAnswer,
     pub session: Session,
 }
 
-#[derive(Drop)]
+#[derive(Clone, Copy)]
 pub struct RunLeft {
     pub answer: RunAnswer,
     pub session: Session,
 }
 
-#[derive(Drop)]
+#[derive(Clone, Copy)]
 pub struct UndoLeft {
     pub answer: UndoAnswer,
     pub session: Session,
 }
 
-#[derive(Drop)]
+#[derive(Clone, Copy)]
 pub struct RedoLeft {
     pub answer: RedoAnswer,
     pub session: Session,
 }
 
-#[derive(Drop)]
+#[derive(Clone, Copy)]
 pub struct InvertLeft {
     pub answer: InvertAnswer,
     pub session: Session,

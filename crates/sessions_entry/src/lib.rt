@@ -1,5 +1,8 @@
 // The five calls that are lent a session, with the session by value: each takes it, and gives the one to leave beside
 // its answer. The entry points of crate `kernel` lend theirs by reference and do nothing else.
+
+#![tactic(auto)]
+
 ghost use Rattle.std.specs.Prelude.{◌≡◌};
 ghost use Rattle.sessions.specs.Session.{onward, Clears, Runs, Undoes, Redoes, Inverts};
 

@@ -1,6 +1,9 @@
 // The sweep as its users meet it, a product above the kernel: one entry point. It takes any bytes whatever, checks for
 // itself, and answers a refusal by its number in document 01 or 02; it asks nothing of its caller. For C it is in
 // include/zoghvari_sweep.h.
+
+#![tactic(auto)]
+
 ghost use Rattle.sweeps.specs.Swept.{Sweeps};
 
 use chains::DoneAnswer;

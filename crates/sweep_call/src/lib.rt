@@ -1,5 +1,8 @@
 // The sweep with the session by value: the refusals, then one run of the script. The entry point of crate `sweep` lends
 // its session by reference and does nothing else. No word of the table is written here but by the run.
+
+#![tactic(auto)]
+
 ghost use Rattle.std.specs.Prelude.{◌≡◌};
 ghost use Rattle.chains.specs.Whole.{answered};
 ghost use Rattle.sweeps.specs.Swept.{Sweeps};

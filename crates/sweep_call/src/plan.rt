@@ -15,7 +15,7 @@ use sweep_reads::free::{Made, free_numbers};
 pub const SCRIPT_BYTES: usize = 27 * MOST_ITEMS;
 
 // The refusal, 0 for none; the script's length; the bytes that the inverses of its operators take.
-#[derive(Drop)]
+#[derive(Clone, Copy)]
 pub struct Script {
     pub refusal: u8,
     pub length: usize,

@@ -9,7 +9,7 @@ use numbers::write_number;
 use script::Operator;
 
 // The place after what is written, and the bytes that the inverses take.
-#[derive(Drop)]
+#[derive(Clone, Copy)]
 pub struct Place {
     pub at: usize,
     pub room: usize,

@@ -31,7 +31,7 @@ fn take(out: &mut [u16; ITEM_PLACES], count: usize, n: usize, free: bool) -> usi
 }
 
 // What a sweep makes.
-#[derive(Drop)]
+#[derive(Clone, Copy)]
 pub enum Made {
     Edge,
     Vertex,

@@ -7,7 +7,7 @@ use check_rules::rules::broken_rule;
 use layout::shape::shape_of;
 
 #[repr(C)]
-#[derive(Drop)]
+#[derive(Clone, Copy)]
 pub struct CheckAnswer {
     pub refusal: u8,
     pub rule: u8,

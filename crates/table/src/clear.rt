@@ -6,7 +6,7 @@ use crate::sizes::sizes_fit;
 use layout::cells::put;
 
 #[repr(C)]
-#[derive(Drop)]
+#[derive(Clone, Copy)]
 pub struct ClearAnswer {
     pub refusal: u8,
 }

@@ -9,7 +9,7 @@ use crate::tally::{Item, used_to};
 use layout::shape::{Shape, shape_of};
 
 #[repr(C)]
-#[derive(Drop)]
+#[derive(Clone, Copy)]
 pub struct CountAnswer {
     pub refusal: u8,
     pub rule: u8,

@@ -1,4 +1,7 @@
 // Clearing, checking and counting a table.
+
+#![tactic(auto)]
+
 pub mod check;
 pub mod clear;
 pub mod count;

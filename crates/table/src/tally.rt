@@ -8,7 +8,7 @@ use layout::columns::{face_outer, face_solid, loop_face, solid_used, start_of, v
 use layout::shape::Shape;
 
 // What is counted.
-#[derive(Drop)]
+#[derive(Clone, Copy)]
 pub enum Item {
     Solid,
     Face,

@@ -1,6 +1,6 @@
 // What is carried from turn to turn, so that most searches go on from a lower end: a number below which the search
 // finds nothing. (The two of A are 1 again after a turn that moved rings; free numbers are always sought from 1.)
-#[derive(Drop)]
+#[derive(Clone, Copy)]
 pub struct Ends {
     // The solid at hand, 0 where none is left; its root; how many faces it has.
     pub solid: usize,

@@ -24,7 +24,7 @@ use takedown_search::seek::{Sought, seek};
 
 // A stage of the work: how far it has come, and what is carried on to the next turn. `lack`: the turn calls for a
 // number of which none is left, so that nothing changed.
-#[derive(Drop)]
+#[derive(Clone, Copy)]
 pub struct Stage {
     pub lack: bool,
     pub progress: Progress,
@@ -34,7 +34,7 @@ pub struct Stage {
 // What a turn of A reads before it changes anything: the half-edge with its mate in the root, its loop and face, the
 // first loop that may have to move, the least ring of a face that is not the root, and the least mate of the
 // half-edges of k's loop.
-#[derive(Drop)]
+#[derive(Clone, Copy)]
 pub struct Passage {
     pub half: usize,
     pub own: usize,
@@ -45,7 +45,7 @@ pub struct Passage {
 }
 
 // How far it has come, and whether no ring had to move.
-#[derive(Drop)]
+#[derive(Clone, Copy)]
 pub struct Passed {
     pub progress: Progress,
     pub still: bool,

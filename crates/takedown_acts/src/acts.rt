@@ -12,7 +12,7 @@ use takedown_ends::numbers::less;
 
 // How far it has come: the operators done, and the log's start. There are at most 8,192 turns of at most 4,099
 // operators each; the bounds on `done` in the contracts below say no more than that counting does not wrap.
-#[derive(Drop)]
+#[derive(Clone, Copy)]
 pub struct Progress {
     pub done: usize,
     pub start: usize,

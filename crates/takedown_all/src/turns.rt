@@ -13,7 +13,7 @@ use takedown_ends::moves::enter;
 use takedown_turns::turn::turn;
 
 // How the turns ended: whether for want of a number, and how far they had come.
-#[derive(Drop)]
+#[derive(Clone, Copy)]
 pub struct Ending {
     pub lack: bool,
     pub progress: Progress,

@@ -21,7 +21,7 @@ use takedown_search::seek::{Sought, seek};
 
 // The operators of a turn, the second only where there are two, and what is carried on. `lack`: the number that the
 // first calls for is not left.
-#[derive(Drop)]
+#[derive(Clone, Copy)]
 pub struct Plan {
     pub lack: bool,
     pub first: Operator,

@@ -12,7 +12,7 @@ use layout::shape::Shape;
 // What is looked for: a solid in use; half-edges outside the root with their mate in it, of the solid, in a ring with
 // their mate in another loop, followed by their mate, crossed by another edge; loops that are rings of the root,
 // rings of another face of the solid.
-#[derive(Drop)]
+#[derive(Clone, Copy)]
 pub enum Sought {
     Solid,
     Border,

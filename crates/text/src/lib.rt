@@ -1,1 +1,3 @@
 // Mathematics only: numbers in decimal, and texts put into a buffer; see specs/.
+
+#![tactic(auto)]

@@ -1,7 +1,7 @@
 // What is answered to a call that writes a text.
 
 #[repr(C)]
-#[derive(Drop)]
+#[derive(Clone, Copy)]
 pub struct TextAnswer {
     pub refusal: u8,
     pub rule: u8,

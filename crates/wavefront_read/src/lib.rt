@@ -1,1 +1,3 @@
 // Mathematics only: a reader of OBJ text, and what it finds; see specs/.
+
+#![tactic(auto)]

@@ -1,4 +1,7 @@
 // Reads a script from standard input, runs it on an empty table and prints the part that it built as OBJ text.
+
+#![tactic(auto)]
+
 mod program;
 
 use libc::{STDIN_FILENO, STDOUT_FILENO};

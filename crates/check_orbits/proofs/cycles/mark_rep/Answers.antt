@@ -1,0 +1,9 @@
+use Rattle.check_orbits.specs.CyclesLaws.{rep_none, rep_some}
+use borrow.Author.Rules.{rules}
+use Rattle.check_orbits.proofs.cycles.mark_rep.Goals as goal
+
+pub returns-then-r-eq0 : goal.returns-then-r-eq0
+returns-then-r-eq0 c = rep_none _ _ _ _ c.if-r-eq0.true
+
+pub returns : goal.returns
+returns c = rep_some _ _ _ _ _ c.if-r-eq0.false c.mark_from.ensures

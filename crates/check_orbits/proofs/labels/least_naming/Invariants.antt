@@ -1,0 +1,17 @@
+use mathlib.Core.Path.{◌≡◌, ap}
+use Prim.Native.Nat.{◌-◌, ◌≤◌}
+use native.Mathlib.Omega.{arith}
+use lib.ListN.{length}
+use Rattle.bounds.specs.Bounds.{item_places}
+use Rattle.layout.specs.Column.{entry_of}
+use Rattle.check_orbits.specs.Labels.{blank, least_naming}
+use Rattle.check_orbits.specs.LabelsLaws.{least_turn, down_out, long_set, blank_long}
+use borrow.Author.Rules.{rules}
+use Rattle.check_orbits.proofs.labels.least_naming.Given as goal
+
+abbrev pub invariant-loop-k : goal.invariant-loop-k
+invariant-loop-k l = (l.k ≤ l.column.count) × (length l.least ≡ item_places)
+    × (least_naming (entry_of l.column l.links) l.k l.least ≡ least_naming (entry_of l.column l.links) l.column.count blank)
+
+abbrev pub decreases-loop-k : goal.decreases-loop-k
+decreases-loop-k l = l.k

@@ -1,0 +1,7 @@
+use mathlib.Core.Path.{sym}
+use lib.Seq.{set_out}
+use borrow.Author.Rules.{rules}
+use Rattle.layout.proofs.cells.put.Goals as goal
+
+pub returns-else-i-links : goal.returns-else-i-links
+returns-else-i-links c = sym (set_out _ _ _ c.if-i-links.false)

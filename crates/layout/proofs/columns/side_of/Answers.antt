@@ -1,0 +1,6 @@
+use native.Mathlib.Omega.{arith}
+use borrow.Author.Rules.{rules}
+use Rattle.layout.proofs.columns.side_of.Goals as goal
+
+pub returns : goal.returns
+returns c = (cc, omega arith)
