@@ -1,6 +1,6 @@
 -- What rules 1, 2 and the joins of rule 4 give to the walks and the shells: the facts that the linear passes ask of a
 -- table.
-use Rattle.std.specs.Prelude.{◌≡◌, ◌≢◌, ◌⊎◌, List, ℕ, ◌-◌, ◌*◌, ◌≤◌, ℤ}
+use Rattle.std.specs.Prelude.{◌≡◌, ◌≢◌, List, ℕ, ◌-◌, ◌*◌, ◌≤◌, ℤ}
 use Rattle.std.proofs.Common.{subst, ⊎_elim, arith}
 use Rattle.layout.specs.declared.shape.Shape.{Shape}
 use Rattle.layout.specs.Layout.{loop_first, start_of, loop_of, next_of, side}

@@ -1,6 +1,6 @@
 -- One operator on a table: a refusal, or the new table with the operator that undoes it. Refusals in document 01's
 -- order: all operands 5; all 6 and 7 from left to right; 8.
-use Rattle.std.specs.Prelude.{ℕ, ◌+◌, ◌*◌, Bool, true, not, ◌&&◌, ◌||◌, List, [], ◌∷◌, eqb, ℤ, pos, get_or}
+use Rattle.std.specs.Prelude.{ℕ, ◌+◌, ◌*◌, Bool, true, List, [], ◌∷◌, eqb, ℤ, pos, get_or}
 use Rattle.laws.specs.Bools.{pick}
 use Rattle.codec.specs.declared.Limits.{Limits}
 use Rattle.script.specs.declared.Operator.{Operator}

@@ -1,7 +1,7 @@
 -- Scans down a column, by the label that its entries hold, and the ways out of their loops, one law each.
-use Rattle.std.specs.Prelude.{◌≡◌, refl, Bool, true, false, List, eqb}
-use Rattle.std.proofs.Common.{sym, ◌∙◌, subst, eq-eqb, ne_eqb}
-use Prim.Native.Nat.{ℕ, zero, suc, ◌+◌, ◌-◌, ◌≤◌, ◌<◌}
+use Rattle.std.specs.Prelude.{◌≡◌, Bool, true, false, List, eqb}
+use Rattle.std.proofs.Common.{sym, subst, eq-eqb, ne_eqb}
+use Prim.Native.Nat.{ℕ, suc, ◌+◌, ◌-◌, ◌≤◌, ◌<◌}
 use Rattle.std.proofs.Math.Numerals.{add-one}
 use native.Mathlib.Omega.{arith}
 use Rattle.laws.specs.Bools.{pick}

@@ -5,7 +5,6 @@ use Rattle.std.proofs.Math.Path.{refl}
 use Rattle.std.proofs.Math.Bool.{true, false}
 use Rattle.std.proofs.Math.Nat.{add_assoc}
 use Rattle.std.proofs.Math.ListN.{length, length-append}
-use Rattle.std.proofs.Common.{eqb-true}
 use Rattle.laws.specs.Bools.{pick}
 use Rattle.numbers.specs.declared.Num.{Num}
 use Rattle.numbers.specs.declared.Num.TheVariants.{Got, Bad}
@@ -14,7 +13,7 @@ use Rattle.script.specs.declared.ReadAnswer.{ReadAnswer}
 use Rattle.numbers.specs.Number.{read_number, groups, on_num}
 use Rattle.numbers.specs.Padded.{shorten}
 use Rattle.numbers.specs.PaddedLaws.{number_pads, number_same, alike_behind}
-use Rattle.codec.specs.Operands.{pattern, largests, in_ranges, wires}
+use Rattle.codec.specs.Operands.{pattern, largests, in_ranges}
 use Rattle.codec.specs.OperandBytes.{Numbers, Read, Cut, on_numbers, read_operands, operands_bytes}
 use Rattle.codec.specs.OperandTrip.{operands_same, operands_length, wires_unwires}
 use Rattle.script.specs.Operator.{refused, read_behind, read_operator, operator_bytes}

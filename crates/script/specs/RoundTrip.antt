@@ -1,6 +1,6 @@
 -- Operators: what is written is read back, and what is read is what would be written, in whatever form it stands.
-use Rattle.std.specs.Prelude.{◌≡◌, refl, ℕ, ◌+◌, ◌-◌, ◌≤◌, ◌<◌, Bool, true, false, List, ◌++◌, length, drop, eqb}
-use Rattle.std.proofs.Common.{sym, ap, ◌∙◌, add_assoc, arith, append_assoc, length-append, eq-eqb, ne_eqb, eqb-true}
+use Rattle.std.specs.Prelude.{◌≡◌, refl, ℕ, ◌+◌, ◌≤◌, ◌<◌, Bool, true, false, List, ◌++◌, length, drop, eqb}
+use Rattle.std.proofs.Common.{sym, ◌∙◌, add_assoc, arith, append_assoc, length-append, eq-eqb, ne_eqb, eqb-true}
 use Rattle.std.proofs.Math.Seq.{drop-append_seam}
 use Rattle.std.proofs.lemmas.Bool.{eqb-false}
 use Rattle.laws.specs.Bools.{pick}

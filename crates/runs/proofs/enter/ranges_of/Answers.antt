@@ -1,0 +1,7 @@
+use mathlib.Core.Path.{◌≡◌, ap, ◌∙◌}
+use Rattle.codec.specs.Operands.{largests}
+use borrow.Author.Rules.{rules}
+use Rattle.runs.proofs.enter.ranges_of.Goals as goal
+
+pub returns : goal.returns
+returns c = c.largest.ensures ∙ ap largests c.limits_of.ensures

@@ -1,0 +1,17 @@
+use Rattle.wavefront_text.specs.LineLaws.{listed_none, listed_next, listed_all, put_length}
+use Rattle.wavefront.specs.Obj.{concat_map, passing_to, vertex_line}
+use Rattle.text.specs.Put.{Put}
+use Rattle.layout.specs.Items.{some}
+use lib.ListN.{length, get_or}
+use mathlib.Core.Path.{◌≡◌}
+use Prim.Native.Nat.{◌+◌, ◌-◌, ◌*◌, ◌≤◌}
+use borrow.Author.Rules.{rules}
+use native.Mathlib.Omega.{arith}
+use Rattle.wavefront_text.proofs.lines.put_vertices.Given as goal
+
+abbrev pub invariant-loop-v : goal.invariant-loop-v
+invariant-loop-v l = (l.v ≤ l.n) × (l.at ≤ 26 * l.v)
+    × Put l.initial.out 0 (concat_map (vertex_line l.points) (passing_to l.v (λ u. some (get_or l.ranks u 0)))) l.at l.out
+
+abbrev pub decreases-loop-v : goal.decreases-loop-v
+decreases-loop-v l = l.n - l.v
