@@ -1,4 +1,3 @@
-use borrow.Author.Rules.{rules}
 use native.Mathlib.Omega.{arith}
 use Rattle.report.specs.TextLaws.{put_answer}
 use Rattle.report.proofs.put_answer_line.Goals as goal

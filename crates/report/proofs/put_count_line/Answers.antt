@@ -1,4 +1,3 @@
-use borrow.Author.Rules.{rules}
 use native.Mathlib.Omega.{arith}
 use Rattle.report.specs.TextLaws.{put_counts}
 use Rattle.report.proofs.put_count_line.Goals as goal

@@ -1,4 +1,3 @@
-use borrow.Author.Rules.{rules}
 use native.Mathlib.Omega.{arith}
 use Rattle.report.specs.TextLaws.{put_field}
 use Rattle.report.proofs.put_field.Goals as goal

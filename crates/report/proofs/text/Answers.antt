@@ -1,4 +1,3 @@
-use borrow.Author.Rules.{rules}
 use native.Mathlib.Omega.{arith}
 use Rattle.report.specs.TextLaws.{put_text}
 use Rattle.report.proofs.text.Goals as goal

@@ -1,5 +1,4 @@
 use Rattle.runs.specs.RunLaws.{enter_beyond, enter_checked}
-use borrow.Author.Rules.{rules}
 use Rattle.runs.proofs.enter.enter.Goals as goal
 
 pub returns-then-start-log : goal.returns-then-start-log

@@ -1,6 +1,5 @@
-use mathlib.Core.Path.{◌≡◌, ap, ◌∙◌}
+use mathlib.Core.Path.{ap, ◌∙◌}
 use Rattle.codec.specs.Operands.{largests}
-use borrow.Author.Rules.{rules}
 use Rattle.runs.proofs.enter.ranges_of.Goals as goal
 
 pub returns : goal.returns

@@ -1,6 +1,5 @@
 use mathlib.Core.Path.{refl, sym}
 use lib.Seq.{set_out}
-use borrow.Author.Rules.{rules}
 use Rattle.wavefront_text.proofs.bytes.put_byte.Goals as goal
 
 pub returns-then-at-out : goal.returns-then-at-out

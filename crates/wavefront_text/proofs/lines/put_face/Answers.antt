@@ -37,8 +37,8 @@ loop-left-preserved c = (
 )
 
 pub shape_of-out : goal.shape_of-out
-shape_of-out c = c.put_byte.auto.0 ∙ c.loop-left.invariant.3
-    ∙ c.put_byte-place.auto.0
+shape_of-out c = c.put_byte.auto.out ∙ c.loop-left.invariant.3
+    ∙ c.put_byte-place.auto.out
 
 pub returns : goal.returns
 returns c = record {

@@ -1,7 +1,6 @@
 use borrow.Author.Tests.{eq-eqb, ne_eqb}
 use native.Mathlib.Omega.{arith}
 use mathlib.Core.Path.{refl}
-use borrow.Author.Rules.{rules}
 use Rattle.wavefront_text.proofs.lines.steps_left.Goals as goal
 
 pub returns-then-k-first : goal.returns-then-k-first

@@ -1,0 +1,31 @@
+use borrow.Author.Rules.{rules}
+use mathlib.Core.Path.{◌≡◌, sym, ap, ◌∙◌}
+use native.Mathlib.Omega.{arith}
+use Prim.Native.Nat.{◌+◌, ◌-◌, ◌≤◌}
+use Rattle.laws.specs.Search.{least, least_from}
+use Rattle.euler.specs.Scans.{least_all, found_here, found_on, found_none}
+use Prim.Native.Nat.{◌*◌}
+use lib.Dec.{eqb}
+use Rattle.layout.specs.Layout.{start_of}
+use Rattle.takedown_search.proofs.free.free_edge.Goals as goal
+
+pub loop-e-init : goal.loop-e-init
+loop-e-init c = (omega arith, omega arith, least_all _ _)
+
+pub returns-then-free : goal.returns-then-free
+returns-then-free c = (
+  found_here _ _ _ _ c.loop-e.invariant.2 (omega arith) (ap (λ u. eqb u 0) (sym
+      c.start_of-free.ensures.0) ∙ c.if-free.true),
+  omega arith,
+)
+
+pub loop-e-preserved : goal.loop-e-preserved
+loop-e-preserved c = (
+  omega arith,
+  omega arith,
+  found_on _ _ _ _ c.loop-e.invariant.2 (omega arith)
+      (ap (λ u. eqb u 0) (sym c.start_of-free.ensures.0) ∙ c.if-free.false),
+)
+
+pub returns : goal.returns
+returns c = (found_none _ _ _ _ c.loop-e.invariant.2 (omega arith), omega arith)
