@@ -172,7 +172,7 @@ module _ {sh : Shape} {x : List ℕ} {p : List ℤ} (g : Good sh x p) (sn : soli
       (own sh x Outer (face_in sh x (solid_at sh x))) (own sh x Isolated (own sh x Outer (face_in sh x (solid_at sh x)))) 0
       0 0 0 0
   last_links = still_links sh x (kvsf (solid_at sh x)) 2 refl (λ y. refl) (λ y. refl)
-      ∙ kvsf_links_lem one_loop g.capacities
+      ∙ kvsf_links_lem _ one_loop g.capacities
 
   -- another solid is in use as it was
   pub turn_mark : (n : ℕ) → In sh.solids n → n ≢ solid_at sh x
@@ -191,8 +191,8 @@ module _ {sh : Shape} {x : List ℕ} {p : List ℤ} (g : Good sh x p) (sn : soli
         os = kvsf s ∷ [];
         y = placed_links sh x s f l v 0 0 0 0 0;
         q = put_point p v (pos 0) (pos 0) (pos 0);
-        path = first (kvsf s) refl (kvsf_accepted one_loop g.capacities (solid_used_lem g sn))
-            (there last_links (kvsf_points one_loop g.capacities p));
+        path = first (kvsf s) refl (kvsf_accepted _ one_loop g.capacities (solid_used_lem g sn))
+            (there last_links (kvsf_points _ one_loop g.capacities p));
         same = λ w a b. turned_last sh s f w x a one left none;
         change =
             rw (no_join sh x p s)

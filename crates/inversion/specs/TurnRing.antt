@@ -47,7 +47,7 @@ module _ {sh : Shape} {x : List ℕ} {p : List ℤ} (g : Good sh x p) {k l f f�
   outcome =
       inl (
         refl,
-        chain_after g.sound l f r.face_in_lem f f₀ r.face_in_lem
+        chain_after _ g.sound l f r.face_in_lem f f₀ r.face_in_lem
             (link (k, u, upd_at (own sh x Face) f kl, upd_off (own sh x Face) f ml ∙ mf)),
       )
 
@@ -56,17 +56,17 @@ module _ {sh : Shape} {x : List ℕ} {p : List ℤ} (g : Good sh x p) {k l f f�
   operand = rw (eqb_same {m = s} refl)
 
   pub ring_accepted : refusal_of sh x (mfkrh l f) ≡ 0
-  ring_accepted = subst (λ o. refusal_of sh x o ≡ 0) operand (mfkrh_accepted g.sound g.capacities r outcome)
+  ring_accepted = subst (λ o. refusal_of sh x o ≡ 0) operand (mfkrh_accepted _ g.sound g.capacities r outcome)
 
   ring_inverse : (q : List ℤ) → inverse sh x q (mfkrh l f) ≡ kfmrh_of f₀ f
   ring_inverse q =
-      subst (λ o. inverse sh x q o ≡ kfmrh_of f₀ f) operand (mfkrh_inverse_lem g.sound g.capacities r outcome q)
+      subst (λ o. inverse sh x q o ≡ kfmrh_of f₀ f) operand (mfkrh_inverse_lem _ g.sound g.capacities r outcome q)
 
   -- the columns afterwards
   pub ring_shows : Shows sh (links_after sh x (mfkrh l f)) (cut (own sh x) l f s s (λ h. false))
   ring_shows =
       let m = (old_solid g.sound r).1 in
-      let v = mfkrh_shows g.sound g.capacities r outcome (good_shows g) m in
+      let v = mfkrh_shows _ g.sound g.capacities r outcome (good_shows g) m in
       let w = still_links sh x (mfkrh l f) 10 refl (λ y. refl) (λ y. refl) in
       subst (λ t. Shows sh t (cut (own sh x) l f s s (λ h. false))) (sym w) (rw (eqb_same {m = s} refl) at v)
 

@@ -225,7 +225,7 @@ module _ (sh : Shape) (x : List ℕ) (p : List ℤ) (o : Operator) (g : Good sh 
   moves_kvsf e =
       let f : face_in sh x (item_of o 0) ≤ sh.faces = least_cap sh.faces _ in
       by_code 2 e (record {
-        cap = outer_cap g.sound (face_in sh x (item_of o 0)) f;
+        cap = outer_cap _ g.sound (face_in sh x (item_of o 0)) f;
         others = λ l i d. kvsf_stays order i x _ _ _ _
             (operand 2 0 sh.solids e refl (lit≤ tt) refl refl solids_small) f d;
       })
@@ -251,8 +251,8 @@ module _ (sh : Shape) (x : List ℕ) (p : List ℤ) (o : Operator) (g : Good sh 
   moves_kef : o.code ≡ 6 → Moves sh x (links_after sh x o) (moved_loop sh x o)
   unfolding pattern rows
   moves_kef e =
-      let c = loop_cap g.sound (item_of o 0) (operand 6 0 (2 * sh.edges) e refl (lit≤ tt) refl refl halves_small) in
-      by_code 6 e (record { cap = c; others = λ l i d. kef_stays order i x _ (face_cap g.sound _ c) d })
+      let c = loop_cap _ g.sound (item_of o 0) (operand 6 0 (2 * sh.edges) e refl (lit≤ tt) refl refl halves_small) in
+      by_code 6 e (record { cap = c; others = λ l i d. kef_stays order i x _ (face_cap _ g.sound _ c) d })
 
   -- 7: the loop is an operand
   moves_kemr : o.code ≡ 7 → Moves sh x (links_after sh x o) (moved_loop sh x o)
@@ -277,9 +277,9 @@ module _ (sh : Shape) (x : List ℕ) (p : List ℤ) (o : Operator) (g : Good sh 
       let f1 = operand 9 0 sh.faces e refl (lit≤ tt) refl refl faces_small in
       let f2 = operand 9 1 sh.faces e refl (lit≤ tt) refl refl faces_small in
       by_code 9 e (record {
-        cap = outer_cap g.sound (item_of o 1) f2;
-        others = λ l i d. kfmrh_stays order i x _ _ f2 (solid_cap g.sound (item_of o 0) f1)
-            (solid_cap g.sound (item_of o 1) f2) d;
+        cap = outer_cap _ g.sound (item_of o 1) f2;
+        others = λ l i d. kfmrh_stays order i x _ _ f2 (solid_cap _ g.sound (item_of o 0) f1)
+            (solid_cap _ g.sound (item_of o 1) f2) d;
       })
 
   -- 10: face and solid are operands

@@ -26,7 +26,7 @@ side_in c l f k = upd (c Face) l f (c Loop k)
 abbrev pub Chain : Shape → Columns → (ℕ → ℕ) → ℕ → ℕ → Type 0
 Chain sh c s = Linked (Share (HalfUsed sh c) s mate)
 
-module _ {sh : Shape} {x : List ℕ} {p : List ℤ} (a : Sound sh p (own sh x)) (s : ℕ → ℕ) where
+module _ {sh : Shape} (x : List ℕ) {p : List ℤ} (a : Sound sh p (own sh x)) (s : ℕ → ℕ) where
   -- the table's columns
   abbrev c : Columns
   c = own sh x
@@ -63,7 +63,7 @@ module _ {sh : Shape} {x : List ℕ} {p : List ℤ} (a : Sound sh p (own sh x)) 
 
 -- ---- once loop l lies in face f
 
-module _ {sh : Shape} {x : List ℕ} {p : List ℤ} (a : Sound sh p (own sh x)) (l f : ℕ) (jf : In sh.faces f) where
+module _ {sh : Shape} (x : List ℕ) {p : List ℤ} (a : Sound sh p (own sh x)) (l f : ℕ) (jf : In sh.faces f) where
   -- each half-edge in use has a face there
   side_face : (k : ℕ) → HalfUsed sh (own sh x) k → In sh.faces (side_in (own sh x) l f k)
   side_face k u =
@@ -81,13 +81,13 @@ module _ {sh : Shape} {x : List ℕ} {p : List ℤ} (a : Sound sh p (own sh x)) 
   -- what passes is linked
   pub after_chain : (g h : ℕ) → linked_after sh x l f g h ≡ true → Chain sh (own sh x) (side_in (own sh x) l f) g h
   unfolding linked_after upd
-  after_chain g h t = linked_chain a (side_in (own sh x) l f) g h t
+  after_chain g h t = linked_chain _ a (side_in (own sh x) l f) g h t
 
   -- and what is linked passes
   pub chain_after : (g h : ℕ) → In sh.faces g → Chain sh (own sh x) (side_in (own sh x) l f) g h
       → linked_after sh x l f g h ≡ true
   unfolding linked_after upd
-  chain_after g h i c = chain_linked a (side_in (own sh x) l f) side_face g h i (chain_face c i) c
+  chain_after g h i c = chain_linked _ a (side_in (own sh x) l f) side_face g h i (chain_face c i) c
 
   -- a number of no face is linked to nothing
   pub after_none : (g : ℕ) → linked_after sh x l f g 0 ≡ false

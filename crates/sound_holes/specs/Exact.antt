@@ -45,11 +45,11 @@ module _ {sh : Shape} {x : List ℕ} {p : List ℤ} (g : Marked sh x p) {l f f�
 
   -- which faces move
   what_moves : Moved sh (own sh x) l f f₀ s₀ s (moved_to sh x l f s₀ s)
-  what_moves = outcome_moved g.sound r u
+  what_moves = outcome_moved _ g.sound r u
 
   -- the list shows the columns of `cut`
   y_shows : Shows sh y (cut (own sh x) l f s₀ s (moved_to sh x l f s₀ s))
-  y_shows = mfkrh_shows g.sound g.capacities r u (marked_shows g) (old_solid g.sound r).1
+  y_shows = mfkrh_shows _ g.sound g.capacities r u (marked_shows g) (old_solid g.sound r).1
 
   -- and is marked
   y_good : Marked sh y p
@@ -62,7 +62,7 @@ module _ {sh : Shape} {x : List ℕ} {p : List ℤ} (g : Marked sh x p) {l f f�
   -- joined again, the list is the first one
   cut_back : marks_after sh y (kfmrh_of f₀ f) ≡ x
   cut_back =
-      kfmrh_links_lem y_good.sound g.capacities y_two
+      kfmrh_links_lem _ y_good.sound g.capacities y_two
       ∙ shows_ext (shows_joined y_shows f₀ f l s₀ s r.face_in_lem r.loop_in (old_solid g.sound r).0
       what_moves.solid_in) (marked_shows g) (cut_joined g.sound r what_moves)
 
@@ -70,9 +70,9 @@ module _ {sh : Shape} {x : List ℕ} {p : List ℤ} (g : Marked sh x p) {l f f�
   pub mfkrh_exact : Kept sh x p op × Undone sh x p op
   mfkrh_exact =
       let caps = g.capacities in
-      exact refl (mfkrh_points sh x l f (solid_operand s₀ s) p) (mfkrh_inverse_lem g.sound caps r u p) y_good
-      (kfmrh_accepted y_good.sound caps y_two) cut_back (kfmrh_points sh y f₀ f p)
-      (kfmrh_inverse_lem y_good.sound caps y_two p)
+      exact refl (mfkrh_points sh x l f (solid_operand s₀ s) p) (mfkrh_inverse_lem _ g.sound caps r u p) y_good
+      (kfmrh_accepted _ y_good.sound caps y_two) cut_back (kfmrh_points sh y f₀ f p)
+      (kfmrh_inverse_lem _ y_good.sound caps y_two p)
 
   -- neither half-edges nor vertices change
   mfkrh_still : Balanced sh x op
@@ -146,11 +146,11 @@ module _ {sh : Shape} {x : List ℕ} {p : List ℤ} (g : Marked sh x p) {f1 f2 l
   linked_second h t =
       sym (linked_same (own sh x Solid) (λ i j q. ap (own sh x Solid) (sym q.2)
       ∙ sym (g.sound.solids.edge q.0 q.1) ∙ ap (own sh x Solid) q.3)
-      (chain_to (after_chain yk_good.sound l f2 r.second_in f2 h t))) ∙ r.second_solid
+      (chain_to (after_chain _ yk_good.sound l f2 r.second_in f2 h t))) ∙ r.second_solid
 
   -- and each that lay there is linked to it
   second_linked : (h : ℕ) → In sh.faces h → own sh x Solid h ≡ s2 → linked_after sh yk l f2 f2 h ≡ true
-  second_linked h i e = chain_after yk_good.sound l f2 r.second_in f2 h r.second_in
+  second_linked h i e = chain_after _ yk_good.sound l f2 r.second_in f2 h r.second_in
       (chain_from (g.sound.solids.one f2 h (second_face g.sound r) (i.0, i.1, λ z. r.second_used (sym e ∙ z))
       (r.second_solid ∙ sym e)))
 
@@ -178,21 +178,21 @@ module _ {sh : Shape} {x : List ℕ} {p : List ℤ} (g : Marked sh x p) {f1 f2 l
 
   -- cut again, the list is the first one
   joined_back : marks_after sh yk (mfkrh_of l f2 (solid_operand s1 s2)) ≡ x
-  joined_back = shows_ext (mfkrh_shows yk_good.sound g.capacities yk_ring yk_outcome yk_shows (upd_same _ s1 1))
+  joined_back = shows_ext (mfkrh_shows _ yk_good.sound g.capacities yk_ring yk_outcome yk_shows (upd_same _ s1 1))
       (marked_shows g) (joined_cut g.sound r (moved_to sh yk l f2 s1 s2) moved_second unmoved)
 
   -- a marked table stays marked, and mfkrh gives everything back
   pub kfmrh_exact : Kept sh x p (kfmrh_of f1 f2) × Undone sh x p (kfmrh_of f1 f2)
   kfmrh_exact =
       let caps = g.capacities in
-      exact (kfmrh_links_lem g.sound caps r) (kfmrh_points sh x f1 f2 p) (kfmrh_inverse_lem g.sound caps r p) yk_good
-      (mfkrh_accepted yk_good.sound caps yk_ring yk_outcome) joined_back
-      (mfkrh_points sh yk l f2 (solid_operand s1 s2) p) (mfkrh_inverse_lem yk_good.sound caps yk_ring yk_outcome p)
+      exact (kfmrh_links_lem _ g.sound caps r) (kfmrh_points sh x f1 f2 p) (kfmrh_inverse_lem _ g.sound caps r p) yk_good
+      (mfkrh_accepted _ yk_good.sound caps yk_ring yk_outcome) joined_back
+      (mfkrh_points sh yk l f2 (solid_operand s1 s2) p) (mfkrh_inverse_lem _ yk_good.sound caps yk_ring yk_outcome p)
 
   -- neither half-edges nor vertices change
   kfmrh_still : Balanced sh x (kfmrh_of f1 f2)
   kfmrh_still = shown_still
-      (subst (λ t. Shows sh t (joined (own sh x) f1 f2 l s1 s2)) (sym (kfmrh_links_lem g.sound g.capacities r))
+      (subst (λ t. Shows sh t (joined (own sh x) f1 f2 l s1 s2)) (sym (kfmrh_links_lem _ g.sound g.capacities r))
       yk_shows) refl refl (λ i. refl) (λ w i. inl refl)
 
 -- ---- as operators

@@ -60,7 +60,7 @@ kfmrh_two {sh} x a k =
           b.outer_face i e;
     }
 
-module _ {sh : Shape} {x : List ℕ} {p : List ℤ} (a : Sound sh p (own sh x)) (caps : Capacities sh) {f1 f2 l s1 s2 : ℕ}
+module _ {sh : Shape} (x : List ℕ) {p : List ℤ} (a : Sound sh p (own sh x)) (caps : Capacities sh) {f1 f2 l s1 s2 : ℕ}
     (r : TwoFaces sh (own sh x) f1 f2 l s1 s2) where
   -- f1 is read as it stands
   n1 : f1 ≤ most_halves

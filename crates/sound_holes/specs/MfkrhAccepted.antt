@@ -135,19 +135,19 @@ mfkrh_facts sh x p o snd caps len e h =
     }) t.1
 
 -- what moves is as the outcome says
-pub outcome_moved : {sh : Shape} {x : List ℕ} {p : List ℤ} {l f f₀ s₀ s : ℕ} → Sound sh p (own sh x)
+pub outcome_moved : {sh : Shape} (x : List ℕ) {p : List ℤ} {l f f₀ s₀ s : ℕ} → Sound sh p (own sh x)
     → RingFace sh (own sh x) l f f₀ s₀ → Outcome sh x l f f₀ s₀ s
     → Moved sh (own sh x) l f f₀ s₀ s (moved_to sh x l f s₀ s)
-outcome_moved {sh} {x} {p} {l} {f} {f₀} {s₀} {s} a r (inl q) =
+outcome_moved {sh} x {p} {l} {f} {f₀} {s₀} {s} a r (inl q) =
     subst (λ s. Moved sh (own sh x) l f f₀ s₀ s (moved_to sh x l f s₀ s)) q.0
-    (rw (eqb_same {m = s₀} refl) (moved_none a r (after_chain a l f r.face_in_lem f f₀ q.1)))
-outcome_moved {sh} {x} {p} {l} {f} {f₀} {s₀} {s} a r (inr q) =
-    rw (eqb_other q.0) (moved_linked a r (linked_after sh x l f f) (after_chain a l f r.face_in_lem f)
-    (λ g. chain_after a l f r.face_in_lem f g r.face_in_lem) q.3 s q.1 q.2)
+    (rw (eqb_same {m = s₀} refl) (moved_none a r (after_chain _ a l f r.face_in_lem f f₀ q.1)))
+outcome_moved {sh} x {p} {l} {f} {f₀} {s₀} {s} a r (inr q) =
+    rw (eqb_other q.0) (moved_linked a r (linked_after sh x l f f) (after_chain _ a l f r.face_in_lem f)
+    (λ g. chain_after _ a l f r.face_in_lem f g r.face_in_lem) q.3 s q.1 q.2)
 
 -- ---- mfkrh on a ring and a free face
 
-module _ {sh : Shape} {x : List ℕ} {p : List ℤ} (a : Sound sh p (own sh x)) (caps : Capacities sh) {l f f₀ s₀ s : ℕ}
+module _ {sh : Shape} (x : List ℕ) {p : List ℤ} (a : Sound sh p (own sh x)) (caps : Capacities sh) {l f f₀ s₀ s : ℕ}
     (r : RingFace sh (own sh x) l f f₀ s₀) (u : Outcome sh x l f f₀ s₀ s) where
   -- l is read as it stands
   ln : l ≤ most_halves
@@ -234,7 +234,7 @@ module _ {sh : Shape} {x : List ℕ} {p : List ℤ} (a : Sound sh p (own sh x)) 
       (shows_face t l f s₀ r.loop_in r.face_in_lem m)))
       (λ q. rw (moved_links_lem q.0 q.1, eqb_other q.0)
       (shows_moved t l f s₀ r.loop_in r.face_in_lem s q.1 (linked_after sh x l f f)
-      (after_none a l f r.face_in_lem f))) u
+      (after_none _ a l f r.face_in_lem f))) u
 
 -- points stay
 pub mfkrh_points : (sh : Shape) (x : List ℕ) (l f s : ℕ) (p : List ℤ) → points_after sh x p (mfkrh_of l f s) ≡ p

@@ -158,7 +158,7 @@ tested_one {sh} x a s i h t =
       only_loop_lem = λ m j q. one_many sh.loops (c Face) f (eqb→eq _ _ k.1.0) l m F.outer_in F.outer_face j q;
     }
 
-module _ {sh : Shape} {x : List ℕ} {s f l v : ℕ} (o : OneLoop sh (own sh x) s f l v) (caps : Capacities sh) where
+module _ {sh : Shape} (x : List ℕ) {s f l v : ℕ} (o : OneLoop sh (own sh x) s f l v) (caps : Capacities sh) where
   -- s is read as it stands
   s_small : leb s most_halves ≡ true
   s_small = le-leb s most_halves (omega (arith, o.solid_in.1, caps.solids))

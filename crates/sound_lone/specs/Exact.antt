@@ -97,8 +97,8 @@ module _ {sh : Shape} {x : List ℕ} {p : List ℤ} (g : Marked sh x p) {s f l v
       let caps = g.capacities in
       exact (mvsf_links_lem sh x s f l v a b z caps r) (mvsf_points sh x s f l v a b z caps r p)
       (mvsf_inverse_lem sh x s f l v a b z caps r p)
-      y_good (kvsf_accepted y_one caps y_used) (kvsf_links_lem y_one caps ∙ mvsf_back)
-      (kvsf_points y_one caps q ∙ point_back) (kvsf_inverse y_one caps q
+      y_good (kvsf_accepted _ y_one caps y_used) (kvsf_links_lem _ y_one caps ∙ mvsf_back)
+      (kvsf_points _ y_one caps q ∙ point_back) (kvsf_inverse _ y_one caps q
       ∙ (λ t. mvsf_of s f l v (point_at 0 (omega arith) t) (point_at 1 (omega arith) t) (point_at 2 (omega arith) t)))
 
   -- a vertex is made, no half-edge
@@ -167,7 +167,7 @@ module _ {sh : Shape} {x : List ℕ} {p : List ℤ} (g : Marked sh x p) {s f l v
       let b = coordinate p v 1 in
       let z = coordinate p v 2 in
       let r = (g.sound.point v o.vertex_in).range in
-      exact (kvsf_links_lem o caps) (kvsf_points o caps p) (kvsf_inverse o caps p) ky_good
+      exact (kvsf_links_lem _ o caps) (kvsf_points _ o caps p) (kvsf_inverse _ o caps p) ky_good
       (mvsf_accepted sh ky s f l v a b z caps ky_free (r 0 (omega arith)) (r 1 (omega arith)) (r 2 (omega arith)))
       (mvsf_links_lem sh ky s f l v a b z caps ky_free ∙ kvsf_back v-mark)
       (mvsf_points sh ky s f l v a b z caps ky_free kq ∙ put_back sh.vertices p v (pos 0) (pos 0) (pos 0)
@@ -175,12 +175,12 @@ module _ {sh : Shape} {x : List ℕ} {p : List ℤ} (g : Marked sh x p) {s f l v
 
   -- its vertex is free afterwards
   kvsf_free : Gone sh x (kvsf_of s)
-  kvsf_free = rw (kvsf_killed o g.capacities, kvsf_links_lem o g.capacities)
+  kvsf_free = rw (kvsf_killed _ o g.capacities, kvsf_links_lem _ o g.capacities)
       (inr (o.vertex_in, ky_free.vertex))
 
   -- the first of the two
   kvsf_kept : Kept sh x p (kvsf_of s)
-  kvsf_kept = rw (kvsf_links_lem o g.capacities, kvsf_points o g.capacities p) ky_good
+  kvsf_kept = rw (kvsf_links_lem _ o g.capacities, kvsf_points _ o g.capacities p) ky_good
 
   -- and the second
   kvsf_undone : own sh x VertexUsed v ≤ 1 → Undone sh x p (kvsf_of s)
@@ -191,7 +191,7 @@ module _ {sh : Shape} {x : List ℕ} {p : List ℤ} (g : Marked sh x p) {s f l v
   -- a vertex is killed, no half-edge
   kvsf_still : Balanced sh x (kvsf_of s)
   kvsf_still = shown_still
-      (subst (λ t. Shows sh t kd) (sym (kvsf_links_lem o g.capacities)) ky_shows) refl refl (λ i. refl)
+      (subst (λ t. Shows sh t kd) (sym (kvsf_links_lem _ o g.capacities)) ky_shows) refl refl (λ i. refl)
       (λ w i. split w v (λ e. inr (inr (upd_at (own sh x VertexUsed) 0 e)))
       (λ e. inl (upd_off (own sh x VertexUsed) 0 e)))
 
@@ -220,7 +220,7 @@ pub kvsf_holds : (sh : Shape) (x : List ℕ) (p : List ℤ) (o : Operator) → M
 kvsf_holds sh x p o g len e h =
     let k = kvsf_one sh x p o g len e h in
     subst (λ q. Kept sh x p q × (Low sh x q → Undone sh x p q)) (sym k.1)
-    (kvsf_kept g k.3 k.2, λ low. kvsf_undone g k.3 k.2 (rw (kvsf_killed k.3 g.capacities) at low))
+    (kvsf_kept g k.3 k.2, λ low. kvsf_undone g k.3 k.2 (rw (kvsf_killed _ k.3 g.capacities) at low))
 
 -- what they do to starts and marks
 pub mvsf_balanced : (sh : Shape) (x : List ℕ) (p : List ℤ) (o : Operator) → Marked sh x p → length o.args ≡ 8

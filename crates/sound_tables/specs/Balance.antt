@@ -83,7 +83,7 @@ times_none w h = ap bit (eqb_other {m = 0} {n = w} (omega arith))
 
 -- ---- both halves of an edge in use
 
-module _ {sh : Shape} {x : List ℕ} {q : List ℤ} (a : Sound sh q (own sh x)) {k : ℕ} (u : HalfUsed sh (own sh x) k) where
+module _ {sh : Shape} (x : List ℕ) {q : List ℤ} (a : Sound sh q (own sh x)) {k : ℕ} (u : HalfUsed sh (own sh x) k) where
   -- their numbers are in range
   both_in : In (2 * sh.edges) k × In (2 * sh.edges) (mate k)
   both_in = let m = a.rules.mate_in k u in ((u.0, u.1), (m.0, m.1))
@@ -138,8 +138,8 @@ module _ {sh : Shape} {x : List ℕ} {o : Operator}
       → own sh x Start k ≡ 0 → own sh x Start (mate k) ≡ 0
       → ((i : ℕ) → In (2 * sh.edges) i → i ≢ k → i ≢ mate k → own sh (marks_after sh x o) Start i ≡ own sh x Start i)
       → Balanced sh x o
-  made_balanced k el ec a u fk fm = edge_balanced k (both_in a u) (el ∙ (λ t. two (sym fk t) (sym fm t))) ec (inl el)
-      (inl fk, inl fm) (both_used a u)
+  made_balanced k el ec a u fk fm = edge_balanced k (both_in _ a u) (el ∙ (λ t. two (sym fk t) (sym fm t))) ec (inl el)
+      (inl fk, inl fm) (both_used _ a u)
 
   -- it goes: its halves are free
   pub killed_balanced : {q : List ℤ} (k : ℕ) → leave_of sh x o ≡ ends sh x k → come_of sh (marks_after sh x o) o ≡ none
@@ -147,8 +147,8 @@ module _ {sh : Shape} {x : List ℕ} {o : Operator}
       → own sh (marks_after sh x o) Start k ≡ 0 → own sh (marks_after sh x o) Start (mate k) ≡ 0
       → ((i : ℕ) → In (2 * sh.edges) i → i ≢ k → i ≢ mate k → own sh (marks_after sh x o) Start i ≡ own sh x Start i)
       → Balanced sh x o
-  killed_balanced k el ec a u fk fm = edge_balanced k (both_in a u) el (ec ∙ (λ t. two (sym fk t) (sym fm t))) (inr ec)
-      (both_used a u) (inl fk, inl fm)
+  killed_balanced k el ec a u fk fm = edge_balanced k (both_in _ a u) el (ec ∙ (λ t. two (sym fk t) (sym fm t))) (inr ec)
+      (both_used _ a u) (inl fk, inl fm)
 
 -- no half-edge comes or goes, seen through the columns afterwards
 pub shown_still : {sh : Shape} {x : List ℕ} {o : Operator} {d : Columns} → Shows sh (marks_after sh x o) d

@@ -27,7 +27,7 @@ least_cap n p = go (least_from_is n 1 p)
 
 -- ---- what a sound table names
 
-module _ {sh : Shape} {x : List ℕ} {p : List ℤ} (a : Sound sh p (own sh x)) where
+module _ {sh : Shape} (x : List ℕ) {p : List ℤ} (a : Sound sh p (own sh x)) where
   -- a word that is at most m in the records 1 to n: record 0 reads 0
   by_records : (F : Field) (n m : ℕ) → ((k : ℕ) → In n k → own sh x F k ≤ m) → (k : ℕ) → k ≤ n → own sh x F k ≤ m
   by_records F n m f zero h = omega arith

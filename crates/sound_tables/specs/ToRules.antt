@@ -35,7 +35,7 @@ range_is : (c : ℤ) → T (range_test c) → InRange c
 range_is c t = let h = and_T (le_z (negsuc 49999) c) (le_z c (pos 50000)) t in
     (record { le = h.0 }, record { le = h.1 })
 
-module _ {sh : Shape} {x : List ℕ} {p : List ℤ} (a : Sound sh p (own sh x)) where
+module _ {sh : Shape} (x : List ℕ) {p : List ℤ} (a : Sound sh p (own sh x)) where
   -- the columns
   abbrev c : Columns
   c = own sh x

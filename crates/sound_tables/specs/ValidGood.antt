@@ -92,15 +92,15 @@ marked_fits x p g =
 pub good_valid : (x : List ℕ) (p : List ℤ) → Good (shape_of x) x p → Valid x p
 good_valid x p g =
     let sh = shape_of x in
-    let r1 = to_rule1 g.sound in
-    let r2 = to_rule2 g.sound in
-    let r4 = to_rule4 g.sound in
+    let r1 = to_rule1 _ g.sound in
+    let r2 = to_rule2 _ g.sound in
+    let r4 = to_rule4 _ g.sound in
     parts_valid x p (record {
       fits = marked_fits x p (marked g);
       first = T_true ((says_rule1 sh x p).back r1);
       second = T_true ((says_rule2 sh x).back r2);
-      third = T_true ((says_rule3 sh x).back (to_rule3 g.sound));
+      third = T_true ((says_rule3 sh x).back (to_rule3 _ g.sound));
       fourth = T_true ((says_rule4 sh x p r1 r2).back r4);
-      fifth = T_true ((says_rule5 sh x p r1 r2 r4).back (to_rule5 g.sound g.valent));
-      sixth = T_true ((says_rule6 sh x p r1 r2).back (to_rule6 g.sound));
+      fifth = T_true ((says_rule5 sh x p r1 r2 r4).back (to_rule5 _ g.sound g.valent));
+      sixth = T_true ((says_rule6 sh x p r1 r2).back (to_rule6 _ g.sound));
     })

@@ -103,7 +103,7 @@ module _ {sh : Shape} {x y : List ℕ} {p : List ℤ} (o : Operator) (g : Marked
 
     -- the face that a half-edge lies in
     side_same : (i : ℕ) → i ≤ 2 * sh.edges → side sh y i ≡ side sh x i
-    side_same i c = ap (loop_face sh y) (e Loop refl i c) ∙ e Face refl (loop_of sh x i) (loop_cap g.sound i c)
+    side_same i c = ap (loop_face sh y) (e Loop refl i c) ∙ e Face refl (loop_of sh x i) (loop_cap _ g.sound i c)
 
     -- how many loops a face has
     loops_same : (f : ℕ) → loops_in sh y f ≡ loops_in sh x f
@@ -167,7 +167,7 @@ module _ {sh : Shape} {x y : List ℕ} {p : List ℤ} (o : Operator) (g : Marked
     jekv_finds c =
         let sk = e Start refl k ck in
         let nk = e Next refl k ck in
-        let cn = next_cap g.sound k ck in
+        let cn = next_cap _ g.sound k ck in
         let sn = e Start refl (next_of sh x k) cn in
         let nm = e Next refl (mate (next_of sh x k)) (mate_cap (next_of sh x k) sh.edges cn) in
         record {

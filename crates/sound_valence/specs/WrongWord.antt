@@ -79,7 +79,7 @@ module _ {sh : Shape} {x : List ℕ} {p : List ℤ} (g : Good sh x p) (v w : ℕ
 
     -- points of vertices in use may be any
     points_more : (n : ℕ) → 1 ≤ n → n ≤ sh.vertices → VertexRange sh y p n
-    points_more n l u = let r = (to_rule1 g.sound).vertex n l u in record {
+    points_more n l u = let r = (to_rule1 _ g.sound).vertex n l u in record {
       x_range = r.x_range;
       y_range = r.y_range;
       z_range = r.z_range;
@@ -105,10 +105,10 @@ module _ {sh : Shape} {x : List ℕ} {p : List ℤ} (g : Good sh x p) (v w : ℕ
     unfolding broken_rule
     five_broken =
         let a = g.sound in
-        let r1 = rule1_else R.else (to_rule1 a) points_more in
-        let r2 = rule2_else R.else (to_rule1 a) more (to_rule2 a) in
-        let r3 = rule3_else R.else (to_rule1 a) (to_rule3 a) in
-        let r4 = rule4_else R.else (to_rule1 a) (to_rule4 a) in
+        let r1 = rule1_else R.else (to_rule1 _ a) points_more in
+        let r2 = rule2_else R.else (to_rule1 _ a) more (to_rule2 _ a) in
+        let r3 = rule3_else R.else (to_rule1 _ a) (to_rule3 _ a) in
+        let r4 = rule4_else R.else (to_rule1 _ a) (to_rule4 _ a) in
         let five : rule5 sh y ≡ false = ⊎_elim
         (λ e. absurd (not_either (((says_rule5 sh y p r1 r2 r4).out (true_T e)).vertex v i.0 i.1
         (λ z. some (sym at_v ∙ z))))) (λ e. e) (ask (rule5 sh y)) in
@@ -133,7 +133,7 @@ module _ {sh : Shape} {x : List ℕ} {p : List ℤ} (g : Good sh x p) (v w : ℕ
 
     -- then all points are in order
     points_freed : zeros ≡ true → (n : ℕ) → 1 ≤ n → n ≤ sh.vertices → VertexRange sh y p n
-    points_freed t n l u = let r = (to_rule1 g.sound).vertex n l u in record {
+    points_freed t n l u = let r = (to_rule1 _ g.sound).vertex n l u in record {
       x_range = r.x_range;
       y_range = r.y_range;
       z_range = r.z_range;
@@ -163,7 +163,7 @@ module _ {sh : Shape} {x : List ℕ} {p : List ℤ} (g : Good sh x p) (v w : ℕ
     freed_broken = ⊎_elim
         (λ t.
         let two-due : pick zeros 2 1 ≡ 2 = ap (λ b. pick {X = ℕ} b 2 1) t in
-        let r1 = rule1_else R.else (to_rule1 g.sound) (points_freed t) in
+        let r1 = rule1_else R.else (to_rule1 _ g.sound) (points_freed t) in
         let one : rule1 sh y p ≡ true = T_true ((says_rule1 sh y p).back r1) in
         let two : rule2 sh y ≡ false = ⊎_elim (λ e. absurd (not_named ((says_rule2 sh y).out (true_T e))))
         (λ e. e) (ask (rule2 sh y)) in

@@ -2,4 +2,4 @@ use borrow.Author.Rules.{rules}
 use Rattle.euler_surgery.proofs.records.put_face.Goals as goal
 
 pub returns : goal.returns
-returns c = cc
+returns c = rw (c.set_face_outer.ensures, c.set_face_solid.ensures)

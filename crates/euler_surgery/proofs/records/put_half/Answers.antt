@@ -2,4 +2,4 @@ use borrow.Author.Rules.{rules}
 use Rattle.euler_surgery.proofs.records.put_half.Goals as goal
 
 pub returns : goal.returns
-returns c = cc
+returns c = rw (c.set_prev.ensures, c.set_next.ensures, c.set_loop.ensures, c.set_start.ensures)

@@ -2,4 +2,4 @@ use borrow.Author.Rules.{rules}
 use Rattle.euler_surgery.proofs.surgery.tie_halves.Goals as goal
 
 pub returns : goal.returns
-returns c = cc
+returns c = rw (c.set_prev.ensures, c.set_next.ensures)

@@ -4,10 +4,10 @@ use borrow.Author.Rules.{rules}
 use Rattle.euler_valence.proofs.valence.lower_word.Goals as goal
 
 pub returns-then-n-gt0 : goal.returns-then-n-gt0
-returns-then-n-gt0 c = let a = c.before.before.before.args in
+returns-then-n-gt0 c = let a = c.args in
     lower_one a.sh a.links.now a.v _ c.vertex_used-n.ensures.0
     c.set_vertex_used.ensures
 
 pub returns-else-n-gt0 : goal.returns-else-n-gt0
-returns-else-n-gt0 c = let a = c.before.before.before.before.args in
+returns-else-n-gt0 c = let a = c.args in
     lower_none a.sh a.links.now a.v _ c.vertex_used-n.ensures.0 (omega arith)

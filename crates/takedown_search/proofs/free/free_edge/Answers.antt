@@ -2,6 +2,7 @@ use borrow.Author.Rules.{rules}
 use mathlib.Core.Path.{◌≡◌, sym, ap, ◌∙◌}
 use native.Mathlib.Omega.{arith}
 use Prim.Native.Nat.{◌+◌, ◌-◌, ◌≤◌}
+use Rattle.laws.specs.Bools.{eqb_same, eqb_other}
 use Rattle.laws.specs.Search.{least, least_from}
 use Rattle.euler.specs.Scans.{least_all, found_here, found_on, found_none}
 use Prim.Native.Nat.{◌*◌}
@@ -15,7 +16,7 @@ loop-e-init c = (omega arith, omega arith, least_all _ _)
 pub returns-then-free : goal.returns-then-free
 returns-then-free c = (
   found_here _ _ _ _ c.loop-e.invariant.2 (omega arith) (ap (λ u. eqb u 0) (sym
-      c.start_of-free.ensures.0) ∙ c.if-free.true),
+      c.start_of-free.ensures.0) ∙ eqb_same c.if-free.true),
   omega arith,
 )
 
@@ -24,7 +25,7 @@ loop-e-preserved c = (
   omega arith,
   omega arith,
   found_on _ _ _ _ c.loop-e.invariant.2 (omega arith)
-      (ap (λ u. eqb u 0) (sym c.start_of-free.ensures.0) ∙ c.if-free.false),
+      (ap (λ u. eqb u 0) (sym c.start_of-free.ensures.0) ∙ eqb_other c.if-free.false),
 )
 
 pub returns : goal.returns

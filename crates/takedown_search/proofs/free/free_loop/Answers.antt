@@ -1,7 +1,6 @@
 use native.Mathlib.Omega.{arith}
 use Rattle.layout.specs.Fields.{Face}
 use Rattle.euler.specs.Scans.{column_short, least_by}
-use borrow.Author.Rules.{rules}
 use Rattle.takedown_search.proofs.free.free_loop.Goals as goal
 
 pub least_naming_one-requires : goal.least_naming_one-requires

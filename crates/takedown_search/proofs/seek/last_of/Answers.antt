@@ -1,7 +1,6 @@
 use native.Mathlib.Omega.{arith}
 use mathlib.Core.Path.{refl}
 use Rattle.takedown_search.specs.Sought.{last_of, by_last}
-use borrow.Author.Rules.{rules}
 use Rattle.takedown_search.proofs.seek.last_of.Goals as goal
 
 pub returns-in-Solid : goal.returns-in-Solid

@@ -1,4 +1,3 @@
-use borrow.Author.Rules.{rules}
 use mathlib.Core.Path.{ap}
 use Rattle.layout.specs.Items.{some}
 use Rattle.takedown_search.specs.Sought.{passing, by_sought}

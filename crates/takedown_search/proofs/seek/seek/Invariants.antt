@@ -1,12 +1,9 @@
-use borrow.Author.Rules.{rules}
-use native.Mathlib.Omega.{arith}
-use mathlib.Core.Path.{◌≡◌, refl, sym, ap, ◌∙◌}
+use mathlib.Core.Path.{◌≡◌}
 use Prim.Native.Nat.{◌+◌, ◌-◌, ◌≤◌}
 use Rattle.laws.specs.Search.{least_from}
 use Rattle.bounds.specs.Bounds.{most_halves}
-use Rattle.euler.specs.Scans.{found_here, found_on, found_none}
 use Rattle.takedown.specs.Swift as swift
-use Rattle.takedown_search.specs.Sought.{passing, last_of, seek_begins}
+use Rattle.takedown_search.specs.Sought.{passing, last_of}
 use Rattle.takedown_search.proofs.seek.seek.Given as goal
 
 abbrev pub invariant-loop-k : goal.invariant-loop-k

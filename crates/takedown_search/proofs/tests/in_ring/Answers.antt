@@ -1,5 +1,4 @@
 use Rattle.takedown_search.specs.Asked.{in_ring_read}
-use borrow.Author.Rules.{rules}
 use Rattle.takedown_search.proofs.tests.in_ring.Goals as goal
 
 pub returns : goal.returns

@@ -1,5 +1,4 @@
 use Rattle.takedown_search.specs.Sought.{here_crossed, not_here}
-use borrow.Author.Rules.{rules}
 use Rattle.takedown_search.proofs.tests.is_crossed.Goals as goal
 
 pub returns-then-here : goal.returns-then-here

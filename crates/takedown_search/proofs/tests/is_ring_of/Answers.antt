@@ -1,5 +1,4 @@
 use Rattle.takedown_search.specs.Asked.{ring_of_read}
-use borrow.Author.Rules.{rules}
 use Rattle.takedown_search.proofs.tests.is_ring_of.Goals as goal
 
 pub returns : goal.returns

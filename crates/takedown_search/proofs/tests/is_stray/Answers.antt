@@ -1,5 +1,4 @@
 use Rattle.takedown_search.specs.Asked.{stray_read}
-use borrow.Author.Rules.{rules}
 use Rattle.takedown_search.proofs.tests.is_stray.Goals as goal
 
 pub returns : goal.returns

@@ -1,5 +1,4 @@
 use Rattle.takedown_search.specs.Asked.{solid_read}
-use borrow.Author.Rules.{rules}
 use Rattle.takedown_search.proofs.tests.of_solid.Goals as goal
 
 pub returns : goal.returns

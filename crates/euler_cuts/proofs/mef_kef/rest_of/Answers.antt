@@ -1,0 +1,6 @@
+use native.Mathlib.Omega.{arith}
+use borrow.Author.Rules.{rules}
+use Rattle.euler_cuts.proofs.mef_kef.rest_of.Goals as goal
+
+pub returns : goal.returns
+returns c = (cc, omega arith)

@@ -1,0 +1,5 @@
+use borrow.Author.Rules.{rules}
+use Rattle.euler_holes.proofs.holes.give_loop.Goals as goal
+
+pub returns : goal.returns
+returns c = cc

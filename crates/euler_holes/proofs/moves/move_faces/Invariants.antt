@@ -1,0 +1,17 @@
+use borrow.Author.Rules.{rules}
+use mathlib.Core.Path.{◌≡◌}
+use native.Mathlib.Omega.{arith}
+use Prim.Native.Nat.{◌-◌, ◌≤◌}
+use lib.Dec.{eqb}
+use lib.ListN.{length}
+use Rattle.laws.specs.Bools.{pick}
+use Rattle.euler_holes.specs.Moves.{sweep_faces}
+use Rattle.euler_holes.specs.HolesLaws.{sweep_none, sweep_more, sweep_all, move_none}
+use Rattle.euler_holes.proofs.moves.move_faces.Given as goal
+
+abbrev pub invariant-loop-k : goal.invariant-loop-k
+invariant-loop-k l = (l.k ≤ l.n) × (length l.links ≡ length l.initial.links)
+    × (l.links ≡ sweep_faces l.sh l.k (λ f old. pick (eqb old l.s) l.t old) l.initial.links)
+
+abbrev pub decreases-loop-k : goal.decreases-loop-k
+decreases-loop-k l = l.n - l.k

@@ -1,0 +1,15 @@
+use Rattle.euler_spurs.specs.StepLaws.{kev_undone}
+use borrow.Author.Rules.{rules}
+use Rattle.euler_spurs.proofs.mev_kev.kev_inverse.Goals as goal
+
+pub returns : goal.returns
+returns c = kev_undone _ _
+    c.args.points.now _
+    c.mate_of-m.ensures.0
+    c.half_at-a.ensures
+    c.half_at-b.ensures
+    c.choose-h.ensures.0
+    c.edge_of-e.ensures.0
+    c.way_of-w.ensures.0 c.blank.ensures
+    c.with_three-corner.ensures c.with_number.ensures
+    c.with_number-new.ensures c.with_point.ensures
