@@ -134,9 +134,9 @@ module _ {sh : Shape} (b : InOrder sh) {l : ℕ} (i : In sh.loops l) {x : List �
   pub writes_stay : {y : List ℕ} (ws : List Write) → all_free ws ≡ true → Stays sh l x y
       → Stays sh l x (writes sh ws y)
   writes_stay [] t s = s
-  writes_stay (w ∷ ws) t s =
+  writes_stay {y = y} (w ∷ ws) t s =
       let r = and_T (free w.field) (all_free ws) (true_T t) in
-      writes_stay ws (T_true r.1) (free_stays w.field w.item w.value (T_true r.0) s)
+      writes_stay {y = put sh w.field y w.item w.value} ws (T_true r.1) (free_stays w.field w.item w.value (T_true r.0) s)
 
   -- of a face
   pub put_face_stays : {y : List ℕ} (f t m : ℕ) → f ≤ sh.faces → Stays sh l x y → Stays sh l x (put_face sh y f t m)

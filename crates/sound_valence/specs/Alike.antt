@@ -82,7 +82,7 @@ mate_cap : (k c : ℕ) → k ≤ 2 * c → mate k ≤ 2 * c
 mate_cap k c h = split k 0 (λ z. rw (z, mate_even 0 (omega arith)) (omega arith))
     (λ d. (mate_range k c (omega arith) h).1)
 
-module _ {sh : Shape} {x y : List ℕ} {p : List ℤ} (o : Operator) (g : Marked sh x p)
+module _ {sh : Shape} {x : List ℕ} (y : List ℕ) {p : List ℤ} (o : Operator) (g : Marked sh x p)
     (e : SameElse sh (own sh x) (own sh y)) (len : length o.args ≡ 8) (h : refusal_of sh x o ≡ 0) where
   -- the half-edge that is named first
   abbrev k : ℕ

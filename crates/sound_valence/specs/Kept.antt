@@ -82,7 +82,7 @@ free_too {sh} {c = c} {d} a b e v i z = split (c VertexUsed v) 0 (λ f. f) (λ u
 
 -- ---- what an operator finds does not depend on words
 
-module _ {sh : Shape} {x y : List ℕ} {p : List ℤ} (o : Operator) (g : Marked sh x p)
+module _ {sh : Shape} {x : List ℕ} (y : List ℕ) {p : List ℤ} (o : Operator) (g : Marked sh x p)
     (e : SameElse sh (own sh x) (own sh y)) (len : length o.args ≡ 8) (h : refusal_of sh x o ≡ 0) where
   -- the ring's number of kemr
   ring_cap : o.code ≡ 7 → item_of o 1 ≤ sh.loops
@@ -94,11 +94,11 @@ module _ {sh : Shape} {x y : List ℕ} {p : List ℤ} (o : Operator) (g : Marked
   unfolding pattern rows
   finds one = by_thirteen sh x o h
       (λ c. same (rw c)) (λ c. same (rw c)) (λ c. same (rw c))
-      (λ c. kev_finds o g e len h (first_half o g e len h 4 c refl refl) c) (λ c. same (rw c))
-      (λ c. kef_finds o g e len h (first_half o g e len h 6 c refl refl) c)
-      (λ c. kemr_finds o g e len h (first_half o g e len h 7 c refl refl) (ring_cap c) c)
+      (λ c. kev_finds _ o g e len h (first_half _ o g e len h 4 c refl refl) c) (λ c. same (rw c))
+      (λ c. kef_finds _ o g e len h (first_half _ o g e len h 6 c refl refl) c)
+      (λ c. kemr_finds _ o g e len h (first_half _ o g e len h 7 c refl refl) (ring_cap c) c)
       (λ c. same (rw c)) (λ c. same (rw c)) (λ c. same (rw c)) (λ c. same (rw c))
-      (λ c. jekv_finds o g e len h (first_half o g e len h 12 c refl refl) c) (λ c. same (rw c))
+      (λ c. jekv_finds _ o g e len h (first_half _ o g e len h 12 c refl refl) c) (λ c. same (rw c))
     where
       -- where none leaves
       same : leave_of sh x o ≡ none → Finds sh x y o
@@ -163,7 +163,7 @@ module _ {sh : Shape} {x : List ℕ} {p : List ℤ} (o : Operator) (g : Good sh 
 
   -- the operator finds there what it found before
   pub F : Finds sh x x' o
-  F = finds o (marked g) less.else len h one
+  F = finds _ o (marked g) less.else len h one
 
   -- and is accepted
   pub h' : refusal_of sh x' o ≡ 0

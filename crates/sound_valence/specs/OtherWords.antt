@@ -17,7 +17,7 @@ use Rattle.sound_tables.specs.Sound.{HalfUsed, SameElse}
 use Rattle.sound_tables.specs.Good.{own}
 use Rattle.sound_tables.specs.FromRules.{half_used, used_half}
 
-module _ {sh : Shape} {x y : List ℕ} {p : List ℤ} (e : SameElse sh (own sh x) (own sh y)) (r1 : Rule1 sh x p) where
+module _ {sh : Shape} {x : List ℕ} (y : List ℕ) {p : List ℤ} (e : SameElse sh (own sh x) (own sh y)) (r1 : Rule1 sh x p) where
   -- the columns of both
   abbrev c : Columns
   c = own sh x

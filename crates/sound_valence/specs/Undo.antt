@@ -103,7 +103,7 @@ module _ {sh : Shape} {x : List ℕ} {p : List ℤ} (o : Operator) (g : Good sh 
 
   -- it finds in the table with words what it finds in the one with marks
   FI : Finds sh m y I
-  FI = finds I (gm o g len h) S.else (inverse_eight sh x' p o) U.accepted one_y
+  FI = finds _ I (gm o g len h) S.else (inverse_eight sh x' p o) U.accepted one_y
 
   -- one less where half-edges have come: the marks again
   back_m : less_at sh y (leave_of sh y I) ≡ m

@@ -105,10 +105,10 @@ module _ {sh : Shape} {x : List ℕ} {p : List ℤ} (g : Good sh x p) (v w : ℕ
     unfolding broken_rule
     five_broken =
         let a = g.sound in
-        let r1 = rule1_else R.else (to_rule1 _ a) points_more in
-        let r2 = rule2_else R.else (to_rule1 _ a) more (to_rule2 _ a) in
-        let r3 = rule3_else R.else (to_rule1 _ a) (to_rule3 _ a) in
-        let r4 = rule4_else R.else (to_rule1 _ a) (to_rule4 _ a) in
+        let r1 = rule1_else _ R.else (to_rule1 _ a) points_more in
+        let r2 = rule2_else _ R.else (to_rule1 _ a) more (to_rule2 _ a) in
+        let r3 = rule3_else _ R.else (to_rule1 _ a) (to_rule3 _ a) in
+        let r4 = rule4_else _ R.else (to_rule1 _ a) (to_rule4 _ a) in
         let five : rule5 sh y ≡ false = ⊎_elim
         (λ e. absurd (not_either (((says_rule5 sh y p r1 r2 r4).out (true_T e)).vertex v i.0 i.1
         (λ z. some (sym at_v ∙ z))))) (λ e. e) (ask (rule5 sh y)) in
@@ -163,7 +163,7 @@ module _ {sh : Shape} {x : List ℕ} {p : List ℤ} (g : Good sh x p) (v w : ℕ
     freed_broken = ⊎_elim
         (λ t.
         let two-due : pick zeros 2 1 ≡ 2 = ap (λ b. pick {X = ℕ} b 2 1) t in
-        let r1 = rule1_else R.else (to_rule1 _ g.sound) (points_freed t) in
+        let r1 = rule1_else _ R.else (to_rule1 _ g.sound) (points_freed t) in
         let one : rule1 sh y p ≡ true = T_true ((says_rule1 sh y p).back r1) in
         let two : rule2 sh y ≡ false = ⊎_elim (λ e. absurd (not_named ((says_rule2 sh y).out (true_T e))))
         (λ e. e) (ask (rule2 sh y)) in

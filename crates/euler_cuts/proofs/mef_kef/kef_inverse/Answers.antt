@@ -12,7 +12,7 @@ with_three-requires c = (
   omega (arith, c.loop_face-f.ensures.1),
   omega (
     arith,
-    c.half_at-a.ensures.owner-small,
+    c.half_at-a.ensures.owner_small,
   ),
 )
 

@@ -7,7 +7,7 @@ pub put_loop-requires : goal.put_loop-requires
 put_loop-requires c = (
   omega (
     arith,
-    c.half_at-a.ensures.owner-small,
+    c.half_at-a.ensures.owner_small,
   ),
   omega arith,
   omega arith,
@@ -18,8 +18,8 @@ pub renew_loop-requires : goal.renew_loop-requires
 renew_loop-requires c = (
   omega (
     arith,
-    c.half_at-b.ensures.owner-small,
-    c.half_at-a.ensures.owner-small,
+    c.half_at-b.ensures.owner_small,
+    c.half_at-a.ensures.owner_small,
   ),
   omega (
     arith,

@@ -8,7 +8,7 @@ returns-then-s-eq0 c = let a = c.args in
     c.ring_face.ensures
 
 pub returns : goal.returns
-returns c = let a = c.before.before.before.before.before.before.before.before.before.before.before.before.before.before.before.before.before.before.args in
+returns c = let a = c.args in
     mfkrh_leaves a.sh a.links.now a.l a.f a.s
     c.if-s-eq0.false _
     c.link_faces.ensures _ _ _

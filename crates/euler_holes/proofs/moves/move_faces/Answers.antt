@@ -36,7 +36,7 @@ loop-k-preserved c = (
   omega arith,
   omega arith,
   sweep_more
-      c.before.before.before.before.before.before.before.before.before.before.before.before.args.sh _ _
+      c.args.sh _ _
       _
       _ _ _ _ c.loop-k.invariant.2
       c.face_solid-old.ensures.0

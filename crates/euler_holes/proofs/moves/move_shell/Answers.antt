@@ -30,7 +30,7 @@ overflow_add-k-in-loop-k c = omega arith
 
 pub same_shell-here-requires : goal.same_shell-here-requires
 same_shell-here-requires c = record {
-      faces_le_most_items = c.before.before.before.before.before.before.before.requires.0.0;
+      faces_le_most_items = c.requires.faces_le_most_items.0;
       forest = c.loop-k.invariant.2;
     }
 
@@ -51,10 +51,10 @@ loop-k-preserved c = let r = c.same_shell-here.ensures in
       forest_short i.2 r.1,
       same_roots_then i.3 r.1,
       sweep_more
-          c.before.before.before.before.before.before.before.before.before.before.before.before.before.args.sh _ _ _ _ _ _ _ i.4
+          c.args.sh _ _ _ _ _ _ _ i.4
           c.face_solid-old.ensures.0
           (by_root_lem
-          c.before.before.before.before.before.before.before.before.before.before.before.before.before.args.sh i.3 _ _ _ _ _ _ r.0 c.choose-new.ensures.0)
+          c.args.sh i.3 _ _ _ _ _ _ r.0 c.choose-new.ensures.0)
           c.set_face_solid.ensures,
     )
 

@@ -2,4 +2,4 @@ use borrow.Author.Rules.{rules}
 use Rattle.euler_splits.proofs.semv_jekv.insert_after.Goals as goal
 
 pub returns : goal.returns
-returns c = cc
+returns c = rw (c.set_between.ensures, c.put_half.ensures, c.next_of-o.ensures.0)

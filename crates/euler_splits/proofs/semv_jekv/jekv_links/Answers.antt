@@ -4,8 +4,8 @@ use Rattle.euler_splits.proofs.semv_jekv.jekv_links.Goals as goal
 
 pub returns : goal.returns
 returns c = jekv_steps _ _ _ _
-    c.before.before.before.before.before.before.before.before.before.before.before.before.before.before.before.before.before.before.before.before.before.before.before.before.before.before.mate-of.ensures.0
-    c.before.before.before.before.before.before.before.before.before.before.before.before.before.before.before.before.before.before.before.before.before.before.before.before.loop-of.ensures.0
+    c.mate_of-km.ensures.0
+    c.loop_of-l.ensures.0
     c.loop_of-o.ensures.0
     c.start_of-v.ensures.0
     c.loop_first-first.ensures.0

@@ -8,8 +8,8 @@ insert_after-requires-2 c = (
   omega (arith, c.prev_of-p.ensures.1),
   omega (
     arith,
-    c.before.before.before.before.before.before.before.before.before.before.before.before.before.before.before.before.before.before.before.before.mate-of2.ensures.2,
-    c.before.before.before.before.before.before.before.before.before.before.before.before.before.before.before.before.before.before.before.before.before.before.before.requires,
+    c.mate_of-nm.ensures.2,
+    c.requires,
   ),
   omega (
     arith,
@@ -25,11 +25,11 @@ pub set_start-requires : goal.set_start-requires
 set_start-requires c = (
   omega (
     arith,
-    c.before.before.before.before.before.before.before.before.before.before.before.before.before.before.before.before.before.before.before.before.before.before.before.before.before.mate-of.ensures.1,
+    c.mate_of-km.ensures.1,
   ),
   omega (
     arith,
-    c.before.before.before.before.before.before.before.before.before.before.before.before.before.before.before.before.before.before.before.before.before.before.before.before.before.before.before.requires,
+    c.requires,
   ),
 )
 
@@ -37,7 +37,7 @@ pub renew_sides-requires : goal.renew_sides-requires
 renew_sides-requires c = (
   omega (
     arith,
-    c.before.before.before.before.before.before.before.before.before.before.before.before.before.before.before.before.before.before.before.before.before.before.before.before.before.before.loop-of.ensures.1,
+    c.loop_of-l.ensures.1,
   ),
   omega (
     arith,
@@ -45,7 +45,7 @@ renew_sides-requires c = (
   ),
   omega (
     arith,
-    c.before.before.before.before.before.before.before.before.before.before.before.before.before.before.before.before.before.before.before.before.before.before.before.before.before.before.before.before.before.before.before.requires,
+    c.requires,
   ),
 )
 
@@ -53,16 +53,16 @@ pub set_vertex_used-requires : goal.set_vertex_used-requires
 set_vertex_used-requires c = (
   omega (
     arith,
-    c.before.before.before.before.before.before.before.before.before.before.before.before.before.before.before.before.before.before.before.before.before.before.before.before.before.before.before.before.before.before.before.before.before.before.before.requires,
+    c.requires,
   ),
   omega arith,
 )
 
 pub returns : goal.returns
 returns c = semv_steps _ _ _ _ _
-    c.before.before.before.before.before.before.before.before.before.before.before.before.before.before.before.before.before.before.before.before.before.before.before.before.before.before.before.before.before.before.before.before.before.before.before.before.mate-of.ensures.0
-    c.before.before.before.before.before.before.before.before.before.before.before.before.before.before.before.before.before.before.before.before.before.before.before.before.before.before.before.before.before.before.before.before.before.before.before.mate-of2.ensures.0
-    c.before.before.before.before.before.before.before.before.before.before.before.before.before.before.before.before.before.before.before.before.before.before.before.before.before.before.before.before.before.before.before.before.before.loop-of.ensures.0
+    c.mate_of-km.ensures.0
+    c.mate_of-nm.ensures.0
+    c.loop_of-l.ensures.0
     c.loop_of-o.ensures.0
     c.start_of-u.ensures.0
     c.loop_first-first.ensures.0

@@ -1,0 +1,14 @@
+use borrow.Author.Rules.{rules}
+use native.Mathlib.Omega.{arith}
+use mathlib.Core.Path.{◌≡◌, refl}
+use Prim.Native.Nat.{◌<◌}
+use Rattle.takedown.specs.Swift.{least_run}
+use Rattle.takedown_ends.specs.EndsLaws.{run_stop, run_turn, run_out}
+use Rattle.takedown_ends.proofs.walks.least_run.Given as goal
+
+abbrev pub invariant-loop-left : goal.invariant-loop-left
+invariant-loop-left l = (l.j < 65536)
+    × (least_run l.sh l.left l.links l.j l.stop l.least ≡ least_run l.sh l.fuel l.links l.from l.stop l.best)
+
+abbrev pub decreases-loop-left : goal.decreases-loop-left
+decreases-loop-left l = l.left
