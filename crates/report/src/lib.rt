@@ -1,4 +1,5 @@
-// The text that the program prints, and what the texts of programs are put together from.
+// The text that the program prints, what the texts of programs are put together from, and how programs read their
+// input.
 
 #![tactic(auto)]
 
@@ -6,6 +7,8 @@ ghost use Rattle.std.specs.Prelude.{◌≡◌, ◌+◌, ◌≤◌, length};
 ghost use Rattle.std.proofs.lemmas.List.Edits.{sets};
 ghost use Rattle.text.specs.Decimal.{decimal};
 ghost use Rattle.report.specs.Text.{field, answer_line, count_line, text_of, too_long};
+
+pub mod input;
 
 use table::count::CountAnswer;
 

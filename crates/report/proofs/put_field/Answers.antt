@@ -4,7 +4,7 @@ use Rattle.report.proofs.put_field.Goals as goal
 
 pub returns : goal.returns
 returns c = record {
-      value = put_field _ _ _ _ _ _ _ _ c.put_bytes-behind.ensures
+  value = put_field _ _ _ _ _ _ _ _ c.put_bytes-behind.ensures
       c.put_number.ensures.value;
-      upper_bound = omega arith;
-    }
+  upper_bound = omega arith;
+}

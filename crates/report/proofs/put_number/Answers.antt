@@ -8,11 +8,11 @@ put_bytes-requires c = let d = c.decimal-count.ensures in
 
 pub returns : goal.returns
 returns c = let d = c.decimal-count.ensures in record {
-      value = put_digits _ _ _ _ _ _ _ d.len d.digits c.put_bytes.ensures;
-      upper_bound = omega (
+  value = put_digits _ _ _ _ _ _ _ d.len d.digits c.put_bytes.ensures;
+  upper_bound = omega (
     arith,
     d.in_bounds,
     few_digits _ _ d.len
         c.ranges.n.fits,
   );
-    }
+}
