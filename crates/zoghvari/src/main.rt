@@ -4,14 +4,14 @@
 
 mod program;
 
-use libc::{STDIN_FILENO, STDOUT_FILENO};
+use report::input::read_full;
+use std::io;
 
-// `read_full` goes on until the input ends, however small the pieces in which it comes, or until the buffer is full. A
-// read that fails counts as the end of the input: what came before it is run.
-fn main() {
+// A read that fails counts as the end of the input: what came before it is run. A write that fails is main's error.
+fn main(rt: HostRuntime) -> io::Result<()> {
     let mut input = [0u8; 4097];
-    let n = io::read_full(STDIN_FILENO, &mut input);
+    let (n, _) = read_full(&mut rt.stdin(), &mut input);
     let mut out = [0u8; 256];
     let length = program::program(input, n, &mut out);
-    io::write_all(STDOUT_FILENO, &out[..length]);
+    rt.write_all(&out[..length])
 }

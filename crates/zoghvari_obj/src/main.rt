@@ -4,16 +4,16 @@
 
 mod program;
 
-use libc::{STDIN_FILENO, STDOUT_FILENO};
 use program::{LONGEST, ROOM};
+use report::input::read_full;
+use std::io;
 
-// `read_full` goes on until the input ends, however small the pieces in which it comes, or until the buffer is full. A
-// read that fails counts as the end of the input: what came before it is run. The buffer has room for one byte more
-// than may be run: where that byte came too, the input is too long.
-fn main() {
+// A read that fails counts as the end of the input: what came before it is run. A write that fails is main's error. The
+// buffer has room for one byte more than may be run: where that byte came too, the input is too long.
+fn main(rt: HostRuntime) -> io::Result<()> {
     let mut input = [0u8; LONGEST + 1];
-    let n = io::read_full(STDIN_FILENO, &mut input);
+    let (n, _) = read_full(&mut rt.stdin(), &mut input);
     let mut out = [0u8; ROOM];
     let length = program::program(&input[..n], &mut out);
-    io::write_all(STDOUT_FILENO, &out[..length]);
+    rt.write_all(&out[..length])
 }
