@@ -87,7 +87,7 @@ unfolding run_all done_script
 gone_all {n} {w} t [] g = rw (add-zero n, append-nil w) g
 gone_all {n} {w} t (s ∷ ss) g =
     let i = gone_all {n = n + (run_of t s).answer.done} {w = w ++ shorten (take (run_of t s).answer.used s)}
-        (left_by (run_of t s)) ss (gone_run t s g) in
+    (left_by (run_of t s)) ss (gone_run t s g) in
     rw (
       ← add_assoc n (run_of t s).answer.done (run_all (left_by (run_of t s)) ss).done,
       ← append_assoc w (shorten (take (run_of t s).answer.used s)) (done_script (left_by (run_of t s)) ss),
