@@ -26,11 +26,11 @@ LOOPS = re.compile(r"\b(while|loop|for)\b")
 HOLDERS = {"sweep::zoghvari_sweep": "sweep_call::sweep", "sweep_call::sweep": "sessions_entry::run"}
 # the files that define the operators, and what of them may be unfolded
 OPENED = ("EdgeOperators", "FaceOperators", "Surgery", "Steps", "Exec", "Valence")
-READ = {"inverse", "useWord"}
-NAMED = READ | {"limits", "whenUsed", "linksAfter", "pointsAfter", "refusalOf", "mevInverse", "mefInverse"}
+READ = {"inverse", "use_word"}
+NAMED = READ | {"limits", "when_used", "links_after", "points_after", "refusal_of", "mev_inverse", "mef_inverse"}
 DEFINED = re.compile(r"^\s*(?:abbrev |unfoldable )?pub ([^\s:{(]+)", re.M)
 UNFOLDING = re.compile(r"\bunfolding((?:[ \t]+[^\s]+)*[ \t]*(?:\n[ \t]+[^\s=:]+(?:[ \t]+[^\s=:]+)*[ \t]*(?=\n))*)")
-FROM = re.compile(r"Rattle·euler\.specs\.(\w+)(?:\.\{([^}]*)\})?")
+FROM = re.compile(r"\bRattle\.euler\.specs\.(\w+)(?:\.\{([^}]*)\})?")
 COMMENT = re.compile(r"[ \t]*--[^\n]*")
 
 
