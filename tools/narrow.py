@@ -4,9 +4,9 @@
     python3 tools/narrow.py [CRATE]..           breaks them; then `rt fmt` in each crate, and this once more
     python3 tools/narrow.py --check [CRATE]..   only says which there are
 
-A `use` of many names becomes several, any other line goes on in the next one, where the fewest brackets are open, best
-before a sign; a comment behind a line goes before it. No word changes. A line that a must-fail edit names stays whole where the edit's words would be parted;
-such lines, and what else cannot be broken, are printed.
+A `use` of many names becomes several, a comment behind a line goes before it, and any other line goes on in the next
+one, where the fewest brackets are open, best before a sign. No word changes. What a must-fail edit looks for stays in
+one line. Lines that cannot be broken are printed.
 """
 import os
 import re

@@ -15,8 +15,8 @@ def faults(root):
     for path in MADE:
         if os.path.exists(os.path.join(root, path)):
             os.remove(os.path.join(root, path))
-    done = subprocess.run([os.path.join(".", BUILD)], cwd=root, stdout=subprocess.PIPE, stderr=subprocess.STDOUT, text=True,
-                          errors="replace", check=False)
+    done = subprocess.run([os.path.join(".", BUILD)], cwd=root, stdout=subprocess.PIPE, stderr=subprocess.STDOUT,
+                          text=True, errors="replace", check=False)
     said = [] if done.returncode == 0 else [done.stdout, f"{BUILD}: exit status {done.returncode}"]
     return said + [f"{path} was not made" for path in MADE if not os.path.isfile(os.path.join(root, path))]
 

@@ -1,7 +1,8 @@
 """The gate: runs each step, adds up their 'N passed, M failed', and prints the sum as its last line.
 
-A step fails as a whole where it exits with another status than 0, prints no such line as its last one, or counts no test:
-a run that was cut short, or that tested nothing, must not pass for a good one. The step `rt ci` fails too where a must-fail edit counts for nothing.
+A step fails as a whole where it exits with another status than 0, prints no such line as its last one, or counts no
+test: a run that was cut short, or that tested nothing, must not pass for a good one. The step `rt ci` fails too where a
+must-fail edit counts for nothing.
 """
 import re
 import subprocess

@@ -8,7 +8,7 @@ from closing import close
 
 
 def lines(root):
-    """(name, what it uses) of each crate that crates.txt lists; words between the name and the colon say how it is built."""
+    """(name, what it uses) of each crate that crates.txt lists; words behind the name say how it is built."""
     with open(os.path.join(root, "crates.txt"), encoding="utf-8") as f:
         told = [line.split("#")[0].partition(":") for line in f if line.split("#")[0].strip()]
     return [(head.split()[0], set(used.split())) for head, _, used in told]

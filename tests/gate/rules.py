@@ -26,7 +26,7 @@ REACHED = {"runs_run": {"table"}, "runs_move": {"table"}, "takedown_all": {"take
 
 
 def sources(root):
-    """(path, text) of every file of Rattle and of antt, but the rows that the model writes and what a run left in out/."""
+    """(path, text) of every file of Rattle and of antt, but the rows that the model writes and what runs left in out/."""
     for folder, _, names in sorted(os.walk(os.path.join(root, "crates"))):
         if "out" in os.path.relpath(folder, root).split(os.sep):
             continue

@@ -83,7 +83,8 @@ NAMES = ("others::ROW", "others::NONE", "others::Held", "others::Pair", "others:
          "others::gone", "script::Operator", "script::blank")
 USES = "".join(f"use {name};\n" for name in NAMES)
 # the same as groups, one in another
-GROUPED = "use others::{\n    Held, NONE, Pair, ROW, buffer,\n    first, gone,\n};\nuse script::{self, {Operator, blank}};\n"
+GROUPED = ("use others::{\n    Held, NONE, Pair, ROW, buffer,\n    first, gone,\n};\n"
+           "use script::{self, {Operator, blank}};\n")
 
 
 def scratch_faults(code, uses=USES):
@@ -188,7 +189,8 @@ CASES = [
      == ["crates/a/specs/A.antt:1: a record's place"]),
     ("a shape handed on is no place", lambda: rule_faults(
         "crates/a/specs/A.antt", "  half0 = sh.half0;\n", ["a:"]) == []),
-    ("what a run left in out/ is no source", lambda: rule_faults("crates/a/out/A.antt", "x" * 121 + "\n", ["a:"]) == []),
+    ("what a run left in out/ is no source", lambda: rule_faults(
+        "crates/a/out/A.antt", "x" * 121 + "\n", ["a:"]) == []),
     ("a public function with a contract passes", lambda: rule_faults(
         "crates/a/src/lib.rt", "pub fn f() -> u8\n    ensures { result ≡ 1 }\n{\n    1\n}\n", ["a:"]) == []),
     ("a public function without one is named", lambda: rule_faults(
@@ -283,7 +285,8 @@ CASES = [
         walk="k = pass_one(links, k, l); put(links, k, l);")) == 1),
     ("a walk that stores by itself fails", lambda: len(amid_faults(
         walk="k = pass_one(links, k, l); links[k] = l;")) == 1),
-    ("another invariant fails", lambda: len(amid_faults(invariant="(relabel l.sh l.left l.links l.k l.stop l.l ≡ whole)")) == 1),
+    ("another invariant fails", lambda: len(amid_faults(
+        invariant="(relabel l.sh l.left l.links l.k l.stop l.l ≡ whole)")) == 1),
     ("an invariant that says more of other links fails", lambda: all(len(amid_faults(invariant=said)) == 1 for said in (
         WALKED.replace("l.initial.links", "l.links"), WALKED + " -- or so", WALKED.replace("- l.left", "")))),
     ("a sweep that reads and runs passes", lambda: above_faults("runs::enter(links); sessions_entry::run(links);")
