@@ -317,6 +317,9 @@ CASES = [
     ("a proof that unfolds an operator fails", lambda: all(above_faults(unfolded=text)
      == ["crates/sweep_call/specs/A.antt: unfolds of_Surgery".replace("/", os.sep)] for text in (
          "run_of\n    of_Surgery", "Surgery.of_Surgery", "run_of -- so: it is\n    of_Surgery"))),
+    ("code that lets the check unfold an operator fails", lambda: above_faults(
+        more="#[tactic(auto, using(a::b), unfolding(crate::c, euler::specs::Surgery::of_Surgery))]\nfn f() { }\n")
+     == ["crates/sweep_call/src/lib.rt: unfolds of_Surgery".replace("/", os.sep)]),
     ("a name of an operator fails", lambda: above_faults(named="inverse, of_Exec as m")
      == ["crates/sweep_call/specs/A.antt: names of_Exec as m of Exec".replace("/", os.sep)]),
     ("a good step counts", lambda: gate.judge(0, "ok\n3 passed, 0 failed\n") == (3, 0)),
