@@ -1,4 +1,4 @@
-/* The kernel for C and C++: link libkernel.a (made by `rt staticlib kernel`).
+/* The kernel for C and C++: link libkernel.a (made by `tools/build`).
  * Every function takes any bytes whatever: it checks for itself and answers a refusal instead of asking for good input.
  *
  * A slice is a pointer and a count of elements; the pointer may be null where the count is 0. The slices of one call

@@ -1,4 +1,4 @@
-/* The sweep for C and C++, a product above the kernel: link libsweep.a (made by `rt staticlib sweep`), which has this
+/* The sweep for C and C++, a product above the kernel: link libsweep.a (made by `tools/build`), which has this
  * function alone, and libkernel.a for those of zoghvari.h. What zoghvari.h says of slices, of memory that overlaps and
  * of the session holds here. */
 #ifndef ZOGHVARI_SWEEP_H

@@ -1,5 +1,5 @@
 //! Tells the linker where the archives are: in the folder that ZOGHVARI_LIB_DIR names, else in this repository's
-//! target/staticlib, where `rt staticlib kernel` and `rt staticlib sweep` put them.
+//! target/staticlib, where `tools/build` puts them.
 use std::path::PathBuf;
 
 fn main() {
@@ -14,7 +14,7 @@ fn main() {
         let archive = folder.join(format!("lib{name}.a"));
         println!("cargo:rerun-if-changed={}", archive.display());
         if !archive.exists() {
-            panic!("{} is not there; `rt staticlib {name}` makes it", archive.display());
+            panic!("{} is not there; `tools/build {name}` makes it", archive.display());
         }
         println!("cargo:rustc-link-lib=static={name}");
     }

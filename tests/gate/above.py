@@ -26,11 +26,13 @@ LOOPS = re.compile(r"\b(while|loop|for)\b")
 HOLDERS = {"sweep::zoghvari_sweep": "sweep_call::sweep", "sweep_call::sweep": "sessions_entry::run"}
 # the files that define the operators, and what of them may be unfolded
 OPENED = ("EdgeOperators", "FaceOperators", "Surgery", "Steps", "Exec", "Valence")
-READ = {"inverse", "useWord"}
-NAMED = READ | {"limits", "whenUsed", "linksAfter", "pointsAfter", "refusalOf", "mevInverse", "mefInverse"}
+READ = {"inverse", "use_word"}
+NAMED = READ | {"limits", "when_used", "links_after", "points_after", "refusal_of", "mev_inverse", "mef_inverse"}
 DEFINED = re.compile(r"^\s*(?:abbrev |unfoldable )?pub ([^\s:{(]+)", re.M)
 UNFOLDING = re.compile(r"\bunfolding((?:[ \t]+[^\s]+)*[ \t]*(?:\n[ \t]+[^\s=:]+(?:[ \t]+[^\s=:]+)*[ \t]*(?=\n))*)")
-FROM = re.compile(r"Rattle·euler\.specs\.(\w+)(?:\.\{([^}]*)\})?")
+# the same as an attribute of the code, which the check's own tactics obey
+ATTRIBUTE = re.compile(r"\bunfolding\(([^()]*)\)")
+FROM = re.compile(r"\bRattle\.euler\.specs\.(\w+)(?:\.\{([^}]*)\})?")
 COMMENT = re.compile(r"[ \t]*--[^\n]*")
 
 
@@ -140,6 +142,9 @@ def opened(root):
         with open(os.path.join(root, "crates", "euler", "specs", name + ".antt"), encoding="utf-8") as f:
             hidden |= set(DEFINED.findall(f.read()))
     for path, text in rules.sources(root):
+        if path.endswith(".rt") and rules.crate_of(path) in crates:
+            words = {word.strip() for part in ATTRIBUTE.findall(text) for word in re.split(r",|::|\.", part)}
+            bad += [f"{path}: unfolds {word}" for word in sorted(words & (hidden - READ))]
         if path.endswith(".antt") and rules.crate_of(path) in crates:
             looked += 1
             text = COMMENT.sub("", text)

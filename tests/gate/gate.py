@@ -1,21 +1,25 @@
 """The gate: runs each step, adds up their 'N passed, M failed', and prints the sum as its last line.
 
-A step fails as a whole where it exits with another status than 0, prints no such line as its last one, or counts no test:
-a run that was cut short, or that tested nothing, must not pass for a good one.
+A step fails as a whole where it exits with another status than 0, prints no such line as its last one, or counts no
+test: a run that was cut short, or that tested nothing, must not pass for a good one. The step `rt ci` fails too where a
+must-fail edit counts for nothing.
 """
-import os
 import re
 import subprocess
 import sys
 import time
 
 CLOSING = re.compile(r"^(\d+) passed, (\d+) failed$")
+# what `rt ci` says of a good run: the edits that were refused, and the bad ones, which fail nothing there
+GOOD_RUN = re.compile(r"^rt: ok\b.*$", re.M)
+REFUSED, BAD = re.compile(r"\bmust-fail edits: [1-9]\d* refused\b"), re.compile(r", (\d+) bad\b")
 
 
 def steps():
     """Name and command of each step, in order: cheap ones first, so that a slip shows at once.
 
-    `rt ci` starts by removing target/, so what needs the library or the program comes behind it. A step whose file is missing fails.
+    `rt ci` leaves no archive, so what needs one or a program comes behind the step that builds them. A step whose file
+    is missing fails.
     """
     found = [
         ("crates are listed", ["tests/gate/listed.py", "."]),
@@ -31,6 +35,7 @@ def steps():
         ("rows of the examples", ["tests/model/rows.py", "--check"]),
         ("rows of the sweep", ["tests/model/sweep_rows.py", "--check"]),
         ("rt ci", None),
+        ("archives and programs", ["tests/gate/built.py", "."]),
         ("library against model", ["tests/model/compare_library.py"]),
         ("stores of kef, watched", ["tests/model/watch_kef.py"]),
         ("examples and guide", ["tests/examples/run_examples.py"]),
@@ -54,19 +59,24 @@ def judge(status, output):
     return passed, failed
 
 
-def environment():
-    """`rt` starts checks by batches and waits for the last of each: with two for each processor none of them idles long."""
-    return {"RT_JOBS": str(2 * (os.cpu_count() or 1)), **os.environ}
+def judge_proofs(status, output):
+    """The same of `rt ci`: it fails where there are bad edits, or where it does not say that edits were refused."""
+    passed, failed = judge(status, output)
+    said = GOOD_RUN.findall(output)
+    bad = sum(int(count) for line in said for count in BAD.findall(line))
+    if bad > 0 or len(said) != 1 or not REFUSED.search(said[0]):
+        failed = max(failed, bad, 1)
+    return passed, failed
 
 
 def run_step(root, name, command):
     """Runs one step, shows what it prints, and judges it."""
     print(f"== {name}", flush=True)
     began = time.time()
-    done = subprocess.run(command, cwd=root, env=environment(), stdout=subprocess.PIPE, stderr=subprocess.STDOUT,
-                          text=True, errors="replace")
+    done = subprocess.run(command, cwd=root, stdout=subprocess.PIPE, stderr=subprocess.STDOUT, text=True,
+                          errors="replace")
     print(done.stdout, end="" if done.stdout.endswith("\n") else "\n")
-    passed, failed = judge(done.returncode, done.stdout)
+    passed, failed = (judge_proofs if name == "rt ci" else judge)(done.returncode, done.stdout)
     print(f"== {name}: {passed} passed, {failed} failed, {time.time() - began:.0f} s", flush=True)
     return passed, failed
 

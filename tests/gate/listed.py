@@ -7,11 +7,16 @@ sys.path.insert(0, os.path.dirname(os.path.abspath(__file__)))
 from closing import close
 
 
+def lines(root):
+    """(name, what it uses) of each crate that crates.txt lists; words behind the name say how it is built."""
+    with open(os.path.join(root, "crates.txt"), encoding="utf-8") as f:
+        told = [line.split("#")[0].partition(":") for line in f if line.split("#")[0].strip()]
+    return [(head.split()[0], set(used.split())) for head, _, used in told]
+
+
 def listed(root):
     """The names that crates.txt lists."""
-    with open(os.path.join(root, "crates.txt"), encoding="utf-8") as f:
-        lines = [line.split("#")[0].strip() for line in f]
-    return {line.split(":")[0].strip() for line in lines if line}
+    return {name for name, _ in lines(root)}
 
 
 def faults(root):

@@ -6,27 +6,30 @@ import re
 import sys
 
 sys.path.insert(0, os.path.dirname(os.path.abspath(__file__)))
+import listed
 from closing import close
 
 WIDTH = 120
 # where the records of a kind begin: words of `Shape` that only `layout` may look at
-PLACE = re.compile(r"\.\s?(?:face0|loop0|half0|vertex0)\b")
+PLACE = re.compile(r"\.(?:face0|loop0|half0|vertex0)\b")
 # but a shape may be handed on whole
-HANDED = re.compile(r"^\s*(\w+0) = sh \.\1;$")
+HANDED = re.compile(r"^\s*(\w+0) = sh\.\1;$")
 # comments of Rattle; a function's name with what stands before it since the last item; what can stand in its head
 COMMENT = re.compile(r"//[^\n]*|/\*.*?\*/", re.S)
 FUNCTION = re.compile(r"(?P<before>[^{};]*)\bfn\s+(?P<name>\w+)")
 CLAUSE = re.compile(r"\b(requires|ensures)\b|\{")
-# a crate, by its definitions or laws (`Rattle·NAME`), or by its code (`NAME::` at the head of a path)
-NAMED = re.compile(r"Rattle·([a-z_]+)|(?<![:\w·.])([a-z_]+)::")
+# a crate, by its definitions or laws (`Rattle.NAME`), or by its code (`NAME::` at the head of a path)
+NAMED = re.compile(r"\bRattle\.([a-z_]+)|(?<![:\w.])([a-z_]+)::")
 # types of these are reached by way of others, and the checker wants them listed all the same
 REACHED = {"runs_run": {"table"}, "runs_move": {"table"}, "takedown_all": {"takedown_across"},
            "kernel": {"laws", "layout", "euler"}}
 
 
 def sources(root):
-    """(path, text) of every file of Rattle and of antt, but the rows that the model writes."""
+    """(path, text) of every file of Rattle and of antt, but the rows that the model writes and what runs left in out/."""
     for folder, _, names in sorted(os.walk(os.path.join(root, "crates"))):
+        if "out" in os.path.relpath(folder, root).split(os.sep):
+            continue
         for name in sorted(names):
             written = os.path.basename(os.path.dirname(folder)) == "evidence_rows" and name.startswith("Rows")
             if name.endswith(".rt") or (name.endswith(".antt") and not written):
@@ -95,22 +98,20 @@ def uncontracted(path, text):
 
 def dependencies(root):
     """What crates.txt lists for each crate."""
-    with open(os.path.join(root, "crates.txt"), encoding="utf-8") as f:
-        lines = [line.split("#")[0].strip() for line in f]
-    return {line.split(":")[0].strip(): set(line.split(":")[1].split()) for line in lines if line}
+    return dict(listed.lines(root))
 
 
 def undue(root, files):
     """A line for each crate that is listed and not named, or named and not listed."""
-    listed = dependencies(root)
-    named = {name: set() for name in listed}
+    lines = dependencies(root)
+    named = {name: set() for name in lines}
     for path, text in files:
         named.setdefault(crate_of(path), set()).update(a or b for a, b in NAMED.findall(text))
     bad = []
-    for name, others in sorted(listed.items()):
-        ours = {other for other in named[name] if other in listed and other != name}
+    for name, others in sorted(lines.items()):
+        ours = {other for other in named[name] if other in lines and other != name}
         bad += [f"crates.txt: {name} lists {other} and does not name it"
-                for other in sorted((others & set(listed)) - ours - REACHED.get(name, set()))]
+                for other in sorted((others & set(lines)) - ours - REACHED.get(name, set()))]
         bad += [f"crates.txt: {name} names {other} and does not list it" for other in sorted(ours - others)]
     return bad
 

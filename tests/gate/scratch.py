@@ -18,10 +18,10 @@ OPERATOR = "script::Operator"
 PLAIN = {"bool", "u8", "u16", "u32", "u64", "usize", "i8", "i16", "i32", "i64", "isize"}
 KEYWORDS = {"if", "while", "match", "return", "in", "as", "mut", "let", "else", "loop", "for"}
 
-# what a proof reads and the compiler does not
-UNSEEN = re.compile(r"//[^\n]*|\bghost use [^;]*;|⌜[^⌝]*⌝")
-CONTRACT = re.compile(r"\b(?:requires|ensures)\s*\{[^{}]*\}")
-USE = re.compile(r"^\s*(?:pub\s+)?use\s+((?:\w+::)*(\w+));", re.M)
+# what a proof reads and the compiler does not, and attributes; where a clause of a contract begins
+UNSEEN = re.compile(r"//[^\n]*|\bghost use [^;]*;|#!?\[[^\]]*\]")
+CLAUSE = re.compile(r"\b(?:requires|ensures)\b[\s\w*]*(?=\{)")
+USE = re.compile(r"^\s*(?:pub\s+)?use\s+([^;]+);", re.M)
 FUNCTION = re.compile(r"\bfn\s+(\w+)\s*\(([^()]*)\)\s*(?:->\s*([^{]+?))?\s*\{")
 TYPE = re.compile(r"\b(?:struct|enum)\s+(\w+)\s*\{([^{}]*)\}")
 CONSTANT = re.compile(r"\bconst\s+(\w+)\s*:\s*([^=;]*(?:;[^=\]]*\])?)\s*=")
@@ -47,13 +47,45 @@ def body_at(text, start):
     return text[start:]
 
 
+def without_clauses(text):
+    """The text without the clauses of its contracts."""
+    kept, at = [], 0
+    for clause in CLAUSE.finditer(text):
+        if clause.start() >= at:
+            kept.append(text[at:clause.start()])
+            at = clause.end() + len(body_at(text, clause.end()))
+    return "".join(kept) + text[at:]
+
+
+def brought(path, head=""):
+    """(name, full path) of what a `use` brings in: an item, by its name or another, or the items of a group."""
+    path, opened, group = (word.strip() for word in path.partition("{"))
+    if opened:
+        return [item for part in split(group[:group.rindex("}")]) for item in brought(part, head + path)]
+    path, _, name = (word.strip() for word in path.partition(" as "))
+    full = head[:-len("::")] if path == "self" else head + path
+    return [(name or full.rpartition("::")[2], full)]
+
+
+def split(group):
+    """The parts of a group, at its own commas."""
+    parts, depth = [""], 0
+    for char in group:
+        depth += {"{": 1, "}": -1}.get(char, 0)
+        if char == "," and depth == 0:
+            parts.append("")
+        else:
+            parts[-1] += char
+    return [part.strip() for part in parts if part.strip()]
+
+
 def parse(name, text):
     """A source file as the module of this name. `crate` at the head of a path is spelt out."""
-    text = CONTRACT.sub("", UNSEEN.sub("", text))
+    text = without_clauses(UNSEEN.sub("", text))
     text = re.sub(r"\bcrate::", name.split("::")[0] + "::", text)
     functions = {m.group(1): Function(name, [p.strip() for p in m.group(2).split(",") if p.strip()], m.group(3) or "",
                                       body_at(text, m.end() - 1)) for m in FUNCTION.finditer(text)}
-    return Module({m.group(2): m.group(1) for m in USE.finditer(text)}, functions,
+    return Module(dict(item for path in USE.findall(text) for item in brought(path)), functions,
                   {m.group(1): m.group(2) for m in TYPE.finditer(text)},
                   {m.group(1): m.group(2) for m in CONSTANT.finditer(text)})
 

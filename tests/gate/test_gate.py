@@ -67,7 +67,8 @@ def rule_faults(path, text, lines):
 
 
 # crates that the functions below may use: an operator's operands and its making, a helper that lends, a record
-SCRIPT = """pub struct Operator { pub code: u8, pub args: [i32; 8], }
+SCRIPT = """#[derive(Clone, Copy)]
+pub struct Operator { pub code: u8, pub args: [i32; 8], }
 pub fn blank(code: u8) -> Operator { Operator { code, args: [0i32; 8], } }
 """
 OTHERS = """use script::Operator;
@@ -75,18 +76,21 @@ pub const ROW: [u8; 2] = [1, 2];
 pub struct Held { pub words: [u16; 4], }
 pub struct Pair { pub held: Held, pub n: usize, }
 pub const NONE: Held = Held { words: [0u16; 4], };
-pub fn first(s: &[u16]) -> u16 requires { ⌜ length [s; 1] ⌝ } { s[0] }
+pub fn first(s: &[u16]) -> u16 requires { length [s; 1] } ensures one { P (record { a = [b] }) } { s[0] }
 pub fn buffer(s: &[u16]) -> u16 { let t = [0u16; 8]; t[0] }
 """
 NAMES = ("others::ROW", "others::NONE", "others::Held", "others::Pair", "others::first", "others::buffer",
          "others::gone", "script::Operator", "script::blank")
 USES = "".join(f"use {name};\n" for name in NAMES)
+# the same as groups, one in another
+GROUPED = ("use others::{\n    Held, NONE, Pair, ROW, buffer,\n    first, gone,\n};\n"
+           "use script::{self, {Operator, blank}};\n")
 
 
-def scratch_faults(code):
+def scratch_faults(code, uses=USES):
     """What is wrong with each function that f of this code reaches."""
     with tempfile.TemporaryDirectory() as folder:
-        for path, text in (("a/src/b.rt", USES + code), ("script/src/lib.rt", SCRIPT), ("others/src/lib.rt", OTHERS)):
+        for path, text in (("a/src/b.rt", uses + code), ("script/src/lib.rt", SCRIPT), ("others/src/lib.rt", OTHERS)):
             os.makedirs(os.path.dirname(os.path.join(folder, "crates", path)))
             with open(os.path.join(folder, "crates", path), "w", encoding="utf-8") as f:
                 f.write(text)
@@ -101,7 +105,7 @@ def scratch_in(parameters, body):
 ROOT = os.path.dirname(os.path.dirname(os.path.dirname(os.path.abspath(__file__))))
 
 
-WALKED = "(left ≤ fuel) × Walked sh links₀ from stop l (fuel - left) links k"
+WALKED = "(l.left ≤ l.fuel) × Walked l.sh l.initial.links l.from l.stop l.l (l.fuel - l.left) l.links l.k"
 
 
 def amid_faults(turn="put(links, k, l);", walk="k = pass_one(links, k, l);", invariant=WALKED):
@@ -109,7 +113,8 @@ def amid_faults(turn="put(links, k, l);", walk="k = pass_one(links, k, l);", inv
     code = (f"fn put(links: &mut [u16], k: usize, l: u16) {{ links[k] = l; }}\n"
             f"fn pass_one(links: &mut [u16], k: usize, l: u16) -> usize {{ {turn} k }}\n"
             f"fn relabel_steps(links: &mut [u16], mut k: usize, l: u16) {{ while k > 0 {{ {walk} }} }}\n")
-    proof = f"abbrev Inv-loop : T\nInv-loop links₀ sh left = (k ≤ 65536)\n    × {invariant}\n\nabbrev μ-loop : T\n"
+    proof = (f"abbrev pub invariant-loop-left : goal.invariant-loop-left\ninvariant-loop-left l = (l.k ≤ 65536)\n"
+             f"    × {invariant}\n\nabbrev pub decreases-loop-left : goal.decreases-loop-left\n")
     with tempfile.TemporaryDirectory() as folder:
         for path, text in ((os.path.join("crates", "euler_walks", "src", "walks.rt"), code), (amid.PROOF, proof)):
             os.makedirs(os.path.dirname(os.path.join(folder, path)))
@@ -119,17 +124,17 @@ def amid_faults(turn="put(links, k, l);", walk="k = pass_one(links, k, l);", inv
 
 
 
-def above_faults(body="sessions_entry::run(links);", uses="runs sessions_entry", unfolded="runOf", more="",
+def above_faults(body="sessions_entry::run(links);", uses="runs sessions_entry", unfolded="run_of", more="",
                  named="inverse"):
     """What is wrong with a sweep of this body, with these dependencies and further code, whose proof unfolds this and
     names that of the operators."""
     run = "pub fn run(links: &mut [u16]) { links[0] = 1; }\n"
     files = [("sweep_call/src/lib.rt", f"pub fn sweep(links: &mut [u16]) {{ {body} }}\n{more}"),
              ("sweep_call/specs/A.antt",
-              f"use Rattle·euler.specs.Exec.{{{named}}}\nlaw : T\nunfolding {unfolded}\nlaw = refl\n"),
+              f"use Rattle.euler.specs.Exec.{{{named}}}\nlaw : T\nunfolding {unfolded}\nlaw = refl\n"),
              ("sessions_entry/src/lib.rt", run), ("euler_edges/src/lib.rt", run),
              ("runs/src/lib.rt", "pub fn enter(links: &[u16]) {}\n")]
-    files += [(f"euler/specs/{name}.antt", f"unfoldable pub of{name} : T\nof{name} = one\n") for name in above.OPENED]
+    files += [(f"euler/specs/{name}.antt", f"unfoldable pub of_{name} : T\nof_{name} = one\n") for name in above.OPENED]
     with tempfile.TemporaryDirectory() as folder:
         tree(folder, [], ["runs:", "sessions_entry:", "kernel: runs sessions_entry", f"sweep_call: {uses}",
                           "sweep: sweep_call"])
@@ -140,12 +145,19 @@ def above_faults(body="sessions_entry::run(links);", uses="runs sessions_entry",
         return above.faults(folder)[1]
 
 
+def proofs_said(edits):
+    """What `rt ci` prints last where all is proved, with these words on edits."""
+    return (f"rt: x proved\nrt: ok; handles allowed: none{edits}; done in this run: 1 of the 4 proofs\n"
+            "3 passed, 0 failed\n")
+
+
 CASES = [
     ("`rt ci` is a step", lambda: ("rt ci", ["rt", "ci"]) in gate.steps()),
     ("every other step's file is there", lambda: all(os.path.exists(os.path.join(ROOT, command[1]))
                                                      for name, command in gate.steps() if name != "rt ci")),
     ("a step without its file fails", lambda: gate.judge(2, "can't open file 'none.py'\n") == (0, 1)),
     ("listed crates pass", lambda: faults(["a", "b"], ["a:", "b: a"]) == []),
+    ("a static library is listed by its name", lambda: faults(["a", "b"], ["a staticlib: b", "b:"]) == []),
     ("an unlisted crate is named", lambda: faults(["a", "b"], ["a:"]) == ["crates/b: not listed in crates.txt"]),
     ("a commented crate is not listed", lambda: len(faults(["a"], ["# a:"])) == 1),
     ("a listed crate without a folder is named", lambda: len(faults(["a"], ["a:", "b:"])) == 1),
@@ -173,12 +185,14 @@ CASES = [
     ("a row that the model wrote may be wide", lambda: rule_faults(
         "crates/evidence_rows/specs/RowsCuts.antt", "x" * 121 + "\n", ["evidence_rows:"]) == []),
     ("a place in crate layout passes", lambda: rule_faults("crates/layout/src/a.rt", "sh.half0\n", ["layout:"]) == []),
-    ("a place elsewhere fails", lambda: rule_faults("crates/a/specs/A.antt", "kind (sh .half0) 4\n", ["a:"])
+    ("a place elsewhere fails", lambda: rule_faults("crates/a/specs/A.antt", "kind sh.half0 4\n", ["a:"])
      == ["crates/a/specs/A.antt:1: a record's place"]),
     ("a shape handed on is no place", lambda: rule_faults(
-        "crates/a/specs/A.antt", "  half0 = sh .half0;\n", ["a:"]) == []),
+        "crates/a/specs/A.antt", "  half0 = sh.half0;\n", ["a:"]) == []),
+    ("what a run left in out/ is no source", lambda: rule_faults(
+        "crates/a/out/A.antt", "x" * 121 + "\n", ["a:"]) == []),
     ("a public function with a contract passes", lambda: rule_faults(
-        "crates/a/src/lib.rt", "pub fn f() -> u8\n    ensures { λ r. ⌜ r ≡ 1 ⌝ }\n{\n    1\n}\n", ["a:"]) == []),
+        "crates/a/src/lib.rt", "pub fn f() -> u8\n    ensures { result ≡ 1 }\n{\n    1\n}\n", ["a:"]) == []),
     ("a public function without one is named", lambda: rule_faults(
         "crates/a/src/lib.rt", "pub fn f() -> u8 {\n    1\n}\nfn g() -> u8\n    ensures { p }\n{\n}\n", ["a:"])
      == ["crates/a/src/lib.rt: f has no contract"]),
@@ -197,25 +211,37 @@ CASES = [
         "pub extern \"C\" fn f() -> u8\n    ensures { p\n        (record { a = n }) }\n    requires { n }\n{\n}\n",
         "pub extern \"C\" fn f() -> u8\n    ensures { p } requires{ n }\n{\n}\n",
         "pub extern \"C\" fn f() -> u8\n    ensures\n    { p }\n    requires { n }\n{\n}\n",
-        "#[no_mangle] pub fn f() -> u8\n    requires { n }\n    ensures { p }\n{\n}\n"))),
+        "#[unsafe(no_mangle)] pub fn f() -> u8\n    requires { n }\n    ensures { p }\n{\n}\n",
+        "#[unsafe(no_mangle)]\npub extern \"C\" fn f() -> u8\n    ensures one { p }\n    requires two { n }\n{\n}\n"))),
     ("wherever the function stands", lambda: all(len(rule_faults("crates/a/src/lib.rt", text, ["a:"])) == 1 for text in (
         "impl C { pub fn f(self) -> u8 { 1 } }\n",
         "pub\nfn f() -> [u8; 4] {\n    [0; 4]\n}\n",
         "pub fn f() -> u8\n    requires { n } // {\n{\n}\npub fn g() -> u8\n    ensures { p }\n{\n}\n",
         "pub fn f() -> u8\n/*\n    ensures { p }\n*/\n{\n}\n"))),
     ("a clause of its own name passes", lambda: rule_faults(
-        "crates/a/src/lib.rt", "pub fn f() -> u8\n    ensures bounded { λ r. ⌜ r ≡ 1 ⌝ }\n{\n    1\n}\n", ["a:"]) == []),
+        "crates/a/src/lib.rt", "pub fn f() -> u8\n    ensures bounded { result ≡ 1 }\n{\n    1\n}\n", ["a:"]) == []),
     ("a crate that is named has to be listed", lambda: rule_faults(
-        "crates/a/specs/A.antt", "use Rattle·b.specs.B.{c}\n", ["a:", "b:"])
+        "crates/a/specs/A.antt", "use Rattle.b.specs.B.{c}\n", ["a:", "b:"])
+     == ["crates.txt: a names b and does not list it"]),
+    ("also one that is built as a static library", lambda: rule_faults(
+        "crates/a/src/lib.rt", "ghost use Rattle.b.specs.B.{c};\nuse c::{d, e};\n", ["a staticlib: c", "b:", "c:"])
      == ["crates.txt: a names b and does not list it"]),
     ("a crate that is listed has to be named", lambda: rule_faults(
         "crates/a/src/lib.rt", "use b::c;\n", ["a: b c", "b:", "c:"])
      == ["crates.txt: a lists c and does not name it"]),
     ("what is lent and an operator's operands are no scratch memory", lambda: scratch_faults(
         "// let t = [0u16; 8];\npub fn f(s: &mut [u16], t: &[u16; 4], k: usize) -> Operator\n"
-        "    ensures { λ r. ⌜ r ≡ [k] ⌝ }\n{\n    s[k] = t[0];\n    let n = first(s);\n    g(n, &ROW, s.len())\n"
+        "    ensures { result ≡ [k] }\n{\n    s[k] = t[0];\n    let n = first(s);\n    g(n, &ROW, s.len())\n"
         "}\nfn g(n: u16, row: &[u8; 2], k: usize) -> Operator {\n    let mut op = blank(row[0] + ROW[1]);\n"
         "    if (k > 2) & (n == 1) { op.args[0] = 1; }\n    op\n}\n") == {}),
+    ("items of a group are found", lambda: scratch_faults(
+        "fn f(s: &[u16], k: u8) -> Operator { let n = first(s); g(n, &ROW); script::blank(k) }\n"
+        "fn g(n: u16, row: &[u8; 2]) -> Operator { blank(row[0] + ROW[1]) }\n", GROUPED) == {}),
+    ("and looked at", lambda: scratch_faults("fn f(s: &[u16]) -> u16 { buffer(s); gone(s) }\n", GROUPED)
+     == {"a::b::f": ["calls gone, which is not found"], "others::buffer": ["makes an array"]}),
+    ("by the name that they get", lambda: scratch_faults(
+        "fn f(s: &[u16]) -> u16 { first(s) }\n", "use others::{buffer as first, gone};\n")
+     == {"others::buffer": ["makes an array"]}),
     ("an array that is made fails", lambda: scratch_in("", "let t = [0u16; 8];") == ["makes an array"]),
     ("an array of words fails", lambda: scratch_in("k: u16", "first(&[k, k]);") == ["makes an array"]),
     ("an array by its type fails", lambda: scratch_in("", "let t: [u16; 8] = g();\n} fn g() -> u8 { 0")
@@ -259,7 +285,10 @@ CASES = [
         walk="k = pass_one(links, k, l); put(links, k, l);")) == 1),
     ("a walk that stores by itself fails", lambda: len(amid_faults(
         walk="k = pass_one(links, k, l); links[k] = l;")) == 1),
-    ("another invariant fails", lambda: len(amid_faults(invariant="(relabel sh left links k stop l ≡ whole)")) == 1),
+    ("another invariant fails", lambda: len(amid_faults(
+        invariant="(relabel l.sh l.left l.links l.k l.stop l.l ≡ whole)")) == 1),
+    ("an invariant that says more of other links fails", lambda: all(len(amid_faults(invariant=said)) == 1 for said in (
+        WALKED.replace("l.initial.links", "l.links"), WALKED + " -- or so", WALKED.replace("- l.left", "")))),
     ("a sweep that reads and runs passes", lambda: above_faults("runs::enter(links); sessions_entry::run(links);")
      == []),
     ("a sweep that lists operator code fails", lambda: above_faults(uses="euler_edges runs_steps takedown_acts")
@@ -286,16 +315,31 @@ CASES = [
     ("scratch arrays are no tables", lambda: above_faults(more="fn f(a: &mut [u16; ITEM_PLACES]) { a[0] = 1; }\n")
      == []),
     ("a proof that unfolds an operator fails", lambda: all(above_faults(unfolded=text)
-     == ["crates/sweep_call/specs/A.antt: unfolds ofSurgery".replace("/", os.sep)] for text in (
-         "runOf\n    ofSurgery", "Surgery.ofSurgery", "runOf -- so: it is\n    ofSurgery"))),
-    ("a name of an operator fails", lambda: above_faults(named="inverse, ofExec as m")
-     == ["crates/sweep_call/specs/A.antt: names ofExec as m of Exec".replace("/", os.sep)]),
+     == ["crates/sweep_call/specs/A.antt: unfolds of_Surgery".replace("/", os.sep)] for text in (
+         "run_of\n    of_Surgery", "Surgery.of_Surgery", "run_of -- so: it is\n    of_Surgery"))),
+    ("code that lets the check unfold an operator fails", lambda: above_faults(
+        more="#[tactic(auto, using(a::b), unfolding(crate::c, euler::specs::Surgery::of_Surgery))]\nfn f() { }\n")
+     == ["crates/sweep_call/src/lib.rt: unfolds of_Surgery".replace("/", os.sep)]),
+    ("a name of an operator fails", lambda: above_faults(named="inverse, of_Exec as m")
+     == ["crates/sweep_call/specs/A.antt: names of_Exec as m of Exec".replace("/", os.sep)]),
     ("a good step counts", lambda: gate.judge(0, "ok\n3 passed, 0 failed\n") == (3, 0)),
     ("a failed test fails the step", lambda: gate.judge(1, "2 passed, 1 failed\n") == (2, 1)),
     ("a bad exit status fails the step", lambda: gate.judge(1, "3 passed, 0 failed\n") == (3, 1)),
     ("no closing line fails the step", lambda: gate.judge(0, "3 passed, 0 failed\nkilled\n") == (0, 1)),
     ("no output fails the step", lambda: gate.judge(0, "") == (0, 1)),
     ("no test fails the step", lambda: gate.judge(0, "0 passed, 0 failed\n") == (0, 1)),
+    ("proofs with their edits refused pass", lambda: gate.judge_proofs(0, proofs_said("; must-fail edits: 5 refused"))
+     == (3, 0)),
+    ("bad edits fail the proofs", lambda: gate.judge_proofs(0, proofs_said("; must-fail edits: 5 refused, 2 bad"))
+     == (3, 2)),
+    ("also beside edits that a limit refused", lambda: gate.judge_proofs(0, proofs_said(
+        "; must-fail edits: 5 refused, 1 of them only by a limit, 12 bad")) == (3, 12)),
+    ("no edit fails the proofs", lambda: gate.judge_proofs(0, proofs_said("")) == (3, 1)),
+    ("edits that are all bad fail the proofs", lambda: gate.judge_proofs(0, proofs_said(
+        "; must-fail edits: 0 refused, 1 bad")) == (3, 1)),
+    ("proofs that do not end well fail", lambda: gate.judge_proofs(1, "rt: FAILED: k\n2 passed, 1 failed\n") == (2, 1)),
+    ("proofs without their line fail", lambda: gate.judge_proofs(0, "3 passed, 0 failed\n") == (3, 1)),
+    ("proofs that were cut short fail", lambda: gate.judge_proofs(0, "rt: ok; must-fail edits: 5 refused\n") == (0, 1)),
 ]
 
 

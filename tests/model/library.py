@@ -16,16 +16,24 @@ BATCH, SECONDS, LOST = 500, 120, 5
 
 
 def newest_source():
-    """The time of the last change under crates/."""
-    files = [os.path.join(folder, name) for folder, _, names in os.walk(os.path.join(ROOT, "crates")) for name in names]
-    return max(os.path.getmtime(path) for path in files)
+    """The time of the last change under crates/, of what `rt` keeps in their out/ aside."""
+    times = []
+    for folder, folders, names in os.walk(os.path.join(ROOT, "crates")):
+        folders[:] = [name for name in folders if name != "out"]
+        times += [os.path.getmtime(os.path.join(folder, name)) for name in names]
+    return max(times)
+
+
+def build(name):
+    """Makes an archive or a program, by tools/build."""
+    subprocess.run([os.path.join(ROOT, "tools", "build"), name], check=True, stdout=subprocess.DEVNULL)
 
 
 def archive(name="kernel"):
     """The archive of the kernel or of "sweep"; made where it is missing or older than the code it is made of."""
     path = os.path.join(ARCHIVES, f"lib{name}.a")
     if not os.path.exists(path) or os.path.getmtime(path) < newest_source():
-        subprocess.run(["rt", "staticlib", name], cwd=ROOT, check=True, stdout=subprocess.DEVNULL)
+        build(name)
     return path
 
 

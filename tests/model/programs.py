@@ -6,7 +6,7 @@ import time
 from collections import Counter, namedtuple
 
 from generate import seeded
-from library import ROOT, newest_source
+from library import ROOT, build, newest_source
 from tally import Tally
 
 SECONDS = 20
@@ -20,7 +20,7 @@ def built(name):
     """The program's path; proved and made where it is missing or older than the code it is made of."""
     path = os.path.join(ROOT, "target", "bin", name)
     if not os.path.exists(path) or os.path.getmtime(path) < newest_source():
-        subprocess.run(["rt", "check", name], cwd=ROOT, check=True, stdout=subprocess.DEVNULL)
+        build(name)
     return path
 
 

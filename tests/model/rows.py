@@ -25,10 +25,9 @@ from script import NO_OPERATOR, PATTERNS, Operator, limits_of, operands_of, oper
 from tally import Tally
 
 USES = [
-    "use mathlib.Core.List.{List, [], _∷_}",
-    "use lib.IntN.{pos, negsuc}",
-    "use Rattle·euler.specs.Exec.{Table}",
-    "use Rattle·evidence_rows·specs.specs.Row.{Row, table, operation, accepts, refuses}",
+    "use Rattle.std.specs.Prelude.{List, [], ◌∷◌, pos, negsuc}",
+    "use Rattle.euler.specs.Exec.{Table}",
+    "use Rattle.evidence_rows.specs.Row.{Row, table, operation, accepts, refuses}",
 ]
 CRATES = os.path.join(os.path.dirname(os.path.abspath(__file__)), "..", "..", "crates")
 FOLDER = os.path.join(CRATES, "evidence_rows", "specs")
@@ -37,7 +36,7 @@ SHORTENED = os.path.join(CRATES, "evidence_cases", "specs", "Shortened.antt")
 SAMPLE = re.compile(r"\bsample \(([^()]*)\) \(([^()]*)\) (true|false)")
 # Links, points, and what the check answers of them.
 CHECKED = os.path.join(CRATES, "table", "specs", "Examples.antt")
-CHECKED_ROW = re.compile(r"\brow \(([^()]*)\) (zeroPoints|\([^()]*\)) (\d+) (\d+)")
+CHECKED_ROW = re.compile(r"\brow \(([^()]*)\) (zero_points|\([^()]*\)) (\d+) (\d+)")
 
 # Tables and misuses
 
@@ -174,7 +173,7 @@ def family_file(tally, family):
     for name, (words, capacities, script) in family.tables.items():
         body += ["", f"-- {words}: " + ("; ".join(script) or "cleared"), f"abbrev {name} : Table",
                  f"{name} = {written_table(*tables[name])}"]
-    body += ["", f"-- {family.title}", f"abbrev pub {family.name}Rows : List Row", f"{family.name}Rows ="]
+    body += ["", f"-- {family.title}", f"abbrev pub {family.name}_rows : List Row", f"{family.name}_rows ="]
     for place, (comment, parts) in enumerate(rows):
         body += [comment, ("    " if place == 0 else "    ∷ ") + parts[0]] + parts[1:]
     body += ["    ∷ []"]
@@ -227,7 +226,7 @@ def compare_checked(tally):
     tally.equal("each rule is there", {rule for _, _, _, rule in found}, set("0123456"))
     for links, points, refusal, rule in found:
         words = [int(word) for word in re.findall(r"\d+", links)]
-        place = [0] * 6 if points == "zeroPoints" else [int(word) for word in re.findall(r"pos (\d+)", points)]
+        place = [0] * 6 if points == "zero_points" else [int(word) for word in re.findall(r"pos (\d+)", points)]
         tally.equal(f"check of {words} {place}", check(words, place), (int(refusal), int(rule)))
 
 

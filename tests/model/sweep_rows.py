@@ -37,22 +37,22 @@ TABLES = (
      FAR_RING),
     ("turned", "the same with loop 2 as the outer loop and loop 1 as the ring", (1, 5, 6, 10, 8),
      FAR_RING + ("rmov 2 1",)),
-    ("loneRing", "an edge, and a lone vertex as a ring of the same face", (1, 3, 4, 6, 5),
+    ("lone_ring", "an edge, and a lone vertex as a ring of the same face", (1, 3, 4, 6, 5),
      (SPUR, "mev 1 2 2 3 0 20 0 0", "kemr 3 2")),
     ("others", "an edge, and in another solid a lone vertex far away", (2, 4, 4, 5, 6),
      (SPUR, "mvsf 2 2 2 3 49000 0 0")),
-    ("farBeside", "the round edge, with an edge to a vertex far away in its second face", (1, 4, 4, 6, 4),
+    ("far_beside", "the round edge, with an edge to a vertex far away in its second face", (1, 4, 4, 6, 4),
      ("mef 1 0 0 1 2 2 0", "mev 2 2 2 2 0 45000 0 0")),
-    ("fewFaces", "the one edge, with one face too few", (1, 2, 3, 5, 4), (SPUR,)),
-    ("fewLoops", "with one loop too few", (1, 3, 2, 5, 4), (SPUR,)),
-    ("fewEdges", "with one edge too few", (1, 3, 3, 4, 4), (SPUR,)),
-    ("fewVertices", "with one vertex too few", (1, 3, 3, 5, 3), (SPUR,)),
+    ("few_faces", "the one edge, with one face too few", (1, 2, 3, 5, 4), (SPUR,)),
+    ("few_loops", "with one loop too few", (1, 3, 2, 5, 4), (SPUR,)),
+    ("few_edges", "with one edge too few", (1, 3, 3, 4, 4), (SPUR,)),
+    ("few_vertices", "with one vertex too few", (1, 3, 3, 5, 3), (SPUR,)),
 )
 UP = (0, 0, 500)
-LIFTING = re.compile(r"\(lifting (\w+) (\w+) ≡ ((?:(?:mev|mef)At [^∷]*∷ )+\[\])\)")
+LIFTING = re.compile(r"\(lifting (\w+) (\w+) ≡ ((?:(?:mev|mef)_at [^∷]*∷ )+\[\])\)")
 REFUSING = re.compile(r"\(refusing (\w+) (\w+) (\d+) (\d+) (up|\(vector [^≡]*\)) ≡ (\d+)\)")
-LEAST = re.compile(r"(?:LeastNew|\(allLeast) \(shapeOf (\w+)\) (\w+) (\((?:mev|mef)At (?:[^()]|\([^()]*\))*\))"
-                   r"(?: \(pattern \d+ \.kinds\) 0 ≡ (false)\))?")
+LEAST = re.compile(r"(?:LeastNew|\(all_least) \(shape_of (\w+)\) (\w+) (\((?:mev|mef)_at (?:[^()]|\([^()]*\))*\))"
+                   r"(?: \(pattern \d+\)\.kinds 0 ≡ (false)\))?")
 CALL = re.compile(r"Sweeps (\w+) (\w+) \(([\d∷ ]*)\[\]\) (\d+) \(starts (\d+) (\d+)\) (\d+) "
                   r"(\([a-z]+ \d+\) \([a-z]+ \d+\) \([a-z]+ \d+\)) "
                   r"\(answered (\d+) (\d+) (\d+) \(starts (\d+) (\d+)\)\) \(([\d∷ ]*)\[\]\) "
@@ -61,9 +61,9 @@ CALL = re.compile(r"Sweeps (\w+) (\w+) \(([\d∷ ]*)\[\]\) (\d+) \(starts (\d+) 
 
 # What the rows ask, in Rows.antt before the first of them.
 ASKED = """abbrev up : Vector up = vector (pos 0) (pos 0) (pos 500)
-abbrev lifting : List ℕ → List ℤ → List Operator lifting x p = sweepOps (shapeOf x) x p 1 up
+abbrev lifting : List ℕ → List ℤ → List Operator lifting x p = sweep_ops (shape_of x) x p 1 up
 abbrev refusing : List ℕ → List ℤ → ℕ → ℕ → Vector → ℕ
-refusing x p start f v = sweepRefusal (shapeOf x) x p start f v"""
+refusing x p start f v = sweep_refusal (shape_of x) x p start f v"""
 
 
 def made(capacities, script):
@@ -89,19 +89,19 @@ def signed(text):
 
 def tables_text():
     lines = ["-- Written by tests/model/sweep_rows.py: small tables to be swept, as the independent model makes them.",
-             "use mathlib.Core.List.{List, [], _∷_}", "use Prim.Native.Nat.{ℕ}", "use lib.IntN.{ℤ, pos}"]
+             "use Rattle.std.specs.Prelude.{List, [], ◌∷◌, ℕ, ℤ, pos}"]
     for name, comment, capacities, script in TABLES:
         links, points = made(capacities, script)
         lines += ["", f"-- {comment}; capacities {', '.join(map(str, capacities))}", f"abbrev pub {name} : List ℕ",
-                  f"{name} = " + " ∷ ".join(map(str, links)) + " ∷ []", "", f"abbrev pub {name}At : List ℤ",
-                  f"{name}At = " + " ∷ ".join(map(said, points)) + " ∷ []"]
+                  f"{name} = " + " ∷ ".join(map(str, links)) + " ∷ []", "", f"abbrev pub {name}_at : List ℤ",
+                  f"{name}_at = " + " ∷ ".join(map(said, points)) + " ∷ []"]
     return "\n".join(lines) + "\n"
 
 
 def operators_said(text):
     """The operators of a row, as codes and operands."""
     found = []
-    for kind, words in re.findall(r"(mev|mef)At ([^∷]*)∷", text):
+    for kind, words in re.findall(r"(mev|mef)_at ([^∷]*)∷", text):
         plain, points = re.sub(r"\([^)]*\)", "", words).split(), signed(words)
         numbers = list(map(int, plain)) + ([0] + points if kind == "mev" else [])
         found.append((3 if kind == "mev" else 5, tuple(numbers)))
@@ -111,10 +111,10 @@ def operators_said(text):
 def check_rows(tally, text):
     tables = {name: made(capacities, script) for name, _, capacities, script in TABLES}
     for links, points, operators in LIFTING.findall(text):
-        done = swept(tables[links][0], tables[points[:-2]][1], 1, UP).operators
+        done = swept(tables[links][0], tables[points[:-3]][1], 1, UP).operators
         tally.equal(f"operators of {links}", [(op.code, op.args[:op.count]) for op in done], operators_said(operators))
     for links, points, start, face, vector, refusal in REFUSING.findall(text):
-        lent = [list(tables[links][0]), list(tables[points[:-2]][1]), bytearray(int(start)), bytearray()]
+        lent = [list(tables[links][0]), list(tables[points[:-3]][1]), bytearray(int(start)), bytearray()]
         answer = sweep(*lent, Session(int(start), 0), int(face), *(UP if vector == "up" else signed(vector)))
         tally.equal(f"refusal of {links}, {start} bytes, face {face}, {vector}", answer.refusal, int(refusal))
     for links, same, said_least, wrong in LEAST.findall(text):
@@ -130,7 +130,7 @@ def check_call(tally, tables, call):
     """A call with every byte. Of the redo log the row has the length alone."""
     name, points, log, redo, *rest = call
     start, first, face = map(int, rest[:3])
-    links, at, log = list(tables[name][0]), list(tables[points[:-2]][1]), bytearray(map(int, re.findall(r"\d+", log)))
+    links, at, log = list(tables[name][0]), list(tables[points[:-3]][1]), bytearray(map(int, re.findall(r"\d+", log)))
     session = Session(start, first)
     answer = sweep(links, at, log, bytearray(int(redo)), session, face, *signed(rest[3]))
     tally.equal(f"call on {name}: answer", [*answer, session.log, session.redo], list(map(int, rest[4:9])))
@@ -149,9 +149,9 @@ def main(words):
     with open(os.path.join(FOLDER, "Rows.antt"), encoding="utf-8") as f:
         text = " ".join(re.sub(r"--[^\n]*", "", f.read()).split())
     text = text[text.index("abbrev up"):]
-    tally.equal("what the rows ask", text[:text.index("pub operators-as-said")].split(), ASKED.split())
-    rows = text[text.index("pub operators-as-said"):]
-    asked = len(re.findall(r"\b(?:lifting|refusing|Sweeps|sweepOps|sweepRefusal|LeastNew|allLeast) [(\w]",
+    tally.equal("what the rows ask", text[:text.index("pub operators_as_said")].split(), ASKED.split())
+    rows = text[text.index("pub operators_as_said"):]
+    asked = len(re.findall(r"\b(?:lifting|refusing|Sweeps|sweep_ops|sweep_refusal|LeastNew|all_least) [(\w]",
                            re.sub(r"\bunfolding [^=]*", "", rows)))
     seen = sum(len(row.findall(rows)) for row in (LIFTING, REFUSING, LEAST, CALL))
     tally.equal("every row is looked at", seen, asked)
