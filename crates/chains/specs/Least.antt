@@ -1,6 +1,7 @@
 -- NEW NUMBERS THE LEAST FREE (document 02, jobs 7 and 9): what that says of an operator at a table, by the kinds of its
 -- operands; and why the j-th number that is free at the call is the least once j are taken.
-use Rattle.std.specs.Prelude.{◌≡◌, ◌≢◌, ◌⊎◌, Bool, true, false, not, ◌&&◌, ◌||◌, List, [], ◌∷◌, ℕ, zero, suc, ◌+◌, ◌≤◌, ◌<◌, eqb, get_or}
+use Rattle.std.specs.Prelude.{◌≡◌, ◌≢◌, ◌⊎◌, Bool, true, false, not, ◌&&◌, ◌||◌, List, [], ◌∷◌, ℕ, zero, suc, ◌+◌, ◌≤◌}
+use Rattle.std.specs.Prelude.{◌<◌, eqb, get_or}
 use Rattle.std.proofs.Common.{ap, ◌∙◌, inl, inr, ⊎_elim, arith}
 use Rattle.laws.specs.Bools.{split, le?, eqb_same, eqb_other, true_T, false_T}
 use Rattle.laws.specs.Search.{least, least_unique}

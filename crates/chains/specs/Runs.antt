@@ -35,7 +35,8 @@ script_long {sh} v {x = x} (first {os} o len acc r) =
 
 -- THE RUN OF A LIST OF OPERATORS that are accepted one after the other, on a table that passes the check, with room for
 -- their inverses
-pub path_run : (t : State) {y : List ℕ} {q : List ℤ} {os : List Operator} → (entry t).refusal ≡ 0 → Good (shape_of t.links) t.links t.points
+pub path_run : (t : State) {y : List ℕ} {q : List ℤ} {os : List Operator} → (entry t).refusal ≡ 0
+    → Good (shape_of t.links) t.links t.points
     → Path (shape_of t.links) y q os t.links t.points
     → room_of (length os) (shape_of t.links) (write_script os) t.links t.points ≤ t.start
     → Builds y q (length os) (length (write_script os)) (run_of t (write_script os))

@@ -26,7 +26,8 @@ module _ (sh : Shape) (x : List ℕ) (n : ℕ) where
   half_links_is v l a b f back forth m end start next low ev el ea eb ef ek eh em ee es en ew =
       rw (ef, ek, eh, ee, em, es, en, ew, ev, el, ea, eb)
 
-  pub first_names_is : (k l : ℕ) → k ≡ loop_first sh x n → l ≡ loop_of sh x k → where_some k (eqb l n) ≡ first_names sh x n
+  pub first_names_is : (k l : ℕ) → k ≡ loop_first sh x n → l ≡ loop_of sh x k
+      → where_some k (eqb l n) ≡ first_names sh x n
   unfolding first_names
   first_names_is k l ek el = rw (el, ek)
 

@@ -24,7 +24,8 @@ unfolding goes_with
 with_none a b r e h = h ∙ rw (eqb_same e)
 
 -- the three axes are looked at
-pub point_in_lem : (p : List ℤ) (n i j k : ℕ) (a b d : Bool) → a ≡ in_range p n i → b ≡ in_range p n j → d ≡ in_range p n k
+pub point_in_lem : (p : List ℤ) (n i j k : ℕ) (a b d : Bool) → a ≡ in_range p n i → b ≡ in_range p n j
+    → d ≡ in_range p n k
     → i ≡ 0 → j ≡ 1 → k ≡ 2 → every (a ∷ b ∷ d ∷ []) ≡ point_in p n
 unfolding point_in
 point_in_lem p n i j k a b d ea eb ed z o t = rw (ea, eb, ed, z, o, t)
@@ -35,7 +36,8 @@ unfolding point_free
 free_used p n u f = rw (eqb_other f)
 
 -- that of a free one is zero
-pub free_zero : (p : List ℤ) (n u : ℕ) (a b d : Bool) → u ≡ 0 → a ≡ is_zero p n 0 → b ≡ is_zero p n 1 → d ≡ is_zero p n 2
+pub free_zero : (p : List ℤ) (n u : ℕ) (a b d : Bool) → u ≡ 0 → a ≡ is_zero p n 0 → b ≡ is_zero p n 1
+    → d ≡ is_zero p n 2
     → every (a ∷ b ∷ d ∷ []) ≡ point_free p n u
 unfolding point_free
 free_zero p n u a b d e ea eb ed = rw (ea, eb, ed, eqb_same e)
@@ -58,7 +60,8 @@ module _ (sh : Shape) (x : List ℕ) (n : ℕ) where
   unfolding loop_range goes_with
   loop_range_is f k v p q ef ek ev ep eq = rw (ep, eq, ef, ek, ev)
 
-  pub half_range_is : (v l a b m k : ℕ) → v ≡ start_of sh x n → l ≡ loop_of sh x n → a ≡ next_of sh x n → b ≡ prev_of sh x n
+  pub half_range_is : (v l a b m k : ℕ) → v ≡ start_of sh x n → l ≡ loop_of sh x n → a ≡ next_of sh x n
+      → b ≡ prev_of sh x n
       → m ≡ mate n → k ≡ start_of sh x m
       → every
       (leb v sh.vertices ∷ leb l sh.loops ∷ leb a (2 * sh.edges) ∷ leb b (2 * sh.edges)

@@ -9,7 +9,8 @@ use Rattle.laws.specs.Sums.{count_to}
 use Rattle.laws.specs.Walks.{meets}
 use Rattle.laws.specs.Closure.{linkedb}
 use Rattle.layout.specs.declared.shape.Shape.{Shape}
-use Rattle.layout.specs.Layout.{solid_used, face_solid, face_outer, loop_face, loop_first, loop_isolated, start_of, loop_of}
+use Rattle.layout.specs.Layout.{solid_used, face_solid, face_outer, loop_face, loop_first, loop_isolated, start_of}
+use Rattle.layout.specs.Layout.{loop_of}
 use Rattle.layout.specs.Layout.{next_of, prev_of, vertex_used, side}
 use Rattle.layout.specs.Mate.{mate}
 use Rattle.layout.specs.Points.{in_range, is_zero}
@@ -85,7 +86,8 @@ unfoldable pub loop_names : Shape → List ℕ → ℕ → Bool
 loop_names sh x l =
     where_some (loop_face sh x l)
     (every
-    (some (face_solid sh x (loop_face sh x l)) ∷ where_some (loop_first sh x l) (some (start_of sh x (loop_first sh x l)))
+    (some (face_solid sh x (loop_face sh x l))
+    ∷ where_some (loop_first sh x l) (some (start_of sh x (loop_first sh x l)))
     ∷ where_some (loop_isolated sh x l) (some (vertex_used sh x (loop_isolated sh x l))) ∷ []))
 
 unfoldable pub half_names : Shape → List ℕ → ℕ → Bool
@@ -122,7 +124,8 @@ half_links sh x k =
     where_some (start_of sh x k)
     (every
     (eqb (prev_of sh x (next_of sh x k)) k ∷ eqb (next_of sh x (prev_of sh x k)) k
-    ∷ eqb (start_of sh x (next_of sh x k)) (start_of sh x (mate k)) ∷ eqb (loop_of sh x (next_of sh x k)) (loop_of sh x k)
+    ∷ eqb (start_of sh x (next_of sh x k)) (start_of sh x (mate k))
+    ∷ eqb (loop_of sh x (next_of sh x k)) (loop_of sh x k)
     ∷ some (loop_first sh x (loop_of sh x k)) ∷ leb (loop_first sh x (loop_of sh x k)) k ∷ []))
 
 -- first is one of those that name the loop
@@ -177,7 +180,8 @@ rule5 sh x = every (all_to sh.vertices (vertex_either sh x) ∷ all_to (2 * sh.e
 -- neighbours sharing an edge
 
 unfoldable pub half_sides : Shape → List ℕ → ℕ → Bool
-half_sides sh x k = where_some (start_of sh x k) (eqb (face_solid sh x (side sh x k)) (face_solid sh x (side sh x (mate k))))
+half_sides sh x k = where_some (start_of sh x k)
+    (eqb (face_solid sh x (side sh x k)) (face_solid sh x (side sh x (mate k))))
 
 -- faces f and g are linked: g is reached from f across edges in use, edge e having the sides of 2e − 1 and 2e
 abbrev pub linked : Shape → List ℕ → ℕ → ℕ → Bool

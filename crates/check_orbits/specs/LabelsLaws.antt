@@ -67,7 +67,8 @@ most_bump b a c i m e = record { at = λ j. rw e (bound j) }
   where
     bound : (j : ℕ) → get_or (set a i (get_or a i 0 + 1)) j 0 ≤ b + 1
     bound j =
-        split j i (λ q. rw q (same (m.at i))) (λ d. omega (arith, get_or-set_other a i j (get_or a i 0 + 1) 0 d, m.at j))
+        split j i (λ q. rw q (same (m.at i)))
+        (λ d. omega (arith, get_or-set_other a i j (get_or a i 0 + 1) 0 d, m.at j))
       where
         same : get_or a i 0 ≤ b → get_or (set a i (get_or a i 0 + 1)) i 0 ≤ b + 1
         same h = ⊎_elim (λ l. rw (set_out a i (get_or a i 0 + 1) l) (omega arith))
@@ -95,13 +96,15 @@ module _ (f : ℕ → ℕ) (v : ℕ) where
   least_found (suc n) a r long l u t h = split r (suc n)
       (λ e.
       let q : f (suc n) ≡ v = ap f (sym e) ∙ eqb→eq (f r) v (true_T t) in
-      least_kept n (set a (f (suc n)) (suc n)) (λ j b c. h j b (omega arith)) ∙ rw q (get_or-set_same a v (suc n) 0 long)
+      least_kept n (set a (f (suc n)) (suc n)) (λ j b c. h j b (omega arith))
+      ∙ rw q (get_or-set_same a v (suc n) 0 long)
       ∙ sym e)
       (λ d. least_found n (set a (f (suc n)) (suc n)) r (omega (arith, length-set a (f (suc n)) (suc n))) l
       (omega arith) t h)
 
 -- each label's entry, 0 at first, is the least that names it, or 0
-pub least_naming_lem : (f : ℕ → ℕ) (n v : ℕ) (a : List ℕ) → v < length a → get_or a v 0 ≡ 0 → get_or (least_naming f n a) v 0
+pub least_naming_lem : (f : ℕ → ℕ) (n v : ℕ) (a : List ℕ) → v < length a → get_or a v 0 ≡ 0
+    → get_or (least_naming f n a) v 0
     ≡ least n (λ k. eqb (f k) v)
 least_naming_lem f n v a long z = go (least_from_is n 1 (λ k. eqb (f k) v))
   where

@@ -1,7 +1,8 @@
 -- The linear test says what the readable one does: each half-edge in use is met from its label's representative. The
 -- labels are the loops, along "next", and the vertices, along "next of the mate". What has to hold of the links
 -- beforehand is stated as records.
-use Rattle.std.specs.Prelude.{◌≡◌, refl, ◌≢◌, Bool, true, false, not, List, ℕ, zero, suc, ◌*◌, ◌≤◌, T, eqb, get_or, replicate}
+use Rattle.std.specs.Prelude.{◌≡◌, refl, ◌≢◌, Bool, true, false, not, List, ℕ, zero, suc, ◌*◌, ◌≤◌, T, eqb, get_or}
+use Rattle.std.specs.Prelude.{replicate}
 use Rattle.std.proofs.Math.Path.{ap}
 use Rattle.std.proofs.Common.{◌∙◌, arith, eqb→eq}
 use Rattle.std.proofs.Math.Dec.{eqb_refl, not_T}

@@ -23,7 +23,8 @@ use Rattle.check_items.specs.declared.scan.Test.TheVariants.{SolidRange, FaceRan
 use Rattle.check_items.specs.declared.scan.Test.TheVariants.{FaceNames, LoopNames, HalfNames, LoopEither, HalfLinks}
 use Rattle.check_items.specs.declared.scan.Test.TheVariants.{FirstNames, HalfSides}
 use Rattle.check_rules.specs.declared.labels.LabelTest.TheVariants.{SolidNames, VertexEither}
-use Rattle.check_items.specs.Rules.{rule1, solid_names, rule2, half_links, first_names, half_in_loop, rule4, vertex_either}
+use Rattle.check_items.specs.Rules.{rule1, solid_names, rule2, half_links, first_names, half_in_loop, rule4}
+use Rattle.check_items.specs.Rules.{vertex_either}
 use Rattle.check_items.specs.Rules.{half_at_vertex, rule5, half_sides, face_linked, rule6, broken_rule, rule3}
 use Rattle.check_items.specs.Scan.{item_test}
 use Rattle.check_rules.specs.Labels.{label_test}

@@ -2,7 +2,8 @@
 -- rules 4 to 6 the parts that look at one item are here, and the cycles and chains in CyclesSay.
 use Rattle.std.specs.Prelude.{◌≡◌, ◌≢◌, ◌⊎◌, List, ℕ, ◌+◌, ◌*◌, ◌≤◌, ℤ, pos, negsuc, ◌≤ℤ◌}
 use Rattle.layout.specs.declared.shape.Shape.{Shape}
-use Rattle.layout.specs.Layout.{solid_used, face_solid, face_outer, loop_face, loop_first, loop_isolated, start_of, loop_of}
+use Rattle.layout.specs.Layout.{solid_used, face_solid, face_outer, loop_face, loop_first, loop_isolated, start_of}
+use Rattle.layout.specs.Layout.{loop_of}
 use Rattle.layout.specs.Layout.{next_of, prev_of, vertex_used, side}
 use Rattle.layout.specs.Mate.{mate}
 use Rattle.layout.specs.Points.{coordinate, range_test, zero_test}
@@ -10,7 +11,8 @@ use Rattle.layout.specs.Items.{face_in}
 use Rattle.check_rules.specs.Says.{Says, reword, says_le, says_eq, says_some, says_le_z, says_and, says_or}
 use Rattle.check_rules.specs.Says.{says_where, says_all, last, more, says_every}
 use Rattle.check_items.specs.Rules.{together, only_with, solid_range, face_range, loop_range, half_range}
-use Rattle.check_items.specs.Rules.{vertex_range, rule1, solid_names, face_names, loop_names, half_names, rule2, loop_either}
+use Rattle.check_items.specs.Rules.{vertex_range, rule1, solid_names, face_names, loop_names, half_names, rule2}
+use Rattle.check_items.specs.Rules.{loop_either}
 use Rattle.check_items.specs.Rules.{rule3, half_links, first_names, isolated_in, starts_at, vertex_either, half_sides}
 
 -- ---- small statements
@@ -287,7 +289,8 @@ module _ (sh : Shape) (x : List ℕ) where
       (more (says_eq (loop_of sh x (next_of sh x k)) (loop_of sh x k))
       (more (says_some (loop_first sh x (loop_of sh x k))) (last (says_le (loop_first sh x (loop_of sh x k)) k)))))))))
 
-  pub says_first_names : (l : ℕ) → Says (first_names sh x l) (loop_first sh x l ≢ 0 → loop_of sh x (loop_first sh x l) ≡ l)
+  pub says_first_names : (l : ℕ)
+      → Says (first_names sh x l) (loop_first sh x l ≢ 0 → loop_of sh x (loop_first sh x l) ≡ l)
   unfolding first_names
   says_first_names l = says_where (loop_first sh x l) (says_eq (loop_of sh x (loop_first sh x l)) l)
 
@@ -296,7 +299,8 @@ module _ (sh : Shape) (x : List ℕ) where
   -- a vertex in use: its word, and isolated in one loop or with half-edges
   pub record VertexEither (v : ℕ) : Type 0 where
     pub word : vertex_used sh x v ≡ 1 + starts_at sh x v
-    pub either : ((isolated_in sh x v ≡ 1) × (starts_at sh x v ≡ 0)) ⊎ ((isolated_in sh x v ≡ 0) × (starts_at sh x v ≢ 0))
+    pub either : ((isolated_in sh x v ≡ 1) × (starts_at sh x v ≡ 0))
+        ⊎ ((isolated_in sh x v ≡ 0) × (starts_at sh x v ≢ 0))
 
   pub says_vertex_either : (v : ℕ) → Says (vertex_either sh x v) (vertex_used sh x v ≢ 0 → VertexEither v)
   unfolding vertex_either

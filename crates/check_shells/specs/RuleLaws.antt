@@ -106,7 +106,8 @@ module _ (sh : Shape) (x : List ℕ) (d : Sided sh x (side sh x)) where
   least_face s = least sh.faces (λ f. eqb (face_solid sh x f) s)
 
   -- with the least face of each solid for its leader it is the second part of rule 6
-  pub whole_is : (ls : List ℕ) → ((f : ℕ) → 1 ≤ f → f ≤ sh.faces → face_solid sh x f ≢ 0 → get_or ls (face_solid sh x f) 0
+  pub whole_is : (ls : List ℕ)
+      → ((f : ℕ) → 1 ≤ f → f ≤ sh.faces → face_solid sh x f ≢ 0 → get_or ls (face_solid sh x f) 0
       ≡ least_face (face_solid sh x f))
       → shells_whole sh x ls
       ≡ all_to sh.faces (λ f. eqb (face_solid sh x f) 0 || by_use sh x (side sh x) (least_face (face_solid sh x f)) f)

@@ -1,5 +1,6 @@
 -- Operands written from the last to the first, so that their bytes end before a place.
-use Rattle.std.specs.Prelude.{◌≡◌, refl, ℕ, zero, suc, ◌+◌, ◌-◌, ◌*◌, ◌≤◌, ◌<◌, true, List, [], ◌∷◌, ◌++◌, map, length, get_or, drop, set, ℤ, pos, eqb}
+use Rattle.std.specs.Prelude.{◌≡◌, refl, ℕ, zero, suc, ◌+◌, ◌-◌, ◌*◌, ◌≤◌, ◌<◌, true, List, [], ◌∷◌, ◌++◌, map, length}
+use Rattle.std.specs.Prelude.{get_or, drop, set, ℤ, pos, eqb}
 use Rattle.std.proofs.Common.{sym, ap, ◌∙◌, ⊎_elim, add-zero, add-suc, suc-add, arith, length-append, eq-eqb}
 use Rattle.std.proofs.lemmas.List.Edits.{sets}
 use Rattle.std.proofs.lemmas.List.{set_comm}
@@ -131,7 +132,8 @@ module _ (ks : List ℕ) (xs : List ℤ) (p : length ks ≡ 8) (q : length xs �
   pub last_none : behind n ≡ []
   last_none = none_behind n ks (wires ks xs) (wires_length ks xs (omega arith)) f
 
-  module _ (i w : ℕ) (h : 0 < i) (k : i ≤ n) (e : w ≡ wire (get_or ks (i - 1) 0) (get_or xs (i - 1) (pos 0))) (end from : ℕ)
+  module _ (i w : ℕ) (h : 0 < i) (k : i ≤ n) (e : w ≡ wire (get_or ks (i - 1) 0) (get_or xs (i - 1) (pos 0)))
+      (end from : ℕ)
       (fits : length (operands_bytes ks (wires ks xs)) ≤ end) (g : from ≡ end - length (behind i)) where
     bytes_last : behind (i - 1) ≡ groups w ++ behind i
     bytes_last =

@@ -1,6 +1,8 @@
 -- Laws of the operands: which codes there are, and what is read and stored of one operand.
-use Rattle.std.specs.Prelude.{◌≡◌, ◌⊎◌, ℕ, zero, suc, ◌+◌, ◌*◌, ◌≤◌, ◌<◌, List, [], ◌∷◌, ◌++◌, take, drop, set, leb, eqb, Bool, true, false, ℤ, pos, negsuc}
-use Rattle.std.proofs.Common.{sym, ◌∙◌, inl, inr, ⊎_elim, append_assoc, append-nil, drop_of_length-le, drop-cons, take-suc-set, take_all, add-one}
+use Rattle.std.specs.Prelude.{◌≡◌, ◌⊎◌, ℕ, zero, suc, ◌+◌, ◌*◌, ◌≤◌, ◌<◌, List, [], ◌∷◌, ◌++◌, take, drop, set, leb}
+use Rattle.std.specs.Prelude.{eqb, Bool, true, false, ℤ, pos, negsuc}
+use Rattle.std.proofs.Common.{sym, ◌∙◌, inl, inr, ⊎_elim, append_assoc, append-nil, drop_of_length-le, drop-cons}
+use Rattle.std.proofs.Common.{take-suc-set, take_all, add-one}
 use native.Mathlib.Omega.{arith}
 use Rattle.std.proofs.Math.ListN.{length, get_or, get_or-eq_default}
 use borrow.Author.Tests.{lt-ltb, le-ltb, lt-leb, eq-eqb, ne_eqb}

@@ -1,6 +1,7 @@
 -- Operands: what is written is read back; what is read is what would be written, in whatever form it stands; and the
 -- same is read from the shortest form.
-use Rattle.std.specs.Prelude.{◌≡◌, refl, ℕ, suc, ◌+◌, ◌*◌, ◌≤◌, true, List, [], ◌∷◌, ◌++◌, length, get_or, drop, ℤ, pos, negsuc, eqb}
+use Rattle.std.specs.Prelude.{◌≡◌, refl, ℕ, suc, ◌+◌, ◌*◌, ◌≤◌, true, List, [], ◌∷◌, ◌++◌, length, get_or, drop, ℤ, pos}
+use Rattle.std.specs.Prelude.{negsuc, eqb}
 use Rattle.std.proofs.Common.{sym, ap, ◌∙◌, ⊎_elim, add-zero, add_assoc, arith, append_assoc, length-append}
 use Rattle.laws.specs.Bools.{ask, same?}
 use Rattle.numbers.specs.declared.Num.{Num}
@@ -172,7 +173,8 @@ operands_same (k ∷ ks) s u a b e =
         → ((c d : ℕ) → drop d u ≡ shorten (drop c s) → read_operands ks u d ≡ Short d ks (read_operands ks s c))
         → on_num (on_num x (λ n next. Got n (b + length (operand_bytes k n))) Bad)
         (λ n mid. on_numbers (read_operands ks u mid) (λ ms end. Read (n ∷ ms) end) Cut) Cut
-        ≡ Short b (k ∷ ks) (on_num x (λ n mid. on_numbers (read_operands ks s mid) (λ ms end. Read (n ∷ ms) end) Cut) Cut)
+        ≡ Short b (k ∷ ks) (on_num x (λ n mid. on_numbers (read_operands ks s mid) (λ ms end. Read (n ∷ ms) end) Cut)
+        Cut)
     one (Got n mid) f rest =
         let c : ℕ = b + length (operand_bytes k n) in
         rw (rest mid c (alike_behind (operand_pads k n s a mid f) u b e))

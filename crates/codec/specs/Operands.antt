@@ -1,5 +1,6 @@
 -- The operands of each code: what kind of item each names, its range, and the number it travels as.
-use Rattle.std.specs.Prelude.{ℕ, zero, suc, ◌+◌, ◌*◌, ◌/◌, ◌%◌, ◌<◌, Bool, true, false, List, [], ◌∷◌, length, get_or, ℤ, pos, negsuc, ltb, leb, eqb}
+use Rattle.std.specs.Prelude.{ℕ, zero, suc, ◌+◌, ◌*◌, ◌/◌, ◌%◌, ◌<◌, Bool, true, false, List, [], ◌∷◌, length, get_or}
+use Rattle.std.specs.Prelude.{ℤ, pos, negsuc, ltb, leb, eqb}
 use Rattle.laws.specs.Bools.{pick}
 use Rattle.bounds.specs.Bounds.{most_items}
 use Rattle.codec.specs.declared.Limits.{Limits}
@@ -123,7 +124,13 @@ largests lim =
 
 -- the limits of an operator that is read or written without a table
 abbrev pub widest : Limits
-widest = record { solids = most_items; faces = most_items; loops = most_items; edges = most_items; vertices = most_items }
+widest = record {
+  solids = most_items;
+  faces = most_items;
+  loops = most_items;
+  edges = most_items;
+  vertices = most_items;
+}
 
 -- is the number n, as it travels, in range (5); `most` has the largest of each kind
 -- (of a number that is no kind, as of `unused`, only 0)

@@ -14,10 +14,12 @@ pub not_true : {X : Type 0} → ◌≡◌ {A = Bool} false true → X
 not_true e = absurd (let z : ◌≡◌ {A = ℕ} 0 1 = cc in omega arith)
 
 -- a number in range lies between the least and the largest of its kind
-pub range_between : (most : List ℕ) (k n : ℕ) → in_range most k n ≡ true → (get_or leasts k 0 ≤ n) × (n ≤ get_or most k 0)
+pub range_between : (most : List ℕ) (k n : ℕ) → in_range most k n ≡ true
+    → (get_or leasts k 0 ≤ n) × (n ≤ get_or most k 0)
 unfolding in_range
 range_between most k n e =
-    ⊎_elim (λ t. not_true (rw t at e)) (λ t. (ltb-false n (get_or leasts k 0) t, leb-true n (get_or most k 0) (rw t at e)))
+    ⊎_elim (λ t. not_true (rw t at e))
+    (λ t. (ltb-false n (get_or leasts k 0) t, leb-true n (get_or most k 0) (rw t at e)))
     (ask (ltb n (get_or leasts k 0)))
 
 pub between_range : (most : List ℕ) (k n : ℕ) → get_or leasts k 0 ≤ n → n ≤ get_or most k 0 → in_range most k n ≡ true

@@ -1,5 +1,6 @@
 -- Signed numbers as the machine holds them, and as they travel.
-use Rattle.std.specs.Prelude.{◌≡◌, refl, ℕ, zero, suc, ◌+◌, ◌-◌, ◌*◌, ◌/◌, ◌%◌, ◌^◌, ◌<◌, Bool, true, false, ℤ, pos, negsuc, ◌-ℤ◌}
+use Rattle.std.specs.Prelude.{◌≡◌, refl, ℕ, zero, suc, ◌+◌, ◌-◌, ◌*◌, ◌/◌, ◌%◌, ◌^◌, ◌<◌, Bool, true, false, ℤ, pos}
+use Rattle.std.specs.Prelude.{negsuc, ◌-ℤ◌}
 use Rattle.std.proofs.Common.{ap, ◌∙◌, zero-add, arith, SFits, to_z, of_z}
 use Rattle.std.proofs.Math.Decide.{ℕ_discrete}
 use Rattle.std.specs.Int.Signed.{lt_z}

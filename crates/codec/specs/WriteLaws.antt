@@ -36,7 +36,8 @@ module _ (ks ns : List ℕ) (i : ℕ) (p : length ks ≡ 8) (q : length ns ≡ 8
   bytes_next h = rw (ahead ks i 0 (omega arith), ahead ns i 0 (omega arith))
 
   pub size_next : i < 8 → length (operands_bytes (drop i ks) (drop i ns))
-      ≡ length (operand_bytes (get_or ks i 0) (get_or ns i 0)) + length (operands_bytes (drop (i + 1) ks) (drop (i + 1) ns))
+      ≡ length (operand_bytes (get_or ks i 0) (get_or ns i 0))
+      + length (operands_bytes (drop (i + 1) ks) (drop (i + 1) ns))
   size_next h =
       rw (bytes_next h) (length-append (operand_bytes (get_or ks i 0) (get_or ns i 0))
       (operands_bytes (drop (i + 1) ks) (drop (i + 1) ns)))

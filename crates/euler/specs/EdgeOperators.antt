@@ -168,7 +168,8 @@ kef_steps sh x k =
     ∷ Store (cleared face_kind (side sh x k))  -- k's face is killed
     ∷ Store (cleared loop_kind (loop_of sh x k))  -- and its loop
     -- the first of the mate's loop anew; it is lone at k's start where nothing is left
-    ∷ Renew (loop_of sh x (mate k)) (lower (first_by sh x k) (first_by sh x (mate k))) (kef_rest sh x k) (start_of sh x k)
+    ∷ Renew (loop_of sh x (mate k)) (lower (first_by sh x k) (first_by sh x (mate k))) (kef_rest sh x k)
+    (start_of sh x k)
     ∷ []
 
 unfoldable pub kef_links : Shape → List ℕ → ℕ → List ℕ

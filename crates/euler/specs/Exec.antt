@@ -7,7 +7,8 @@ use Rattle.script.specs.declared.Operator.{Operator}
 use Rattle.codec.specs.Operands.{pattern, largests, in_ranges}
 use Rattle.script.specs.Operator.{numbers_of, blank_of}
 use Rattle.layout.specs.declared.shape.Shape.{Shape}
-use Rattle.layout.specs.Layout.{solid_used, face_solid, face_outer, loop_face, loop_isolated, start_of, next_of, vertex_used}
+use Rattle.layout.specs.Layout.{solid_used, face_solid, face_outer, loop_face, loop_isolated, start_of, next_of}
+use Rattle.layout.specs.Layout.{vertex_used}
 use Rattle.layout.specs.Mate.{mate}
 use Rattle.layout.specs.Items.{face_in}
 use Rattle.euler.specs.Surgery.{item_of, half_by, put_point, point_to}
@@ -54,7 +55,8 @@ range_refusal sh o =
 -- the words that tell whether item n is in use, the operand kinds in order; a new edge by its second half
 abbrev pub use_words : Shape → List ℕ → ℕ → List ℕ
 use_words sh x n =
-    0 ∷ solid_used sh x n ∷ solid_used sh x n ∷ solid_used sh x n ∷ face_solid sh x n ∷ face_solid sh x n ∷ loop_face sh x n
+    0 ∷ solid_used sh x n ∷ solid_used sh x n ∷ solid_used sh x n ∷ face_solid sh x n ∷ face_solid sh x n
+    ∷ loop_face sh x n
     ∷ loop_face sh x n
     ∷ start_of sh x (2 * n) ∷ start_of sh x n ∷ start_of sh x n ∷ vertex_used sh x n ∷ []
 

@@ -120,7 +120,8 @@ mfkrh_test sh x l f s = every (
 -- l is the outer loop of f, in the solid of its old face
 abbrev pub ring_steps : Shape → List ℕ → ℕ → ℕ → List Step
 ring_steps sh x l f =
-    Store (face_record f (face_solid sh x (loop_face sh x l)) l)  -- f is a face of the same solid, with l for outer loop
+    -- f is a face of the same solid, with l for outer loop
+    Store (face_record f (face_solid sh x (loop_face sh x l)) l)
     ∷ assign Face l f  -- l is a loop of f
     ∷ []
 

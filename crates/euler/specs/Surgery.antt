@@ -1,7 +1,8 @@
 -- What the operators share: operands, corners, an edge going in, an edge coming out, a run given another loop, a loop's
 -- first anew.
 -- `sh` is the table's shape, `x` its links. Walks carry fuel; on a sound table that cuts nothing off.
-use Rattle.std.specs.Prelude.{ℕ, zero, suc, ◌+◌, ◌-◌, ◌*◌, ◌%◌, Bool, ◌&&◌, ◌||◌, List, [], ◌∷◌, ◌++◌, eqb, leb, ltb, ℤ, pos, length, get_or, set}
+use Rattle.std.specs.Prelude.{ℕ, zero, suc, ◌+◌, ◌-◌, ◌*◌, ◌%◌, Bool, ◌&&◌, ◌||◌, List, [], ◌∷◌, ◌++◌, eqb, leb, ltb, ℤ}
+use Rattle.std.specs.Prelude.{pos, length, get_or, set}
 use Rattle.laws.specs.Bools.{pick}
 use Rattle.laws.specs.Permutations.{iter}
 use Rattle.bounds.specs.Bounds.{most_halves}
@@ -85,7 +86,8 @@ with_operand o i c = record { code = o.code; count = o.count; args = set o.args 
 
 -- an operator with the point of vertex v for operands i, i + 1, i + 2
 abbrev pub with_point : Operator → ℕ → List ℤ → ℕ → Operator
-with_point o i p v = with_operand (with_operand (with_operand o i (coordinate p v 0)) (i + 1) (coordinate p v 1)) (i + 2)
+with_point o i p v = with_operand (with_operand (with_operand o i (coordinate p v 0)) (i + 1) (coordinate p v 1))
+    (i + 2)
     (coordinate p v 2)
 
 -- ---- operators as records

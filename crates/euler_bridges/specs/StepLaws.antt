@@ -43,7 +43,8 @@ unfolding mekr_test
 mekr_tests sh x l h1 l2 h2 ef eg es er e1 e2 = rw (e2, e1, er, es, eg, ef)
 
 pub mekr_edge_steps : (sh : Shape) (x : List ℕ) (l h1 l2 h2 k : ℕ) {m u v p q n1 p1 n2 p2 : ℕ} {x1 : List ℕ}
-    → m ≡ mate k → u ≡ corner_vertex sh x l h1 → v ≡ corner_vertex sh x l2 h2 → p ≡ prev_of sh x h1 → q ≡ prev_of sh x h2
+    → m ≡ mate k → u ≡ corner_vertex sh x l h1 → v ≡ corner_vertex sh x l2 h2 → p ≡ prev_of sh x h1
+    → q ≡ prev_of sh x h2
     → n1 ≡ pick (eqb h2 0) m h2 → p1 ≡ pick (eqb h1 0) m p → n2 ≡ pick (eqb h1 0) k h1 → p2 ≡ pick (eqb h2 0) k q
     → x1 ≡ edge_in sh x k u l n1 p1 v l n2 p2
     → x1 ≡ mekr_in sh x l h1 l2 h2 k

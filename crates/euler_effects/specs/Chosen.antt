@@ -41,7 +41,8 @@ pub jekv_found : (sh : Shape) (x : List ℕ) (k : ℕ) {n : ℕ} {r : List ℕ} 
 jekv_found sh x k e er = er ∙ ap (jekv_links sh x k) e
 
 module _ (sh : Shape) (x : List ℕ) (code : ℕ) (args : List ℤ) where
-  pub marks_at : (k : ℕ) (r : List ℕ) → code ≡ k → r ≡ links_at k sh x args → r ≡ marks_after sh x (operator_by code args)
+  pub marks_at : (k : ℕ) (r : List ℕ) → code ≡ k → r ≡ links_at k sh x args
+      → r ≡ marks_after sh x (operator_by code args)
   unfolding marks_after
   marks_at k r e g = by_code (links_by sh x (item_in args)) x code k _ r e refl g
 

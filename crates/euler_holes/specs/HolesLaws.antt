@@ -13,7 +13,8 @@ use Rattle.layout.specs.Items.{is_ring}
 use Rattle.check_shells.specs.Shells.{side_as, one_root, faces_linked_as, Shells}
 use Rattle.check_shells.specs.ShellsLaws.{one_root_short}
 use Rattle.euler.specs.Queries.{loops_in}
-use Rattle.euler.specs.FaceOperators.{move_faces, kfmrh_test, kfmrh_links, linked_after, ring_face, mfkrh_test, mfkrh_links}
+use Rattle.euler.specs.FaceOperators.{move_faces, kfmrh_test, kfmrh_links, linked_after, ring_face, mfkrh_test}
+use Rattle.euler.specs.FaceOperators.{mfkrh_links}
 use Rattle.euler_holes.specs.Moves.{sweep_faces, by_root, move_shell, join_solids, give_loop}
 
 -- ---- face after face
@@ -50,7 +51,8 @@ move_none sh x s t e = sym (sweep_same _ _ sh.faces _ x (λ k v. own v))
     own v = split v s (λ q. rw (eqb_same q) (sym (q ∙ e))) (λ q. rw (eqb_other q))
 
 -- what the parents answer after their paths were shortened is what they answered first
-pub by_root_lem : (sh : Shape) {p q : List ℕ} → SameRoots p q → (f s g old w : ℕ) (b : Bool) → b ≡ one_root sh.faces q f g
+pub by_root_lem : (sh : Shape) {p q : List ℕ} → SameRoots p q → (f s g old w : ℕ) (b : Bool)
+    → b ≡ one_root sh.faces q f g
     → w ≡ pick b s old
     → w ≡ by_root sh p f s g old
 by_root_lem sh r f s g old w b e h = rw (h, e, one_root_short sh.faces r f g)
@@ -127,6 +129,7 @@ module _ (sh : Shape) (x : List ℕ) (l f s : ℕ) where
 
   -- f and all faces linked to it leave
   pub mfkrh_leaves : s ≢ 0 → (p : List ℕ) → Shells sh x (side_as sh x l f) p → (x1 x2 x3 : List ℕ)
-      → x1 ≡ ring_face sh x l f → x2 ≡ set_solid_used sh x1 s 1 → x3 ≡ move_shell sh x2 p f s → x3 ≡ mfkrh_links sh x l f s
+      → x1 ≡ ring_face sh x l f → x2 ≡ set_solid_used sh x1 s 1 → x3 ≡ move_shell sh x2 p f s
+      → x3 ≡ mfkrh_links sh x l f s
   unfolding mfkrh_links
   mfkrh_leaves h p c x1 x2 x3 e1 e2 e3 = rw (eqb_other h, ← e1, ← e2) (e3 ∙ shell_is p x2 c)

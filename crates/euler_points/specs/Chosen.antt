@@ -40,7 +40,8 @@ unfoldable pub points_with : List ℤ → Operator → ℕ → List ℤ
 points_with p o v = get_or (points_by p o (item_of o) v) o.code p
 
 -- with the vertex that the operator kills they are those that the definition says
-pub points_by_lem : (sh : Shape) (x : List ℕ) (p : List ℤ) (o : Operator) (v : ℕ) (r : List ℤ) → v ≡ killed_vertex sh x o
+pub points_by_lem : (sh : Shape) (x : List ℕ) (p : List ℤ) (o : Operator) (v : ℕ) (r : List ℤ)
+    → v ≡ killed_vertex sh x o
     → r ≡ points_with p o v → r ≡ points_after sh x p o
 unfolding points_with points_after
 points_by_lem sh x p o v r e h = subst (λ w. r ≡ get_or (points_by p o (item_of o) w) o.code p) e h

@@ -30,7 +30,8 @@ jekv_tests sh x k en ekm enm eb ee ef = rw (ef, ee, eb, enm, ekm, en)
 pub jekv_steps : (sh : Shape) (x : List ℕ) (k n : ℕ) {m l o v f g : ℕ} {x1 x2 x3 x4 : List ℕ}
     → m ≡ mate k → l ≡ loop_of sh x k → o ≡ loop_of sh x m → v ≡ start_of sh x n → f ≡ loop_first sh x l
     → g ≡ loop_first sh x o
-    → x1 ≡ join_halves sh x k n → x2 ≡ clear_edge sh x1 n → x3 ≡ renew_sides sh x2 l f o g k → x4 ≡ set_vertex_used sh x3 v 0
+    → x1 ≡ join_halves sh x k n → x2 ≡ clear_edge sh x1 n → x3 ≡ renew_sides sh x2 l f o g k
+    → x4 ≡ set_vertex_used sh x3 v 0
     → x4 ≡ jekv_links sh x k n
 unfolding jekv_links join_halves clear_edge renew_sides
 jekv_steps sh x k n em el eo ev ef eg e1 e2 e3 e4 = rw (e4, e3, e2, e1, ef, eg, el, eo, ev, em)

@@ -13,7 +13,8 @@ use Rattle.euler.specs.ByCode.{by_code, by_none}
 use Rattle.euler.specs.Surgery.{item_in, half_by}
 use Rattle.euler.specs.Exec.{operator_by}
 use Rattle.euler.specs.declared.records.Two.{Two}
-use Rattle.euler.specs.Valence.{one_less, one_more, two, none, ends, leave_by, come_by, leave_of, come_of, less_at, more_at}
+use Rattle.euler.specs.Valence.{one_less, one_more, two, none, ends, leave_by, come_by, leave_of, come_of, less_at}
+use Rattle.euler.specs.Valence.{more_at}
 use Rattle.euler.specs.Valence.{less_starts, more_starts}
 
 -- ---- one word, n at vertex v
@@ -72,7 +73,8 @@ module _ (sh : Shape) (x : List ℕ) (code : ℕ) (args : List ℤ) where
 
   -- kev, kef and kemr: the ends of the edge that operand 0 names
   pub leave_killed : (k : ℕ) {a : ℕ} {t : Two} → code ≡ k → a ≡ item_in args 0 → t ≡ ends sh x a
-      → ends sh x (item_in args 0) ≡ get_or (leave_by sh x (item_in args)) k none → t ≡ leave_of sh x (operator_by code args)
+      → ends sh x (item_in args 0) ≡ get_or (leave_by sh x (item_in args)) k none
+      → t ≡ leave_of sh x (operator_by code args)
   leave_killed k e h g z = leave_at k e (g ∙ ap (ends sh x) h ∙ z)
 
   pub leave_joined : {a : ℕ} {t : Two} → code ≡ 12 → a ≡ item_in args 0 → t ≡ between sh x a

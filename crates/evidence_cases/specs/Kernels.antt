@@ -16,14 +16,17 @@ use Rattle.layout.specs.Layout.{shape_of}
 use Rattle.layout.specs.Mate.{mate}
 use Rattle.check_shells.specs.Shells.{within, joins, linked_by}
 use Rattle.check_items.specs.Rules.{solid_range, face_range, loop_range, half_range, vertex_range, rule1, solid_names}
-use Rattle.check_items.specs.Rules.{face_names, loop_names, half_names, rule2, loop_either, rule3, half_links, first_names}
-use Rattle.check_items.specs.Rules.{half_in_loop, rule4, vertex_either, half_at_vertex, rule5, half_sides, face_linked, rule6}
+use Rattle.check_items.specs.Rules.{face_names, loop_names, half_names, rule2, loop_either, rule3, half_links}
+use Rattle.check_items.specs.Rules.{first_names}
+use Rattle.check_items.specs.Rules.{half_in_loop, rule4, vertex_either, half_at_vertex, rule5, half_sides, face_linked}
+use Rattle.check_items.specs.Rules.{rule6}
 use Rattle.check_items.specs.Rules.{broken_rule}
 use Rattle.table.specs.Sizes.{sizes_fit}
 use Rattle.table.specs.Check.{check_of}
 use Rattle.euler.specs.Surgery.{corner, edge_in, edge_out, relabel, seek, renew}
 use Rattle.euler.specs.EdgeOperators.{mev_links, kev_test, kev_links, mef_test, mef_links, kef_test, kef_links}
-use Rattle.euler.specs.FaceOperators.{mvsf_links, kvsf_test, kvsf_links, kfmrh_test, kfmrh_links, linked_after, mfkrh_test}
+use Rattle.euler.specs.FaceOperators.{mvsf_links, kvsf_test, kvsf_links, kfmrh_test, kfmrh_links, linked_after}
+use Rattle.euler.specs.FaceOperators.{mfkrh_test}
 use Rattle.euler.specs.FaceOperators.{mfkrh_links}
 use Rattle.euler.specs.Exec.{admit_of, use_refusals, use_refusal, use_word, condition, links_after, points_after}
 use Rattle.euler.specs.Exec.{marks_after}
@@ -92,14 +95,20 @@ made : ((run_in empty []).links ≡ links_empty) × ((run_in empty script_b).lin
     × ((step_of (shape_of links_empty) (log_state empty) scriptBC 0).state.links ≡ links_b)
     × ((run_in narrow script_b).answer.answer.refusal ≡ 0) × ((run_in logless script_b).answer.answer.done ≡ 0)
     × ((undo_in snug 1).answer.answer.refusal ≡ 0) × ((redo_in undone_b 1).links ≡ links_b)
-unfolding session_run session_undo session_redo run_of move_of part_of entry check_of sizes_fit broken_rule rule1 rule2 rule3
-    rule4 rule5 rule6 solid_range face_range loop_range half_range vertex_range solid_names face_names loop_names half_names
-    loop_either half_links first_names half_in_loop vertex_either half_at_vertex half_sides face_linked all_to least_from sum_to
+unfolding session_run session_undo session_redo run_of move_of part_of entry check_of sizes_fit broken_rule rule1 rule2
+    rule3
+    rule4 rule5 rule6 solid_range face_range loop_range half_range vertex_range solid_names face_names loop_names
+    half_names
+    loop_either half_links first_names half_in_loop vertex_either half_at_vertex half_sides face_linked all_to
+    least_from sum_to
     meets linkedb rounds pass across mate within joins linked_by third second first read_number groups pattern rows
-    in_ranges in_range zig zag wire unwire read_operand read_operands read_behind read_operator operand_bytes operands_bytes
-    operator_bytes operator_refusal put_bytes admit_read inverse_bytes carry_refusal carry_of step_of run_refusal stepped run_from
+    in_ranges in_range zig zag wire unwire read_operand read_operands read_behind read_operator operand_bytes
+    operands_bytes
+    operator_bytes operator_refusal put_bytes admit_read inverse_bytes carry_refusal carry_of step_of run_refusal
+    stepped run_from
     admit_of use_refusals use_refusal use_word condition links_after marks_after less_starts more_starts points_after
-    killed_vertex inverse corner edge_in edge_out relabel seek renew sweep mvsf_links kvsf_test kvsf_links mev_links kev_test
+    killed_vertex inverse corner edge_in edge_out relabel seek renew sweep mvsf_links kvsf_test kvsf_links mev_links
+    kev_test
     kev_links mef_test mef_links kef_test kef_links kfmrh_test kfmrh_links linked_after mfkrh_test mfkrh_links
 made = (refl, refl, refl, refl, refl, refl, refl, refl, refl, refl)
 

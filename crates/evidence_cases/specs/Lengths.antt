@@ -13,14 +13,17 @@ use Rattle.script.specs.Operator.{read_behind, read_operator, operator_bytes, op
 use Rattle.layout.specs.Mate.{mate}
 use Rattle.check_shells.specs.Shells.{within, joins, linked_by}
 use Rattle.check_items.specs.Rules.{solid_range, face_range, loop_range, half_range, vertex_range, rule1, solid_names}
-use Rattle.check_items.specs.Rules.{face_names, loop_names, half_names, rule2, loop_either, rule3, half_links, first_names}
-use Rattle.check_items.specs.Rules.{half_in_loop, rule4, vertex_either, half_at_vertex, rule5, half_sides, face_linked, rule6}
+use Rattle.check_items.specs.Rules.{face_names, loop_names, half_names, rule2, loop_either, rule3, half_links}
+use Rattle.check_items.specs.Rules.{first_names}
+use Rattle.check_items.specs.Rules.{half_in_loop, rule4, vertex_either, half_at_vertex, rule5, half_sides, face_linked}
+use Rattle.check_items.specs.Rules.{rule6}
 use Rattle.check_items.specs.Rules.{broken_rule}
 use Rattle.table.specs.Sizes.{sizes_fit}
 use Rattle.table.specs.Check.{check_of}
 use Rattle.euler.specs.Surgery.{corner, edge_in, edge_out, relabel, seek, renew}
 use Rattle.euler.specs.EdgeOperators.{mev_links, kev_test, kev_links, mef_test, mef_links, kef_test, kef_links}
-use Rattle.euler.specs.FaceOperators.{mvsf_links, kvsf_test, kvsf_links, kfmrh_test, kfmrh_links, linked_after, mfkrh_test}
+use Rattle.euler.specs.FaceOperators.{mvsf_links, kvsf_test, kvsf_links, kfmrh_test, kfmrh_links, linked_after}
+use Rattle.euler.specs.FaceOperators.{mfkrh_test}
 use Rattle.euler.specs.FaceOperators.{mfkrh_links}
 use Rattle.euler.specs.Exec.{admit_of, use_refusals, use_refusal, use_word, condition, links_after, points_after}
 use Rattle.euler.specs.Exec.{marks_after}
@@ -29,11 +32,13 @@ use Rattle.euler.specs.Exec.{killed_vertex, inverse}
 use Rattle.runs.specs.Move.{part_of, move_of}
 use Rattle.table.specs.Clear.{clear_of}
 use Rattle.table.specs.Count.{item_used, tally_of}
-use Rattle.runs.specs.Run.{admit_read, inverse_bytes, carry_refusal, carry_of, step_of, run_refusal, stepped, run_from, entry}
+use Rattle.runs.specs.Run.{admit_read, inverse_bytes, carry_refusal, carry_of, step_of, run_refusal, stepped, run_from}
+use Rattle.runs.specs.Run.{entry}
 use Rattle.runs.specs.Run.{run_of}
 use Rattle.takedown.specs.Inversion.{act, turn_b, turned, lacks_b, lacks, invert_by, invert_of}
 use Rattle.sessions.specs.Session.{starts, session_clear, session_run, session_undo, session_redo, session_invert}
-use Rattle.evidence_cases.specs.Tables.{links_empty, links_b, links_c, links_d, points_zero, points_at, log_empty, log_b}
+use Rattle.evidence_cases.specs.Tables.{links_empty, links_b, links_c, links_d, points_zero, points_at, log_empty}
+use Rattle.evidence_cases.specs.Tables.{log_b}
 use Rattle.evidence_cases.specs.Tables.{log_d}
 use Rattle.evidence_cases.specs.RowsRuns.{script_b, script_c}
 use Rattle.evidence_cases.specs.RowsRedo.{blank, redoCD, wide_b}
@@ -68,15 +73,22 @@ pub lengths_count :
     -- run has given it up
     × ((session_run links_b points_zero log_d 22 (starts 6 12) script_c).answer.session ≡ starts 4 22)
     × ((session_redo links_c (points_at (pos 100)) log_d redoCD (starts 4 22) 1).links ≡ links_d)
-unfolding session_invert invert_of invert_by lacks lacks_b turned turn_b act tally_of item_used session_clear session_run
-    session_undo session_redo clear_of run_of move_of part_of entry check_of sizes_fit broken_rule rule1 rule2 rule3 rule4
+unfolding session_invert invert_of invert_by lacks lacks_b turned turn_b act tally_of item_used session_clear
+    session_run
+    session_undo session_redo clear_of run_of move_of part_of entry check_of sizes_fit broken_rule rule1 rule2 rule3
+    rule4
     rule5 rule6 solid_range face_range loop_range half_range vertex_range solid_names face_names loop_names half_names
-    loop_either half_links first_names half_in_loop vertex_either half_at_vertex half_sides face_linked all_to least_from sum_to
+    loop_either half_links first_names half_in_loop vertex_either half_at_vertex half_sides face_linked all_to
+    least_from sum_to
     meets linkedb rounds pass across mate within joins linked_by third second first read_number groups pattern rows
-    in_ranges in_range zig zag wire unwire read_operand read_operands read_behind read_operator operand_bytes operands_bytes
-    operator_bytes operator_refusal put_bytes admit_read inverse_bytes carry_refusal carry_of step_of run_refusal stepped
-    run_from admit_of use_refusals use_refusal use_word condition links_after marks_after less_starts more_starts points_after
-    killed_vertex inverse corner edge_in edge_out relabel seek renew sweep mvsf_links kvsf_test kvsf_links mev_links kev_test
+    in_ranges in_range zig zag wire unwire read_operand read_operands read_behind read_operator operand_bytes
+    operands_bytes
+    operator_bytes operator_refusal put_bytes admit_read inverse_bytes carry_refusal carry_of step_of run_refusal
+    stepped
+    run_from admit_of use_refusals use_refusal use_word condition links_after marks_after less_starts more_starts
+    points_after
+    killed_vertex inverse corner edge_in edge_out relabel seek renew sweep mvsf_links kvsf_test kvsf_links mev_links
+    kev_test
     kev_links mef_test mef_links kef_test kef_links kfmrh_test kfmrh_links linked_after mfkrh_test mfkrh_links
 lengths_count =
     (refl, refl, refl, refl, refl, refl, refl, refl, refl, refl, refl, refl, refl, refl, refl)

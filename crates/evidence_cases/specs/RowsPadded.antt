@@ -52,7 +52,8 @@ padded_rows =
     ∷ row lent (clearing ∷ running_b ∷ runs (padded_c ++ (133 ∷ 128 ∷ [])) 3 1 27 table_c ∷ [])
     -- a padded log undone; one more finds it ended
     ∷ row (editing links_b points_zero padded_log 3)
-    (undoes 1 0 1 (redoable (undone_with padded_log) script_b) ∷ undoes 1 11 0 (redoable (undone_with padded_log) script_b)
+    (undoes 1 0 1 (redoable (undone_with padded_log) script_b)
+    ∷ undoes 1 11 0 (redoable (undone_with padded_log) script_b)
     ∷ [])
     -- codes 14 and 0; four groups
     ∷ row lent

@@ -94,10 +94,12 @@ emptied_rows =
     -- clearing; where it is refused, all stays. Nothing is left to redo, nor to undo
     ∷ two_undone
     (clears 1 2 2 2 3 1 (redo_at back_b redoCD 12) ∷ clears 1 2 2 2 2 0 (redo_at (undone_with log_d) redoCD 30)
-    ∷ redoes 1 11 0 (redo_at (undone_with log_d) redoCD 30) ∷ undoes 1 11 0 (redo_at (undone_with log_d) redoCD 30) ∷ [])
+    ∷ redoes 1 11 0 (redo_at (undone_with log_d) redoCD 30) ∷ undoes 1 11 0 (redo_at (undone_with log_d) redoCD 30)
+    ∷ [])
     -- a take-down that does an operator
     ∷ row (wide links_c (points_at (pos 100)) 26)
-    (undoes 1 0 1 (redo_at wide_b redo_c 20) ∷ inverts 0 1 (redo_at down_b redo_c 30) ∷ redoes 1 11 0 (redo_at down_b redo_c 30)
+    (undoes 1 0 1 (redo_at wide_b redo_c 20) ∷ inverts 0 1 (redo_at down_b redo_c 30)
+    ∷ redoes 1 11 0 (redo_at down_b redo_c 30)
     ∷ [])
     -- one of an empty table leaves the redo log, and one that is refused, too few bytes of the log being free
     ∷ row (redo_at down_b redo_c 20) (inverts 0 0 (redo_at down_b redo_c 20) ∷ [])

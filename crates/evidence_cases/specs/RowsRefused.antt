@@ -32,14 +32,16 @@ unread s refusal = step (Read s 0) (ToRead (record { refusal = refusal; next = 0
 
 -- writing this operator is refused
 abbrev pub unwritten : Operator → ℕ → Step
-unwritten o refusal = step (Write o destination) (ToWrite (record { refusal = refusal; length = 0 }) destination) table_b
+unwritten o refusal = step (Write o destination) (ToWrite (record { refusal = refusal; length = 0 }) destination)
+    table_b
 
 -- the operator is read from its bytes, and written as these bytes
 abbrev pub read_as : ℤ → ℕ → ℕ → Step
 read_as c a b = step (Read (mev_bytes a b) 0) (ToRead (record { refusal = 0; next = 11; op = mev_to c })) table_b
 
 abbrev pub written_as : ℤ → ℕ → ℕ → Step
-written_as c a b = step (Write (mev_to c) destination) (ToWrite (record { refusal = 0; length = 11 }) (mev_put a b)) table_b
+written_as c a b = step (Write (mev_to c) destination) (ToWrite (record { refusal = 0; length = 11 }) (mev_put a b))
+    table_b
 
 -- ---- the rows
 

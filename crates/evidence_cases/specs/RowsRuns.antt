@@ -67,7 +67,8 @@ run_rows =
     -- c; all undone
     ∷ row lent (clearing ∷ running_b ∷ running_c ∷ undoes 2 0 2 (redoable (undone_with log_c) scriptBC) ∷ [])
     -- d; all undone
-    ∷ row lent (clearing ∷ running_b ∷ running_c ∷ running_d ∷ undoes 3 0 3 (redoable (undone_with log_d) scriptBCD) ∷ [])
+    ∷ row lent (clearing ∷ running_b ∷ running_c ∷ running_d ∷ undoes 3 0 3 (redoable (undone_with log_d) scriptBCD)
+    ∷ [])
     -- the same, with calls between that write nothing: each table checked and counted
     ∷ row lent
     (clearing ∷ checks 0 0 empty ∷ running_b ∷ checks 0 0 table_b ∷ counting 1 1 1 0 1 0 0 table_b
@@ -78,7 +79,8 @@ run_rows =
     ∷ row lent
     (clearing ∷ running_b ∷ running_c ∷ running_d
     ∷ undoes 1 0 1 (redoable back_c script_d) ∷ undoes 1 0 1 (redoable back_b scriptCD)
-    ∷ undoes 1 0 1 (redoable (undone_with log_d) scriptBCD) ∷ undoes 1 11 0 (redoable (undone_with log_d) scriptBCD) ∷ [])
+    ∷ undoes 1 0 1 (redoable (undone_with log_d) scriptBCD) ∷ undoes 1 11 0 (redoable (undone_with log_d) scriptBCD)
+    ∷ [])
     -- b, c and d as one script; all undone
     ∷ row lent (clearing ∷ runs scriptBCD 0 3 26 table_d ∷ undoes 3 0 3 (redoable (undone_with log_d) scriptBCD) ∷ [])
     -- b where its inverse just fits, and where there is no log

@@ -6,7 +6,8 @@ use Rattle.std.proofs.Common.{◌∙◌, inl, inr, ⊎_elim, arith}
 use Rattle.laws.specs.Columns.{in_kind}
 use Rattle.laws.specs.Permutations.{undo_in}
 use Rattle.layout.specs.declared.shape.Shape.{Shape}
-use Rattle.layout.specs.Layout.{solid_used, face_solid, face_outer, loop_face, loop_first, loop_isolated, start_of, loop_of}
+use Rattle.layout.specs.Layout.{solid_used, face_solid, face_outer, loop_face, loop_first, loop_isolated, start_of}
+use Rattle.layout.specs.Layout.{loop_of}
 use Rattle.layout.specs.Layout.{next_of, prev_of, vertex_used}
 use Rattle.layout.specs.Mate.{mate}
 use Rattle.layout.specs.Fields.{Field, Capacity, SolidUsed, Solid, Outer, Face, First, Isolated, Start, Loop, Next}

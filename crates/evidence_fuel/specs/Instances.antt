@@ -12,14 +12,17 @@ use Rattle.layout.specs.declared.shape.Shape.{Shape}
 use Rattle.layout.specs.Layout.{shape_of, next_of}
 use Rattle.layout.specs.Mate.{mate}
 use Rattle.check_items.specs.Rules.{solid_range, face_range, loop_range, half_range, vertex_range, rule1, solid_names}
-use Rattle.check_items.specs.Rules.{face_names, loop_names, half_names, rule2, loop_either, rule3, half_links, first_names}
-use Rattle.check_items.specs.Rules.{half_in_loop, rule4, vertex_either, half_at_vertex, rule5, half_sides, face_linked, rule6}
+use Rattle.check_items.specs.Rules.{face_names, loop_names, half_names, rule2, loop_either, rule3, half_links}
+use Rattle.check_items.specs.Rules.{first_names}
+use Rattle.check_items.specs.Rules.{half_in_loop, rule4, vertex_either, half_at_vertex, rule5, half_sides, face_linked}
+use Rattle.check_items.specs.Rules.{rule6}
 use Rattle.check_items.specs.Rules.{broken_rule}
 use Rattle.table.specs.Sizes.{sizes_fit}
 use Rattle.table.specs.Check.{check_of}
 use Rattle.euler.specs.Surgery.{seek, first_from, relabel, relabel_run, passed, operator}
 use Rattle.euler.specs.EdgeOperators.{kef_test}
-use Rattle.euler.specs.Exec.{refusal_of, admit_of, range_refusal, use_refusals, use_refusal, use_word, condition, inverse}
+use Rattle.euler.specs.Exec.{refusal_of, admit_of, range_refusal, use_refusals, use_refusal, use_word, condition}
+use Rattle.euler.specs.Exec.{inverse}
 use Rattle.sound_tables.specs.Sound.{HalfUsed}
 use Rattle.sound_tables.specs.Good.{Good, own}
 use Rattle.sound_tables.specs.Walking.{Steps}
@@ -43,8 +46,10 @@ shape = shape_of links
 
 -- it is good
 good : Good shape links points
-unfolding check_of sizes_fit broken_rule rule1 rule2 rule3 rule4 rule5 rule6 solid_range face_range loop_range half_range
-    vertex_range solid_names face_names loop_names half_names loop_either half_links first_names half_in_loop vertex_either
+unfolding check_of sizes_fit broken_rule rule1 rule2 rule3 rule4 rule5 rule6 solid_range face_range loop_range
+    half_range
+    vertex_range solid_names face_names loop_names half_names loop_either half_links first_names half_in_loop
+    vertex_either
     half_at_vertex half_sides face_linked all_to least_from sum_to meets linkedb rounds pass across mate
 good = checked_good links points refl
 
@@ -76,7 +81,8 @@ abbrev kef_4 : Operator
 kef_4 = operator 6 (4 ∷ [])
 
 inverse_kef_4 : SmallOperator shape (inverse shape links points kef_4)
-unfolding refusal_of admit_of range_refusal pattern rows in_ranges in_range wire zig use_refusals use_refusal use_word condition
+unfolding refusal_of admit_of range_refusal pattern rows in_ranges in_range wire zig use_refusals use_refusal use_word
+    condition
     kef_test sum_to mate
 inverse_kef_4 = inverse_small good kef_4 refl refl
 

@@ -12,8 +12,10 @@ use Rattle.layout.specs.declared.shape.Shape.{Shape}
 use Rattle.layout.specs.Layout.{shape_of, next_of}
 use Rattle.layout.specs.Mate.{mate}
 use Rattle.check_items.specs.Rules.{solid_range, face_range, loop_range, half_range, vertex_range, rule1, solid_names}
-use Rattle.check_items.specs.Rules.{face_names, loop_names, half_names, rule2, loop_either, rule3, half_links, first_names}
-use Rattle.check_items.specs.Rules.{half_in_loop, rule4, vertex_either, half_at_vertex, rule5, half_sides, face_linked, rule6}
+use Rattle.check_items.specs.Rules.{face_names, loop_names, half_names, rule2, loop_either, rule3, half_links}
+use Rattle.check_items.specs.Rules.{first_names}
+use Rattle.check_items.specs.Rules.{half_in_loop, rule4, vertex_either, half_at_vertex, rule5, half_sides, face_linked}
+use Rattle.check_items.specs.Rules.{rule6}
 use Rattle.check_items.specs.Rules.{broken_rule}
 use Rattle.table.specs.Sizes.{sizes_fit}
 use Rattle.table.specs.Check.{check_of}
@@ -44,14 +46,17 @@ shape = shape_of links
 
 -- it is good
 good : Good shape links points
-unfolding check_of sizes_fit broken_rule rule1 rule2 rule3 rule4 rule5 rule6 solid_range face_range loop_range half_range
-    vertex_range solid_names face_names loop_names half_names loop_either half_links first_names half_in_loop vertex_either
+unfolding check_of sizes_fit broken_rule rule1 rule2 rule3 rule4 rule5 rule6 solid_range face_range loop_range
+    half_range
+    vertex_range solid_names face_names loop_names half_names loop_either half_links first_names half_in_loop
+    vertex_either
     half_at_vertex half_sides face_linked all_to least_from sum_to meets linkedb rounds pass across mate
 good = checked_good links points refl
 
 -- and kef 6 is accepted, so what is said of every such kef is said of it
 pub kef_6 : KefInPlace shape links 6
-unfolding refusal_of admit_of range_refusal pattern rows in_ranges in_range wire zig use_refusals use_refusal use_word condition
+unfolding refusal_of admit_of range_refusal pattern rows in_ranges in_range wire zig use_refusals use_refusal use_word
+    condition
     kef_test sum_to mate
 kef_6 = kef_in_place (marked good) 6 refl
 

@@ -1,6 +1,7 @@
 -- Every operand of an accepted operator is within its range: a number within the table's capacity, so that the item it
 -- names is a record of the table, and a coordinate within −50,000 to 50,000.
-use Rattle.std.specs.Prelude.{◌≡◌, refl, true, false, List, ℕ, zero, suc, ◌≤◌, ◌<◌, T, eqb, ℤ, pos, negsuc, length, get_or}
+use Rattle.std.specs.Prelude.{◌≡◌, refl, true, false, List, ℕ, zero, suc, ◌≤◌, ◌<◌, T, eqb, ℤ, pos, negsuc, length}
+use Rattle.std.specs.Prelude.{get_or}
 use Rattle.std.proofs.Common.{sym, subst, arith, eqb→eq, lit≤, le-leb}
 use Rattle.std.proofs.lemmas.Bool.{false≢true}
 use Rattle.laws.specs.Bools.{true_T}

@@ -13,11 +13,14 @@ use Rattle.layout.specs.Layout.{shape_of}
 use Rattle.layout.specs.Mate.{mate}
 use Rattle.check_shells.specs.Shells.{within, joins, linked_by}
 use Rattle.euler.specs.Surgery.{corner, edge_in, edge_out, relabel, seek, renew}
-use Rattle.euler.specs.EdgeOperators.{mev_links, kev_test, kev_links, mef_test, mef_links, kef_test, kef_links, kemr_test}
+use Rattle.euler.specs.EdgeOperators.{mev_links, kev_test, kev_links, mef_test, mef_links, kef_test, kef_links}
+use Rattle.euler.specs.EdgeOperators.{kemr_test}
 use Rattle.euler.specs.EdgeOperators.{kemr_links, mekr_test, mekr_links, semv_links, jekv_test, jekv_links}
-use Rattle.euler.specs.FaceOperators.{mvsf_links, kvsf_test, kvsf_links, kfmrh_test, kfmrh_links, linked_after, mfkrh_test}
+use Rattle.euler.specs.FaceOperators.{mvsf_links, kvsf_test, kvsf_links, kfmrh_test, kfmrh_links, linked_after}
+use Rattle.euler.specs.FaceOperators.{mfkrh_test}
 use Rattle.euler.specs.FaceOperators.{mfkrh_links, rmov_test, rmov_links}
-use Rattle.euler.specs.Exec.{Table, Executed, exec, refusal_of, admit_of, range_refusal, use_refusals, use_refusal, use_word}
+use Rattle.euler.specs.Exec.{Table, Executed, exec, refusal_of, admit_of, range_refusal, use_refusals, use_refusal}
+use Rattle.euler.specs.Exec.{use_word}
 use Rattle.euler.specs.Exec.{condition, links_after, points_after, killed_vertex, inverse}
 use Rattle.euler.specs.Exec.{marks_after}
 use Rattle.euler.specs.Valence.{less_starts, more_starts}
@@ -60,10 +63,14 @@ both_ways (r ∷ rs) = r ∷ back r ∷ both_ways rs
 
 -- what the definition leaves for a row, by the shape that the first five words say
 unfoldable pub leaves : Row → Executed
-unfolding exec refusal_of admit_of range_refusal pattern rows in_ranges in_range wire zig use_refusals use_refusal use_word
-    condition links_after marks_after less_starts more_starts points_after killed_vertex inverse corner edge_in edge_out relabel
-    seek renew mate sum_to least_from sweep mvsf_links kvsf_test kvsf_links mev_links kev_test kev_links mef_test mef_links
-    kef_test kef_links kemr_test kemr_links mekr_test mekr_links kfmrh_test kfmrh_links linked_after mfkrh_test mfkrh_links
+unfolding exec refusal_of admit_of range_refusal pattern rows in_ranges in_range wire zig use_refusals use_refusal
+    use_word
+    condition links_after marks_after less_starts more_starts points_after killed_vertex inverse corner edge_in edge_out
+    relabel
+    seek renew mate sum_to least_from sweep mvsf_links kvsf_test kvsf_links mev_links kev_test kev_links mef_test
+    mef_links
+    kef_test kef_links kemr_test kemr_links mekr_test mekr_links kfmrh_test kfmrh_links linked_after mfkrh_test
+    mfkrh_links
     semv_links jekv_test jekv_links rmov_test rmov_links within joins linked_by across pass rounds linkedb
 leaves r = exec (shape_of r.before.links) r.operator r.before
 

@@ -98,7 +98,8 @@ edge_rows =
     row (kef_links shape_d links_d 4) (after shape_d (set (kef_steps shape_d links_d 4) 0 (Relabel 1 1 1)) links_d)
     -- mev just after h: half-edge 3 would come after 1, and its mate 4 before 2
     ∷ row (mev_links shape_spur links_spur 1 1 3 3)
-    (after shape_spur (set (mev_steps shape_spur links_spur 1 1 3 3) 0 (EdgeIn 3 (half 1 1 4 1) (half 3 1 2 3))) links_spur)
+    (after shape_spur (set (mev_steps shape_spur links_spur 1 1 3 3) 0 (EdgeIn 3 (half 1 1 4 1) (half 3 1 2 3)))
+    links_spur)
     -- mev looks for first from the old first or k on, not from k's mate: in way 1 on b it would be 2
     ∷ row (mev_links shape_b links_b 1 0 2 2)
     (after shape_b (set (mev_steps shape_b links_b 1 0 2 2) 1 (Renew 1 2 2 0)) links_b)
@@ -115,9 +116,11 @@ valence_rows =
     row (links_after shape_path links_path jekv_one)
     (less_at shape_path (marks_after shape_path links_path jekv_one) (two 1 1))
     -- semv counts one half-edge at the new vertex, not two
-    ∷ row (links_after shape_spur links_spur semv_one) (more_at shape_spur (marks_after shape_spur links_spur semv_one) (two 3 0))
+    ∷ row (links_after shape_spur links_spur semv_one)
+    (more_at shape_spur (marks_after shape_spur links_spur semv_one) (two 3 0))
     -- semv adds both to the vertex of its first operand's number, not to the new one
-    ∷ row (links_after shape_spur links_spur semv_one) (more_at shape_spur (marks_after shape_spur links_spur semv_one) (two 1 1))
+    ∷ row (links_after shape_spur links_spur semv_one)
+    (more_at shape_spur (marks_after shape_spur links_spur semv_one) (two 1 1))
     -- mev counts both halves at the new vertex, and none where it begins
     ∷ row (links_after shape_b links_b mev_c) (more_at shape_b (marks_after shape_b links_b mev_c) (two 2 2))
     ∷ []

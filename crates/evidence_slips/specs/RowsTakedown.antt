@@ -4,7 +4,8 @@ use Rattle.laws.specs.Sums.{bit}
 use Rattle.layout.specs.Layout.{shape_of}
 use Rattle.euler.specs.Exec.{links_after}
 use Rattle.runs.specs.Run.{State, state}
-use Rattle.takedown.specs.Inversion.{Inverted, kemr, rmov, free_loop, Work, links_in, act, moved_ring, turn_ring, ring_at}
+use Rattle.takedown.specs.Inversion.{Inverted, kemr, rmov, free_loop, Work, links_in, act, moved_ring, turn_ring}
+use Rattle.takedown.specs.Inversion.{ring_at}
 use Rattle.takedown.specs.Inversion.{lack_at, invert_by, begin, inverted_by, invert_of}
 use Rattle.evidence_cases.specs.Tables.{links_b, links_d, links_e, points_zero, points_at}
 use Rattle.evidence_slips.specs.Slip.{Slip, row}
@@ -116,5 +117,6 @@ takedown_rows =
     -- the edge that mekr calls for not asked for
     ∷ row (bit (lack_at (shape_of links_edgeless) links_edgeless) ∷ []) (0 ∷ [])
     -- a ring becomes the face of its own number, not the least free one: mfkrh 3 3 0, not mfkrh 3 2 0
-    ∷ row (logged (ring_at (shape_of links_third) 2 work_third)) (logged (turn_ring (shape_of links_third) 2 3 3 work_third))
+    ∷ row (logged (ring_at (shape_of links_third) 2 work_third))
+    (logged (turn_ring (shape_of links_third) 2 3 3 work_third))
     ∷ []

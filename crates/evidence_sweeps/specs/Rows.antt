@@ -15,14 +15,17 @@ use Rattle.script.specs.Operator.{read_behind, read_operator, operator_bytes, pu
 use Rattle.layout.specs.Layout.{shape_of}
 use Rattle.layout.specs.Mate.{mate}
 use Rattle.check_items.specs.Rules.{solid_range, face_range, loop_range, half_range, vertex_range, rule1, solid_names}
-use Rattle.check_items.specs.Rules.{face_names, loop_names, half_names, rule2, loop_either, rule3, half_links, first_names}
-use Rattle.check_items.specs.Rules.{half_in_loop, rule4, vertex_either, half_at_vertex, rule5, half_sides, face_linked, rule6}
+use Rattle.check_items.specs.Rules.{face_names, loop_names, half_names, rule2, loop_either, rule3, half_links}
+use Rattle.check_items.specs.Rules.{first_names}
+use Rattle.check_items.specs.Rules.{half_in_loop, rule4, vertex_either, half_at_vertex, rule5, half_sides, face_linked}
+use Rattle.check_items.specs.Rules.{rule6}
 use Rattle.check_items.specs.Rules.{broken_rule}
 use Rattle.table.specs.Sizes.{sizes_fit}
 use Rattle.table.specs.Check.{check_of}
 use Rattle.euler.specs.Surgery.{corner, edge_in, relabel, seek, renew}
 use Rattle.euler.specs.EdgeOperators.{mev_links, mef_test, mef_links}
-use Rattle.euler.specs.Exec.{refusal_of, admit_of, range_refusal, use_refusals, use_refusal, use_word, condition, links_after}
+use Rattle.euler.specs.Exec.{refusal_of, admit_of, range_refusal, use_refusals, use_refusal, use_word, condition}
+use Rattle.euler.specs.Exec.{links_after}
 use Rattle.euler.specs.Exec.{marks_after, points_after, killed_vertex, inverse}
 use Rattle.euler.specs.Valence.{less_starts, more_starts}
 use Rattle.runs.specs.Run.{inverse_bytes, carry_refusal, run_refusal, stepped, run_from, entry, run_of}
@@ -123,7 +126,8 @@ pub refusals_as_said :
     × (refusing few_edges spur_at 0 1 up ≡ 10) × (refusing few_vertices few_vertices_at 0 1 up ≡ 10)
     -- a log one byte too short; just long enough
     × (refusing spur spur_at 7 1 up ≡ 9) × (refusing spur spur_at 8 1 up ≡ 0)
-unfolding groups operands_bytes operand_bytes pattern wire sweep_refusal room_for inverse operator_bytes count_from all_to
+unfolding groups operands_bytes operand_bytes pattern wire sweep_refusal room_for inverse operator_bytes count_from
+    all_to
     any_to sweep_ops corners_in corners_of series joined nth_from mate iter sum_to least_from
 refusals_as_said = (
   refl,
@@ -160,13 +164,19 @@ pub call_as_said : Sweeps round round_at (238 ∷ 238 ∷ 238 ∷ 238 ∷ 238 �
     ∷ 1 ∷ 3 ∷ 6 ∷ 1 ∷ 2 ∷ 3 ∷ 1 ∷ 6 ∷ 2 ∷ 1 ∷ 5 ∷ 5 ∷ 2 ∷ 3 ∷ 4 ∷ 3 ∷ 4 ∷ 4 ∷ [])
     (pos 0 ∷ pos 0 ∷ pos 0 ∷ pos 1 ∷ pos 2 ∷ pos 3 ∷ [])
     (238 ∷ 238 ∷ 238 ∷ 6 ∷ 6 ∷ 4 ∷ 3 ∷ 17 ∷ 18 ∷ [])
-unfolding whole_of session_run run_of entry check_of sizes_fit broken_rule rule1 rule2 rule3 rule4 rule5 rule6 solid_range
+unfolding whole_of session_run run_of entry check_of sizes_fit broken_rule rule1 rule2 rule3 rule4 rule5 rule6
+    solid_range
     face_range
-    loop_range half_range vertex_range solid_names face_names loop_names half_names loop_either half_links first_names half_in_loop
-    vertex_either half_at_vertex half_sides face_linked all_to any_to least_from sum_to meets linkedb rounds pass across mate
+    loop_range half_range vertex_range solid_names face_names loop_names half_names loop_either half_links first_names
+    half_in_loop
+    vertex_either half_at_vertex half_sides face_linked all_to any_to least_from sum_to meets linkedb rounds pass across
+    mate
     third second first read_number groups pattern rows in_ranges in_range zig zag wire unwire read_operand read_operands
-    read_behind read_operator operand_bytes operands_bytes operator_bytes put_bytes write_script inverse_bytes carry_refusal
-    run_refusal stepped run_from refusal_of admit_of range_refusal use_refusals use_refusal use_word condition links_after
-    marks_after less_starts more_starts points_after killed_vertex inverse corner edge_in relabel seek renew mev_links mef_test
+    read_behind read_operator operand_bytes operands_bytes operator_bytes put_bytes write_script inverse_bytes
+    carry_refusal
+    run_refusal stepped run_from refusal_of admit_of range_refusal use_refusals use_refusal use_word condition
+    links_after
+    marks_after less_starts more_starts points_after killed_vertex inverse corner edge_in relabel seek renew mev_links
+    mef_test
     mef_links sweep_ops sweep_refusal room_for count_from corners_in corners_of series joined nth_from iter
 call_as_said = refl

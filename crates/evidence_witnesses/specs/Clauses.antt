@@ -1,6 +1,7 @@
 -- The conditions of the thirteen operators, taken apart into their clauses: an operator is refused with 8 just where
 -- one of them fails.
-use Rattle.std.specs.Prelude.{ℕ, zero, suc, ◌*◌, ◌≡◌, refl, Bool, true, false, not, ◌&&◌, ◌||◌, List, [], ◌∷◌, map, T, eqb, leb, get_or}
+use Rattle.std.specs.Prelude.{ℕ, zero, suc, ◌*◌, ◌≡◌, refl, Bool, true, false, not, ◌&&◌, ◌||◌, List, [], ◌∷◌, map, T}
+use Rattle.std.specs.Prelude.{eqb, leb, get_or}
 use Rattle.std.proofs.Common.{sym, ap, subst, ◌∙◌, arith}
 use Rattle.laws.specs.Bools.{T_true, true_T, false_T, eqb_other}
 use Rattle.laws.specs.Every.{every, every_T, T_every}

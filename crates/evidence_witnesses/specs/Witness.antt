@@ -13,16 +13,20 @@ use Rattle.layout.specs.Layout.{shape_of}
 use Rattle.layout.specs.Mate.{mate}
 use Rattle.check_shells.specs.Shells.{within, joins, linked_by}
 use Rattle.check_items.specs.Rules.{solid_range, face_range, loop_range, half_range, vertex_range, rule1, solid_names}
-use Rattle.check_items.specs.Rules.{face_names, loop_names, half_names, rule2, loop_either, rule3, half_links, first_names}
-use Rattle.check_items.specs.Rules.{half_in_loop, rule4, vertex_either, half_at_vertex, rule5, half_sides, face_linked, rule6}
+use Rattle.check_items.specs.Rules.{face_names, loop_names, half_names, rule2, loop_either, rule3, half_links}
+use Rattle.check_items.specs.Rules.{first_names}
+use Rattle.check_items.specs.Rules.{half_in_loop, rule4, vertex_either, half_at_vertex, rule5, half_sides, face_linked}
+use Rattle.check_items.specs.Rules.{rule6}
 use Rattle.check_items.specs.Rules.{broken_rule}
 use Rattle.table.specs.declared.check.CheckAnswer.{CheckAnswer}
 use Rattle.table.specs.Sizes.{sizes_fit}
 use Rattle.table.specs.Check.{answer, check_of}
 use Rattle.euler.specs.Surgery.{corner, edge_in, edge_out, relabel, seek, renew}
-use Rattle.euler.specs.EdgeOperators.{mev_links, kev_test, kev_links, mef_test, mef_links, kef_test, kef_links, kemr_test}
+use Rattle.euler.specs.EdgeOperators.{mev_links, kev_test, kev_links, mef_test, mef_links, kef_test, kef_links}
+use Rattle.euler.specs.EdgeOperators.{kemr_test}
 use Rattle.euler.specs.EdgeOperators.{kemr_links, mekr_test, mekr_links, jekv_test, jekv_links}
-use Rattle.euler.specs.FaceOperators.{kvsf_test, kvsf_links, kfmrh_test, kfmrh_links, linked_after, mfkrh_test, mfkrh_links}
+use Rattle.euler.specs.FaceOperators.{kvsf_test, kvsf_links, kfmrh_test, kfmrh_links, linked_after, mfkrh_test}
+use Rattle.euler.specs.FaceOperators.{mfkrh_links}
 use Rattle.euler.specs.FaceOperators.{rmov_test, rmov_links}
 use Rattle.euler.specs.Exec.{Table, refusal_of, admit_of, range_refusal, use_refusals, use_refusal, use_word, condition}
 use Rattle.euler.specs.Exec.{marks_after, links_after, points_after, killed_vertex, inverse}
@@ -97,13 +101,20 @@ outcome_of t o (Again a other) = Again (check_of (forced t o).links (forced t o)
     (undoing (forced t o) (undoing t o))
 
 unfoldable pub shown : Witness → Shown
-unfolding check_of sizes_fit broken_rule rule1 rule2 rule3 rule4 rule5 rule6 solid_range face_range loop_range half_range
-    vertex_range solid_names face_names loop_names half_names loop_either half_links first_names half_in_loop vertex_either
-    half_at_vertex half_sides face_linked all_to least_from sum_to meets linkedb rounds pass across mate within joins linked_by
-    refusal_of admit_of range_refusal pattern rows in_ranges in_range wire zig use_refusals use_refusal use_word condition
-    marks_after less_starts more_starts links_after points_after killed_vertex inverse corner edge_in edge_out relabel seek
-    renew sweep kvsf_test kvsf_links mev_links kev_test kev_links mef_test mef_links kef_test kef_links kemr_test kemr_links
-    mekr_test mekr_links kfmrh_test kfmrh_links linked_after mfkrh_test mfkrh_links jekv_test jekv_links rmov_test rmov_links
+unfolding check_of sizes_fit broken_rule rule1 rule2 rule3 rule4 rule5 rule6 solid_range face_range loop_range
+    half_range
+    vertex_range solid_names face_names loop_names half_names loop_either half_links first_names half_in_loop
+    vertex_either
+    half_at_vertex half_sides face_linked all_to least_from sum_to meets linkedb rounds pass across mate within joins
+    linked_by
+    refusal_of admit_of range_refusal pattern rows in_ranges in_range wire zig use_refusals use_refusal use_word
+    condition
+    marks_after less_starts more_starts links_after points_after killed_vertex inverse corner edge_in edge_out relabel
+    seek
+    renew sweep kvsf_test kvsf_links mev_links kev_test kev_links mef_test mef_links kef_test kef_links kemr_test
+    kemr_links
+    mekr_test mekr_links kfmrh_test kfmrh_links linked_after mfkrh_test mfkrh_links jekv_test jekv_links rmov_test
+    rmov_links
     clauses_of
 shown w =
     record {

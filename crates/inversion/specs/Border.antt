@@ -1,5 +1,6 @@
 -- A's work on the face of k, which lies across an edge from the root: its rings move to the root, by number.
-use Rattle.std.specs.Prelude.{◌≡◌, refl, ◌≢◌, Bool, true, false, not, ◌&&◌, List, [], ◌∷◌, ℕ, zero, suc, ◌+◌, ◌*◌, ◌≤◌, ◌<◌, eqb, ℤ, length}
+use Rattle.std.specs.Prelude.{◌≡◌, refl, ◌≢◌, Bool, true, false, not, ◌&&◌, List, [], ◌∷◌, ℕ, zero, suc, ◌+◌, ◌*◌, ◌≤◌}
+use Rattle.std.specs.Prelude.{◌<◌, eqb, ℤ, length}
 use Rattle.std.proofs.Common.{sym, ap, ◌∙◌, subst, inr, ⊎_elim, arith, eqb→eq, T_not}
 use Rattle.std.proofs.lemmas.Bool.{false≢true}
 use Rattle.laws.specs.Bools.{split, ask, true_T, eqb_same, eqb_other}
@@ -208,7 +209,8 @@ pub moves_none : (sh : Shape) (n i f r : ℕ) (w : Work) (x : List ℕ) → w.st
     → move_rings sh (suc n) i f r w ≡ move_rings sh n (i + 1) f r w
 unfolding move_rings
 moves_none sh n i f r w x a =
-    subst (λ x. is_ring_of sh x f i ≡ false → move_rings sh (suc n) i f r w ≡ move_rings sh n (i + 1) f r w) a (λ t. rw t)
+    subst (λ x. is_ring_of sh x f i ≡ false → move_rings sh (suc n) i f r w ≡ move_rings sh n (i + 1) f r w) a
+    (λ t. rw t)
 
 -- what is left of f when n loops from i on have been looked at: l alone, if below i it was so
 pub record Cleared (sh : Shape) (x : List ℕ) (p : List ℤ) (k l f r s n i : ℕ) : Type 0 where

@@ -1,5 +1,6 @@
 -- Where no solid is in use, nothing is: the table is as clearing leaves it.
-use Rattle.std.specs.Prelude.{◌≡◌, Bool, true, false, ◌||◌, List, [], ◌∷◌, ℕ, zero, suc, ◌-◌, ◌*◌, ◌≤◌, ◌<◌, ℤ, pos, length}
+use Rattle.std.specs.Prelude.{◌≡◌, Bool, true, false, ◌||◌, List, [], ◌∷◌, ℕ, zero, suc, ◌-◌, ◌*◌, ◌≤◌, ◌<◌, ℤ, pos}
+use Rattle.std.specs.Prelude.{length}
 use Rattle.std.proofs.Common.{sym, ap, ◌∙◌, subst, arith}
 use Rattle.std.proofs.lemmas.List.{length-replicate}
 use Rattle.laws.specs.Bools.{split, eqb_same}
@@ -8,7 +9,8 @@ use Rattle.layout.specs.declared.shape.Shape.{Shape}
 use Rattle.layout.specs.Points.{points_length}
 use Rattle.layout.specs.Layout.{links_length}
 use Rattle.table.specs.Clear.{empty_links, empty_points}
-use Rattle.layout.specs.Fields.{Field, group_of, groups, group_at, cap_of, head, field_at, field_in, same_field, by_fields}
+use Rattle.layout.specs.Fields.{Field, group_of, groups, group_at, cap_of, head, field_at, field_in, same_field}
+use Rattle.layout.specs.Fields.{by_fields}
 use Rattle.layout.specs.Fields.{Capacity, SolidUsed, Solid, Face, Start, Loop, VertexUsed}
 use Rattle.layout.specs.Items.{some}
 use Rattle.sound_tables.specs.FreeRecords.{of_record, free_zero}

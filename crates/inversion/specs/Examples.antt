@@ -19,8 +19,10 @@ use Rattle.layout.specs.Layout.{shape_of}
 use Rattle.layout.specs.Mate.{mate}
 use Rattle.check_shells.specs.Shells.{within, joins, linked_by}
 use Rattle.check_items.specs.Rules.{solid_range, face_range, loop_range, half_range, vertex_range, rule1, solid_names}
-use Rattle.check_items.specs.Rules.{face_names, loop_names, half_names, rule2, loop_either, rule3, half_links, first_names}
-use Rattle.check_items.specs.Rules.{half_in_loop, rule4, vertex_either, half_at_vertex, rule5, half_sides, face_linked, rule6}
+use Rattle.check_items.specs.Rules.{face_names, loop_names, half_names, rule2, loop_either, rule3, half_links}
+use Rattle.check_items.specs.Rules.{first_names}
+use Rattle.check_items.specs.Rules.{half_in_loop, rule4, vertex_either, half_at_vertex, rule5, half_sides, face_linked}
+use Rattle.check_items.specs.Rules.{rule6}
 use Rattle.check_items.specs.Rules.{broken_rule}
 use Rattle.table.specs.Sizes.{sizes_fit}
 use Rattle.table.specs.Check.{answer, check_of}
@@ -33,7 +35,8 @@ use Rattle.euler.specs.Exec.{marks_after}
 use Rattle.euler.specs.Valence.{less_starts, more_starts}
 use Rattle.runs.specs.Run.{state, inverse_bytes, stepped, entry}
 use Rattle.inversion.specs.Promise.{OneHoles}
-use Rattle.takedown.specs.Inversion.{Inverted, of_solid, crossed_half, on_run, crossed, act, make_outer, move_rings, turn_b}
+use Rattle.takedown.specs.Inversion.{Inverted, of_solid, crossed_half, on_run, crossed, act, make_outer, move_rings}
+use Rattle.takedown.specs.Inversion.{turn_b}
 use Rattle.takedown.specs.Inversion.{turned, lacks_b, lacks, invert_by, invert_of}
 
 -- what is left
@@ -200,21 +203,28 @@ wanted =
     ∷ leaves 9 0 75 links_face points_face (replicate 76 238) ∷ []
 
 pub rows_hold : asked ≡ wanted
-unfolding invert_of invert_by lacks lacks_b turned turn_b move_rings make_outer act crossed on_run entry check_of sizes_fit
+unfolding invert_of invert_by lacks lacks_b turned turn_b move_rings make_outer act crossed on_run entry check_of
+    sizes_fit
     tally_of item_used broken_rule rule1 rule2 rule3 rule4 rule5 rule6 solid_range face_range loop_range half_range
-    vertex_range solid_names face_names loop_names half_names loop_either half_links first_names half_in_loop vertex_either
-    half_at_vertex half_sides face_linked all_to any_to least_from sum_to meets linkedb rounds pass across mate within joins
+    vertex_range solid_names face_names loop_names half_names loop_either half_links first_names half_in_loop
+    vertex_either
+    half_at_vertex half_sides face_linked all_to any_to least_from sum_to meets linkedb rounds pass across mate within
+    joins
     linked_by third second first read_number groups pattern rows in_ranges in_range zig zag wire unwire operand_bytes
-    operands_bytes operator_bytes put_bytes inverse_bytes stepped links_after marks_after less_starts more_starts points_after
+    operands_bytes operator_bytes put_bytes inverse_bytes stepped links_after marks_after less_starts more_starts
+    points_after
     killed_vertex inverse corner edge_in edge_out relabel seek renew sweep kvsf_links kev_links kef_links kemr_links
     mekr_links mfkrh_links rmov_links
 rows_hold = refl
 
 -- the full one counted: one solid, face, loop and vertex, two edges, no ring, one hole
 pub full_counted : count_of links_full (replicate 3 (pos 0)) ≡ counts 0 0 1 1 1 2 1 0 1
-unfolding check_of sizes_fit broken_rule rule1 rule2 rule3 rule4 rule5 rule6 solid_range face_range loop_range half_range
-    vertex_range solid_names face_names loop_names half_names loop_either half_links first_names half_in_loop vertex_either
-    half_at_vertex half_sides face_linked all_to least_from sum_to meets linkedb rounds pass across mate count_of tally_of
+unfolding check_of sizes_fit broken_rule rule1 rule2 rule3 rule4 rule5 rule6 solid_range face_range loop_range
+    half_range
+    vertex_range solid_names face_names loop_names half_names loop_either half_links first_names half_in_loop
+    vertex_either
+    half_at_vertex half_sides face_linked all_to least_from sum_to meets linkedb rounds pass across mate count_of
+    tally_of
     item_used
 full_counted = refl
 
@@ -230,14 +240,17 @@ links_loose = 1 ∷ 1 ∷ 1 ∷ 1 ∷ 1 ∷ replicate 6 0 ++ (replicate 8 1 ++ (
 
 -- the first breaks rule 5, and has no number of holes
 pub stray_none : (check_of links_stray (replicate 6 (pos 0)) ≡ answer 2 5) × (OneHoles links_stray → ⊥)
-unfolding check_of sizes_fit broken_rule rule1 rule2 rule3 rule4 rule5 solid_range face_range loop_range half_range vertex_range
-    solid_names face_names loop_names half_names loop_either half_links first_names half_in_loop vertex_either half_at_vertex all_to
+unfolding check_of sizes_fit broken_rule rule1 rule2 rule3 rule4 rule5 solid_range face_range loop_range half_range
+    vertex_range
+    solid_names face_names loop_names half_names loop_either half_links first_names half_in_loop vertex_either
+    half_at_vertex all_to
     least_from sum_to meets mate item_used
 stray_none = (refl, λ o. omega (arith, o.formula))
 
 -- the second breaks rule 2, and has none either
 pub loose_none : (check_of links_loose (replicate 3 (pos 0)) ≡ answer 2 2) × (OneHoles links_loose → ⊥)
-unfolding check_of sizes_fit broken_rule rule1 rule2 solid_range face_range loop_range half_range vertex_range solid_names
+unfolding check_of sizes_fit broken_rule rule1 rule2 solid_range face_range loop_range half_range vertex_range
+    solid_names
     face_names loop_names half_names all_to least_from sum_to mate item_used
 loose_none = (refl, λ o. omega (arith, o.formula))
 

@@ -11,7 +11,8 @@ use Rattle.layout.specs.Layout.{face_solid, loop_face, start_of}
 use Rattle.layout.specs.Items.{face_in}
 use Rattle.euler.specs.Queries.{faces_in}
 use Rattle.sound_tables.specs.Sound.{In}
-use Rattle.takedown.specs.Inversion.{solid_at, free_face, free_loop, free_edge, edges_left, ring_half, spur_half, ring_of}
+use Rattle.takedown.specs.Inversion.{solid_at, free_face, free_loop, free_edge, edges_left, ring_half, spur_half}
+use Rattle.takedown.specs.Inversion.{ring_of}
 use Rattle.takedown.specs.Inversion.{lacks_b, lacks, lack_at}
 use Rattle.inversion.specs.OfSolid.{least_no}
 
@@ -22,9 +23,11 @@ Enough sh x = lack_at sh x ≡ false
 -- the turn lacks a number of this kind: B is on and calls for a face (mfkrh) or for a loop (kemr), or C is on and calls
 -- for an edge (mekr), and every number of the kind is in use
 pub data Lack (sh : Shape) (x : List ℕ) : Type 0 where
-  no_face : faces_in sh x (solid_at sh x) ≡ 1 → edges_left sh x (solid_at sh x) ≡ true → ring_half sh x (solid_at sh x) ≢ 0
+  no_face : faces_in sh x (solid_at sh x) ≡ 1 → edges_left sh x (solid_at sh x) ≡ true
+      → ring_half sh x (solid_at sh x) ≢ 0
       → ((f : ℕ) → In sh.faces f → face_solid sh x f ≢ 0) → Lack sh x
-  no_loop : faces_in sh x (solid_at sh x) ≡ 1 → edges_left sh x (solid_at sh x) ≡ true → ring_half sh x (solid_at sh x) ≡ 0
+  no_loop : faces_in sh x (solid_at sh x) ≡ 1 → edges_left sh x (solid_at sh x) ≡ true
+      → ring_half sh x (solid_at sh x) ≡ 0
       → spur_half sh x (solid_at sh x) ≡ 0 → ((l : ℕ) → In sh.loops l → loop_face sh x l ≢ 0) → Lack sh x
   no_edge : faces_in sh x (solid_at sh x) ≡ 1 → edges_left sh x (solid_at sh x) ≡ false
       → ring_of sh x (face_in sh x (solid_at sh x)) ≢ 0

@@ -1,8 +1,10 @@
 -- The course of the take-down of a state that is let in and has room: a chain of accepted operators, with 19 bytes for
 -- each, down to nothing or to a turn that lacks a number (`course`). And what it has come to where nothing is left
 -- (`whole`). The promises from it are in Theorem.
-use Rattle.std.specs.Prelude.{◌≡◌, refl, ◌≢◌, Bool, true, false, List, [], ◌++◌, ℕ, ◌+◌, ◌-◌, ◌*◌, ◌≤◌, eqb, ℤ, length, take, drop}
-use Rattle.std.proofs.Common.{sym, ap, ◌∙◌, subst, ⊎_elim, append_assoc, zero-add, arith, length-append, length-drop, ltb-false}
+use Rattle.std.specs.Prelude.{◌≡◌, refl, ◌≢◌, Bool, true, false, List, [], ◌++◌, ℕ, ◌+◌, ◌-◌, ◌*◌, ◌≤◌, eqb, ℤ, length}
+use Rattle.std.specs.Prelude.{take, drop}
+use Rattle.std.proofs.Common.{sym, ap, ◌∙◌, subst, ⊎_elim, append_assoc, zero-add, arith, length-append, length-drop}
+use Rattle.std.proofs.Common.{ltb-false}
 use Rattle.std.proofs.lemmas.Bool.{false≢true}
 use Rattle.std.proofs.Math.Seq.{take-append_seam}
 use Rattle.laws.specs.Bools.{split, ask, eqb_other}
@@ -27,7 +29,8 @@ use Rattle.promises.specs.Leads.{Leads, none, first}
 use Rattle.promises.specs.Checked.{good_within, good_entry, checked_good}
 use Rattle.promises.specs.WayBack.{Back, back_none}
 use Rattle.evidence_fuel.specs.Inverse.{inverse_small}
-use Rattle.takedown.specs.Inversion.{Work, Inverted, Ended, ended, turns, bound, short_log, inverted, inverted_by, begin}
+use Rattle.takedown.specs.Inversion.{Work, Inverted, Ended, ended, turns, bound, short_log, inverted, inverted_by}
+use Rattle.takedown.specs.Inversion.{begin}
 use Rattle.takedown.specs.Inversion.{taken_back, all_turns, invert_of}
 use Rattle.inversion.specs.Script.{joins_of, joins_first, room_of, room_first}
 use Rattle.inversion.specs.Path.{Path, acted, acted_table, path_good, path_back, path_low, joins_in, path_joins}
@@ -59,7 +62,8 @@ joins_part : (sh : Shape) {x₀ : List ℕ} {p₀ : List ℤ} {n : ℕ} {x : Lis
 unfolding joins_of
 joins_part sh q₀ v (none e f g) = refl
 joins_part sh {x = x} {b = b} q₀ v (first {n} o rest e len acc more) =
-    let d : b ++ q₀ ≡ operator_bytes o ++ (rest ++ q₀) = ap (λ t. t ++ q₀) e ∙ append_assoc (operator_bytes o) rest q₀ in
+    let d : b ++ q₀ ≡ operator_bytes o
+    ++ (rest ++ q₀) = ap (λ t. t ++ q₀) e ∙ append_assoc (operator_bytes o) rest q₀ in
     joins_first sh v x o len acc (b ++ q₀) (rest ++ q₀) d n
     ∙ rw (joins_part sh q₀ v more) (sym (joins_first sh v x o len acc b rest e n))
 

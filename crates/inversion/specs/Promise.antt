@@ -1,6 +1,8 @@
--- THE TAKE-DOWN'S PROMISE (document 01, "Demand 3 in detail", and document 02, job 6), about `invert_of`, the definition
+-- THE TAKE-DOWN'S PROMISE (document 01, "Demand 3 in detail", and document 02, job 6), about `invert_of`, the
+-- definition
 -- that the contract of the entry point cites. And the number of holes. Statements only: all are proved in Theorem.
-use Rattle.std.specs.Prelude.{◌≡◌, ◌≢◌, Bool, true, false, ◌||◌, List, [], ◌∷◌, ℕ, ◌+◌, ◌-◌, ◌*◌, ◌≤◌, eqb, ℤ, length, get_or, take, drop}
+use Rattle.std.specs.Prelude.{◌≡◌, ◌≢◌, Bool, true, false, ◌||◌, List, [], ◌∷◌, ℕ, ◌+◌, ◌-◌, ◌*◌, ◌≤◌, eqb, ℤ, length}
+use Rattle.std.specs.Prelude.{get_or, take, drop}
 use Rattle.script.specs.declared.Operator.{Operator}
 use Rattle.layout.specs.declared.shape.Shape.{Shape}
 use Rattle.layout.specs.Layout.{shape_of}
@@ -10,7 +12,8 @@ use Rattle.table.specs.Count.{tally_of, count_of}
 use Rattle.runs.specs.Run.{State, state, entry, carry_refusal, stepped, run_of}
 use Rattle.promises.specs.Leads.{Leads}
 use Rattle.promises.specs.Logging.{below}
-use Rattle.takedown.specs.Inversion.{Work, links_in, Inverted, ended, solid_at, free_face, free_loop, free_edge, turn_of}
+use Rattle.takedown.specs.Inversion.{Work, links_in, Inverted, ended, solid_at, free_face, free_loop, free_edge}
+use Rattle.takedown.specs.Inversion.{turn_of}
 use Rattle.takedown.specs.Inversion.{bound, short_log, begin, all_turns, invert_of}
 use Rattle.inversion.specs.Script.{joins_of, room_of}
 use Rattle.inversion.specs.Path.{acted}
@@ -184,5 +187,6 @@ HolesOne = (x : List ℕ) (p : List ℤ) → (check_of x p).refusal ≡ 0 → On
 -- THE COUNT'S HOLES ARE THAT NUMBER: what counting answers with refusal 0 keeps the formula
 abbrev pub CountHoles : Type 0
 CountHoles = (x : List ℕ) (p : List ℤ) → (count_of x p).refusal ≡ 0
-    → (count_of x p).vertices + (count_of x p).faces + 2 * (count_of x p).holes ≡ (count_of x p).edges + (count_of x p).rings
+    → (count_of x p).vertices + (count_of x p).faces + 2 * (count_of x p).holes
+    ≡ (count_of x p).edges + (count_of x p).rings
     + 2 * (count_of x p).solids

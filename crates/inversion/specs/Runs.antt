@@ -32,7 +32,8 @@ run_at sh (suc n) (suc d) x k stop j h w t =
     (or_split (eqb k j) (on_run sh n x (next_of sh x k) stop j) (rw (eqb_other o.0) at t))
 
 -- and each of them is found
-pub at_run : (sh : Shape) (n d : ℕ) (x : List ℕ) (k stop j : ℕ) → d ≤ n → Steps (next_of sh x) k stop d → (t : ℕ) → t < d
+pub at_run : (sh : Shape) (n d : ℕ) (x : List ℕ) (k stop j : ℕ) → d ≤ n → Steps (next_of sh x) k stop d → (t : ℕ)
+    → t < d
     → iter (next_of sh x) t k ≡ j → on_run sh n x k stop j ≡ true
 unfolding on_run iter
 at_run sh n zero x k stop j h w t l e = absurd (omega arith)

@@ -14,7 +14,8 @@ use Rattle.sound_tables.specs.Names.{loop_unnamed}
 use Rattle.sound_tables.specs.Good.{Good, own}
 use Rattle.sound_bridges.specs.Runs.{met?}
 use Rattle.sound_bridges.specs.KemrColumns.{walk}
-use Rattle.takedown.specs.Inversion.{solid_at, free_face, free_loop, edges_left, in_ring, ring_half, spur_half, crossed_half}
+use Rattle.takedown.specs.Inversion.{solid_at, free_face, free_loop, edges_left, in_ring, ring_half, spur_half}
+use Rattle.takedown.specs.Inversion.{crossed_half}
 use Rattle.takedown.specs.Inversion.{kemr}
 use Rattle.inversion.specs.OfSolid.{one_loop}
 use Rattle.inversion.specs.KemrTurn.{rest_loop}
@@ -36,8 +37,10 @@ module _ {sh : Shape} {x : List ℕ} {p : List ℤ} (g : Good sh x p) (free : fr
       × (own sh x Loop i ≡ own sh x Loop (crossed_half sh x (solid_at sh x))))
   ring_name = kemr_loop g (span g free sn one left none no-spur)
 
-  pub kemr_spans : {q : List ℤ} → Good sh (links_after sh x (kemr (crossed_half sh x (solid_at sh x)) (free_loop sh x))) q
-      → Spans sh (links_after sh x (kemr (crossed_half sh x (solid_at sh x)) (free_loop sh x))) (solid_at sh x) (free_loop sh
+  pub kemr_spans : {q : List ℤ}
+      → Good sh (links_after sh x (kemr (crossed_half sh x (solid_at sh x)) (free_loop sh x))) q
+      → Spans sh (links_after sh x (kemr (crossed_half sh x (solid_at sh x)) (free_loop sh x))) (solid_at sh x)
+      (free_loop sh
       x) (own sh x Loop (crossed_half sh x (solid_at sh x)))
   kemr_spans gz i u t =
       let G = kemr_goes_on g free sn one left none no-spur in

@@ -1,6 +1,7 @@
 -- A's turn keeps the lower ends: where no ring was moved, a new candidate is the mate of a half-edge of the face that
 -- goes.
-use Rattle.std.specs.Prelude.{◌≡◌, refl, ◌≢◌, Bool, true, false, not, ◌&&◌, List, ℕ, suc, ◌+◌, ◌-◌, ◌*◌, ◌≤◌, ◌<◌, eqb, ℤ}
+use Rattle.std.specs.Prelude.{◌≡◌, refl, ◌≢◌, Bool, true, false, not, ◌&&◌, List, ℕ, suc, ◌+◌, ◌-◌, ◌*◌, ◌≤◌, ◌<◌, eqb}
+use Rattle.std.specs.Prelude.{ℤ}
 use Rattle.std.proofs.Common.{sym, ap, ◌∙◌, subst, ⊎_elim, arith, eqb→eq, T_not}
 use Rattle.std.proofs.lemmas.Bool.{false≢true}
 use Rattle.std.proofs.Math.Dec.{not_T}
@@ -330,7 +331,8 @@ module _ {sh : Shape} {x : List ℕ} {p : List ℤ} (g : Good sh x p) (sn : soli
       ∙ by (is_ring sh x l) refl
     where
       by : (t : Bool) → is_ring sh x l ≡ t
-          → move_rings sh (sh.loops + 1 - pick t 1 (loop_from sh x e)) (pick t 1 (loop_from sh x e)) f r (make_outer sh l f
+          → move_rings sh (sh.loops + 1 - pick t 1 (loop_from sh x e)) (pick t 1 (loop_from sh x e)) f r
+          (make_outer sh l f
           w) ≡ moved w
       by true q = moves_from sh 1 f r (make_outer sh l f w) (omega arith) (omega arith)
           (λ m i h. absurd (omega (arith, i.0, h)))

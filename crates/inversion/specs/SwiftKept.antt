@@ -1,5 +1,6 @@
 -- What the lower ends of Swift keep, and that B's turns keep it.
-use Rattle.std.specs.Prelude.{◌≡◌, refl, ◌≢◌, ◌⊎◌, Bool, false, ◌&&◌, List, ℕ, suc, ◌+◌, ◌-◌, ◌*◌, ◌≤◌, ◌<◌, eqb, ltb, ℤ}
+use Rattle.std.specs.Prelude.{◌≡◌, refl, ◌≢◌, ◌⊎◌, Bool, false, ◌&&◌, List, ℕ, suc, ◌+◌, ◌-◌, ◌*◌, ◌≤◌, ◌<◌, eqb, ltb}
+use Rattle.std.specs.Prelude.{ℤ}
 use Rattle.std.proofs.Math.Path.{sym, ap}
 use Rattle.std.proofs.Common.{◌∙◌, subst, inr, arith, eqb→eq, lt→ltb, ltb→lt}
 use Rattle.std.proofs.Math.Logic.{inl, ⊎_elim}
@@ -21,7 +22,8 @@ use Rattle.inversion.specs.OfSolid.{both, joint, of_solid_lem}
 use Rattle.inversion.specs.Uncrossed.{Parted, parted_kept}
 use Rattle.inversion.specs.Gone.{Goes}
 use Rattle.takedown.specs.declared.ends.Ends.{Ends}
-use Rattle.takedown.specs.Swift.{stray_ring, seek, lesser, greater, ends_at, enter, solid_from, tipped, least_tip, spur_from}
+use Rattle.takedown.specs.Swift.{stray_ring, seek, lesser, greater, ends_at, enter, solid_from, tipped, least_tip}
+use Rattle.takedown.specs.Swift.{spur_from}
 
 -- ---- searches from a lower end
 

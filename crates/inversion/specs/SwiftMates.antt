@@ -88,8 +88,11 @@ moves_still sh (suc n) i f r w e = by (λ h. moves_still sh n (i + 1) f r w h) (
         → (move_rings sh n (i + 1) f r (pick t (act sh w (rmov i r)) w) ≡ w)
         × ((m : ℕ) → i ≤ m → m < i + suc n → is_ring_of sh (links_in w) f m ≡ false)
     by ih true q h = absurd (omega (arith, h, moves_more sh n (i + 1) f r (act sh w (rmov i r))))
-    by ih false q h = let c = ih h in
-        (c.0, λ m a b. split m i (λ z. ap (is_ring_of sh (links_in w) f) z ∙ q) (λ z. c.1 m (omega arith) (omega arith)))
+    by ih false q h = let c = ih h in (
+      c.0,
+      λ m a b. split m i (λ z. ap (is_ring_of sh (links_in w) f) z ∙ q)
+          (λ z. c.1 m (omega arith) (omega arith)),
+    )
 
 -- and loops that are no rings of the face may be left out
 moves_off : (sh : Shape) (d n i f r : ℕ) (w : Work)

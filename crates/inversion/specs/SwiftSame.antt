@@ -17,8 +17,10 @@ use Rattle.runs.specs.Clauses.{entry_passed}
 use Rattle.promises.specs.Checked.{checked_good}
 use Rattle.takedown.specs.Inversion.{Work, act, begin, inverted, inverted_by, short_log, turns, invert_of, links_in}
 use Rattle.takedown.specs.Inversion.{solid_at, lacks_b, lacks, lack_at, ended, all_turns}
-use Rattle.takedown.specs.Inversion.{free_face, free_loop, free_edge, outside, border_half, of_solid, edges_left, in_ring}
-use Rattle.takedown.specs.Inversion.{ring_half, spur_half, is_crossed, crossed_half, is_ring_of, ring_of, make_outer, move_rings}
+use Rattle.takedown.specs.Inversion.{free_face, free_loop, free_edge, outside, border_half, of_solid, edges_left}
+use Rattle.takedown.specs.Inversion.{in_ring}
+use Rattle.takedown.specs.Inversion.{ring_half, spur_half, is_crossed, crossed_half, is_ring_of, ring_of, make_outer}
+use Rattle.takedown.specs.Inversion.{move_rings}
 use Rattle.takedown.specs.Inversion.{turn_ring, turn_c, turned, invert_by, kvsf, kev, kef, kemr, mekr, mfkrh}
 use Rattle.inversion.specs.Path.{acted, path_good, acted_table}
 use Rattle.inversion.specs.OfSolid.{least_some, not_some, some_not}
@@ -32,7 +34,8 @@ use Rattle.inversion.specs.RolledBack.{rolled_back_lem}
 use Rattle.inversion.specs.AllTurns.{turns_made}
 use Rattle.inversion.specs.Gone.{Goes}
 use Rattle.takedown.specs.declared.ends.Ends.{Ends}
-use Rattle.takedown.specs.Swift.{seek, Swift, with_half, spur_from, ring_ends, spur_ends, cross_ends, loop_from, across_ends}
+use Rattle.takedown.specs.Swift.{seek, Swift, with_half, spur_from, ring_ends, spur_ends, cross_ends, loop_from}
+use Rattle.takedown.specs.Swift.{across_ends}
 use Rattle.takedown.specs.Swift.{across_turn, across_from, bare_ends, enter, entered, swift_turn, swift_lacks, swift_by}
 use Rattle.takedown.specs.Swift.{swiftly_by, swift_of}
 use Rattle.inversion.specs.SwiftKept.{seek_least, Keeps, Kept, kept_enter, spur_from_lem, solid_kept, root_kept}
@@ -66,7 +69,8 @@ module _ (sh : Shape) (e : Ends) (x : List ℕ) (w : Work) where
   shape_cross : (h k : ℕ) → e.faces ≡ 1 → seek (2 * sh.edges) e.half (of_solid sh x e.solid) ≡ h → h ≢ 0
       → seek (2 * sh.edges) e.ring (in_ring sh x e.solid) ≡ 0
       → spur_from sh x e ≡ 0 → seek (2 * sh.edges) e.cross (is_crossed sh x e.solid) ≡ k
-      → swift_turn sh e x w ≡ record { work = act sh w (kemr k (free_loop sh x)); ends = cross_ends sh x (with_half e h) k }
+      → swift_turn sh e x w
+      ≡ record { work = act sh w (kemr k (free_loop sh x)); ends = cross_ends sh x (with_half e h) k }
   unfolding swift_turn
   shape_cross h k one a b c d f = rw (eqb_same one, a, eqb_other b, c, d, f)
 
@@ -93,7 +97,8 @@ module _ (sh : Shape) (e : Ends) (x : List ℕ) (w : Work) where
 
 -- ---- the table after an operator
 
-after : (sh : Shape) (w : Work) (o : Operator) (x : List ℕ) → links_in w ≡ x → links_in (act sh w o) ≡ links_after sh x o
+after : (sh : Shape) (w : Work) (o : Operator) (x : List ℕ) → links_in w ≡ x
+    → links_in (act sh w o) ≡ links_after sh x o
 unfolding act stepped
 after sh w o x a = ap (λ t. links_after sh t o) a
 

@@ -56,7 +56,8 @@ module _ {sh : Shape} {x : List ℕ} {p : List ℤ} (g : Good sh x p) (sn : soli
   -- the lower ends
   pub kept_spur : (e : Ends) (r k₀ : ℕ) → Keeps sh x (solid_at sh x) r e → 1 ≤ k₀
       → ((i : ℕ) → In (2 * sh.edges) i → i < k₀ → of_solid sh x (solid_at sh x) i ≡ false)
-      → Keeps sh (links_after sh x (kev (spur_half sh x (solid_at sh x)))) (solid_at sh x) r (spur_ends sh x (with_half e k₀)
+      → Keeps sh (links_after sh x (kev (spur_half sh x (solid_at sh x)))) (solid_at sh x) r
+      (spur_ends sh x (with_half e k₀)
       (spur_half sh x (solid_at sh x)))
   kept_spur e r k₀ K l₀ h₀ = record {
     border_low = omega arith;
@@ -158,7 +159,8 @@ run_below sh (suc n) (suc d) x j stop b h w =
     ))
 
 run_met : (sh : Shape) (n d : ℕ) (x : List ℕ) (j stop b : ℕ) → d ≤ n → Steps (next_of sh x) j stop d → (t : ℕ) → t < d
-    → (least_run sh n x j stop b ≤ iter (next_of sh x) t j) × (least_run sh n x j stop b ≤ mate (iter (next_of sh x) t j))
+    → (least_run sh n x j stop b ≤ iter (next_of sh x) t j)
+    × (least_run sh n x j stop b ≤ mate (iter (next_of sh x) t j))
 unfolding least_run iter
 run_met sh zero d x j stop b h w t l = absurd (omega arith)
 run_met sh (suc n) zero x j stop b h w t l = absurd (omega arith)
@@ -219,7 +221,8 @@ module _ {sh : Shape} {x : List ℕ} {p : List ℤ} (g : Good sh x p) (free : fr
   ring₂ : (i : ℕ) → In (2 * sh.edges) i
       → i < least_run sh (2 * sh.edges) x (own sh x Next (crossed_half sh x (solid_at sh x))) (mate
       (crossed_half sh x (solid_at sh x))) (2 * sh.edges + 1)
-      → in_ring sh (links_after sh x (kemr (crossed_half sh x (solid_at sh x)) (free_loop sh x))) (solid_at sh x) i ≡ false
+      → in_ring sh (links_after sh x (kemr (crossed_half sh x (solid_at sh x)) (free_loop sh x))) (solid_at sh x) i
+      ≡ false
   unfolding run
   ring₂ i j h = fails false _ refl (λ t. absurd (clash (in_ring_lem g₂ sn i j t)))
     where
@@ -250,7 +253,8 @@ module _ {sh : Shape} {x : List ℕ} {p : List ℤ} (g : Good sh x p) (free : fr
 
   pub kept_cross : (e : Ends) (r k₀ : ℕ) → Keeps sh x (solid_at sh x) r e → 1 ≤ k₀
       → ((i : ℕ) → In (2 * sh.edges) i → i < k₀ → of_solid sh x (solid_at sh x) i ≡ false)
-      → Keeps sh (links_after sh x (kemr (crossed_half sh x (solid_at sh x)) (free_loop sh x))) (solid_at sh x) r (cross_ends
+      → Keeps sh (links_after sh x (kemr (crossed_half sh x (solid_at sh x)) (free_loop sh x))) (solid_at sh x) r
+      (cross_ends
       sh x (with_half e k₀) (crossed_half sh x (solid_at sh x)))
   kept_cross e r k₀ K l₀ h₀ = record {
     border_low = omega arith;
@@ -281,7 +285,8 @@ module _ {sh : Shape} {x : List ℕ} {p : List ℤ} (g : Good sh x p) (free : fr
     ring = ring₂;
     spur = λ i j h d d₂ d₃ d₄. fails false _ refl
         (λ t. absurd
-        (⊎_elim d d₂ (spur_kept g g₂ sn G₂ i j (least_no (2 * sh.edges) (is_spur sh x (solid_at sh x)) no-spur i j) t)));
+        (⊎_elim d d₂ (spur_kept g g₂ sn G₂ i j (least_no (2 * sh.edges) (is_spur sh x (solid_at sh x)) no-spur i j)
+        t)));
     cross = λ i j h. cross_kept g g₂ sn G₂ i j
         (λ t. parted_of g sn one none i j t (fails (is_crossed sh x (solid_at sh x) i) (crossed sh x i)
         (least_before (2 * sh.edges) (is_crossed sh x (solid_at sh x)) i j h)

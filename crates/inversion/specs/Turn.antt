@@ -1,7 +1,8 @@
 -- What is to be shown of each turn that does not lack a number, and that it is enough: turn by turn the table is
 -- emptied, or a turn is met that lacks one, in no more turns than the table has edges and vertices; the operators are
 -- accepted, and what they change of the counts is said (`Change`).
-use Rattle.std.specs.Prelude.{◌≡◌, ◌≢◌, ◌⊎◌, Bool, true, false, List, [], ◌++◌, ℕ, zero, suc, ◌+◌, ◌*◌, ◌≤◌, ◌<◌, eqb, ℤ, length}
+use Rattle.std.specs.Prelude.{◌≡◌, ◌≢◌, ◌⊎◌, Bool, true, false, List, [], ◌++◌, ℕ, zero, suc, ◌+◌, ◌*◌, ◌≤◌, ◌<◌, eqb}
+use Rattle.std.specs.Prelude.{ℤ, length}
 use Rattle.std.proofs.Math.Path.{refl}
 use Rattle.std.proofs.Common.{sym, ap, ◌∙◌, inl, inr, ⊎_elim, arith, length-append}
 use Rattle.std.proofs.lemmas.Bool.{false≢true}
@@ -12,7 +13,8 @@ use Rattle.layout.specs.Items.{some, face_in}
 use Rattle.euler.specs.Queries.{faces_in}
 use Rattle.table.specs.Clear.{empty_links, empty_points}
 use Rattle.sound_tables.specs.Good.{Good}
-use Rattle.takedown.specs.Inversion.{Work, solid_at, free_face, free_loop, free_edge, edges_left, ring_half, spur_half, ring_of}
+use Rattle.takedown.specs.Inversion.{Work, solid_at, free_face, free_loop, free_edge, edges_left, ring_half, spur_half}
+use Rattle.takedown.specs.Inversion.{ring_of}
 use Rattle.takedown.specs.Inversion.{turned, turn_of, lacks_b, lacks, lack_at, ended, invert_by}
 use Rattle.inversion.specs.Path.{Path, there, first, acted, path_append, acted_append, path_good, joins_in}
 use Rattle.inversion.specs.Path.{acted_table}

@@ -309,7 +309,8 @@ module _ {sh : Shape} {x : List ℕ} {p : List ℤ} (g : Good sh x p) (free : fr
   -- what is known of the table afterwards
   pub turn_bare : Bare sh x
       (links_after sh
-      (links_after sh x (mekr (own sh x Outer (face_in sh x (solid_at sh x))) (ring_of sh x (face_in sh x (solid_at sh x)))
+      (links_after sh x (mekr (own sh x Outer (face_in sh x (solid_at sh x)))
+      (ring_of sh x (face_in sh x (solid_at sh x)))
       (free_edge sh x))) (kev (2 * free_edge sh x - 1))) (ring_of sh x (face_in sh x (solid_at sh x)))
   turn_bare =
       let a = lone_of (own sh x Outer (face_in sh x (solid_at sh x))) (outer_in g sn) (outer_face g sn) in

@@ -14,7 +14,8 @@ use Rattle.sound_tables.specs.Labels.{label_only, one_many}
 use Rattle.sound_tables.specs.Good.{Good, own}
 use Rattle.sound_bridges.specs.KemrColumns.{Span}
 use Rattle.sound_bridges.specs.KemrAccepted.{kemr_accepted, kemr_points}
-use Rattle.takedown.specs.Inversion.{solid_at, free_loop, edges_left, is_crossed, crossed_half, crossed, of_solid, ring_half}
+use Rattle.takedown.specs.Inversion.{solid_at, free_loop, edges_left, is_crossed, crossed_half, crossed, of_solid}
+use Rattle.takedown.specs.Inversion.{ring_half}
 use Rattle.takedown.specs.Inversion.{spur_half, kemr}
 use Rattle.inversion.specs.Path.{there, first, acted, joins_in}
 use Rattle.inversion.specs.Counts.{solids, faces, loops, edges}

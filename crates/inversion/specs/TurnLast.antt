@@ -149,7 +149,8 @@ module _ {sh : Shape} {x : List ℕ} {p : List ℤ} (g : Good sh x p) (sn : soli
       ∙ (root_is g sn).label)
 
   one_loop : OneLoop sh (own sh x) (solid_at sh x) (face_in sh x (solid_at sh x))
-      (own sh x Outer (face_in sh x (solid_at sh x))) (own sh x Isolated (own sh x Outer (face_in sh x (solid_at sh x))))
+      (own sh x Outer (face_in sh x (solid_at sh x)))
+      (own sh x Isolated (own sh x Outer (face_in sh x (solid_at sh x))))
   one_loop =
       let r = root_is g sn in
       record {
@@ -168,8 +169,10 @@ module _ {sh : Shape} {x : List ℕ} {p : List ℤ} (g : Good sh x p) (sn : soli
       }
 
   -- the table afterwards; no vertex word but that of the killed one changes
-  last_links : links_after sh x (kvsf (solid_at sh x)) ≡ placed_links sh x (solid_at sh x) (face_in sh x (solid_at sh x))
-      (own sh x Outer (face_in sh x (solid_at sh x))) (own sh x Isolated (own sh x Outer (face_in sh x (solid_at sh x)))) 0
+  last_links : links_after sh x (kvsf (solid_at sh x))
+      ≡ placed_links sh x (solid_at sh x) (face_in sh x (solid_at sh x))
+      (own sh x Outer (face_in sh x (solid_at sh x)))
+      (own sh x Isolated (own sh x Outer (face_in sh x (solid_at sh x)))) 0
       0 0 0 0
   last_links = still_links sh x (kvsf (solid_at sh x)) 2 refl (λ y. refl) (λ y. refl)
       ∙ kvsf_links_lem _ one_loop g.capacities

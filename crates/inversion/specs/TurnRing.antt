@@ -255,7 +255,8 @@ module _ {sh : Shape} {x : List ℕ} {p : List ℤ} (g : Good sh x p) (free : fr
     (left : edges_left sh x (solid_at sh x) ≡ true) (some : ring_half sh x (solid_at sh x) ≢ 0) where
   -- what the search says: of the solid, in a ring, the mate in another loop
   pub found : Of g sn (ring_half sh x (solid_at sh x))
-      × (own sh x Outer (side (own sh x) (ring_half sh x (solid_at sh x))) ≢ own sh x Loop (ring_half sh x (solid_at sh x)))
+      × (own sh x Outer (side (own sh x) (ring_half sh x (solid_at sh x)))
+      ≢ own sh x Loop (ring_half sh x (solid_at sh x)))
       × (own sh x Loop (mate (ring_half sh x (solid_at sh x))) ≢ own sh x Loop (ring_half sh x (solid_at sh x)))
   found =
       let k = ring_half sh x (solid_at sh x) in
@@ -292,7 +293,8 @@ module _ {sh : Shape} {x : List ℕ} {p : List ℤ} (g : Good sh x p) (free : fr
       }
 
   -- the mate lies in the same face
-  pub same_face : side (own sh x) (mate (ring_half sh x (solid_at sh x))) ≡ side (own sh x) (ring_half sh x (solid_at sh x))
+  pub same_face : side (own sh x) (mate (ring_half sh x (solid_at sh x)))
+      ≡ side (own sh x) (ring_half sh x (solid_at sh x))
   same_face =
       sym (only_root g sn one (mate (ring_half sh x (solid_at sh x)))
       (of_mate g sn (ring_half sh x (solid_at sh x)) found.0))
@@ -303,7 +305,8 @@ module _ {sh : Shape} {x : List ℕ} {p : List ℤ} (g : Good sh x p) (free : fr
   turn_ring =
       let u = found.0.0 in
       record {
-        os = mfkrh (own sh x Loop (ring_half sh x (solid_at sh x))) (free_face sh x) ∷ kef (ring_half sh x (solid_at sh x))
+        os = mfkrh (own sh x Loop (ring_half sh x (solid_at sh x))) (free_face sh x)
+            ∷ kef (ring_half sh x (solid_at sh x))
             ∷ [];
         y = links_after sh (links_after sh x (mfkrh (own sh x Loop (ring_half sh x (solid_at sh x))) (free_face sh x)))
             (kef (ring_half sh x (solid_at sh x)));

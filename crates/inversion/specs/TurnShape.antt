@@ -6,7 +6,8 @@ use Rattle.laws.specs.Bools.{eqb_same, eqb_other}
 use Rattle.layout.specs.declared.shape.Shape.{Shape}
 use Rattle.layout.specs.Layout.{loop_of, face_outer, side}
 use Rattle.euler.specs.Queries.{faces_in}
-use Rattle.takedown.specs.Inversion.{Work, act, free_face, free_loop, free_edge, border_half, edges_left, ring_half, spur_half}
+use Rattle.takedown.specs.Inversion.{Work, act, free_face, free_loop, free_edge, border_half, edges_left, ring_half}
+use Rattle.takedown.specs.Inversion.{spur_half}
 use Rattle.takedown.specs.Inversion.{crossed_half, ring_of, kvsf, kev, kef, kemr, mekr, mfkrh, turn_a, turn_b, turned}
 
 module _ (sh : Shape) (s r : ℕ) (w : Work) where
@@ -34,7 +35,8 @@ module _ (sh : Shape) (s r : ℕ) (w : Work) where
       → ring_half sh x s ≡ 0 → spur_half sh x s ≢ 0
       → turned sh s r w ≡ act sh w (kev (spur_half sh x s))
   unfolding turned turn_b
-  turned_spur x a = subst (λ x. faces_in sh x s ≡ 1 → edges_left sh x s ≡ true → ring_half sh x s ≡ 0 → spur_half sh x s ≢ 0
+  turned_spur x a = subst
+      (λ x. faces_in sh x s ≡ 1 → edges_left sh x s ≡ true → ring_half sh x s ≡ 0 → spur_half sh x s ≢ 0
       → turned sh s r w ≡ act sh w (kev (spur_half sh x s))) a
       (λ one left none d. rw (eqb_same one, left, eqb_same none, eqb_other d))
 

@@ -17,7 +17,8 @@ use Rattle.sound_operators.specs.Theorems.{all_hold}
 use Rattle.sound_spurs.specs.KevAccepted.{kev_accepted}
 use Rattle.sound_bridges.specs.KemrAccepted.{kemr_accepted}
 use Rattle.sound_cuts.specs.KefAccepted.{kef_points}
-use Rattle.takedown.specs.Inversion.{solid_at, free_face, free_loop, edges_left, of_solid, in_ring, ring_half, spur_half}
+use Rattle.takedown.specs.Inversion.{solid_at, free_face, free_loop, edges_left, of_solid, in_ring, ring_half}
+use Rattle.takedown.specs.Inversion.{spur_half}
 use Rattle.takedown.specs.Inversion.{crossed, is_crossed, crossed_half, kev, kef, kemr, mfkrh}
 use Rattle.inversion.specs.OfSolid.{both, joint, Of, of_solid_lem, solid_of, one_loop}
 use Rattle.inversion.specs.KevLaws.{kev_law}
@@ -30,7 +31,8 @@ use Rattle.inversion.specs.Gone.{Goes, kev_goes, kev_loop, kev_outer, kemr_goes,
 
 -- the table after the ring turn
 abbrev pub ring_left : Shape → List ℕ → List ℕ
-ring_left sh x = links_after sh (links_after sh x (mfkrh (own sh x Loop (ring_half sh x (solid_at sh x))) (free_face sh x)))
+ring_left sh x = links_after sh
+    (links_after sh x (mfkrh (own sh x Loop (ring_half sh x (solid_at sh x))) (free_face sh x)))
     (kef (ring_half sh x (solid_at sh x)))
 
 -- below the least none passes
@@ -84,7 +86,8 @@ module _ {sh : Shape} {x : List ℕ} {p : List ℤ} (g : Good sh x p) (sn : soli
 
   pub kev_good : Good sh (links_after sh x (kev (spur_half sh x (solid_at sh x))))
       (points_after sh x p (kev (spur_half sh x (solid_at sh x))))
-  kev_good = (all_hold sh x p (kev (spur_half sh x (solid_at sh x))) g refl (kev_accepted (marked g) kev_half kev_next)).0
+  kev_good = (all_hold sh x p (kev (spur_half sh x (solid_at sh x))) g refl
+      (kev_accepted (marked g) kev_half kev_next)).0
 
   pub kev_goes_on : Goes sh x (links_after sh x (kev (spur_half sh x (solid_at sh x)))) (spur_half sh x (solid_at sh x))
   kev_goes_on = kev_goes g kev_half kev_next
@@ -172,7 +175,8 @@ module _ {sh : Shape} {x : List ℕ} {p : List ℤ} (g : Good sh x p) (free : fr
   ring_half_lem = (ring-found g free sn one left some).0.0
 
   -- the mate lies in another loop
-  pub ring_apart : own sh x Loop (mate (ring_half sh x (solid_at sh x))) ≢ own sh x Loop (ring_half sh x (solid_at sh x))
+  pub ring_apart : own sh x Loop (mate (ring_half sh x (solid_at sh x)))
+      ≢ own sh x Loop (ring_half sh x (solid_at sh x))
   ring_apart = (ring-found g free sn one left some).2
 
   pub ring_good : Good sh (ring_left sh x) p

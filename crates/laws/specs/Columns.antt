@@ -3,7 +3,8 @@
 -- any base, width and count, and for words of any type: z is what is read where nothing stands.
 use Rattle.std.specs.Prelude.{◌≡◌, ◌≢◌, ◌⊎◌, List, [], ◌∷◌, length, get_or, set}
 use Rattle.std.proofs.Math.Path.{refl, ap}
-use Rattle.std.proofs.Common.{sym, ◌∙◌, subst, inl, inr, ⊎_elim, mul-le-mul_left, div-add-mod', mod-lt, mul_comm, div-lt_iff_lt-mul, arith, length-set, get_or-set_same, get_or-set_other, ext_get_or}
+use Rattle.std.proofs.Common.{sym, ◌∙◌, subst, inl, inr, ⊎_elim, mul-le-mul_left, div-add-mod', mod-lt, mul_comm}
+use Rattle.std.proofs.Common.{div-lt_iff_lt-mul, arith, length-set, get_or-set_same, get_or-set_other, ext_get_or}
 use Prim.Native.Nat.{ℕ, zero, suc, ◌+◌, ◌-◌, ◌*◌, ◌/◌, ◌%◌, ◌≤◌, ◌<◌}
 use Rattle.laws.specs.Bools.{split, le?}
 use Rattle.laws.specs.Update.{upd, upd_at, upd_off}

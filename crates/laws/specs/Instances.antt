@@ -1,7 +1,8 @@
 -- Small instances that go through every assumption of the laws, so that none of them is empty.
 -- Here: searches, columns, chains, permutations, the six moves and walks. `LinearInstances` has marks, closure and
 -- union.
-use Rattle.std.specs.Prelude.{◌≡◌, refl, ◌≢◌, Bool, true, false, ◌&&◌, List, [], ◌∷◌, ℕ, zero, suc, ◌+◌, ◌≤◌, ◌<◌, T, leb, eqb, get_or, set}
+use Rattle.std.specs.Prelude.{◌≡◌, refl, ◌≢◌, Bool, true, false, ◌&&◌, List, [], ◌∷◌, ℕ, zero, suc, ◌+◌, ◌≤◌, ◌<◌, T}
+use Rattle.std.specs.Prelude.{leb, eqb, get_or, set}
 use Rattle.std.proofs.Common.{sym, ap, ◌∙◌, inl, inr, arith, leb→le}
 use Rattle.laws.specs.Bools.{pick, eqb_other}
 use Rattle.laws.specs.Search.{all_to, least, least_from, least_ext}

@@ -1,5 +1,6 @@
 -- Small instances of the laws that a linear check rests on: marks, closure and union.
-use Rattle.std.specs.Prelude.{◌≡◌, refl, ◌≢◌, ◌⊎◌, Bool, true, false, List, [], ◌∷◌, ℕ, zero, suc, ◌≤◌, T, leb, eqb, get_or, set, replicate}
+use Rattle.std.specs.Prelude.{◌≡◌, refl, ◌≢◌, ◌⊎◌, Bool, true, false, List, [], ◌∷◌, ℕ, zero, suc, ◌≤◌, T, leb, eqb}
+use Rattle.std.specs.Prelude.{get_or, set, replicate}
 use Rattle.std.proofs.Common.{subst, arith, leb→le}
 use Rattle.laws.specs.Search.{all_to}
 use Rattle.laws.specs.Cycles.{Cycles}
@@ -138,7 +139,8 @@ all_computes = tt
 
 -- so the items of one class are linked
 one_class : Linked (Edge (Used 3 present) left right) 1 2
-one_class = all_linked_lem 4 3 present left right ends below first_of class all_computes 1 2 (omega arith, omega arith, tt)
+one_class = all_linked_lem 4 3 present left right ends below first_of class all_computes 1 2
+    (omega arith, omega arith, tt)
     (omega arith, omega arith, tt) refl
 
 -- and back

@@ -93,7 +93,8 @@ count_one n p c l u t h =
     omega (arith, sum_change n (λ k. bit (p k)) (λ k. 0) c l u (λ k f. ap bit (h k f)), ap bit t, sum_zero n)
 
 -- q passes wherever p does, and no oftener on 1..n: then p passes wherever q does
-pub count_tight : (n : ℕ) (p q : ℕ → Bool) → ((k : ℕ) → T (p k) → T (q k)) → count_to n q ≤ count_to n p → (k : ℕ) → 1 ≤ k
+pub count_tight : (n : ℕ) (p q : ℕ → Bool) → ((k : ℕ) → T (p k) → T (q k)) → count_to n q ≤ count_to n p → (k : ℕ)
+    → 1 ≤ k
     → k ≤ n → T (q k) → T (p k)
 count_tight n p q h c k l u t =
     ⊎_elim (λ e. true_T e)

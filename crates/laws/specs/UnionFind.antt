@@ -1,6 +1,7 @@
 -- Union-find: parents that never rise, the root found, paths shortened, two classes united.
 use Rattle.std.specs.Prelude.{◌≡◌, refl, ◌≢◌, ◌⊎◌, Bool, not, List, ℕ, zero, suc, ◌≤◌, ◌<◌, eqb, length, get_or, set}
-use Rattle.std.proofs.Common.{sym, ap, ◌∙◌, subst, inl, inr, arith, ltb→lt, lt→ltb, length-set, get_or-set_same, get_or-set_other}
+use Rattle.std.proofs.Common.{sym, ap, ◌∙◌, subst, inl, inr, arith, ltb→lt, lt→ltb, length-set, get_or-set_same}
+use Rattle.std.proofs.Common.{get_or-set_other}
 use Rattle.std.proofs.Math.Logic.{⊎_elim}
 use Rattle.std.proofs.Math.Bool.{false}
 use Rattle.std.proofs.Math.Dec.{ltb}
@@ -90,7 +91,8 @@ module _ (p : List ℕ) (d : Down p) where
       ∙ root_fuel k (get_or p k 0) (get_or p k 0) (d.at k) (omega arith))
 
   -- what holds of roots, and of a number once it holds of its parent, holds of all
-  by_parent : (P : ℕ → Type 0) → ((k : ℕ) → get_or p k 0 ≡ k → P k) → ((k : ℕ) → get_or p k 0 ≢ k → P (get_or p k 0) → P k)
+  by_parent : (P : ℕ → Type 0) → ((k : ℕ) → get_or p k 0 ≡ k → P k)
+      → ((k : ℕ) → get_or p k 0 ≢ k → P (get_or p k 0) → P k)
       → (k : ℕ) → P k
   by_parent P end on =
       by_less P (λ k ih. split (get_or p k 0) k (end k) (λ h. on k h (ih (get_or p k 0) (omega (arith, d.at k)))))

@@ -1,6 +1,7 @@
 -- The twelve columns of a table's links, the capacities among them, as one family: what is said of a store to one
 -- column is said once for all.
-use Rattle.std.specs.Prelude.{◌≡◌, refl, Bool, true, false, ◌&&◌, ◌||◌, List, [], ◌∷◌, ℕ, zero, suc, ◌*◌, ◌<◌, eqb, length, get_or}
+use Rattle.std.specs.Prelude.{◌≡◌, refl, Bool, true, false, ◌&&◌, ◌||◌, List, [], ◌∷◌, ℕ, zero, suc, ◌*◌, ◌<◌, eqb}
+use Rattle.std.specs.Prelude.{length, get_or}
 use Rattle.std.proofs.Common.{sym, ap, ◌∙◌, subst, ⊎_elim, arith, eqb→eq, lit≤}
 use Rattle.laws.specs.Bools.{pick, true_T, and_T, ask}
 use Rattle.laws.specs.Update.{upd}
@@ -158,7 +159,8 @@ field_back VertexUsed = refl
 
 -- so kind and word tell fields apart
 pub field_same : (F G : Field) → group_of F ≡ group_of G → word_of F ≡ word_of G → F ≡ G
-field_same F G e f = sym (field_back F) ∙ ap (λ g. field_at g (word_of F)) e ∙ ap (field_at (group_of G)) f ∙ field_back G
+field_same F G e f = sym (field_back F) ∙ ap (λ g. field_at g (word_of F)) e ∙ ap (field_at (group_of G)) f
+    ∙ field_back G
 
 -- a field lies in its record, and its kind is one of the six
 pub field_in : (sh : Shape) (F : Field) → (word_of F < (group_at sh (group_of F)).width) × (group_of F < 6)

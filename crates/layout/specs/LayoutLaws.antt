@@ -29,7 +29,8 @@ shape_is s f l e v face loop half vertex a b c d = rw (a, b, c, d)
 
 -- word j of record n is field F of it where base, width and word are those of the field
 pub read_field : (sh : Shape) (F : Field) (base width j : ℕ) (x : List ℕ) (n r : ℕ)
-    → r ≡ col (kind base width) j x n → base ≡ (group_at sh (group_of F)).base → width ≡ (group_at sh (group_of F)).width
+    → r ≡ col (kind base width) j x n → base ≡ (group_at sh (group_of F)).base
+    → width ≡ (group_at sh (group_of F)).width
     → j ≡ word_of F → r ≡ column sh F x n
 read_field sh F base width j x n r e b w k =
     let κ = group_at sh (group_of F) in

@@ -5,7 +5,8 @@ use Rattle.laws.specs.Columns.{col_at, store_at}
 use Rattle.layout.specs.Points.{point_width, coordinate, set_coordinate}
 
 -- the place written with v - 1
-pub coordinate_at : (p : List ℤ) (v i : ℕ) → (v ≡ 0 → ⊥) → get_or p (point_width * (v - 1) + i) (pos 0) ≡ coordinate p v i
+pub coordinate_at : (p : List ℤ) (v i : ℕ) → (v ≡ 0 → ⊥)
+    → get_or p (point_width * (v - 1) + i) (pos 0) ≡ coordinate p v i
 coordinate_at p v i h =
     ap (λ k. get_or p (k + i) (pos 0)) (sym (zero-add (point_width * (v - 1)))) ∙ col_at (pos 0) 0 point_width i p v h
 

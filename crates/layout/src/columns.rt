@@ -1,6 +1,7 @@
 // The columns of a table: one word of each kind of record by name. The places come from `fields`.
 ghost use Rattle.std.specs.Prelude.{◌≡◌, ℕ, ◌<◌, ◌≤◌};
-ghost use Rattle.layout.specs.Layout.{solid_used, set_solid_used, face_solid, set_face_solid, face_outer, set_face_outer};
+ghost use Rattle.layout.specs.Layout.{solid_used, set_solid_used, face_solid, set_face_solid, face_outer};
+ghost use Rattle.layout.specs.Layout.{set_face_outer};
 ghost use Rattle.layout.specs.Layout.{loop_face, set_loop_face, loop_first, set_loop_first, loop_isolated};
 ghost use Rattle.layout.specs.Layout.{set_loop_isolated, start_of, set_start, loop_of, set_loop, next_of, set_next};
 ghost use Rattle.layout.specs.Layout.{prev_of, set_prev, vertex_used, set_vertex_used, side};

@@ -5,7 +5,8 @@
 --     sessionUndo   zoghvari_undo      objOf    zoghvari_obj
 --     sessionRedo   zoghvari_redo      sweepOf  zoghvari_sweep
 --     sessionInvert zoghvari_invert
--- Those with a session are a line each over `clear_of`, `run_of`, `move_of` (undo and redo) and `invert_of`, whose answer,
+-- Those with a session are a line each over `clear_of`, `run_of`, `move_of` (undo and redo) and `invert_of`, whose
+-- answer,
 -- table and log they give as they are (crates/sessions/specs/Session.antt).
 -- A contract says: for every input the answer, and every word, coordinate and byte that the call leaves, are the
 -- definition's. So what is said here of a definition is said of the call, and what is said of a list of acts
@@ -15,7 +16,8 @@
 -- is what the definition says for the numbers handed in. The statements about lists of calls (`Editing`, `Act`) hand in
 -- the logs' own lengths; a caller who hands in another number is the "outside hand" that they exclude.
 -- In quotes: documents 00 and 01; where it is document 02, it says so.
-use Rattle.std.specs.Prelude.{◌≡◌, ◌≢◌, true, false, ◌&&◌, List, [], ◌∷◌, ◌++◌, ℕ, ◌+◌, ◌-◌, ◌*◌, ◌≤◌, ◌<◌, ℤ, length, get_or, take, drop}
+use Rattle.std.specs.Prelude.{◌≡◌, ◌≢◌, true, false, ◌&&◌, List, [], ◌∷◌, ◌++◌, ℕ, ◌+◌, ◌-◌, ◌*◌, ◌≤◌, ◌<◌, ℤ, length}
+use Rattle.std.specs.Prelude.{get_or, take, drop}
 use Rattle.laws.specs.Bools.{pick}
 use Rattle.script.specs.declared.Operator.{Operator}
 use Rattle.codec.specs.declared.Limits.{Limits}
@@ -149,7 +151,8 @@ pub record Demand2 : Type 0 where
   pub step_refusal : (sh : Shape) (t : State) (s : List ℕ) (at : ℕ)
       → Refusing (read_at sh s at).refusal (admit_of sh t.links (read_at sh s at).op)
       (length (inverse_bytes sh t (read_at sh s at).op)) t.start (run_refusal sh t s at)
-  -- what a run or undo reads and admits, its table accepts in the sense of `refusal_of`, of which the theorems about one
+  -- what a run or undo reads and admits, its table accepts in the sense of `refusal_of`, of which the theorems about
+  -- one
   -- operator speak
   pub taken : (sh : Shape) (x s : List ℕ) (at : ℕ) → refusal_at sh x s at ≡ 0 → Taken sh x s at
   -- "Operators written and read come back the same; …": what is written is read back, with the length answered behind

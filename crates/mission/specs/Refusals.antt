@@ -308,7 +308,8 @@ solid_numbered : (sh : Shape) (x : List ℕ) (s : ℕ) → OneOf texts (solid_re
 unfolding solid_refusal
 solid_numbered sh x s =
     pick_ind P (leb 1 s && leb s sh.solids) _ _
-    (pick_ind P (some (solid_used sh x s)) _ _ (pick_ind P (no_ring_nor_lone sh x s && three_sided sh x s) _ _ tt tt) tt) tt
+    (pick_ind P (some (solid_used sh x s)) _ _ (pick_ind P (no_ring_nor_lone sh x s && three_sided sh x s) _ _ tt tt)
+    tt) tt
   where
     P : ℕ → Type 0
     P = OneOf texts

@@ -74,7 +74,8 @@ face_not_2 sh x p start f v =
     (pick_ind P (any_to sh.loops (lone_in sh x f)) _ _ (λ e. omega (arith, e))
     (pick_ind P (all_to (2 * sh.edges) (moves sh x p f v)) _ _
     (pick_ind P (every (spare sh x (corners_to sh x f sh.loops))) _ _
-    (pick_ind P (leb (room_for sh x p (sweep_ops sh x p f v)) start) _ _ (λ e. omega (arith, e)) (λ e. omega (arith, e)))
+    (pick_ind P (leb (room_for sh x p (sweep_ops sh x p f v)) start) _ _ (λ e. omega (arith, e))
+    (λ e. omega (arith, e)))
     (λ e. omega (arith, e))) (λ e. omega (arith, e)))) (λ e. omega (arith, e))) (λ e. omega (arith, e))
   where
     P : ℕ → Type 0

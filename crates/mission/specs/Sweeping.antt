@@ -1,6 +1,7 @@
 -- JOB 7 OF DOCUMENT 02, THE SWEEP, in statements: types only. `Proved` has a proof of each, by the theorem of the
 -- field's name. They speak of the definition that the contract of zoghvari_sweep (crate `sweep`) cites, `sweepOf`, on
--- what an editor lends: `sweep_in` is the answer with what is left, `swept_from` all that is lent afterwards, `ops_in` the
+-- what an editor lends: `sweep_in` is the answer with what is left, `swept_from` all that is lent afterwards, `ops_in`
+-- the
 -- operators, `corners_lent` the corners of the face. In quotes: document 02.
 use Rattle.std.specs.Prelude.{◌≡◌, ◌≢◌, ◌⊎◌, true, List, ℕ, ◌+◌, ◌*◌, ◌≤◌, length}
 use Rattle.script.specs.Operator.{write_script}
@@ -88,7 +89,8 @@ pub record Sweeping : Type 0 where
       → (length (write_script (ops_in e f v)) ≤ length e.redo)
       ⊎ (19 * (sweep_in e f v).answer.answer.done ≤ length e.redo)
       → UndoneTo e (swept_from e f v) (sweep_in e f v).answer.answer.done
-  -- Sweeps among other calls: a list of calls with sweeps leaves what a list of the kernel's acts leaves (`acts_for`: of
+  -- Sweeps among other calls: a list of calls with sweeps leaves what a list of the kernel's acts leaves (`acts_for`:
+  -- of
   -- a sweep the run of its operators, or a check, which changes nothing), so what is said of acts is said of them
   pub calls_acts : (e : Editing) (cs : List Call)
       → (after_calls e cs ≡ behind e (acts_for e cs)) × (done_calls e cs ≡ done_by e (acts_for e cs))

@@ -41,7 +41,8 @@ unfolding session_invert
 session_as_before e d = let b = refused_as_before (log_state e) d in rw (b.done, b.start)
 
 -- what that leaves is sound
-own_sound : (x : List ℕ) (p : List ℤ) → (check_of x p).refusal ≡ 0 → (check_of (clear_links x) (clear_points x)).refusal ≡ 0
+own_sound : (x : List ℕ) (p : List ℤ) → (check_of x p).refusal ≡ 0
+    → (check_of (clear_links x) (clear_points x)).refusal ≡ 0
 own_sound x p h =
     let c = clear_own x p h in
     let v = clear_valid x p (get_or x 0 0) (get_or x 1 0) (get_or x 2 0) (get_or x 3 0) (get_or x 4 0) (rw c) in

@@ -20,5 +20,6 @@ pub joined : (low high : ℕ) → high < 33554432
 joined low high h =
     let s : high * 128 % 4294967296 ≡ high * 128 = shl_exact 25 7 32 h (lit≤ tt) in
     let e : bit_or (bit_and low 127) (high * 128 % 4294967296) ≡ low % 128 + high * 128 =
-    rw s (or_shifted_r high 7 (bit_and low 127) (mask_lt low 7) ∙ rw (masked low) (add_comm (high * 128) (low % 128))) in
+    rw s (or_shifted_r high 7 (bit_and low 127) (mask_lt low 7) ∙ rw (masked low) (add_comm (high * 128) (low % 128)))
+    in
     (e, or_comm (high * 128 % 4294967296) (bit_and low 127) ∙ e)

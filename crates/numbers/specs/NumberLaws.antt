@@ -15,7 +15,8 @@ module _ (s : List ℕ) (at : ℕ) where
   first_end h = rw (drop_of_length-le s h)
 
   pub first_is : at < length s
-      → read_number s at ≡ pick (ltb (get_or s at 0) 128) (Got (get_or s at 0) (at + 1)) (second at (get_or s at 0 % 128)
+      → read_number s at ≡ pick (ltb (get_or s at 0) 128) (Got (get_or s at 0) (at + 1))
+      (second at (get_or s at 0 % 128)
       (drop (at + 1) s))
   unfolding read_number
   first_is h = rw (drop-cons s at 0 h, add-one at)

@@ -1,6 +1,7 @@
 -- Padded bytes and their shortest form (document 02, job 1). A padded script does what its shortest form does; what is
 -- read and written comes back in shortest form.
-use Rattle.std.specs.Prelude.{ℕ, zero, suc, ◌+◌, ◌/◌, ◌%◌, Bool, true, false, ◌&&◌, List, [], ◌∷◌, ◌++◌, length, take, drop, leb, eqb}
+use Rattle.std.specs.Prelude.{ℕ, zero, suc, ◌+◌, ◌/◌, ◌%◌, Bool, true, false, ◌&&◌, List, [], ◌∷◌, ◌++◌, length, take}
+use Rattle.std.specs.Prelude.{drop, leb, eqb}
 use Rattle.laws.specs.Bools.{pick}
 use Rattle.numbers.specs.Number.{read_number, groups, on_num}
 

@@ -1,7 +1,11 @@
 -- Laws of padded bytes: what the shortest form is, number by number; that the same numbers are read from it; and that
 -- shortest bytes are their own.
-use Rattle.std.specs.Prelude.{◌≡◌, refl, ◌≢◌, Bool, true, false, ◌&&◌, List, [], ◌∷◌, ◌++◌, ℕ, zero, suc, ◌+◌, ◌-◌, ◌*◌, ◌/◌, ◌%◌, ◌≤◌, ◌<◌, ltb, leb, eqb, length, take, drop}
-use Rattle.std.proofs.Common.{sym, ap, ◌∙◌, subst, ⊎_elim, append_assoc, append-nil, add-zero, zero-add, arith, length-take, length-drop, length-append, take-append-drop, drop_of_length-le, length-take-le, drop_at, drop-drop, get_or-take, get_or-drop, lt-ltb, le-ltb, le-leb, leb-false, ne_eqb}
+use Rattle.std.specs.Prelude.{◌≡◌, refl, ◌≢◌, Bool, true, false, ◌&&◌, List, [], ◌∷◌, ◌++◌, ℕ, zero, suc, ◌+◌, ◌-◌, ◌*◌}
+use Rattle.std.specs.Prelude.{◌/◌, ◌%◌, ◌≤◌, ◌<◌, ltb, leb, eqb, length, take, drop}
+use Rattle.std.proofs.Common.{sym, ap, ◌∙◌, subst, ⊎_elim, append_assoc, append-nil, add-zero, zero-add, arith}
+use Rattle.std.proofs.Common.{length-take, length-drop, length-append, take-append-drop, drop_of_length-le}
+use Rattle.std.proofs.Common.{length-take-le, drop_at, drop-drop, get_or-take, get_or-drop, lt-ltb, le-ltb, le-leb}
+use Rattle.std.proofs.Common.{leb-false, ne_eqb}
 use Rattle.std.proofs.Math.ListN.{get_or-eq_default}
 use Rattle.std.proofs.Math.Seq.{take-length, take-append_seam, drop-length, drop-append_seam}
 use Rattle.std.proofs.lemmas.Bool.{lt-leb, eqb-false}

@@ -3,7 +3,8 @@
 -- (`run_carried`), an operator is refused just where a condition fails (`step_refusal`), and the operators done, run
 -- alone, leave the same (`refused_apart`): the refused one has changed nothing. Likewise a move (`MoveParts`).
 use Rattle.std.specs.Prelude.{◌≡◌, refl, ◌≢◌, List, ℕ, zero, suc, ◌+◌, ◌≤◌, ◌<◌, eqb, ltb, length, take}
-use Rattle.std.proofs.Common.{sym, ◌∙◌, subst, add-zero, zero-add, arith, length-take-le, le-leb, lt-ltb, ltb-true, ltb-false, eqb-true}
+use Rattle.std.proofs.Common.{sym, ◌∙◌, subst, add-zero, zero-add, arith, length-take-le, le-leb, lt-ltb, ltb-true}
+use Rattle.std.proofs.Common.{ltb-false, eqb-true}
 use Rattle.std.proofs.lemmas.Bool.{lt-leb, eqb-false}
 use Rattle.laws.specs.Bools.{split, eqb_same, eqb_other}
 use Rattle.script.specs.RoundTrip.{read_next}
@@ -69,7 +70,8 @@ Goes sh s c at t r =
     (n : ℕ) × (r.answer.done ≡ c + n) × Carried sh s r.answer.refusal r.answer.used (left_by r) n at t
 
 -- as many steps as bytes are left: the fuel cuts nothing off
-goes : (sh : Shape) (s : List ℕ) (n at c : ℕ) (t : State) → length s ≤ at + n → Goes sh s c at t (run_from n sh s at c t)
+goes : (sh : Shape) (s : List ℕ) (n at c : ℕ) (t : State) → length s ≤ at + n
+    → Goes sh s c at t (run_from n sh s at c t)
 goes sh s zero at c t h =
     subst (Goes sh s c at t) (sym (run_none sh s at c t)) (0, sym (add-zero c), ended (omega arith) refl refl refl)
 goes sh s (suc n) at c t h =

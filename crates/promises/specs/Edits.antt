@@ -1,7 +1,8 @@
 -- Scripts run with a session, one after the other: they come to the same as the runs without one, the redo log's bytes
 -- stay, and it is emptied by the first operator done.
 use Rattle.std.specs.Prelude.{◌≡◌, refl, List, [], ◌∷◌, ◌++◌, ℕ, ◌+◌, ◌-◌, ◌≤◌, eqb, length, take}
-use Rattle.std.proofs.Common.{sym, ap, ◌∙◌, append_assoc, append-nil, add-zero, add_assoc, arith, length-append, length-take}
+use Rattle.std.proofs.Common.{sym, ap, ◌∙◌, append_assoc, append-nil, add-zero, add_assoc, arith, length-append}
+use Rattle.std.proofs.Common.{length-take}
 use Rattle.laws.specs.Bools.{pick, split, eqb_same, eqb_other}
 use Rattle.numbers.specs.Padded.{shorten}
 use Rattle.numbers.specs.PaddedLaws.{shorten_between, shorten_length}

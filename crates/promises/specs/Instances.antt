@@ -14,8 +14,10 @@ use Rattle.codec.specs.OperandBytes.{read_operand, read_operands, operand_bytes,
 use Rattle.script.specs.Operator.{read_behind, read_operator, operator_bytes, put_bytes}
 use Rattle.layout.specs.Mate.{mate}
 use Rattle.check_items.specs.Rules.{solid_range, face_range, loop_range, half_range, vertex_range, rule1, solid_names}
-use Rattle.check_items.specs.Rules.{face_names, loop_names, half_names, rule2, loop_either, rule3, half_links, first_names}
-use Rattle.check_items.specs.Rules.{half_in_loop, rule4, vertex_either, half_at_vertex, rule5, half_sides, face_linked, rule6}
+use Rattle.check_items.specs.Rules.{face_names, loop_names, half_names, rule2, loop_either, rule3, half_links}
+use Rattle.check_items.specs.Rules.{first_names}
+use Rattle.check_items.specs.Rules.{half_in_loop, rule4, vertex_either, half_at_vertex, rule5, half_sides, face_linked}
+use Rattle.check_items.specs.Rules.{rule6}
 use Rattle.check_items.specs.Rules.{broken_rule}
 use Rattle.table.specs.Sizes.{sizes_fit}
 use Rattle.table.specs.Check.{check_of}
@@ -45,8 +47,10 @@ begin = record {
 
 -- it passes the check
 pub begin_sound : (check_of begin.links begin.points).refusal ≡ 0
-unfolding check_of sizes_fit broken_rule rule1 rule2 rule3 rule4 rule5 rule6 solid_range face_range loop_range half_range
-    vertex_range solid_names face_names loop_names half_names loop_either half_links first_names half_in_loop vertex_either
+unfolding check_of sizes_fit broken_rule rule1 rule2 rule3 rule4 rule5 rule6 solid_range face_range loop_range
+    half_range
+    vertex_range solid_names face_names loop_names half_names loop_either half_links first_names half_in_loop
+    vertex_either
     half_at_vertex half_sides face_linked all_to least_from sum_to meets linkedb rounds pass across mate
 begin_sound = refl
 
@@ -86,14 +90,22 @@ again =
 -- the three calls by computation
 pub begin_calls : (edit_all begin scripts ≡ record { done = 3; last = ran }) × (undone_from ran 3 ≡ back)
     × (redone_from back 3 ≡ again)
-unfolding check_of sizes_fit broken_rule rule1 rule2 rule3 rule4 rule5 rule6 solid_range face_range loop_range half_range
-    vertex_range solid_names face_names loop_names half_names loop_either half_links first_names half_in_loop vertex_either
-    half_at_vertex half_sides face_linked all_to least_from sum_to meets linkedb rounds pass across mate third second first
-    read_number groups pattern rows in_ranges in_range zig zag wire unwire read_operand read_operands read_behind read_operator
-    operand_bytes operands_bytes operator_bytes put_bytes corner edge_in edge_out relabel seek renew mvsf_links kvsf_test
-    kvsf_links mev_links kev_test kev_links mef_test mef_links kef_test kef_links admit_of use_refusals use_refusal use_word
-    condition links_after marks_after less_starts more_starts points_after killed_vertex inverse sweep admit_read inverse_bytes
-    carry_refusal stepped run_refusal run_from entry run_of edit_all part_of move_of session_run session_undo session_redo
+unfolding check_of sizes_fit broken_rule rule1 rule2 rule3 rule4 rule5 rule6 solid_range face_range loop_range
+    half_range
+    vertex_range solid_names face_names loop_names half_names loop_either half_links first_names half_in_loop
+    vertex_either
+    half_at_vertex half_sides face_linked all_to least_from sum_to meets linkedb rounds pass across mate third second
+    first
+    read_number groups pattern rows in_ranges in_range zig zag wire unwire read_operand read_operands read_behind
+    read_operator
+    operand_bytes operands_bytes operator_bytes put_bytes corner edge_in edge_out relabel seek renew mvsf_links
+    kvsf_test
+    kvsf_links mev_links kev_test kev_links mef_test mef_links kef_test kef_links admit_of use_refusals use_refusal
+    use_word
+    condition links_after marks_after less_starts more_starts points_after killed_vertex inverse sweep admit_read
+    inverse_bytes
+    carry_refusal stepped run_refusal run_from entry run_of edit_all part_of move_of session_run session_undo
+    session_redo
 begin_calls = (refl, refl, refl)
 
 -- undo by three gives back what there was

@@ -1,6 +1,7 @@
 -- A move part by part: the first m operators, and then the others, are the move of all (`move_parts`); and what a
 -- refused move did stands, being the move of as many (`move_apart`).
-use Rattle.std.specs.Prelude.{◌≡◌, refl, ◌≢◌, Bool, true, false, List, ℕ, zero, suc, ◌+◌, ◌-◌, ◌≤◌, ◌<◌, eqb, ltb, length}
+use Rattle.std.specs.Prelude.{◌≡◌, refl, ◌≢◌, Bool, true, false, List, ℕ, zero, suc, ◌+◌, ◌-◌, ◌≤◌, ◌<◌, eqb, ltb}
+use Rattle.std.specs.Prelude.{length}
 use Rattle.std.proofs.Common.{sym, ap, ◌∙◌, subst, ⊎_elim, add-zero, zero-add, add_assoc, arith, lt-ltb, le-ltb}
 use Rattle.std.proofs.lemmas.Bool.{eqb-false}
 use Rattle.laws.specs.Bools.{pick, le?, split, eqb_same, eqb_other}
@@ -231,7 +232,8 @@ module _ (source : List ℕ) (from : ℕ) (t : State) where
   -- A MOVE IN TWO PARTS: the first m of n, if that is not refused, and then the others, is the move of n
   pub move_parts : (m n : ℕ) → m ≤ n → (move_of source from t m).answer.refusal ≡ 0
       → move_of source from t n
-      ≡ counted_move m (move_of source (move_of source from t m).answer.from (moved_to (move_of source from t m)) (n - m))
+      ≡ counted_move m (move_of source (move_of source from t m).answer.from (moved_to (move_of source from t m))
+      (n - m))
   move_parts m n l h =
       let sh = shape_of t.links in
       let e = move_entered m h in

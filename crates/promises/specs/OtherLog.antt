@@ -1,6 +1,7 @@
 -- A run does not look at the bytes of its log: on another log of the same length and with the same live part it answers
 -- the same and leaves the same table and the same live part.
-use Rattle.std.specs.Prelude.{◌≡◌, refl, Bool, true, false, List, ◌++◌, ℕ, zero, suc, ◌+◌, ◌-◌, ◌≤◌, eqb, ltb, length, drop}
+use Rattle.std.specs.Prelude.{◌≡◌, refl, Bool, true, false, List, ◌++◌, ℕ, zero, suc, ◌+◌, ◌-◌, ◌≤◌, eqb, ltb, length}
+use Rattle.std.specs.Prelude.{drop}
 use Rattle.std.proofs.Common.{sym, ap, ◌∙◌, arith, eqb-true}
 use Rattle.laws.specs.Bools.{pick, split}
 use Rattle.script.specs.declared.Operator.{Operator}
@@ -35,7 +36,8 @@ pick_both R true u u' w w' f g = f refl
 pick_both R false u u' w w' f g = g refl
 
 -- no refusal looks at the log
-refusal_log : (sh : Shape) (t : State) (l s : List ℕ) (at : ℕ) → run_refusal sh (with_log t l) s at ≡ run_refusal sh t s at
+refusal_log : (sh : Shape) (t : State) (l s : List ℕ) (at : ℕ)
+    → run_refusal sh (with_log t l) s at ≡ run_refusal sh t s at
 unfolding run_refusal carry_refusal inverse_bytes
 refusal_log sh t l s at = refl
 
@@ -79,7 +81,12 @@ same_from sh s (suc n) at done t l h a =
     let o : Operator = (read_at sh s at).op in
     let stop : (r : ℕ) → Same (ran r done at t) (ran r done at (with_log t l)) =
     λ r. record { answer = refl; links = refl; points = refl; log = a } in
-    rw (run_some n sh s at done t, run_some n sh s at done (with_log t l), refusal_log sh t l s at, stepped_log sh t l o)
+    rw (
+      run_some n sh s at done t,
+      run_some n sh s at done (with_log t l),
+      refusal_log sh t l s at,
+      stepped_log sh t l o,
+    )
     (pick_both Same (ltb at (length s)) _ _ _ _
     (λ b. pick_both Same (eqb (run_refusal sh t s at) 0) _ _ _ _
     (λ z. let k = stepped_alike sh t l o h a (steps sh t s at (eqb-true _ 0 z)).1 in

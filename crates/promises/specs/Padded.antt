@@ -1,7 +1,9 @@
 -- A PADDED SCRIPT DOES WHAT ITS SHORTEST FORM DOES, bytes taken aside (document 02, job 1): from any state and of any
 -- bytes, refused ones too. The same of a padded log that operators are moved out of, by undo or redo.
-use Rattle.std.specs.Prelude.{◌≡◌, refl, Bool, true, false, List, [], ◌++◌, ℕ, zero, suc, ◌+◌, ◌-◌, ◌≤◌, ◌<◌, eqb, ltb, length, take, drop}
-use Rattle.std.proofs.Common.{sym, ap, ◌∙◌, ⊎_elim, append-nil, add-zero, add_assoc, arith, length-append, drop_of_length-le, length-take-le, take_all, eqb-true}
+use Rattle.std.specs.Prelude.{◌≡◌, refl, Bool, true, false, List, [], ◌++◌, ℕ, zero, suc, ◌+◌, ◌-◌, ◌≤◌, ◌<◌, eqb, ltb}
+use Rattle.std.specs.Prelude.{length, take, drop}
+use Rattle.std.proofs.Common.{sym, ap, ◌∙◌, ⊎_elim, append-nil, add-zero, add_assoc, arith, length-append}
+use Rattle.std.proofs.Common.{drop_of_length-le, length-take-le, take_all, eqb-true}
 use Rattle.laws.specs.Bools.{pick, le?, split, eqb_same}
 use Rattle.numbers.specs.Padded.{shorten, shorten_from}
 use Rattle.numbers.specs.PaddedLaws.{PadsAt, pads_none, pads_both, shorten_between, shorten_nil, shorten_length}

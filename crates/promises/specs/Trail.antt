@@ -19,7 +19,8 @@ use Rattle.euler.specs.Exec.{limits, admit_of, refusal_of, links_after, points_a
 use Rattle.sound_tables.specs.Accepted.{accepted}
 use Rattle.sound_tables.specs.Good.{Good}
 use Rattle.sound_operators.specs.Theorems.{all_hold}
-use Rattle.runs.specs.Run.{State, state, read_at, inverse_bytes, carry_refusal, run_refusal, stepped, Ran, ran, run_from}
+use Rattle.runs.specs.Run.{State, state, read_at, inverse_bytes, carry_refusal, run_refusal, stepped, Ran, ran}
+use Rattle.runs.specs.Run.{run_from}
 use Rattle.runs.specs.Clauses.{pick_by, run_none, run_some}
 use Rattle.runs.specs.RunLaws.{run_read}
 use Rattle.promises.specs.RunAll.{left_by}

@@ -1,5 +1,6 @@
 -- Taking an operator is reading it and then admitting it: a pass over the operands of its code, then its condition.
-use Rattle.std.specs.Prelude.{◌≡◌, ◌≢◌, ◌⊎◌, Bool, ◌&&◌, not, ℕ, ◌≤◌, ◌<◌, eqb, leb, T, ℤ, pos, length, take, drop, replicate}
+use Rattle.std.specs.Prelude.{◌≡◌, ◌≢◌, ◌⊎◌, Bool, ◌&&◌, not, ℕ, ◌≤◌, ◌<◌, eqb, leb, T, ℤ, pos, length, take, drop}
+use Rattle.std.specs.Prelude.{replicate}
 use Rattle.std.proofs.Math.Path.{refl, ap, subst}
 use Rattle.std.proofs.Common.{sym, ◌∙◌, inl, inr, zero-add, arith, eqb→eq, take-append-drop}
 use Rattle.std.proofs.Math.Logic.{⊎_elim}

@@ -1,6 +1,7 @@
 -- What the ranges come to: codes 1 to 13, coordinates -50,000 to 50,000, and each operand of an accepted operator in
 -- its range.
-use Rattle.std.specs.Prelude.{◌≡◌, refl, ℕ, zero, suc, ◌+◌, ◌*◌, ◌≤◌, ◌<◌, true, List, [], ◌∷◌, map, drop, ℤ, pos, negsuc, nat_abs, ltb, leb}
+use Rattle.std.specs.Prelude.{◌≡◌, refl, ℕ, zero, suc, ◌+◌, ◌*◌, ◌≤◌, ◌<◌, true, List, [], ◌∷◌, map, drop, ℤ, pos}
+use Rattle.std.specs.Prelude.{negsuc, nat_abs, ltb, leb}
 use Rattle.std.proofs.Common.{sym, ◌∙◌, ⊎_elim}
 use native.Mathlib.Omega.{arith}
 use Rattle.std.proofs.Math.ListN.{length, get_or}

@@ -1,6 +1,8 @@
--- The round trips of the entry points' own definitions, for one operator and for a whole script: `read_operator` without
+-- The round trips of the entry points' own definitions, for one operator and for a whole script: `read_operator`
+-- without
 -- a table and `write_operator`, which the contracts of `zoghvari_read` and `zoghvari_write` (crate `kernel`) cite.
-use Rattle.std.specs.Prelude.{◌≡◌, refl, Bool, true, false, List, [], ◌∷◌, ◌++◌, ℕ, zero, suc, ◌+◌, ◌≤◌, ◌<◌, eqb, leb, ltb, length, take, drop}
+use Rattle.std.specs.Prelude.{◌≡◌, refl, Bool, true, false, List, [], ◌∷◌, ◌++◌, ℕ, zero, suc, ◌+◌, ◌≤◌, ◌<◌, eqb, leb}
+use Rattle.std.specs.Prelude.{ltb, length, take, drop}
 use Rattle.std.proofs.Common.{◌∙◌, zero-add, arith, lit≤, le-leb, leb-true, eq-eqb, eqb-true}
 use Rattle.std.proofs.lemmas.List.Edits.{sets-eq}
 use Rattle.std.proofs.Math.Seq.{take-append_seam}
@@ -84,7 +86,8 @@ within_widest : Within widest
 within_widest = record { solids = lit≤ tt; faces = lit≤ tt; loops = lit≤ tt; edges = lit≤ tt; vertices = lit≤ tt }
 
 -- every operator that is read without a table
-pub read_write : (s : List ℕ) (at : ℕ) → (read_operator widest s at).refusal ≡ 0 → Copied s at (read_operator widest s at)
+pub read_write : (s : List ℕ) (at : ℕ) → (read_operator widest s at).refusal ≡ 0
+    → Copied s at (read_operator widest s at)
 read_write s at z =
     let o = (read_operator widest s at).op in
     let w = read_writable widest s at z within_widest in

@@ -1,7 +1,8 @@
 -- Reading looks at no byte behind what it reads: from the front of a script that ends behind an operator, the operator
 -- is read as from the whole.
 use Rattle.std.specs.Prelude.{◌≡◌, refl, ℕ, ◌+◌, ◌-◌, ◌≤◌, length, take, drop}
-use Rattle.std.proofs.Common.{sym, ap, ◌∙◌, subst, ⊎_elim, arith, take-append-drop, length-take-le, take-take, take-add, drop_at}
+use Rattle.std.proofs.Common.{sym, ap, ◌∙◌, subst, ⊎_elim, arith, take-append-drop, length-take-le, take-take, take-add}
+use Rattle.std.proofs.Common.{drop_at}
 use mathlib.Core.List.{List, [], ◌∷◌, ◌++◌}
 use Rattle.laws.specs.Bools.{same?}
 use Rattle.numbers.specs.declared.Num.TheVariants.{Got}
@@ -39,7 +40,8 @@ module _ (s : List ℕ) (n : ℕ) where
   -- ---- operands
 
   -- one operand
-  operand_front : (kind at v k : ℕ) → read_operand kind s at ≡ Got v k → k ≤ n → read_operand kind (take n s) at ≡ Got v k
+  operand_front : (kind at v k : ℕ) → read_operand kind s at ≡ Got v k → k ≤ n
+      → read_operand kind (take n s) at ≡ Got v k
   operand_front kind at v k e h =
       ⊎_elim
       (λ z. sym (operand_unused kind (take n s) at z) ∙ operand_unused kind s at z ∙ e)
@@ -48,7 +50,8 @@ module _ (s : List ℕ) (n : ℕ) where
       (same? kind unused)
 
   -- all of them
-  operands_front : (ks : List ℕ) (at : ℕ) (ns : List ℕ) (next : ℕ) → at ≤ length s → read_operands ks s at ≡ Read ns next
+  operands_front : (ks : List ℕ) (at : ℕ) (ns : List ℕ) (next : ℕ) → at ≤ length s
+      → read_operands ks s at ≡ Read ns next
       → next ≤ n → read_operands ks (take n s) at ≡ Read ns next
   unfolding read_operands
   operands_front [] at ns next h e l = e

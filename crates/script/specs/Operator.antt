@@ -1,6 +1,7 @@
 -- An operator is its code and its operands, as numbers one behind the other. Reading one gives 3, 4 or 5; writing one
 -- 4, 5, then 9.
-use Rattle.std.specs.Prelude.{ℕ, zero, suc, ◌+◌, List, [], ◌∷◌, ◌++◌, length, get_or, set, replicate, ℤ, pos, negsuc, ltb, leb, eqb}
+use Rattle.std.specs.Prelude.{ℕ, zero, suc, ◌+◌, List, [], ◌∷◌, ◌++◌, length, get_or, set, replicate, ℤ, pos, negsuc}
+use Rattle.std.specs.Prelude.{ltb, leb, eqb}
 use Rattle.std.proofs.lemmas.List.Edits.{sets}
 use Rattle.laws.specs.Bools.{pick}
 use Rattle.codec.specs.declared.Limits.{Limits}

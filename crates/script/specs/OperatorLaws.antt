@@ -80,7 +80,8 @@ module _ (op : Operator) (p : Pattern) (e : p ≡ pattern op.code) where
   pub before_done : (l y z : List ℕ) (end from to : ℕ) → length (operator_bytes op) ≤ end → end ≤ length l
       → from ≡ end - length operands → y ≡ sets l from operands → to ≡ from - length (groups op.code)
       → z ≡ sets y (from - length (groups op.code)) (groups op.code)
-      → (to ≡ end - length (operator_bytes op)) × (z ≡ put_bytes l (end - length (operator_bytes op)) (operator_bytes op))
+      → (to ≡ end - length (operator_bytes op))
+      × (z ≡ put_bytes l (end - length (operator_bytes op)) (operator_bytes op))
   unfolding put_bytes
   before_done l y z end from to h k a b d g =
       let s = before_size in

@@ -58,7 +58,8 @@ same_operator op l p =
     rw (unwires_wires (pattern op.code).kinds op.args (omega arith) p.ranges, ← p.count_is)
 
 -- WRITE, THEN READ: an operator written anywhere comes back the same, and `next` is the place behind its bytes
-pub operator_written : (op : Operator) → Writable op → (s : List ℕ) (at : ℕ) (q : List ℕ) → drop at s ≡ operator_bytes op
+pub operator_written : (op : Operator) → Writable op → (s : List ℕ) (at : ℕ) (q : List ℕ)
+    → drop at s ≡ operator_bytes op
     ++ q
     → read_operator widest s at ≡ record { refusal = 0; next = at + length (operator_bytes op); op = op }
 unfolding operator_bytes

@@ -125,7 +125,8 @@ module _ (lim : Limits) (s : List ℕ) (at : ℕ) where
   unfolding read_operator read_behind
   refused_3 z = by (read_number s at) refl z
     where
-      by : (x : Num) → read_number s at ≡ x → (on_num x (read_behind lim s at) (refused 3 at)).refusal ≡ 3 → CutShort s at
+      by : (x : Num) → read_number s at ≡ x → (on_num x (read_behind lim s at) (refused 3 at)).refusal ≡ 3
+          → CutShort s at
       by (Got code from) a z =
           behind_code code from a (read_operands (pattern code).kinds s from) refl (eqb (pattern code).count 0) refl
           (in_ranges (largests lim) (pattern code).kinds) z

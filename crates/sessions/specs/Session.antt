@@ -1,5 +1,6 @@
 -- THE FIVE CALLS THAT ARE LENT A SESSION (document 02, job 4): clearing, run, undo, redo, take-down. Each is a line
--- over the definition that knows nothing of sessions (`clear_of`, `run_of`, `move_of`, `invert_of`), and gives the session
+-- over the definition that knows nothing of sessions (`clear_of`, `run_of`, `move_of`, `invert_of`), and gives the
+-- session
 -- that the call leaves beside its answer.
 use Rattle.std.specs.Prelude.{ℕ, ◌≡◌, List, eqb, ℤ}
 use Rattle.laws.specs.Bools.{pick}

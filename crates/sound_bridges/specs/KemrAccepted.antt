@@ -23,7 +23,8 @@ use Rattle.sound_bridges.specs.MekrAccepted.{mekr_of, MekrFacts, read, small}
 
 -- kemr k l2
 abbrev pub kemr_of : ℕ → ℕ → Operator
-kemr_of k l2 = record { code = 7; count = 2; args = pos k ∷ pos l2 ∷ pos 0 ∷ pos 0 ∷ pos 0 ∷ pos 0 ∷ pos 0 ∷ pos 0 ∷ [] }
+kemr_of k l2 = record
+    { code = 7; count = 2; args = pos k ∷ pos l2 ∷ pos 0 ∷ pos 0 ∷ pos 0 ∷ pos 0 ∷ pos 0 ∷ pos 0 ∷ [] }
 
 -- what an accepted kemr says
 pub record KemrFacts (sh : Shape) (x : List ℕ) (o : Operator) : Type 0 where

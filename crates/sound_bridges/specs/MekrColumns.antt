@@ -39,7 +39,8 @@ joined_loops c B = upd (upd (relabel (c Loop) B.l2 B.l) B.k B.l) (mate B.k) B.l
 
 -- all but the first of l
 abbrev pub bridge_columns : Columns → Bridge → Columns
-bridge_columns c B = changes (cleared loop_kind B.l2) (with_column (changes (bridge_writes B) c) Loop (joined_loops c B))
+bridge_columns c B = changes (cleared loop_kind B.l2)
+    (with_column (changes (bridge_writes B) c) Loop (joined_loops c B))
 
 -- the columns afterwards
 abbrev pub mekr_columns : Shape → Columns → Bridge → Columns

@@ -155,7 +155,8 @@ module _ {sh : Shape} {p : List ℤ} {c d : Columns} {B : Bridge} (a : Sound sh 
   -- rule 6: the new edge has one face on both sides
   d_solids : Solids (HalfUsed sh d) (FaceUsed sh d) (side d) mate (d Solid)
   d_solids = record {
-    side_in_lem = half_was b (subst (FaceUsed sh d) (sym (side_k b)) l_face) (subst (FaceUsed sh d) (sym (side_a b)) l_face)
+    side_in_lem = half_was b (subst (FaceUsed sh d) (sym (side_k b)) l_face)
+        (subst (FaceUsed sh d) (sym (side_a b)) l_face)
         (λ i w. subst (FaceUsed sh d) (sym (side_same b i w)) (face_stays _ (a.solids.side_in_lem i w)));
     edge = half_was b
         (ap (d Solid) (side_a b ∙ sym (side_k b)))
@@ -181,7 +182,8 @@ module _ {sh : Shape} {p : List ℤ} {c d : Columns} {B : Bridge} (a : Sound sh 
         let o : c Outer f ≢ l2 = λ e. ring (ap (c Outer) (ap (c Face) (sym e) ∙ r.outer_face) ∙ e) in
         record {
           solid_in = subst (In sh.solids) (sym (others Solid refl f)) r.solid_in;
-          solid_used_lem = λ z. r.solid_used_lem (sym (others SolidUsed refl _) ∙ ap (d SolidUsed) (sym (others Solid refl f))
+          solid_used_lem = λ z. r.solid_used_lem
+              (sym (others SolidUsed refl _) ∙ ap (d SolidUsed) (sym (others Solid refl f))
               ∙ z);
           outer_in = subst (In sh.loops) (sym (others Outer refl f)) r.outer_in;
           outer_face = ap (d Face) (others Outer refl f) ∙ face_o _ o ∙ r.outer_face;

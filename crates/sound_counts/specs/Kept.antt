@@ -1,6 +1,8 @@
 -- The numbers of loops stay right: one loop changes its face, so one number goes down by one and one goes up by one.
-use Rattle.std.specs.Prelude.{◌≡◌, refl, ◌≢◌, ◌⊎◌, Bool, true, ◌&&◌, List, ℕ, zero, suc, ◌+◌, ◌-◌, ◌≤◌, ◌<◌, eqb, leb, ltb, ℤ, length, get_or, set}
-use Rattle.std.proofs.Common.{sym, ap, ◌∙◌, inl, inr, arith, le→leb, lt→ltb, length-set, get_or-set_same, get_or-set_other}
+use Rattle.std.specs.Prelude.{◌≡◌, refl, ◌≢◌, ◌⊎◌, Bool, true, ◌&&◌, List, ℕ, zero, suc, ◌+◌, ◌-◌, ◌≤◌, ◌<◌, eqb, leb}
+use Rattle.std.specs.Prelude.{ltb, ℤ, length, get_or, set}
+use Rattle.std.proofs.Common.{sym, ap, ◌∙◌, inl, inr, arith, le→leb, lt→ltb, length-set, get_or-set_same}
+use Rattle.std.proofs.Common.{get_or-set_other}
 use Rattle.laws.specs.Bools.{pick_ind, split, T_true, T_and, eqb_same, eqb_other}
 use Rattle.laws.specs.Sums.{sum_to, bit, count_to, sum_ext, count_le}
 use Rattle.bounds.specs.Bounds.{item_places, most_items}
@@ -54,7 +56,8 @@ lowered_length c f =
 raised_length : (c : List ℕ) (f : ℕ) → length (raised c f) ≡ length c
 unfolding raised
 raised_length c f =
-    pick_ind (λ (d : List ℕ). length d ≡ length c) (is_place f && ltb (get_or c f 0) 65535) (set c f (get_or c f 0 + 1)) c
+    pick_ind (λ (d : List ℕ). length d ≡ length c) (is_place f && ltb (get_or c f 0) 65535) (set c f (get_or c f 0 + 1))
+    c
     (length-set c f (get_or c f 0 + 1)) refl
 
 -- face a has one loop less, the others have as many

@@ -176,7 +176,8 @@ module _ (sh : Shape) (x : List ℕ) (p : List ℤ) (o : Operator) (g : Good sh 
       → Moves sh x (links_after sh x o) (moved_loop sh x o)
   unfolding links_after marks_after moved_loop
   by_code n e r =
-      let s = subst (λ k. Moves sh x (get_or (links_by sh x (item_of o)) k x) (get_or (moved_loops sh x (item_of o)) k 0))
+      let s = subst (λ k. Moves sh x (get_or (links_by sh x (item_of o)) k x)
+      (get_or (moved_loops sh x (item_of o)) k 0))
       (sym e) r in
       record {
         cap = s.cap;
@@ -189,7 +190,8 @@ module _ (sh : Shape) (x : List ℕ) (p : List ℤ) (o : Operator) (g : Good sh 
 
   -- operand i of code n is at most cap
   operand : (n i cap : ℕ) → o.code ≡ n → length (pattern n).kinds ≡ 8 → i < 8
-      → eqb (get_or (pattern n).kinds i 0) coordinate ≡ false → limit_of (limits sh) (get_or (pattern n).kinds i 0) ≡ cap
+      → eqb (get_or (pattern n).kinds i 0) coordinate ≡ false
+      → limit_of (limits sh) (get_or (pattern n).kinds i 0) ≡ cap
       → cap ≤ most_halves → item_of o i ≤ cap
   operand = operand_cap sh x o len h
 

@@ -8,11 +8,13 @@ use Prim.Native.Nat.{ℕ, zero, suc, ◌+◌, ◌-◌, ◌*◌, ◌≤◌, ◌<�
 use Rattle.laws.specs.Bools.{pick, pick_ind, true_T, T_true, and_T, le?, eqb_same}
 use Rattle.laws.specs.Columns.{sweep, Chained, in_kind, word_apart}
 use Rattle.layout.specs.declared.shape.Shape.{Shape}
-use Rattle.layout.specs.Fields.{Field, SolidUsed, Solid, Outer, Face, First, Isolated, Loop, loop_kind, group_of, word_of}
+use Rattle.layout.specs.Fields.{Field, SolidUsed, Solid, Outer, Face, First, Isolated, Loop, loop_kind, group_of}
+use Rattle.layout.specs.Fields.{word_of}
 use Rattle.layout.specs.Fields.{VertexUsed, half_kind, groups, group_at, cap_of, put, sweep_field, same_field, field_in}
 use Rattle.layout.specs.Layout.{loop_face, next_of, vertex_used, set_solid_used, set_loop_face, set_loop}
 use Rattle.layout.specs.Writes.{Write, writes, cleared}
-use Rattle.euler.specs.Surgery.{half_record, tied, seated, edge_writes, no_edge_writes, tie, between, put_half, put_face}
+use Rattle.euler.specs.Surgery.{half_record, tied, seated, edge_writes, no_edge_writes, tie, between, put_half}
+use Rattle.euler.specs.Surgery.{put_face}
 use Rattle.euler.specs.Surgery.{put_loop, edge_in, edge_out, relabel, renew}
 use Rattle.euler.specs.Valence.{one_less, one_more}
 use Rattle.sound_tables.specs.Cells.{end, chain_apart}
@@ -136,7 +138,8 @@ module _ {sh : Shape} (b : InOrder sh) {l : ℕ} (i : In sh.loops l) {x : List �
   writes_stay [] t s = s
   writes_stay {y = y} (w ∷ ws) t s =
       let r = and_T (free w.field) (all_free ws) (true_T t) in
-      writes_stay {y = put sh w.field y w.item w.value} ws (T_true r.1) (free_stays w.field w.item w.value (T_true r.0) s)
+      writes_stay {y = put sh w.field y w.item w.value} ws (T_true r.1)
+      (free_stays w.field w.item w.value (T_true r.0) s)
 
   -- of a face
   pub put_face_stays : {y : List ℕ} (f t m : ℕ) → f ≤ sh.faces → Stays sh l x y → Stays sh l x (put_face sh y f t m)

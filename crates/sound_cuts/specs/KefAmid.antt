@@ -3,7 +3,8 @@
 -- k's loop is killed, that of its mate is kept. The run is the rest of k's loop: from next of k up to before k. kef's
 -- first step gives it the kept loop, half-edge by half-edge where it sits: `passed n` are the links when n of them have
 -- been passed, and these are the states of the code's loop (`Walked`, the invariant of `relabel_steps`).
-use Rattle.std.specs.Prelude.{◌≡◌, refl, ◌≢◌, ◌⊎◌, true, false, List, [], ◌∷◌, ℕ, suc, ◌*◌, ◌≤◌, ◌<◌, leb, ℤ, pos, length, get_or, drop}
+use Rattle.std.specs.Prelude.{◌≡◌, refl, ◌≢◌, ◌⊎◌, true, false, List, [], ◌∷◌, ℕ, suc, ◌*◌, ◌≤◌, ◌<◌, leb, ℤ, pos}
+use Rattle.std.specs.Prelude.{length, get_or, drop}
 use Rattle.std.proofs.Common.{sym, ap, ◌∙◌, subst, inr, ⊎_elim, arith, le-leb}
 use Rattle.laws.specs.Bools.{split, le?}
 use Rattle.laws.specs.Columns.{Chained}
@@ -49,9 +50,11 @@ pub record KefAmid (sh : Shape) (x : List ℕ) (k d n : ℕ) (y : List ℕ) : Ty
   -- "and besides only the killed edge's loop words differ": ours do not differ yet (its halves are outside the run)
   pub edge : (loop_of sh y k ≡ loop_of sh x k) × (loop_of sh y (mate k) ≡ loop_of sh x (mate k))
   -- nor does the loop of any half-edge outside the run
-  pub outside : (i : ℕ) → In (2 * sh.edges) i → ((t : ℕ) → t < d → rest_at sh x k t ≢ i) → loop_of sh y i ≡ loop_of sh x i
+  pub outside : (i : ℕ) → In (2 * sh.edges) i → ((t : ℕ) → t < d → rest_at sh x k t ≢ i)
+      → loop_of sh y i ≡ loop_of sh x i
   -- nor any other word of the links: the other fields, the capacities among them, are all there are
-  pub others : (F : Field) → same_field Loop F ≡ false → (i : ℕ) → In (cap_of sh F) i → column sh F y i ≡ column sh F x i
+  pub others : (F : Field) → same_field Loop F ≡ false → (i : ℕ) → In (cap_of sh F) i
+      → column sh F y i ≡ column sh F x i
   pub long : length y ≡ length x
 
 -- kef k relabels the run where it sits

@@ -306,6 +306,7 @@ module _ {sh : Shape} {p : List ℤ} {d : Columns} (t : Sound sh p d) (zero : d 
   kef_only i j e z = e (o.one i j z)
 
   -- first of l is the least that names it
-  pub kef_first : mend_columns sh d (spot_at d b) First (d Loop (mate b)) ≡ first_of sh (mend_columns sh d (spot_at d b))
+  pub kef_first : mend_columns sh d (spot_at d b) First (d Loop (mate b))
+      ≡ first_of sh (mend_columns sh d (spot_at d b))
       (d Loop (mate b))
   kef_first = upd_same _ q.l _

@@ -1,6 +1,7 @@
 -- What is known of the operands of an accepted mef: they are in range, in use or free as they should be, and name
 -- corners of the loop.
-use Rattle.std.specs.Prelude.{◌≡◌, refl, ◌≢◌, true, not, ◌&&◌, ◌||◌, List, [], ◌∷◌, ℕ, ◌*◌, ◌≤◌, T, eqb, leb, pos, length, get_or}
+use Rattle.std.specs.Prelude.{◌≡◌, refl, ◌≢◌, true, not, ◌&&◌, ◌||◌, List, [], ◌∷◌, ℕ, ◌*◌, ◌≤◌, T, eqb, leb, pos}
+use Rattle.std.specs.Prelude.{length, get_or}
 use Rattle.std.proofs.Common.{◌∙◌, subst, arith, eqb→eq, le→leb, lit≤, T_not, le-leb}
 use Rattle.laws.specs.Bools.{true_T, and_T, imp_T, eqb_same}
 use Rattle.laws.specs.Every.{every_T}
@@ -81,7 +82,8 @@ mef_facts sh x o caps len e h =
     let s1 : operand_of o 1 ≤ most_halves = omega (arith, n1.1, caps.edges) in
     let s2 : operand_of o 2 ≤ most_halves = omega (arith, n2.1, caps.edges) in
     let s6 : operand_of o 6 ≤ most_halves = omega (arith, n6.1) in
-    let is : o ≡ mef_of (operand_of o 0) (operand_of o 1) (operand_of o 2) (operand_of o 3) (operand_of o 4) (operand_of o 5)
+    let is : o ≡ mef_of (operand_of o 0) (operand_of o 1) (operand_of o 2) (operand_of o 3) (operand_of o 4)
+    (operand_of o 5)
     (operand_of o 6) = λ t. record {
       code = e t;
       count = a.count t;

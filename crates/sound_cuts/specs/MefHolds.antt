@@ -1,6 +1,7 @@
 -- mef as an operator: a marked table stays marked, and its inverse gives everything back. Here the operands (two
 -- corners of a loop and a way) are turned into how the edge stands (`Choice`).
-use Rattle.std.specs.Prelude.{◌≡◌, refl, ◌≢◌, ◌⊎◌, Bool, true, false, not, ◌&&◌, List, ℕ, ◌+◌, ◌*◌, ◌≤◌, ◌<◌, eqb, ℤ, length}
+use Rattle.std.specs.Prelude.{◌≡◌, refl, ◌≢◌, ◌⊎◌, Bool, true, false, not, ◌&&◌, List, ℕ, ◌+◌, ◌*◌, ◌≤◌, ◌<◌, eqb, ℤ}
+use Rattle.std.specs.Prelude.{length}
 use Rattle.std.proofs.Common.{sym, ap, ◌∙◌, subst, inl, inr, ⊎_elim, arith}
 use Rattle.laws.specs.Bools.{pick, split, le?, eqb_same, eqb_other}
 use Rattle.script.specs.declared.Operator.{Operator}

@@ -1,5 +1,6 @@
 -- The operands that mef needs to make an edge, read off the corners; they are those of kef's inverse.
-use Rattle.std.specs.Prelude.{◌≡◌, refl, ◌≢◌, Bool, true, false, not, ◌&&◌, ◌||◌, List, [], ◌∷◌, ℕ, ◌+◌, ◌%◌, ◌≤◌, eqb, leb, ℤ, pos}
+use Rattle.std.specs.Prelude.{◌≡◌, refl, ◌≢◌, Bool, true, false, not, ◌&&◌, ◌||◌, List, [], ◌∷◌, ℕ, ◌+◌, ◌%◌, ◌≤◌, eqb}
+use Rattle.std.specs.Prelude.{leb, ℤ, pos}
 use Rattle.std.proofs.Common.{sym, ap, ◌∙◌, inl, inr, ⊎_elim, arith}
 use Rattle.laws.specs.Bools.{pick, split, eqb_same, eqb_other}
 use Rattle.script.specs.declared.Operator.{Operator}

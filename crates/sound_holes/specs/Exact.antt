@@ -185,7 +185,8 @@ module _ {sh : Shape} {x : List ℕ} {p : List ℤ} (g : Marked sh x p) {f1 f2 l
   pub kfmrh_exact : Kept sh x p (kfmrh_of f1 f2) × Undone sh x p (kfmrh_of f1 f2)
   kfmrh_exact =
       let caps = g.capacities in
-      exact (kfmrh_links_lem _ g.sound caps r) (kfmrh_points sh x f1 f2 p) (kfmrh_inverse_lem _ g.sound caps r p) yk_good
+      exact (kfmrh_links_lem _ g.sound caps r) (kfmrh_points sh x f1 f2 p) (kfmrh_inverse_lem _ g.sound caps r p)
+      yk_good
       (mfkrh_accepted _ yk_good.sound caps yk_ring yk_outcome) joined_back
       (mfkrh_points sh yk l f2 (solid_operand s1 s2) p) (mfkrh_inverse_lem _ yk_good.sound caps yk_ring yk_outcome p)
 

@@ -41,7 +41,8 @@ pub joined_others : (c : Columns) (f1 f2 l s1 s2 : ℕ) (F : Field) → among gr
 joined_others c f1 f2 l s1 s2 F h n =
     let e = changes (ring_writes f1 f2 l) c in
     let t = joined_solid c f2 s1 s2 in
-    unwritten grouping (mark_writes s1 s2) refl (with_column e Solid t) F h n ∙ column_other grouping Solid refl e t F h n
+    unwritten grouping (mark_writes s1 s2) refl (with_column e Solid t) F h n
+    ∙ column_other grouping Solid refl e t F h n
     ∙ unwritten grouping (ring_writes f1 f2 l) refl c F h n
 
 -- two faces, f1 in solid s1 and f2 in solid s2; l is the only loop of f2
@@ -177,7 +178,8 @@ module _ {sh : Shape} {p : List ℤ} {c : Columns} (a : Sound sh p c) {f1 f2 l s
       (λ n. rw (side_joined k u ∙ upd_off (λ g. g) f1 n) (a.solids.side_in_lem k u, n))
 
   -- its solid is what the solid of the old side becomes
-  side_solid : (k : ℕ) → HalfUsed sh c k → joined_solid c f2 s1 s2 (side_in c l f1 k) ≡ relabel (c Solid) s2 s1 (side c k)
+  side_solid : (k : ℕ) → HalfUsed sh c k
+      → joined_solid c f2 s1 s2 (side_in c l f1 k) ≡ relabel (c Solid) s2 s1 (side c k)
   side_solid k u = split (side c k) f2
       (λ e. ap (joined_solid c f2 s1 s2) (side_joined k u ∙ upd_at (λ g. g) f1 e) ∙ joined_first
       ∙ sym (relabel_at (c Solid) s2 s1 (ap (c Solid) e ∙ r.second_solid)))

@@ -31,7 +31,8 @@ swept {sh} {c = c} g z s t = shows_agree t (by_fields (Solid ∷ []) _ (solid, t
 
 -- the list afterwards
 abbrev pub joined_links : Shape → List ℕ → ℕ → ℕ → ℕ → ℕ → ℕ → List ℕ
-joined_links sh x f1 f2 l s1 s2 = writes sh (mark_writes s1 s2) (move_faces sh (writes sh (ring_writes f1 f2 l) x) s2 s1)
+joined_links sh x f1 f2 l s1 s2 = writes sh (mark_writes s1 s2)
+    (move_faces sh (writes sh (ring_writes f1 f2 l) x) s2 s1)
 
 -- it shows the columns of `joined`
 pub shows_joined : {sh : Shape} {x : List ℕ} {c : Columns} → Shows sh x c → (f1 f2 l s1 s2 : ℕ)

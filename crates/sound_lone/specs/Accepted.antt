@@ -249,7 +249,12 @@ module _ (sh : Shape) (x : List ℕ) (s f l v : ℕ) (a b c : ℤ) (caps : Capac
   -- what it does
   pub mvsf_links_lem : marks_after sh x (mvsf_of s f l v a b c) ≡ placed_links sh x s f l v 1 s l f v
   unfolding marks_after mvsf_links
-  mvsf_links_lem = rw (le-leb s most_halves sn, le-leb f most_halves fn, le-leb l most_halves ln, le-leb v most_halves vn)
+  mvsf_links_lem = rw (
+    le-leb s most_halves sn,
+    le-leb f most_halves fn,
+    le-leb l most_halves ln,
+    le-leb v most_halves vn,
+  )
 
   -- the vertex gets its point
   pub mvsf_points : (p : List ℤ) → points_after sh x p (mvsf_of s f l v a b c) ≡ put_point p v a b c
@@ -262,7 +267,8 @@ module _ (sh : Shape) (x : List ℕ) (s f l v : ℕ) (a b c : ℤ) (caps : Capac
   mvsf_inverse_lem p = rw (le-leb s most_halves sn)
 
   -- and accepted
-  pub mvsf_accepted : T (range_test a) → T (range_test b) → T (range_test c) → refusal_of sh x (mvsf_of s f l v a b c) ≡ 0
+  pub mvsf_accepted : T (range_test a) → T (range_test b) → T (range_test c)
+      → refusal_of sh x (mvsf_of s f l v a b c) ≡ 0
   unfolding pattern rows use_word condition
   mvsf_accepted ha hb hc = accepted_back sh x (mvsf_of s f l v a b c) (record {
     code = refl;

@@ -9,8 +9,10 @@ use Rattle.laws.specs.Walks.{meets}
 use Rattle.laws.specs.Closure.{across, pass, rounds, linkedb}
 use Rattle.layout.specs.Mate.{mate}
 use Rattle.check_items.specs.Rules.{solid_range, face_range, loop_range, half_range, vertex_range, rule1, solid_names}
-use Rattle.check_items.specs.Rules.{face_names, loop_names, half_names, rule2, loop_either, rule3, half_links, first_names}
-use Rattle.check_items.specs.Rules.{half_in_loop, rule4, vertex_either, half_at_vertex, rule5, half_sides, face_linked, rule6}
+use Rattle.check_items.specs.Rules.{face_names, loop_names, half_names, rule2, loop_either, rule3, half_links}
+use Rattle.check_items.specs.Rules.{first_names}
+use Rattle.check_items.specs.Rules.{half_in_loop, rule4, vertex_either, half_at_vertex, rule5, half_sides, face_linked}
+use Rattle.check_items.specs.Rules.{rule6}
 use Rattle.check_items.specs.Rules.{broken_rule}
 use Rattle.table.specs.Sizes.{sizes_fit}
 use Rattle.table.specs.Check.{answer, check_of}
@@ -25,8 +27,10 @@ accepted (r ∷ rs) = pick (eqb r.after.refusal 0) (r ∷ accepted rs) (accepted
 
 -- what the check answers of the tables of a row, before and after
 unfoldable pub checks : List Row → List CheckAnswer
-unfolding check_of broken_rule sizes_fit rule1 solid_range face_range loop_range half_range vertex_range rule2 solid_names
-    face_names loop_names half_names rule3 loop_either rule4 half_links first_names half_in_loop rule5 vertex_either half_at_vertex
+unfolding check_of broken_rule sizes_fit rule1 solid_range face_range loop_range half_range vertex_range rule2
+    solid_names
+    face_names loop_names half_names rule3 loop_either rule4 half_links first_names half_in_loop rule5 vertex_either
+    half_at_vertex
     rule6 half_sides face_linked all_to least_from sum_to meets across pass rounds linkedb mate
 checks [] = []
 checks (r ∷ rs) =

@@ -115,12 +115,14 @@ module _ (sh : Shape) (x : List ℕ) (l f : ℕ) where
       (rw (le-leb l most_halves (ln caps r), le-leb f most_halves (fn caps r)) (of_reached r.ring q))
 
   -- what it does where the face is l's own
-  pub swap_links : Capacities sh → Ring sh c l f → f ≡ c Face l → marks_after sh x (rmov_of l f) ≡ set_face_outer sh x f l
+  pub swap_links : Capacities sh → Ring sh c l f → f ≡ c Face l
+      → marks_after sh x (rmov_of l f) ≡ set_face_outer sh x f l
   unfolding marks_after rmov_links
   swap_links caps r e = rw (le-leb l most_halves (ln caps r), le-leb f most_halves (fn caps r), eqb_same e)
 
   -- and where it is another
-  pub move_links : Capacities sh → Ring sh c l f → f ≢ c Face l → marks_after sh x (rmov_of l f) ≡ set_loop_face sh x l f
+  pub move_links : Capacities sh → Ring sh c l f → f ≢ c Face l
+      → marks_after sh x (rmov_of l f) ≡ set_loop_face sh x l f
   unfolding marks_after rmov_links
   move_links caps r n = rw (le-leb l most_halves (ln caps r), le-leb f most_halves (fn caps r), eqb_other n)
 

@@ -22,7 +22,8 @@ use Rattle.layout.specs.Fields.{Start, Next, VertexUsed, Columns}
 use Rattle.sound_tables.specs.Sound.{In, HalfUsed}
 use Rattle.sound_tables.specs.PointLists.{three, all_three}
 use Rattle.sound_tables.specs.Accepted.{by_place, eight, accepted_back, ranges_cons, uses_cons, item_cons, use_old}
-use Rattle.sound_tables.specs.Accepted.{old_use, use_new, new_use, use_none, in_range_lem, Number, number, number_or_none}
+use Rattle.sound_tables.specs.Accepted.{old_use, use_new, new_use, use_none, in_range_lem, Number, number}
+use Rattle.sound_tables.specs.Accepted.{number_or_none}
 use Rattle.sound_tables.specs.Accepted.{coordinate_range, unused_range, unused_use, in_range_or_none, three_range}
 use Rattle.sound_tables.specs.Accepted.{three_use}
 use Rattle.sound_tables.specs.Good.{own, Capacities}
@@ -253,7 +254,8 @@ module _ (sh : Shape) (x : List ℕ) (k n : ℕ) (caps : Capacities sh) (o : Joi
   jekv_killed = rw (k_small, o.next_k)
 
   -- the point of n's start is cleared
-  pub jekv_points : (p : List ℤ) → points_after sh x p (jekv_of k) ≡ put_point p (own sh x Start n) (pos 0) (pos 0) (pos 0)
+  pub jekv_points : (p : List ℤ)
+      → points_after sh x p (jekv_of k) ≡ put_point p (own sh x Start n) (pos 0) (pos 0) (pos 0)
   unfolding points_after killed_vertex
   jekv_points p = rw (k_small, o.next_k)
 

@@ -28,7 +28,8 @@ use Rattle.sound_splits.specs.JekvColumns.{Joint, joint_agree, jekv_columns, jek
 use Rattle.sound_splits.specs.Shown.{semv_shows, jekv_shows}
 use Rattle.sound_tables.specs.HalfNumbers.{edge_by, way_by, way_small, half_is, second_half}
 use Rattle.sound_tables.specs.Names.{free_halves}
-use Rattle.sound_splits.specs.Accepted.{Semv, semv_of, jekv_of, new_half, SemvFits, jekv_back, semv_facts, semv_links_lem}
+use Rattle.sound_splits.specs.Accepted.{Semv, semv_of, jekv_of, new_half, SemvFits, jekv_back, semv_facts}
+use Rattle.sound_splits.specs.Accepted.{semv_links_lem}
 use Rattle.sound_splits.specs.Accepted.{semv_points, semv_inverse_lem, semv_accepted, jekv_facts, tested_joint}
 use Rattle.sound_splits.specs.Accepted.{jekv_links_lem, jekv_killed, jekv_points, jekv_inverse, jekv_accepted}
 
@@ -220,7 +221,8 @@ module _ {sh : Shape} {x : List ℕ} {p : List ℤ} (g : Marked sh x p) {k n : �
       let ei = jekv_inverse sh x k n g.capacities o n1 p in
       record {
         accepted = rw (el, ei) (semv_accepted sh ky g.capacities ky_fits);
-        links = rw (el, ei) (semv_links_lem sh ky g.capacities ky_fits ∙ ap (λ t. semv_links sh ky k t kv) (half_is n n1)
+        links = rw (el, ei) (semv_links_lem sh ky g.capacities ky_fits
+            ∙ ap (λ t. semv_links sh ky k t kv) (half_is n n1)
             ∙ jekv_back_lem low);
         points = rw (el, ep, ei) (semv_points sh ky g.capacities ky_fits kq ∙ put_back sh.vertices p kv (pos 0)
             (pos 0) (pos 0) g.points rejoined.place.v_in);

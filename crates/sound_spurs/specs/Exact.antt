@@ -34,7 +34,8 @@ use Rattle.sound_spurs.specs.KevSound.{out_stores, kev_out, last_stores, kev_col
 use Rattle.sound_spurs.specs.KevSound.{out_start_k}
 use Rattle.sound_spurs.specs.KevSound.{out_start_b}
 use Rattle.sound_spurs.specs.MevAccepted.{Mev, mev_of, new_half, MevFits, mev_facts, new_edge, mev_list, mev_points}
-use Rattle.sound_spurs.specs.MevAccepted.{mev_links_lem, mev_points_lem, mev_inverse_lem, mev_accepted, mev_place, mev_corner}
+use Rattle.sound_spurs.specs.MevAccepted.{mev_links_lem, mev_points_lem, mev_inverse_lem, mev_accepted, mev_place}
+use Rattle.sound_spurs.specs.MevAccepted.{mev_corner}
 use Rattle.sound_spurs.specs.MevAccepted.{mev_shows, mev_good}
 use Rattle.sound_spurs.specs.KevAccepted.{spur_edge, kev_of, kev_facts, kev_list, kev_points, kev_back, kev_links_lem}
 use Rattle.sound_spurs.specs.KevAccepted.{kev_killed, kev_points_lem}

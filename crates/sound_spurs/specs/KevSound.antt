@@ -36,7 +36,8 @@ kev_out c k = changes (out_stores c k) c
 
 -- the stores to the loop, whose first is then f and whose isolated vertex I, and to the vertex that goes
 abbrev pub last_stores : Columns → ℕ → ℕ → ℕ → List Write
-last_stores c k f I = write First (c Loop k) f ∷ write Isolated (c Loop k) I ∷ write VertexUsed (c Start (mate k)) 0 ∷ []
+last_stores c k f I = write First (c Loop k) f ∷ write Isolated (c Loop k) I ∷ write VertexUsed (c Start (mate k)) 0
+    ∷ []
 
 -- the columns afterwards, the loop isolated at I, which is 0 where it is not
 abbrev pub kev_columns : Shape → Columns → ℕ → ℕ → Columns

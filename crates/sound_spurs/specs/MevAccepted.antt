@@ -27,7 +27,8 @@ use Rattle.sound_tables.specs.Sound.{In, HalfUsed, Sound}
 use Rattle.sound_tables.specs.Names.{not_isolated, lone_used, free_halves}
 use Rattle.sound_tables.specs.PointLists.{three, put_length, all_three, points_new}
 use Rattle.sound_tables.specs.Accepted.{by_place, eight, accepted_back, ranges_cons, uses_cons, item_cons, use_old}
-use Rattle.sound_tables.specs.Accepted.{old_use, use_new, new_use, use_none, in_range_lem, Number, number, number_or_none}
+use Rattle.sound_tables.specs.Accepted.{old_use, use_new, new_use, use_none, in_range_lem, Number, number}
+use Rattle.sound_tables.specs.Accepted.{number_or_none}
 use Rattle.sound_tables.specs.Accepted.{coordinate_range, unused_range, unused_use, in_range_or_none, three_range}
 use Rattle.sound_tables.specs.Accepted.{three_use}
 use Rattle.sound_tables.specs.OneOperand.{one_of}

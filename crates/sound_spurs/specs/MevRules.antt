@@ -188,7 +188,8 @@ module _ {sh : Shape} {p : List ℤ} {c : Columns} (a : Sound sh p c) {l k v h :
   at_prev : (i : ℕ) → Or (mate k) (Or k (Member sh c)) i → (extended sh d₁).prev i ≡ H₁.prev i
   at_prev i = known λ k1 b1 p1 h1 c1 c2 c3 c4 c5 c6 c7 c8 c9 c10 np. each a o (λ i. (extended sh d₁).prev i ≡ H₁.prev i)
       (simp (up_to_low, upd_same, upd_off)) (simp (up_to_low, upd_same, upd_off))
-      (λ i w m e f. split i h (λ z. rw z (simp (up_to_low, np, upd_same, upd_off))) (λ z. simp (up_to_low, np, upd_off)))
+      (λ i w m e f. split i h (λ z. rw z (simp (up_to_low, np, upd_same, upd_off)))
+      (λ z. simp (up_to_low, np, upd_off)))
       (λ i w m e f g. let z : i ≢ h = λ y. omega arith in simp (up_to_low, up_to_high, np, upd_off)) i (no_dummy i)
 
   -- the rules with dummies afterwards

@@ -1,7 +1,8 @@
 -- What it says that an operator is accepted: its operands are in range, old items in use, new numbers free, and its
 -- condition holds.
 use Rattle.std.proofs.Math.Path.{◌≡◌}
-use Rattle.std.specs.Prelude.{refl, ◌≢◌, Bool, true, false, ◌&&◌, List, [], ◌∷◌, ℕ, zero, suc, ◌+◌, ◌*◌, ◌≤◌, ◌<◌, T, eqb, leb, ℤ, pos, negsuc, length, get_or, replicate}
+use Rattle.std.specs.Prelude.{refl, ◌≢◌, Bool, true, false, ◌&&◌, List, [], ◌∷◌, ℕ, zero, suc, ◌+◌, ◌*◌, ◌≤◌, ◌<◌, T}
+use Rattle.std.specs.Prelude.{eqb, leb, ℤ, pos, negsuc, length, get_or, replicate}
 use Rattle.std.proofs.Common.{sym, ap, ◌∙◌, subst, add-zero, zero-add, eqb→eq, leb→le, le→leb, ext_get_or, le-leb}
 use Rattle.std.proofs.lemmas.Bool.{false≢true}
 use native.Mathlib.Omega.{arith}
@@ -103,7 +104,8 @@ both false c t = absurd (false≢true t)
 -- each operand is in range
 ranges_at : (lim : Limits) (ks : List ℕ) (zs : List ℤ) → length zs ≡ length ks
     → in_ranges (largests lim) ks (wires ks zs) ≡ true
-    → (i : ℕ) → i < length ks → in_range (largests lim) (get_or ks i 0) (wire (get_or ks i 0) (get_or zs i (pos 0))) ≡ true
+    → (i : ℕ) → i < length ks
+    → in_range (largests lim) (get_or ks i 0) (wire (get_or ks i 0) (get_or zs i (pos 0))) ≡ true
 unfolding in_ranges
 ranges_at lim [] zs e h i l = absurd (omega arith)
 ranges_at lim (k ∷ ks) [] e h i l = absurd (omega arith)
@@ -188,7 +190,8 @@ unfolding in_ranges
 ranges_cons lim k ks a zs h t = rw h t
 
 -- the same for what the operands name
-pub uses_cons : (sh : Shape) (x : List ℕ) (o : Operator) (k : ℕ) (ks : List ℕ) (j : ℕ) → use_refusal sh x k (item_of o j)
+pub uses_cons : (sh : Shape) (x : List ℕ) (o : Operator) (k : ℕ) (ks : List ℕ) (j : ℕ)
+    → use_refusal sh x k (item_of o j)
     ≡ 0 → use_refusals sh x o ks (j + 1) ≡ 0 → use_refusals sh x o (k ∷ ks) j ≡ 0
 unfolding use_refusals
 uses_cons sh x o k ks j h t = rw h t
@@ -197,7 +200,8 @@ uses_cons sh x o k ks j h t = rw h t
 pub item_cons : (sh : Shape) (x : List ℕ) (o : Operator) (k : ℕ) (ks : List ℕ) (j : ℕ) → operand_of o j ≤ most_halves
     → use_refusal sh x k (operand_of o j) ≡ 0 → use_refusals sh x o ks (j + 1) ≡ 0
     → use_refusals sh x o (k ∷ ks) j ≡ 0
-item_cons sh x o k ks j b h t = uses_cons sh x o k ks j (subst (λ n. use_refusal sh x k n ≡ 0) (sym (item_is o j b)) h) t
+item_cons sh x o k ks j b h t = uses_cons sh x o k ks j (subst (λ n. use_refusal sh x k n ≡ 0) (sym (item_is o j b)) h)
+    t
 
 -- ---- one operand
 
@@ -293,7 +297,8 @@ coordinate_range lim (negsuc n) h = let r = range_between (largests lim) coordin
     tidy false t = t
 
 -- and back
-pub range_coordinate : (lim : Limits) (a : ℤ) → T (range_test a) → in_range (largests lim) coordinate (wire coordinate a)
+pub range_coordinate : (lim : Limits) (a : ℤ) → T (range_test a)
+    → in_range (largests lim) coordinate (wire coordinate a)
     ≡ true
 unfolding wire zig
 range_coordinate lim (pos n) t = between_range (largests lim) coordinate (2 * n) (omega arith)

@@ -17,7 +17,8 @@ pub shows_worded : {sh : Shape} {x y : List ℕ} {c : Columns} → Shows sh x c 
 shows_worded {sh} {x} {y} {c} s fit e = record {
   fit = fit;
   at = λ F n i. ⊎_elim
-      (λ t. subst (λ G. own sh y G n ≡ with_column c VertexUsed (own sh y VertexUsed) G n) (same_field_lem VertexUsed F t)
+      (λ t. subst (λ G. own sh y G n ≡ with_column c VertexUsed (own sh y VertexUsed) G n)
+      (same_field_lem VertexUsed F t)
       refl)
       (λ t. e F t n i ∙ s.at F n i ∙ sym (column_off c VertexUsed (own sh y VertexUsed) F t n))
       (ask (same_field VertexUsed F));

@@ -147,7 +147,8 @@ module _ {sh : Shape} {x : List ℕ} {o : Operator}
       → own sh (marks_after sh x o) Start k ≡ 0 → own sh (marks_after sh x o) Start (mate k) ≡ 0
       → ((i : ℕ) → In (2 * sh.edges) i → i ≢ k → i ≢ mate k → own sh (marks_after sh x o) Start i ≡ own sh x Start i)
       → Balanced sh x o
-  killed_balanced k el ec a u fk fm = edge_balanced k (both_in _ a u) el (ec ∙ (λ t. two (sym fk t) (sym fm t))) (inr ec)
+  killed_balanced k el ec a u fk fm = edge_balanced k (both_in _ a u) el (ec ∙ (λ t. two (sym fk t) (sym fm t)))
+      (inr ec)
       (both_used _ a u) (inl fk, inl fm)
 
 -- no half-edge comes or goes, seen through the columns afterwards

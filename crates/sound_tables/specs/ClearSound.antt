@@ -1,6 +1,7 @@
 -- A cleared table is sound: what clearing answers 0 for passes the check, for all capacities.
 -- (The way back, that a sound table without a solid is the cleared one, is `empty-table` of crate inversion.)
-use Rattle.std.specs.Prelude.{◌≡◌, refl, List, ◌∷◌, ℕ, zero, suc, ◌+◌, ◌-◌, ◌*◌, ◌≤◌, ◌<◌, ℤ, pos, length, get_or, replicate}
+use Rattle.std.specs.Prelude.{◌≡◌, refl, List, ◌∷◌, ℕ, zero, suc, ◌+◌, ◌-◌, ◌*◌, ◌≤◌, ◌<◌, ℤ, pos, length, get_or}
+use Rattle.std.specs.Prelude.{replicate}
 use Rattle.std.proofs.Common.{⊎_elim, arith, lit≤}
 use Rattle.std.proofs.lemmas.List.{length-replicate}
 use Rattle.laws.specs.Bools.{ask}

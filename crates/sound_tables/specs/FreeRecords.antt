@@ -16,7 +16,8 @@ head_of F = field_at (group_of F) 0
 -- a field that is no capacity is one of a record
 pub of_record : (sh : Shape) (F : Field) → same_field Capacity F ≡ false → 1 ≤ group_of F
 of_record sh F e = split (group_of F) 0
-    (λ g. let h : word_of F < (group_at sh 0).width = subst (λ k. word_of F < (group_at sh k).width) g (field_in sh F).0 in
+    (λ g. let h : word_of F
+    < (group_at sh 0).width = subst (λ k. word_of F < (group_at sh k).width) g (field_in sh F).0 in
     absurd (false_T e (true_T (ap (λ b. b && eqb 0 (word_of F)) (eqb_same (sym g)) ∙ eqb_same (zero_below h)))))
     (λ g. omega (arith, g))
   where

@@ -75,7 +75,8 @@ put_back n p v a b c lp i =
     (λ x. rw x (put_at q v _ _ _ i.0 (omega (arith, e, lp, i.1)) k h ∙ own k h))
     (λ x. put_off q v _ _ _ w x k h ∙ put_off p v a b c w x k h))
   where
-    own : (k : ℕ) → k < point_width → three (coordinate p v 0) (coordinate p v 1) (coordinate p v 2) k ≡ coordinate p v k
+    own : (k : ℕ) → k < point_width
+        → three (coordinate p v 0) (coordinate p v 1) (coordinate p v 2) k ≡ coordinate p v k
     own zero h = refl
     own (suc zero) h = refl
     own (suc (suc zero)) h = refl

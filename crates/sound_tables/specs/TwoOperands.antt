@@ -1,6 +1,7 @@
 -- Operators of two operands, the numbers of an old item and of another: what it says that one is accepted, and when it
 -- is.
-use Rattle.std.specs.Prelude.{◌≡◌, ◌≢◌, true, false, List, [], ◌∷◌, ℕ, ◌≤◌, ◌<◌, eqb, leb, pos, length, get_or, replicate}
+use Rattle.std.specs.Prelude.{◌≡◌, ◌≢◌, true, false, List, [], ◌∷◌, ℕ, ◌≤◌, ◌<◌, eqb, leb, pos, length, get_or}
+use Rattle.std.specs.Prelude.{replicate}
 use Rattle.std.proofs.Common.{sym, ap, ◌∙◌, subst, arith, lit≤, le-leb}
 use Rattle.bounds.specs.Bounds.{most_halves}
 use Rattle.script.specs.declared.Operator.{Operator}
@@ -32,7 +33,8 @@ pub record TwoOperands (sh : Shape) (x : List ℕ) (o : Operator) (code j k : �
 
 module _ (sh : Shape) (x : List ℕ) (code j k : ℕ) (count : (pattern code).count ≡ 2)
     (kinds : (pattern code).kinds ≡ j ∷ k ∷ replicate 6 unused)
-    (j-plain : eqb j coordinate ≡ false) (j-least : get_or leasts j 0 ≡ 1) (j-most : limit_of (limits sh) j ≤ most_halves)
+    (j-plain : eqb j coordinate ≡ false) (j-least : get_or leasts j 0 ≡ 1)
+    (j-most : limit_of (limits sh) j ≤ most_halves)
     (k-plain : eqb k coordinate ≡ false) (k-least : get_or leasts k 0 ≡ 1)
     (k-most : limit_of (limits sh) k ≤ most_halves) where
   -- all from the refusal 0
@@ -72,7 +74,8 @@ module _ (sh : Shape) (x : List ℕ) (code j k : ℕ) (count : (pattern code).co
       }
 
   -- and back
-  pub two_accepted : get_or when_used j 0 ≡ 0 → (m n : ℕ) → In (limit_of (limits sh) j) m → In (limit_of (limits sh) k) n
+  pub two_accepted : get_or when_used j 0 ≡ 0 → (m n : ℕ) → In (limit_of (limits sh) j) m
+      → In (limit_of (limits sh) k) n
       → use_word sh x j m ≢ 0 → use_refusal sh x k n ≡ 0
       → condition sh x (two_of code m n) ≡ true → refusal_of sh x (two_of code m n) ≡ 0
   two_accepted old m n i l u w c = accepted_back sh x (two_of code m n) (record {

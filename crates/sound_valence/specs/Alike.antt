@@ -18,7 +18,8 @@ use Rattle.euler.specs.Surgery.{item_of}
 use Rattle.euler.specs.EdgeOperators.{kev_test, kef_test, kemr_test, jekv_test}
 use Rattle.euler.specs.Queries.{loops_in}
 use Rattle.euler.specs.Valence.{leave_of}
-use Rattle.euler.specs.Exec.{limits, use_word, use_refusal, use_refusals, condition, admit_of, refusal_of, killed_vertex}
+use Rattle.euler.specs.Exec.{limits, use_word, use_refusal, use_refusals, condition, admit_of, refusal_of}
+use Rattle.euler.specs.Exec.{killed_vertex}
 use Rattle.euler.specs.Exec.{points_by, points_after, inverse}
 use Rattle.sound_tables.specs.Sound.{SameElse, SameUsed, sound_alike}
 use Rattle.sound_tables.specs.Good.{own, Marked}

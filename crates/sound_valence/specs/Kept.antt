@@ -290,7 +290,8 @@ module _ {sh : Shape} {x : List ℕ} {p : List ℤ} (o : Operator) (g : Good sh 
   gy = marked_alike gm more.fit more.else used_more
 
   -- what comes and goes is balanced
-  pub sums : (w : ℕ) → 1 ≤ w → starts_at sh m w + times (leave_of sh x o) w ≡ starts_at sh x w + times (come_of sh m o) w
+  pub sums : (w : ℕ) → 1 ≤ w
+      → starts_at sh m w + times (leave_of sh x o) w ≡ starts_at sh x w + times (come_of sh m o) w
   sums w l =
       let e : times (leave_of sh x' o) w ≡ times (leave_of sh x o) w = ap (λ t. times t w) F.leaves in
       omega (arith, e, B'.starts w l, starts_same sh x x' less.else w)

@@ -1,4 +1,5 @@
--- The links with other words of vertices: what `one_less` and `one_more` leave, seen through the columns, and that a list
+-- The links with other words of vertices: what `one_less` and `one_more` leave, seen through the columns, and that a
+-- list
 -- is settled by its words and its other columns.
 use Rattle.std.specs.Prelude.{◌≡◌, refl, ◌⊎◌, true, List, ℕ, ◌+◌, ◌-◌, ◌≤◌, ◌<◌, eqb, ltb, length}
 use Rattle.std.proofs.Common.{sym, ap, ◌∙◌, subst, inl, inr, ⊎_elim, arith, lt→ltb}

@@ -102,7 +102,8 @@ module _ {sh : Shape} {x : List ℕ} {p : List ℤ} {f : ℕ} {v : Vector} (d : 
   able : every (spare sh x (corners_to sh x f sh.loops)) ≡ true
       → Sweepable sh x p (room_for sh x p (sweep_ops sh x p f v)) f v
   able s = sweepable sh x p (room_for sh x p (sweep_ops sh x p f v)) f v (refusal_later sh x p _ f v d.early
-      ∙ rw (s, le-leb (room_for sh x p (sweep_ops sh x p f v)) (room_for sh x p (sweep_ops sh x p f v)) (omega arith)) refl)
+      ∙ rw (s, le-leb (room_for sh x p (sweep_ops sh x p f v)) (room_for sh x p (sweep_ops sh x p f v)) (omega arith))
+      refl)
 
   -- the arrays hold the free numbers, and there are enough; u is the vector as the callee gets it
   pub all_set : (u : Vector) → u ≡ v → (edges vertices faces loops : List ℕ) (n nv ne nf nl : ℕ) (b : Bool)

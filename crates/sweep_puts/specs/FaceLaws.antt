@@ -9,7 +9,8 @@ use Rattle.layout.specs.Layout.{loop_face}
 use Rattle.chains.specs.Numbers.{free_names}
 use Rattle.chains.specs.Series.{series, joined, series_length}
 use Rattle.sweeps.specs.Accepted.{sum_up}
-use Rattle.sweeps.specs.Sweep.{Vector, corners_in, corners_of, corners_to, side_at, only_side, sides_of, loop_ops, ops_of}
+use Rattle.sweeps.specs.Sweep.{Vector, corners_in, corners_of, corners_to, side_at, only_side, sides_of, loop_ops}
+use Rattle.sweeps.specs.Sweep.{ops_of}
 use Rattle.sweeps.specs.Sweep.{sweep_ops}
 use Rattle.sweep_puts.specs.Laid.{Laid, laid_join, laid_more, laid_length, laid_empty, laid_far}
 use Rattle.sweep_puts.specs.RiserLaws.{Holds, Moving, riser_of}
@@ -101,7 +102,8 @@ loop_laid sh x p edges vertices faces loops v u l n b out at room out' at' room'
     let r : series 0 n (riser_of sh x p v l b) ≡ series 0 (suc (n - 1)) (riser_of sh x p u l b) =
     ap (λ m. series 0 m (riser_of sh x p v l b)) z ∙ ap (λ w. series 0 (suc (n - 1)) (riser_of sh x p w l b)) vu in
     laid_join (subst (λ os. Laid os out at room out' at' room') r i)
-    (subst (λ os. Laid os out' at' room' out'' at'' room'') (sides_same sh x edges vertices faces loops l (n - 1) b e) k)
+    (subst (λ os. Laid os out' at' room' out'' at'' room'') (sides_same sh x edges vertices faces loops l (n - 1) b e)
+    k)
 
 -- how far the risers go
 pub risers_far : (sh : Shape) (x : List ℕ) (p : List ℤ) (v : Vector) (l n b : ℕ) (out : List ℕ) (at room : ℕ)

@@ -1,5 +1,6 @@
 -- What the risers' code rests on.
-use Rattle.std.specs.Prelude.{◌≡◌, refl, true, List, [], ◌∷◌, ℕ, suc, ◌+◌, ◌*◌, ◌-◌, ◌^◌, ◌≤◌, ◌<◌, ℤ, pos, ◌+ℤ◌, get_or, length}
+use Rattle.std.specs.Prelude.{◌≡◌, refl, true, List, [], ◌∷◌, ℕ, suc, ◌+◌, ◌*◌, ◌-◌, ◌^◌, ◌≤◌, ◌<◌, ℤ, pos, ◌+ℤ◌}
+use Rattle.std.specs.Prelude.{get_or, length}
 use Rattle.std.proofs.Common.{sym, ap, ◌∙◌, subst, arith, length-append, SFits, to_z, to_z-of_z, le-leb}
 use Rattle.std.specs.Int.Signed.{mag}
 use Rattle.std.specs.Int.{w32}
@@ -58,7 +59,8 @@ mef_undone l h1 h2 e f l2 n m q b = record {
   few = b;
 }
 
-pub mef_undone_2 : (l h1 h2 e f l2 : ℕ) (n : ℕ) → e ≤ 4096 → n ≡ length (operator_bytes (mef_inverse (mate (2 * e - 1))))
+pub mef_undone_2 : (l h1 h2 e f l2 : ℕ) (n : ℕ) → e ≤ 4096
+    → n ≡ length (operator_bytes (mef_inverse (mate (2 * e - 1))))
     → n ≤ 27 → Undone (mef_at l h1 h2 e f l2 2) n
 unfolding inverse
 mef_undone_2 l h1 h2 e f l2 n m q b = record {
@@ -145,7 +147,8 @@ kept c e = rw e refl
 -- and it is the sweep's
 pub riser_is : (sh : Shape) (t : List ℕ) (p : List ℤ) (v : Vector) (l n b j k e w : ℕ) (edges vertices : List ℕ)
     (op : Operator) → Holds (free_names sh t).edge edges (2 * (b + n)) → Holds (free_names sh t).vertex vertices (b + n)
-    → Moving sh t p v l n → j < n → k ≡ corner_of sh t l j → e ≡ get_or edges (2 * b + j) 0 → w ≡ get_or vertices (b + j) 0
+    → Moving sh t p v l n → j < n → k ≡ corner_of sh t l j → e ≡ get_or edges (2 * b + j) 0
+    → w ≡ get_or vertices (b + j) 0
     → op ≡ riser_by sh t p v l k e w → op ≡ riser_of sh t p v l b j
 unfolding riser_by
 riser_is sh t p v l n b j k e w edges vertices op he hv m h ek ee ew q =

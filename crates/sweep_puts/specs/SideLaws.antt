@@ -88,7 +88,8 @@ Siding N l z b out₀ at room out place sum j =
 
 pub sides_turn : (N : Names) (l z b : ℕ) (out₀ : List ℕ) (at room : ℕ) (out : List ℕ) (place sum j : ℕ) (out' : List ℕ)
     (place' sum' : ℕ) → j ≤ z → Siding N l z b out₀ at room out place sum j
-    → Laid (side_at N l z b j ∷ []) out place sum out' place' sum' → Siding N l z b out₀ at room out' place' sum' (j + 1)
+    → Laid (side_at N l z b j ∷ []) out place sum out' place' sum'
+    → Siding N l z b out₀ at room out' place' sum' (j + 1)
 sides_turn N l z b out₀ at room out place sum j out' place' sum' h i d =
     let g = laid_next (side_at N l z b) j i.4 d refl refl in
     let f = laid_far (side_at N l z b) (j + 1) g in

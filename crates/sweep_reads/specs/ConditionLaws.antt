@@ -1,5 +1,6 @@
 -- The ways through the tests.
-use Rattle.std.specs.Prelude.{◌≡◌, refl, ◌≢◌, Bool, true, false, not, ◌&&◌, ◌||◌, List, [], ◌∷◌, eqb, ℕ, suc, ◌+◌, ◌≤◌, ◌<◌, ℤ, ◌+ℤ◌}
+use Rattle.std.specs.Prelude.{◌≡◌, refl, ◌≢◌, Bool, true, false, not, ◌&&◌, ◌||◌, List, [], ◌∷◌, eqb, ℕ, suc, ◌+◌, ◌≤◌}
+use Rattle.std.specs.Prelude.{◌<◌, ℤ, ◌+ℤ◌}
 use Rattle.std.proofs.Common.{sym, ap, ◌∙◌, SFits, to_z-of_z, arith}
 use Rattle.std.specs.Int.{w32}
 use Rattle.laws.specs.Every.{every}
@@ -69,6 +70,8 @@ pub moves_is : (sh : Shape) (x : List ℕ) (p : List ℤ) (f : ℕ) (dx dy dz : 
     → a ≡ range_test (coordinate p v 0 +ℤ back dx) → b ≡ range_test (coordinate p v 1 +ℤ back dy)
     → c ≡ range_test (coordinate p v 2 +ℤ back dz) → (a && (b && c)) ≡ moves sh x p f (vector dx dy dz) k
 moves_is sh x p f dx dy dz k v g a b c fx fy fz ev n eg ef ea eb ec =
-    rw (eqb_other (λ z. n (ev ∙ z)), eqb_same (sym eg ∙ ef)) (rw (ea, eb, ec, to_z-of_z fx, to_z-of_z fy, to_z-of_z fz, ev)
-    (every_three (range_test (coordinate p (start_of sh x k) 0 +ℤ dx)) (range_test (coordinate p (start_of sh x k) 1 +ℤ dy))
+    rw (eqb_other (λ z. n (ev ∙ z)), eqb_same (sym eg ∙ ef))
+    (rw (ea, eb, ec, to_z-of_z fx, to_z-of_z fy, to_z-of_z fz, ev)
+    (every_three (range_test (coordinate p (start_of sh x k) 0 +ℤ dx))
+    (range_test (coordinate p (start_of sh x k) 1 +ℤ dy))
     (range_test (coordinate p (start_of sh x k) 2 +ℤ dz))))

@@ -80,7 +80,8 @@ pub to_none : (sh : Shape) (x : List ℕ) (f : ℕ) → 0 ≡ corners_to sh x f 
 unfolding sum_to
 to_none sh x f = refl
 
-pub to_more : (sh : Shape) (x : List ℕ) (f l l' s c : ℕ) → s ≡ corners_to sh x f l → c ≡ corners_of sh x f l' → l' ≡ l + 1
+pub to_more : (sh : Shape) (x : List ℕ) (f l l' s c : ℕ) → s ≡ corners_to sh x f l → c ≡ corners_of sh x f l'
+    → l' ≡ l + 1
     → s + c ≡ corners_to sh x f l'
 unfolding sum_to
 to_more sh x f l l' s c e q i =

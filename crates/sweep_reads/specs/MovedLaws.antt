@@ -76,7 +76,8 @@ module _ {c d : ℤ} (f : SFits w32 c) (g : SFits w32 d) where
 pub fits_at : (c a d : ℤ) → mag c < 2 ^ 31 → c ≡ a → SFits w32 d → range_test (back c +ℤ back d) ≡ range_test (a +ℤ d)
 fits_at c a d m e g = rw (to_z-of_z {w = w32} {z = c} (record { sfits = m }), to_z-of_z g, e) refl
 
-pub moved_at_lem : (c a d r : ℤ) → mag c < 2 ^ 31 → c ≡ a → SFits w32 d → mag r < 2 ^ 31 → r ≡ held_in (back c +ℤ back d)
+pub moved_at_lem : (c a d r : ℤ) → mag c < 2 ^ 31 → c ≡ a → SFits w32 d → mag r < 2 ^ 31
+    → r ≡ held_in (back c +ℤ back d)
     → back r ≡ held_in (a +ℤ d)
 moved_at_lem c a d r m e g n q =
     to_z-of_z {w = w32} {z = r} (record { sfits = n }) ∙ q

@@ -1,6 +1,7 @@
 -- THE SWEEP IS ACCEPTED WHOLE: once the refusals have been looked at, each operator of the sweep is accepted in its
 -- turn, from every good table.
-use Rattle.std.specs.Prelude.{◌≡◌, refl, ◌≢◌, ◌⊎◌, Bool, true, false, not, ◌&&◌, List, ℕ, zero, suc, ◌+◌, ◌-◌, ◌*◌, ◌≤◌, ◌<◌, T, eqb, leb, ℤ}
+use Rattle.std.specs.Prelude.{◌≡◌, refl, ◌≢◌, ◌⊎◌, Bool, true, false, not, ◌&&◌, List, ℕ, zero, suc, ◌+◌, ◌-◌, ◌*◌, ◌≤◌}
+use Rattle.std.specs.Prelude.{◌<◌, T, eqb, leb, ℤ}
 use Rattle.std.proofs.Common.{sym, ap, ◌∙◌, inl, inr, ⊎_elim, zero-add, arith, eqb→eq, leb→le, T_not}
 use Rattle.std.proofs.Math.Path.{subst}
 use Rattle.laws.specs.Bools.{pick, split, eqb_same, eqb_other, true_T, false_T, and_T, T_and, imp_T}

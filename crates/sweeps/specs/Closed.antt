@@ -240,7 +240,8 @@ module _ {sh : Shape} {x : List ℕ} {p : List ℤ} (g : Good sh x p) {l e f m :
       mef_points2 = subst (λ o. points_after sh x p o ≡ p) is2 (mef_points sh x p q2)
 
       -- what is left
-      pub mef_parted2 : Parted sh (own sh x) (own sh (links_after sh x (mef_of l h1 h2 e f m 0))) l (2 * e - 1) (mate (2 *
+      pub mef_parted2 : Parted sh (own sh x) (own sh (links_after sh x (mef_of l h1 h2 e f m 0))) l (2 * e - 1)
+          (mate (2 *
           e - 1)) f m
       mef_parted2 = subst (λ o. Parted sh (own sh x) (own sh (links_after sh x o)) l (2 * e - 1) (mate (2 * e - 1)) f m)
           is2 (parted g site2)
@@ -312,7 +313,8 @@ module _ {sh : Shape} {x : List ℕ} {p : List ℤ} (g : Good sh x p) {l e f m :
       mef_points1 = subst (λ o. points_after sh x p o ≡ p) is1 (mef_points sh x p q1)
 
       -- what is left
-      pub mef_parted1 : Parted sh (own sh x) (own sh (links_after sh x (mef_of l h h e f m 2))) l (2 * e - 1) (mate (2 * e
+      pub mef_parted1 : Parted sh (own sh x) (own sh (links_after sh x (mef_of l h h e f m 2))) l (2 * e - 1)
+          (mate (2 * e
           - 1)) f m
       mef_parted1 = subst (λ o. Parted sh (own sh x) (own sh (links_after sh x o)) l (2 * e - 1) (mate (2 * e - 1)) f m)
           is1 (parted g site1)

@@ -48,7 +48,8 @@ other e m i h = (λ y. omega (arith, i, y), λ y. h (omega (arith, y ∙ odd_mat
 module _ {sh : Shape} {N : Names} {ne n e v f : ℕ} {c₀ : Columns} (s : Supply sh c₀ N ne n) {c : Columns}
     (q : Fresh c N ne n e v f) where
   -- the second half of another edge is neither half of this one
-  apart : (i j : ℕ) → i < ne → j < ne → i ≢ j → (2 * N.edge j ≢ 2 * N.edge i - 1) × (2 * N.edge j ≢ mate (2 * N.edge i - 1))
+  apart : (i j : ℕ) → i < ne → j < ne → i ≢ j
+      → (2 * N.edge j ≢ 2 * N.edge i - 1) × (2 * N.edge j ≢ mate (2 * N.edge i - 1))
   apart i j a b z = other (N.edge i) (N.edge j) (s.edge_in_range i a).0 (λ y. z (sym (s.edge_apart j i b a y)))
 
   -- it is a half-edge
@@ -178,7 +179,8 @@ module _ {sh : Shape} {x : List ℕ} {c₀ : Columns} {N : Names} {ne n e v f : 
 
   -- MEF WITH THE NEXT NUMBERS has the least
   pub next_mef : f < n → (l h1 h2 w : ℕ) → LeastNew sh x (mef_of l h1 h2 (N.edge e) (N.face f) (N.loop f) w)
-  next_mef fj l h1 h2 w = mef_least sh x l h1 h2 _ _ _ w (s.edge_in_range e ej).0 (s.face_in_lem f fj).0 (s.loop_in f fj).0
+  next_mef fj l h1 h2 w = mef_least sh x l h1 h2 _ _ _ w (s.edge_in_range e ej).0 (s.face_in_lem f fj).0
+      (s.loop_in f fj).0
       edge_least
       (name_least sh.faces (c₀ Solid) (own sh x Solid) N.face f (s.face_in_lem f fj) (s.face_below f fj)
       t.faces (q.faces f (omega arith) fj))

@@ -17,7 +17,8 @@ use Rattle.sound_tables.specs.Good.{own, Good, marked}
 use Rattle.sound_tables.specs.PointLists.{three, put_at, put_off}
 use Rattle.sound_spurs.specs.MevSound.{NewEdge, mev_columns}
 use Rattle.sound_spurs.specs.MevRules.{beside_edge}
-use Rattle.sound_spurs.specs.MevAccepted.{Mev, mev_of, new_half, MevFits, new_edge, mev_links_lem, mev_accepted, mev_place}
+use Rattle.sound_spurs.specs.MevAccepted.{Mev, mev_of, new_half, MevFits, new_edge, mev_links_lem, mev_accepted}
+use Rattle.sound_spurs.specs.MevAccepted.{mev_place}
 use Rattle.sound_spurs.specs.MevAccepted.{mev_shows, mev_points_lem}
 use Rattle.sound_valence.specs.Kept.{links_else, links_used}
 

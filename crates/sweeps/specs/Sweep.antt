@@ -117,7 +117,8 @@ loop_ops sh x p v l z b = risers_of sh x p v l z b ++ sides_of (free_names sh x)
 -- those of loop j + 1 if it lies in face f, else none
 abbrev pub ops_of : Shape → List ℕ → List ℤ → ℕ → Vector → ℕ → List Operator
 ops_of sh x p f v j =
-    pick (eqb (loop_face sh x (suc j)) f) (loop_ops sh x p v (suc j) (corners_in sh x (suc j) - 1) (corners_to sh x f j)) []
+    pick (eqb (loop_face sh x (suc j)) f)
+    (loop_ops sh x p v (suc j) (corners_in sh x (suc j) - 1) (corners_to sh x f j)) []
 
 -- THE OPERATORS of the sweep of face f: loop after loop
 unfoldable pub sweep_ops : Shape → List ℕ → List ℤ → ℕ → Vector → List Operator

@@ -22,7 +22,8 @@ use Rattle.inversion.specs.Rebuild.{Builds}
 use Rattle.chains.specs.Series.{Each, Reach}
 use Rattle.chains.specs.Least.{LeastNew}
 use Rattle.chains.specs.Runs.{room_for, room_taken}
-use Rattle.chains.specs.Whole.{whole_of, whole_in, whole_from, early, UndoneTo, whole_unchanged, whole_answered, whole_run}
+use Rattle.chains.specs.Whole.{whole_of, whole_in, whole_from, early, UndoneTo, whole_unchanged, whole_answered}
+use Rattle.chains.specs.Whole.{whole_run}
 use Rattle.chains.specs.Whole.{whole_any_redo}
 use Rattle.chains.specs.Whole.{whole_all, whole_undone}
 use Rattle.sweeps.specs.Sweep.{Vector, vector, corners_to, sweep_ops, sweep_refusal}

@@ -31,4 +31,5 @@ cleared refusal x p = record { answer = record { refusal = refusal }; links = x;
 -- an empty table; or refusal 1, and nothing is changed
 unfoldable pub clear_of : List ℕ → List ℤ → ℕ → ℕ → ℕ → ℕ → ℕ → Cleared
 clear_of x p s f l e v =
-    pick (sizes_fit (length x) (length p) s f l e v) (cleared 0 (empty_links s f l e v) (empty_points v)) (cleared 1 x p)
+    pick (sizes_fit (length x) (length p) s f l e v) (cleared 0 (empty_links s f l e v) (empty_points v))
+    (cleared 1 x p)

@@ -1,5 +1,6 @@
 -- Zeroing a list, for any type of element and any zero, and the ways out of clearing.
-use Rattle.std.specs.Prelude.{◌≡◌, Bool, true, false, not, List, ℕ, suc, ◌+◌, ◌-◌, ◌≤◌, ◌<◌, ℤ, pos, length, get_or, set, replicate}
+use Rattle.std.specs.Prelude.{◌≡◌, Bool, true, false, not, List, ℕ, suc, ◌+◌, ◌-◌, ◌≤◌, ◌<◌, ℤ, pos, length, get_or}
+use Rattle.std.specs.Prelude.{set, replicate}
 use Rattle.std.proofs.Common.{sym, ap, ◌∙◌, arith, get_or-set_same, get_or-set_other, ext_get_or}
 use Rattle.std.proofs.lemmas.List.{length-replicate, get_or-replicate}
 use borrow.Author.Tests.{not-true, not-false}
@@ -22,7 +23,8 @@ module _ {A : Type 0} (z : A) where
   pub filled_more : (l : List A) (i : ℕ) (v : A) → v ≡ z → i < length l → Filled z l i → Filled z (set l i v) (i + 1)
   filled_more l i v s h f = record {
     at = λ j k.
-        split j i (λ e. rw e (get_or-set_same l i v z h ∙ s)) (λ n. get_or-set_other l i j v z n ∙ f.at j (omega arith));
+        split j i (λ e. rw e (get_or-set_same l i v z h ∙ s))
+        (λ n. get_or-set_other l i j v z n ∙ f.at j (omega arith));
   }
 
   -- all of them

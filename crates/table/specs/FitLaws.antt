@@ -46,6 +46,7 @@ module _ (m n s f l e v : ℕ) where
       (eqb m (links_length s f l e v)) (eqb n (points_length v)) (eqb_same em) (eqb_same en))
 
 -- the capacities are the first five words
-pub words_fit : (x : List ℕ) (p : List ℤ) (s f l e v : ℕ) (r : Bool) → s ≡ get_or x 0 0 → f ≡ get_or x 1 0 → l ≡ get_or x 2 0
+pub words_fit : (x : List ℕ) (p : List ℤ) (s f l e v : ℕ) (r : Bool) → s ≡ get_or x 0 0 → f ≡ get_or x 1 0
+    → l ≡ get_or x 2 0
     → e ≡ get_or x 3 0 → v ≡ get_or x 4 0 → r ≡ sizes_fit (length x) (length p) s f l e v → r ≡ table_fits x p
 words_fit x p s f l e v r es ef el ee ev h = h ∙ rw (es, ef, el, ee, ev)

@@ -21,4 +21,5 @@ sizes_fit m n s f l e v = every (size_tests m n s f l e v)
 
 -- the two slices fit the capacities that the first five words say; a word past the end reads 0, which is no capacity
 abbrev pub table_fits : List ℕ → List ℤ → Bool
-table_fits x p = sizes_fit (length x) (length p) (get_or x 0 0) (get_or x 1 0) (get_or x 2 0) (get_or x 3 0) (get_or x 4 0)
+table_fits x p = sizes_fit (length x) (length p) (get_or x 0 0) (get_or x 1 0) (get_or x 2 0) (get_or x 3 0)
+    (get_or x 4 0)

@@ -7,7 +7,8 @@ use Rattle.std.specs.Prelude.{ℕ, zero, suc, ◌+◌, ◌-◌, ◌*◌, Bool, t
 use Rattle.laws.specs.Bools.{pick}
 use Rattle.laws.specs.Search.{least_from}
 use Rattle.layout.specs.declared.shape.Shape.{Shape}
-use Rattle.layout.specs.Layout.{shape_of, solid_used, face_solid, face_outer, loop_face, loop_of, next_of, prev_of, side}
+use Rattle.layout.specs.Layout.{shape_of, solid_used, face_solid, face_outer, loop_face, loop_of, next_of, prev_of}
+use Rattle.layout.specs.Layout.{side}
 use Rattle.layout.specs.Mate.{mate}
 use Rattle.layout.specs.Items.{some, face_in, is_ring}
 use Rattle.euler.specs.Queries.{faces_in}
@@ -55,7 +56,8 @@ abbrev pub solid_from : Shape → List ℕ → ℕ → ℕ
 solid_from sh x low = seek sh.solids low (λ s. some (solid_used sh x s))
 
 unfoldable pub enter : Shape → List ℕ → ℕ → Ends
-enter sh x low = ends_at (solid_from sh x low) (face_in sh x (solid_from sh x low)) (faces_in sh x (solid_from sh x low)) 1 1
+enter sh x low = ends_at (solid_from sh x low) (face_in sh x (solid_from sh x low))
+    (faces_in sh x (solid_from sh x low)) 1 1
 
 -- the work, and what is carried on
 pub record Swift : Type 0 where

@@ -1,6 +1,7 @@
 -- The crossing test by two walks: the first marks what lies between k and its mate, the second asks each half-edge
 -- there for its own mate.
-use Rattle.std.specs.Prelude.{◌≡◌, refl, ◌≢◌, Bool, true, false, not, ◌||◌, List, T, eqb, ltb, length, get_or, set, replicate}
+use Rattle.std.specs.Prelude.{◌≡◌, refl, ◌≢◌, Bool, true, false, not, ◌||◌, List, T, eqb, ltb, length, get_or, set}
+use Rattle.std.specs.Prelude.{replicate}
 use Rattle.std.proofs.Common.{sym, ap, ◌∙◌, subst, ⊎_elim, eqb→eq, length-set, get_or-set_same, get_or-set_other}
 use Rattle.std.proofs.lemmas.Bool.{false≢true}
 use Prim.Native.Nat.{ℕ, zero, suc, ◌+◌, ◌-◌, ◌*◌, ◌%◌, ◌≤◌, ◌<◌}
@@ -213,7 +214,8 @@ module _ (sh : Shape) (x : List ℕ) (k : ℕ) (small : sh.edges ≤ most_items)
       (crosses_unpaired c))
 
 -- the walk begins behind k and stops at its mate
-pub crossed_steps : (sh : Shape) (x : List ℕ) (k : ℕ) → sh.edges ≤ most_items → (from stop n : ℕ) → from ≡ next_of sh x k
+pub crossed_steps : (sh : Shape) (x : List ℕ) (k : ℕ) → sh.edges ≤ most_items → (from stop n : ℕ)
+    → from ≡ next_of sh x k
     → stop ≡ mate k → n ≡ 2 * sh.edges
     → (marks : List ℕ) → marks ≡ mark_run sh n x from stop (replicate mark_places 0)
     → (r : Bool) → r ≡ any_unpaired sh n n x from stop marks → r ≡ crossed sh x k

@@ -55,7 +55,8 @@ pub fn enter(links: &[u16], sh: Shape, low: usize) -> Ends
 // least of them), and no loop has become a ring.
 pub fn across_ends(e: Ends, still: bool, near: usize, stray: usize) -> Ends
     requires { InWords e }
-    ensures { (result ≡ ends_at e.solid e.root (e.faces - 1) (pick still near 1) (pick still stray 1)) × (InWords result) }
+    ensures { (result ≡ ends_at e.solid e.root (e.faces - 1) (pick still near 1) (pick still stray 1))
+        × (InWords result) }
 {
     let faces = less(e.faces, 1);
     if still {

@@ -7,7 +7,8 @@ use Rattle.layout.specs.Layout.{face_outer, loop_of}
 use Rattle.takedown.specs.declared.ends.Ends.{Ends}
 use Rattle.takedown.specs.Inversion.{kev, kef, kemr, mekr, mfkrh, free_face, free_loop, free_edge, in_ring, is_crossed}
 use Rattle.takedown.specs.Inversion.{Work, act, turn_ring, turn_c}
-use Rattle.takedown.specs.Swift.{Swift, seek, with_half, ring_ends, spur_ends, cross_ends, bare_ends, spur_from, ring_turn}
+use Rattle.takedown.specs.Swift.{Swift, seek, with_half, ring_ends, spur_ends, cross_ends, bare_ends, spur_from}
+use Rattle.takedown.specs.Swift.{ring_turn}
 use Rattle.takedown.specs.Swift.{ring_lacks}
 use Rattle.takedown_plans.specs.Plans.{swift_is, carried}
 

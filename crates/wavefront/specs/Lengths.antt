@@ -1,5 +1,6 @@
 -- How long a coordinate's text is, and the texts of two lists of numbers.
-use Rattle.std.specs.Prelude.{◌≡◌, refl, true, List, [], ◌∷◌, ◌++◌, ℕ, suc, ◌+◌, ◌/◌, ◌%◌, ◌≤◌, T, leb, ℤ, pos, negsuc, nat_abs, length}
+use Rattle.std.specs.Prelude.{◌≡◌, refl, true, List, [], ◌∷◌, ◌++◌, ℕ, suc, ◌+◌, ◌/◌, ◌%◌, ◌≤◌, T, leb, ℤ, pos, negsuc}
+use Rattle.std.specs.Prelude.{nat_abs, length}
 use Rattle.std.proofs.Common.{sym, ap, ◌∙◌, append_assoc, arith, leb→le, length-append}
 use Rattle.laws.specs.Bools.{and_T}
 use Rattle.layout.specs.Points.{range_test}

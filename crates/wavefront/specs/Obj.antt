@@ -1,13 +1,15 @@
 -- A solid as Wavefront OBJ text (document 02, job 2). A text is a list of bytes: one line for each vertex of the solid,
 -- then one for each of its faces, each kind by number. `sh` is the table's shape, `x` its links, `p` its points, `s`
 -- the solid.
-use Rattle.std.specs.Prelude.{ℕ, zero, suc, ◌+◌, ◌*◌, ◌/◌, ◌%◌, Bool, not, ◌&&◌, ◌||◌, List, [], ◌∷◌, ◌++◌, eqb, leb, ℤ, pos, negsuc, length}
+use Rattle.std.specs.Prelude.{ℕ, zero, suc, ◌+◌, ◌*◌, ◌/◌, ◌%◌, Bool, not, ◌&&◌, ◌||◌, List, [], ◌∷◌, ◌++◌, eqb, leb, ℤ}
+use Rattle.std.specs.Prelude.{pos, negsuc, length}
 use Rattle.std.proofs.lemmas.List.Edits.{sets}
 use Rattle.laws.specs.Bools.{pick}
 use Rattle.laws.specs.Search.{all_to, any_to}
 use Rattle.laws.specs.Sums.{count_to}
 use Rattle.layout.specs.declared.shape.Shape.{Shape}
-use Rattle.layout.specs.Layout.{shape_of, solid_used, face_solid, face_outer, loop_face, loop_first, start_of, prev_of, side}
+use Rattle.layout.specs.Layout.{shape_of, solid_used, face_solid, face_outer, loop_face, loop_first, start_of, prev_of}
+use Rattle.layout.specs.Layout.{side}
 use Rattle.layout.specs.Points.{coordinate}
 use Rattle.layout.specs.Items.{some, is_ring}
 use Rattle.table.specs.Check.{check_of}
@@ -148,5 +150,6 @@ unless_refused refusal rule text out = pick (eqb refusal 0) (fitted text out) (t
 -- the answer and the buffer: refusals 1 and 2 as in the check, then those of the solid, then 13
 unfoldable pub obj_of : List ℕ → List ℤ → ℕ → List ℕ → Texted
 obj_of x p s out =
-    pick (eqb (check_of x p).refusal 0) (unless_refused (solid_refusal (shape_of x) x s) 0 (obj_text (shape_of x) x p s) out)
+    pick (eqb (check_of x p).refusal 0)
+    (unless_refused (solid_refusal (shape_of x) x s) 0 (obj_text (shape_of x) x p s) out)
     (texted (check_of x p).refusal (check_of x p).rule 0 out)

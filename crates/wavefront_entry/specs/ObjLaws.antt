@@ -1,5 +1,6 @@
 -- What the code of the whole call leaves: the text by the ranks of an array is the text of the solid; and the ways out.
-use Rattle.std.specs.Prelude.{◌≡◌, ◌≢◌, ◌⊎◌, Bool, false, List, [], ◌∷◌, ◌++◌, ℕ, zero, suc, ◌+◌, ◌*◌, ◌≤◌, ◌<◌, T, leb, ℤ, length}
+use Rattle.std.specs.Prelude.{◌≡◌, ◌≢◌, ◌⊎◌, Bool, false, List, [], ◌∷◌, ◌++◌, ℕ, zero, suc, ◌+◌, ◌*◌, ◌≤◌, ◌<◌, T, leb}
+use Rattle.std.specs.Prelude.{ℤ, length}
 use Rattle.std.proofs.Math.Path.{refl, ap}
 use Rattle.std.proofs.Common.{sym, ◌∙◌, inl, inr, arith, eqb→eq}
 use Rattle.std.proofs.Math.Bool.{true}
@@ -80,7 +81,8 @@ module _ {sh : Shape} {x : List ℕ} {p : List ℤ} (good : Good sh x p) {s : �
   text_same =
       rw (passing_to_same sh.vertices (λ v. some (get_or ranks v 0)) (own_vertex sh x s) has_rank)
       (ap (λ t. concat_map (vertex_line p) (own_vertices sh x s) ++ t)
-      (concat_map_same (face_line sh x (λ v. get_or ranks v 0)) (face_line sh x (rank sh x s)) (own_faces sh x s) (λ f m.
+      (concat_map_same (face_line sh x (λ v. get_or ranks v 0)) (face_line sh x (rank sh x s)) (own_faces sh x s)
+      (λ f m.
       rw (concat_map_same (corner_word sh x (λ v. get_or ranks v 0)) (corner_word sh x (rank sh x s)) (backwards sh x f)
       (corner_same f m)) refl)))
 

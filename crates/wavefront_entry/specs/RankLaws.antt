@@ -1,6 +1,8 @@
 -- The array of ranks: what it holds while the code fills it.
-use Rattle.std.specs.Prelude.{◌≡◌, refl, ◌≢◌, ◌⊎◌, Bool, true, false, ◌&&◌, List, ℕ, suc, ◌+◌, ◌-◌, ◌*◌, ◌≤◌, ◌<◌, eqb, leb, length, get_or, set, replicate}
-use Rattle.std.proofs.Common.{sym, ap, ◌∙◌, inl, inr, ⊎_elim, arith, add-one, eqb→eq, length-set, get_or-set_same, get_or-set_other, le-leb}
+use Rattle.std.specs.Prelude.{◌≡◌, refl, ◌≢◌, ◌⊎◌, Bool, true, false, ◌&&◌, List, ℕ, suc, ◌+◌, ◌-◌, ◌*◌, ◌≤◌, ◌<◌, eqb}
+use Rattle.std.specs.Prelude.{leb, length, get_or, set, replicate}
+use Rattle.std.proofs.Common.{sym, ap, ◌∙◌, inl, inr, ⊎_elim, arith, add-one, eqb→eq, length-set, get_or-set_same}
+use Rattle.std.proofs.Common.{get_or-set_other, le-leb}
 use Rattle.std.proofs.lemmas.List.{length-replicate, get_or-replicate}
 use Rattle.std.proofs.Math.ListN.{get_or-eq_default}
 use Rattle.std.proofs.lemmas.Bool.{lt-leb}
@@ -166,7 +168,8 @@ counted_next l v last r m o h a e q w = rw (add-one v) (go (same? (get_or l (suc
     r_is : r ≡ pick (eqb (get_or m (suc v) 0) 0) last (last + 1)
     r_is = rw (add-one v) at w
 
-    go : (get_or l (suc v) 0 ≡ 0) ⊎ (get_or l (suc v) 0 ≢ 0) → CountedTo l (suc v) o × (r ≡ count_to (suc v) (is_marked l))
+    go : (get_or l (suc v) 0 ≡ 0) ⊎ (get_or l (suc v) 0 ≢ 0)
+        → CountedTo l (suc v) o × (r ≡ count_to (suc v) (is_marked l))
     go (inl z) = (
       record {
         size = rw o_same a.size;

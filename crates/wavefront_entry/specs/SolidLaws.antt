@@ -33,7 +33,8 @@ module _ (sh : Shape) (x : List ℕ) (s l f n : ℕ) (ef : f ≡ loop_face sh x 
   -- a loop of another solid passes
   pub other_loop : n ≢ s → true ≡ plain_loop sh x s l
   other_loop d =
-      let e : eqb (face_solid sh x (loop_face sh x l)) s ≡ false = eqb_other (λ z. d (en ∙ ap (face_solid sh x) ef ∙ z)) in
+      let e : eqb (face_solid sh x (loop_face sh x l)) s
+      ≡ false = eqb_other (λ z. d (en ∙ ap (face_solid sh x) ef ∙ z)) in
       rw e
 
   -- one of the solid by what was read of it

@@ -1,7 +1,8 @@
 // What is asked of a solid before it is written: refusals 5, 6 and 12.
 ghost use Rattle.std.specs.Prelude.{◌≡◌, Bool, ◌&&◌, ℕ, ◌≤◌, ◌<◌};
 ghost use Rattle.layout.specs.Small.{Small};
-ghost use Rattle.wavefront.specs.Obj.{three_sides, outer_loop, sided_loop, no_ring_nor_lone, three_sided, solid_refusal};
+ghost use Rattle.wavefront.specs.Obj.{three_sides, outer_loop, sided_loop, no_ring_nor_lone, three_sided};
+ghost use Rattle.wavefront.specs.Obj.{solid_refusal};
 
 use layout::columns::{face_outer, face_solid, loop_face, loop_first, prev_of, solid_used};
 use layout::shape::Shape;

@@ -1,6 +1,7 @@
 -- How long the text of a solid can be: not empty; a line of a vertex has 26 bytes at most, a line of a face 2 and 5 for
 -- each corner, and each half-edge is a corner of one face.
-use Rattle.std.specs.Prelude.{◌≡◌, refl, ◌⊎◌, Bool, true, false, List, [], ◌∷◌, ◌++◌, ℕ, zero, suc, ◌+◌, ◌*◌, ◌≤◌, ◌<◌, T, eqb, ℤ, length}
+use Rattle.std.specs.Prelude.{◌≡◌, refl, ◌⊎◌, Bool, true, false, List, [], ◌∷◌, ◌++◌, ℕ, zero, suc, ◌+◌, ◌*◌, ◌≤◌, ◌<◌}
+use Rattle.std.specs.Prelude.{T, eqb, ℤ, length}
 use Rattle.std.proofs.Common.{ap, inl, inr, ⊎_elim, append-nil, eqb→eq}
 use native.Mathlib.Omega.{arith}
 use Rattle.std.proofs.Math.ListN.{length-append}
@@ -13,7 +14,8 @@ use Rattle.sound_tables.specs.Sound.{In, Sound}
 use Rattle.sound_tables.specs.Labels.{many_with}
 use Rattle.sound_tables.specs.Good.{own, Good}
 use Rattle.text.specs.Decimal.{decimal_length}
-use Rattle.wavefront.specs.Obj.{passing_to, own_vertex, own_face, own_vertices, own_faces, rank, millimetres, concat_map}
+use Rattle.wavefront.specs.Obj.{passing_to, own_vertex, own_face, own_vertices, own_faces, rank, millimetres}
+use Rattle.wavefront.specs.Obj.{concat_map}
 use Rattle.wavefront.specs.Lengths.{concat_map_append, millimetres_length}
 use Rattle.text.specs.Put.{newline}
 use Rattle.wavefront.specs.Obj.{spaced, vertex_line, backwards, corner_word, face_line, obj_text}
@@ -43,7 +45,8 @@ labels_once m n lab = omega (
 -- ---- texts
 
 -- texts of which one has bytes
-joined_some : (text : ℕ → List ℕ) (k : ℕ) (l : List ℕ) → Among k l → 0 < length (text k) → 0 < length (concat_map text l)
+joined_some : (text : ℕ → List ℕ) (k : ℕ) (l : List ℕ) → Among k l → 0 < length (text k)
+    → 0 < length (concat_map text l)
 unfolding concat_map
 joined_some text k [] m h = absurd m
 joined_some text k (a ∷ l) m h = ⊎_elim
@@ -176,7 +179,8 @@ module _ {sh : Shape} {x : List ℕ} {p : List ℤ} (g : Good sh x p) {s : ℕ} 
             (concat_map (face_line sh x (rank sh x s)) (own_faces sh x s)),
         concat_map_sum (vertex_line p) (λ v. 26) sh.vertices (own_vertex sh x s) (λ v i t. vertex_most g.sound v i),
         sum_const sh.vertices 26,
-        concat_map_sum (face_line sh x (rank sh x s)) (λ f. 2 + 5 * many_with n (side sh x) f) sh.faces (own_face sh x s)
+        concat_map_sum (face_line sh x (rank sh x s)) (λ f. 2 + 5 * many_with n (side sh x) f) sh.faces
+            (own_face sh x s)
             (λ f i t. face_most f i (eqb→eq (face_solid sh x f) s t)),
         sum_lines sh.faces (λ f. many_with n (side sh x) f),
         labels_once sh.faces n (side sh x),

@@ -1,5 +1,6 @@
 -- Numbers are read back: a number in decimal, and a coordinate in millimetres.
-use Rattle.std.specs.Prelude.{◌≡◌, refl, true, List, [], ◌∷◌, ◌++◌, map, ℕ, zero, suc, ◌+◌, ◌-◌, ◌*◌, ◌/◌, ◌%◌, ◌<◌, T, leb, ℤ, pos, negsuc}
+use Rattle.std.specs.Prelude.{◌≡◌, refl, true, List, [], ◌∷◌, ◌++◌, map, ℕ, zero, suc, ◌+◌, ◌-◌, ◌*◌, ◌/◌, ◌%◌, ◌<◌, T}
+use Rattle.std.specs.Prelude.{leb, ℤ, pos, negsuc}
 use Rattle.std.proofs.Common.{ap, ◌∙◌, ⊎_elim, arith, lt-ltb, le-ltb, ne_eqb, leb→le, le→leb}
 use Rattle.std.proofs.Math.Option.{some}
 use Rattle.laws.specs.Bools.{allb, T_true, and_T, T_and, le?}

@@ -1,6 +1,7 @@
 -- The numbers that pass a test (`passing_to` of crate wavefront): those and no others, rising. The place of each is how
 -- many pass up to it.
-use Rattle.std.specs.Prelude.{◌≡◌, refl, ◌⊎◌, Bool, true, false, List, [], ◌∷◌, ◌++◌, ℕ, zero, suc, ◌<◌, T, length, get_or}
+use Rattle.std.specs.Prelude.{◌≡◌, refl, ◌⊎◌, Bool, true, false, List, [], ◌∷◌, ◌++◌, ℕ, zero, suc, ◌<◌, T, length}
+use Rattle.std.specs.Prelude.{get_or}
 use Rattle.std.proofs.Common.{sym, ap, ◌∙◌, subst, inl, inr, ⊎_elim, append-nil, arith, length-append}
 use Rattle.std.proofs.Math.ListN.{get_or-append}
 use Rattle.laws.specs.Bools.{pick, T_true, true_T, ask, split, le?}

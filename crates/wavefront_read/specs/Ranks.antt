@@ -1,6 +1,7 @@
 -- The ranks of a solid's vertices: each vertex has one, they are 1 up to how many there are, and the corners of the
 -- faces are written by them. So a reader finds at each index the point of that corner.
-use Rattle.std.specs.Prelude.{◌≡◌, refl, ◌≢◌, List, [], ◌∷◌, map, ℕ, zero, suc, ◌-◌, ◌*◌, ◌≤◌, ◌<◌, T, eqb, ℤ, length, get_or}
+use Rattle.std.specs.Prelude.{◌≡◌, refl, ◌≢◌, List, [], ◌∷◌, map, ℕ, zero, suc, ◌-◌, ◌*◌, ◌≤◌, ◌<◌, T, eqb, ℤ, length}
+use Rattle.std.specs.Prelude.{get_or}
 use Rattle.std.proofs.Common.{sym, ap, ◌∙◌, inl, inr, ⊎_elim, arith}
 use Rattle.std.proofs.Math.Path.{subst}
 use Rattle.std.proofs.lemmas.Simd.{map-map}
@@ -36,7 +37,8 @@ map_same f g [] h = refl
 map_same f g (a ∷ l) h = rw (h a (inl refl), map_same f g l (λ k i. h k (inr i)))
 
 -- an element of a list that is mapped
-get_d_map : {A : Type 0} (f : ℕ → A) (l : List ℕ) (i : ℕ) (d : A) → i < length l → get_or (map f l) i d ≡ f (get_or l i 0)
+get_d_map : {A : Type 0} (f : ℕ → A) (l : List ℕ) (i : ℕ) (d : A) → i < length l
+    → get_or (map f l) i d ≡ f (get_or l i 0)
 get_d_map f [] i d h = absurd (omega arith)
 get_d_map f (a ∷ l) zero d h = refl
 get_d_map f (a ∷ l) (suc i) d h = get_d_map f l i d (omega arith)
@@ -78,7 +80,8 @@ unfolding own_vertex
 start_own {sh} {x} a {s} k u e = (
   (a.half k (u.0, u.1) u.2).start_in,
   any_of (2 * sh.edges) _ k u.0 u.1
-      (T_and (eqb (start_of sh x k) (start_of sh x k)) (eqb (face_solid sh x (side sh x k)) s) (eqb_refl (start_of sh x k))
+      (T_and (eqb (start_of sh x k) (start_of sh x k)) (eqb (face_solid sh x (side sh x k)) s)
+      (eqb_refl (start_of sh x k))
       (true_T (eqb_same e))),
 )
 

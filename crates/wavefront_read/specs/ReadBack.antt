@@ -60,7 +60,8 @@ vertex_read p v r =
 
 -- an f line is read as the face's corners, before what has no v line
 face_read : (sh : Shape) (x : List ℕ) (s f : ℕ) (r : List ℕ)
-    → read_obj (face_line sh x (rank sh x s) f ++ r) ≡ on_both add_cycle (some (cycle_of sh x s f)) (no_points (read_obj r))
+    → read_obj (face_line sh x (rank sh x s) f ++ r)
+    ≡ on_both add_cycle (some (cycle_of sh x s f)) (no_points (read_obj r))
 unfolding face_line corner_word read_line
 face_read sh x s f r =
     let index : ℕ → ℕ = λ k. rank sh x s (start_of sh x k) in
@@ -77,7 +78,8 @@ faces_read : (sh : Shape) (x : List ℕ) (s : ℕ) (fs : List ℕ)
     → read_obj (concat_map (face_line sh x (rank sh x s)) fs) ≡ some (mesh [] (map (cycle_of sh x s) fs))
 unfolding concat_map pieces read_lines
 faces_read sh x s [] = refl
-faces_read sh x s (f ∷ fs) = rw (face_read sh x s f (concat_map (face_line sh x (rank sh x s)) fs), faces_read sh x s fs)
+faces_read sh x s (f ∷ fs) = rw
+    (face_read sh x s f (concat_map (face_line sh x (rank sh x s)) fs), faces_read sh x s fs)
 
 -- the v lines, before what has none
 vertices_read : (p : List ℤ) (vs r : List ℕ) (cs : List (List ℕ)) → read_obj r ≡ some (mesh [] cs)
@@ -93,5 +95,6 @@ pub obj_read : (sh : Shape) (x : List ℕ) (p : List ℤ) (s : ℕ)
     → read_obj (obj_text sh x p s) ≡ some (mesh (points_of sh x p s) (cycles_of sh x s))
 unfolding obj_text
 obj_read sh x p s =
-    vertices_read p (own_vertices sh x s) (concat_map (face_line sh x (rank sh x s)) (own_faces sh x s)) (cycles_of sh x s)
+    vertices_read p (own_vertices sh x s) (concat_map (face_line sh x (rank sh x s)) (own_faces sh x s))
+    (cycles_of sh x s)
     (faces_read sh x s (own_faces sh x s))

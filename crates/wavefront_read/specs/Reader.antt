@@ -1,7 +1,8 @@
 -- A reader of OBJ text, for any bytes: the points of its v lines and the index cycles of its f lines, each in order.
 -- It answers nothing where a line is neither of the two, or is not ended by a line feed, where a v line stands behind
 -- an f line, or a minus sign before 0. It knows nothing of tables.
-use Rattle.std.specs.Prelude.{ℕ, zero, suc, ◌+◌, ◌*◌, Bool, false, ◌&&◌, List, [], ◌∷◌, map, eqb, leb, ℤ, pos, negsuc, length}
+use Rattle.std.specs.Prelude.{ℕ, zero, suc, ◌+◌, ◌*◌, Bool, false, ◌&&◌, List, [], ◌∷◌, map, eqb, leb, ℤ, pos, negsuc}
+use Rattle.std.specs.Prelude.{length}
 use Rattle.std.proofs.Math.Option.{Option, none, some}
 use Rattle.laws.specs.Bools.{pick, allb}
 use Rattle.text.specs.Decimal.{value_of}

@@ -108,7 +108,8 @@ module _ {sh : Shape} {x : List ℕ} {p : List ℤ} (a : Sound sh p (own sh x)) 
     )
 
     -- and one that has none passes the tests
-    none_passes : ((l : ℕ) → LoopOf sh x s l → Unshowable sh x l → ⊥) → T (no_ring_nor_lone sh x s && three_sided sh x s)
+    none_passes : ((l : ℕ) → LoopOf sh x s l → Unshowable sh x l → ⊥)
+        → T (no_ring_nor_lone sh x s && three_sided sh x s)
     unfolding no_ring_nor_lone three_sided
     none_passes h =
         let of : (l : ℕ) → 1 ≤ l → l ≤ sh.loops → T (own_loop sh x s l) → LoopOf sh x s l = λ l b c t.

@@ -43,7 +43,8 @@ pub record TextShows (sh : Shape) (x : List ℕ) (p : List ℤ) (s : ℕ) : Type
   pub apart : (v w : ℕ) → OwnVertex sh x s v → OwnVertex sh x s w → rank sh x s v ≡ rank sh x s w → v ≡ w
   -- EVERY VERTEX LINE IS A VERTEX OF THE SOLID: every number from 1 on up to how many there are is a rank
   pub onto : (i : ℕ) → 1 ≤ i → i ≤ length (own_vertices sh x s)
-      → OwnVertex sh x s (get_or (own_vertices sh x s) (i - 1) 0) × (rank sh x s (get_or (own_vertices sh x s) (i - 1) 0) ≡ i)
+      → OwnVertex sh x s (get_or (own_vertices sh x s) (i - 1) 0)
+      × (rank sh x s (get_or (own_vertices sh x s) (i - 1) 0) ≡ i)
   -- EVERY VERTEX IS A CORNER of a face
   pub used : (v : ℕ) → OwnVertex sh x s v
       → (f : ℕ) × In sh.faces f × (face_solid sh x f ≡ s) × Among (rank sh x s v) (cycle_of sh x s f)
@@ -56,7 +57,8 @@ pub record TextShows (sh : Shape) (x : List ℕ) (p : List ℤ) (s : ℕ) : Type
       ≡ map (λ k. point_of p (start_of sh x k)) (backwards sh x f)
   -- NO VERTEX IS LEFT OUT: where a half-edge of the solid starts is one of those above, and no loop of the solid has an
   -- isolated one
-  pub starts : (k : ℕ) → HalfUsed sh (own sh x) k → face_solid sh x (side sh x k) ≡ s → OwnVertex sh x s (start_of sh x k)
+  pub starts : (k : ℕ) → HalfUsed sh (own sh x) k → face_solid sh x (side sh x k) ≡ s
+      → OwnVertex sh x s (start_of sh x k)
   pub none_isolated : (l : ℕ) → In sh.loops l → face_solid sh x (loop_face sh x l) ≡ s → loop_isolated sh x l ≡ 0
   -- NO TEXT IS EMPTY
   pub some : 0 < length (obj_text sh x p s)

@@ -1,12 +1,14 @@
 -- The faces of a solid that is not refused, in a sound table: a face is one loop, the lap of its first half-edge, and
 -- `backwards` is that lap turned round.
-use Rattle.std.specs.Prelude.{◌≡◌, refl, ◌≢◌, ◌↔◌, Bool, true, false, not, ◌&&◌, List, ℕ, suc, ◌-◌, ◌*◌, ◌≤◌, ◌<◌, T, eqb, leb, ℤ, length, get_or}
+use Rattle.std.specs.Prelude.{◌≡◌, refl, ◌≢◌, ◌↔◌, Bool, true, false, not, ◌&&◌, List, ℕ, suc, ◌-◌, ◌*◌, ◌≤◌, ◌<◌, T}
+use Rattle.std.specs.Prelude.{eqb, leb, ℤ, length, get_or}
 use Rattle.std.proofs.Common.{sym, ap, ◌∙◌, arith, eqb→eq, leb→le, T_not}
 use Rattle.std.proofs.Math.Dec.{not_T}
 use Rattle.laws.specs.Bools.{pick, true_T, and_T, T_and, imp_T, eqb_same, split}
 use Rattle.laws.specs.Search.{all_at}
 use Rattle.layout.specs.declared.shape.Shape.{Shape}
-use Rattle.layout.specs.Layout.{solid_used, face_solid, face_outer, loop_face, loop_first, loop_of, next_of, prev_of, side}
+use Rattle.layout.specs.Layout.{solid_used, face_solid, face_outer, loop_face, loop_first, loop_of, next_of, prev_of}
+use Rattle.layout.specs.Layout.{side}
 use Rattle.layout.specs.Fields.{Loop}
 use Rattle.layout.specs.Items.{some, is_ring}
 use Rattle.sound_tables.specs.Sound.{In, HalfUsed, Sound}
@@ -30,7 +32,8 @@ pub record Showable (sh : Shape) (x : List ℕ) (s : ℕ) : Type 0 where
   pub used : solid_used sh x s ≢ 0
   pub outer : (l : ℕ) → In sh.loops l → face_solid sh x (loop_face sh x l) ≡ s → face_outer sh x (loop_face sh x l) ≡ l
   pub edged : (l : ℕ) → In sh.loops l → face_solid sh x (loop_face sh x l) ≡ s → loop_first sh x l ≢ 0
-  pub sides : (l : ℕ) → In sh.loops l → face_solid sh x (loop_face sh x l) ≡ s → T (three_sides sh x (loop_first sh x l))
+  pub sides : (l : ℕ) → In sh.loops l → face_solid sh x (loop_face sh x l) ≡ s
+      → T (three_sides sh x (loop_first sh x l))
 
 -- the three tests of a refusal of 0
 none_refused : (a b c : Bool) → ◌≡◌ {A = ℕ} (pick a (pick b (pick c 0 12) 6) 5) 0

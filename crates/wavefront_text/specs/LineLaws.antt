@@ -1,5 +1,6 @@
 -- What the code that puts lines asks of points and ranks, and what it leaves, step by step.
-use Rattle.std.specs.Prelude.{◌≡◌, refl, ◌≢◌, Bool, true, false, List, [], ◌∷◌, ◌++◌, ℕ, zero, suc, ◌+◌, ◌-◌, ◌*◌, ◌≤◌, ◌<◌, T, eqb, ℤ, pos, length, get_or}
+use Rattle.std.specs.Prelude.{◌≡◌, refl, ◌≢◌, Bool, true, false, List, [], ◌∷◌, ◌++◌, ℕ, zero, suc, ◌+◌, ◌-◌, ◌*◌, ◌≤◌}
+use Rattle.std.specs.Prelude.{◌<◌, T, eqb, ℤ, pos, length, get_or}
 use Rattle.std.proofs.Common.{sym, ap, ◌∙◌, append-nil, append_assoc, arith, add-one, length-append}
 use Rattle.std.proofs.Math.ListN.{get_or-eq_default}
 use Rattle.std.proofs.Math.Seq.{length-sets}
@@ -146,7 +147,8 @@ lap_end x z at d g f a n k e p = let q : Put x at [] d z = rw e at p in (omega (
 -- ---- what is put only where a test passes
 
 -- the line of a vertex with no rank, and of one with a rank
-pub put_unranked : (x t l : List ℕ) (a v r : ℕ) → r ≡ get_or l v 0 → r ≡ 0 → Put x a (pick (some (get_or l v 0)) t []) a x
+pub put_unranked : (x t l : List ℕ) (a v r : ℕ) → r ≡ get_or l v 0 → r ≡ 0
+    → Put x a (pick (some (get_or l v 0)) t []) a x
 put_unranked x t l a v r e z = rw (← e, z) (put_none x a)
 
 pub put_own_rank : (x y t l : List ℕ) (a b v r : ℕ) → r ≡ get_or l v 0 → r ≢ 0 → Put x a t b y

@@ -1,5 +1,6 @@
 -- What the code that puts numbers and lines leaves, step by step.
-use Rattle.std.specs.Prelude.{◌≡◌, refl, List, [], ◌∷◌, ◌++◌, ℕ, suc, ◌+◌, ◌/◌, ◌%◌, ◌≤◌, ◌<◌, true, T, leb, ℤ, pos, negsuc, nat_abs, length}
+use Rattle.std.specs.Prelude.{◌≡◌, refl, List, [], ◌∷◌, ◌++◌, ℕ, suc, ◌+◌, ◌/◌, ◌%◌, ◌≤◌, ◌<◌, true, T, leb, ℤ, pos}
+use Rattle.std.specs.Prelude.{negsuc, nat_abs, length}
 use Rattle.std.proofs.Common.{ap, ◌∙◌, arith, add-one, leb→le, length-append, SFits, to_z-of_z}
 use Rattle.std.specs.Int.{w32}
 use Rattle.codec.specs.SignedLaws.{back}

@@ -152,7 +152,8 @@ module _ {Q : Type 1} {𝓤 : Ura Q} (𝓛 : Logic 𝓤) (at_mem : Memory → SP
   Handed = ((((((((‵ (flft κ0 q0) ⊛ ‵ (flft κ1 q1)) ⊛ ‵ (flft κ2 q2)) ⊛ ‵ (flft κ3 q3)) ⊛ ‵
       ((MutSlice (named 0) κ0 u16).own_val links (slinks ∷ []))) ⊛ ‵
       ((MutSlice (named 1) κ1 i32).own_val points (spoints ∷ []))) ⊛ ‵
-      ((MutSlice (named 2) κ2 u8).own_val log (slog ∷ []))) ⊛ ‵ ((ShrSlice (named 3) κ3 u8).own_val redo (sredo ∷ []))) ⊛
+      ((MutSlice (named 2) κ2 u8).own_val log (slog ∷ []))) ⊛ ‵ ((ShrSlice (named 3) κ3 u8).own_val redo (sredo ∷ [])))
+      ⊛
       ‵ ((S.the_row).own_val h (S'.lowered h ∷ [])))
 
   goes : ent 𝓤 (⋆ 𝓛 (Handed ∷ [])) ((Core 𝓛 at_mem run).pre to_core)

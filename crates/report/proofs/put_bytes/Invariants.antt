@@ -5,7 +5,8 @@ use lib.Seq.{sets}
 use Rattle.report.proofs.put_bytes.Given as goal
 
 abbrev pub invariant-loop-i : goal.invariant-loop-i
-invariant-loop-i l = (l.i ≤ length l.text) × (l.at + length l.text ≤ length l.out) × (length l.out ≡ length l.initial.out)
+invariant-loop-i l = (l.i ≤ length l.text) × (l.at + length l.text ≤ length l.out)
+    × (length l.out ≡ length l.initial.out)
     × (sets l.out (l.at + l.i) (drop l.i l.text) ≡ sets l.initial.out l.at l.text)
 
 abbrev pub decreases-loop-i : goal.decreases-loop-i

@@ -44,7 +44,8 @@ fill_counts_requires c κs =
 
 run_some_requires : tie.Need-run-some-requires
 run_some_requires c κs =
-    let e = c.before.before.before.before.before.before.before.before.before.before.before.before.before.enter.ensures in
+    let e = c.before.before.before.before.before.before.before.before.before.before.before.before.before.enter.ensures
+    in
     let z = c.before.before.before.before.before.before.before.before.before.before.before.if1.false in
     let h = c.before.before.before.before.before.before.before.before.before.shape_of.ensures in
     let f = c.before.before.before.before.before.fill-counts.ensures in (

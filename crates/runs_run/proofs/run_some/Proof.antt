@@ -33,7 +33,8 @@ turned sh s left at done t whole rest h m refusal next start x p log e z left' a
     rw (j, k, l) (run_turn sh s left at done t whole rest h m (step_is refusal next (state x p log start)) e z left' i)
 
 abbrev invariant_loop : tie.invariant_loop
-invariant_loop links₀ points₀ log₀ counts₀ sh start script from n most args₀ at₀ low₀ done₀ links points log counts args at
+invariant_loop links₀ points₀ log₀ counts₀ sh start script from n most args₀ at₀ low₀ done₀ links points log counts args
+    at
     low done =
     (length links ≡ length links₀) × (length points ≡ length points₀) × (length log ≡ length log₀)
     × (done ≤ n) × Standing sh links points counts × (low ≤ length log)
@@ -41,7 +42,8 @@ invariant_loop links₀ points₀ log₀ counts₀ sh start script from n most a
     ≡ run_from n sh script from 0 (state links₀ points₀ log₀ start))
 
 abbrev decreases_loop : tie.decreases_loop
-decreases_loop links₀ points₀ log₀ counts₀ sh start script from n most args₀ at₀ low₀ done₀ links points log counts args at
+decreases_loop links₀ points₀ log₀ counts₀ sh start script from n most args₀ at₀ low₀ done₀ links points log counts args
+    at
     low done =
     n - done
 

@@ -21,7 +21,8 @@ same_length_3 c = search rules
 
 returns : tie.Need-returns
 returns c =
-    redo_left _ _ _ _ _ _ _ _ _ _ _ _ (omega arith) _ _ c.before.before.before.before.before.move-operators.ensures (omega arith) (omega arith) _ _ _
+    redo_left _ _ _ _ _ _ _ _ _ _ _ _ (omega arith) _ _ c.before.before.before.before.before.move-operators.ensures
+    (omega arith) (omega arith) _ _ _
     (omega arith) (omega arith) (omega arith) (omega arith) (omega arith)
 
 pub redo_spec : {M : Type 1} → statement M

@@ -57,7 +57,8 @@ same_length_6 c = search rules
 
 returns_2 : tie.Need-returns-2
 returns_2 c =
-    call_refused _ _ _ _ _ _ _ _ c.before.before.before.before.before.before.before.before.before.before.enter.ensures _ c.before.before.before.before.before.before.before.before.if1.false _
+    call_refused _ _ _ _ _ _ _ _ c.before.before.before.before.before.before.before.before.before.before.enter.ensures _
+    c.before.before.before.before.before.before.before.before.if1.false _
     c.before.before.before.before.before.shape_of.ensures _
     (vector_back c.before.before.before.before.before.before.before.before.before.before.before.before.before.before.before.before.ranges.dx
     c.before.before.before.before.before.before.before.before.before.before.before.before.before.before.before.before.ranges.dy c.before.before.before.before.before.before.before.before.before.before.before.before.before.before.before.before.ranges.dz) _ _
@@ -68,7 +69,9 @@ array_share_prefix_script c = (c.before.before.before.before.before.plan.ensures
     c.before.before.before.if2.false).fits
 
 slice_aggregate_run : tie.Need-slice-aggregate-run
-slice_aggregate_run c = sym (length-take-le _ _ (c.before.before.before.before.before.before.plan.ensures.script c.before.before.before.before.if2.false).fits)
+slice_aggregate_run c = sym
+    (length-take-le _ _ (c.before.before.before.before.before.before.plan.ensures.script
+    c.before.before.before.before.if2.false).fits)
 
 run_requires : tie.Need-run-requires
 run_requires c κs = search rules

@@ -16,11 +16,11 @@ loop-k-init c = let a = c.args in
 
 pub loop-k-preserved : goal.loop-k-preserved
 loop-k-preserved c = let inv = c.loop-k.invariant in (
-      omega arith,
-      long_set c.loop-k.least _ _ _ _ inv.1 c.put_entry.ensures,
-      least_turn _ _ _ _ _ _ _ inv.2 (omega arith) c.cell-v.ensures.0 (omega arith)
-          c.put_entry.ensures,
-    )
+  omega arith,
+  long_set c.loop-k.least _ _ _ _ inv.1 c.put_entry.ensures,
+  least_turn _ _ _ _ _ _ _ inv.2 (omega arith) c.cell-v.ensures.0 (omega arith)
+      c.put_entry.ensures,
+)
 
 pub returns : goal.returns
 returns c = down_out _ _ _ _ c.loop-k.invariant.2 (omega arith)

@@ -11,7 +11,8 @@ use Rattle.check_orbits.proofs.labels.least_naming.Given as goal
 
 abbrev pub invariant-loop-k : goal.invariant-loop-k
 invariant-loop-k l = (l.k ≤ l.column.count) × (length l.least ≡ item_places)
-    × (least_naming (entry_of l.column l.links) l.k l.least ≡ least_naming (entry_of l.column l.links) l.column.count blank)
+    × (least_naming (entry_of l.column l.links) l.k l.least
+    ≡ least_naming (entry_of l.column l.links) l.column.count blank)
 
 abbrev pub decreases-loop-k : goal.decreases-loop-k
 decreases-loop-k l = l.k

@@ -16,10 +16,10 @@ loop-l-init c = let a = c.args in
 
 pub loop-l-preserved : goal.loop-l-preserved
 loop-l-preserved c = let inv = c.loop-l.invariant in (
-      omega arith,
-      long_set c.loop-l.firsts _ _ _ _ inv.1 c.put_entry.ensures,
-      down_turn _ _ _ _ _ inv.2 (omega arith) (cc),
-    )
+  omega arith,
+  long_set c.loop-l.firsts _ _ _ _ inv.1 c.put_entry.ensures,
+  down_turn _ _ _ _ _ inv.2 (omega arith) (cc),
+)
 
 pub returns : goal.returns
 returns c = down_out _ _ _ _ c.loop-l.invariant.2 (omega arith)

@@ -7,7 +7,8 @@ pub loop-k-init : goal.loop-k-init
 loop-k-init c = (omega arith, all_start _)
 
 pub returns-then-not-label_test : goal.returns-then-not-label_test
-returns-then-not-label_test c = all_fail _ _ _ _ c.loop-k-test.true c.label_test.ensures (ap not c.if-not-label_test.true)
+returns-then-not-label_test c = all_fail _ _ _ _ c.loop-k-test.true c.label_test.ensures
+    (ap not c.if-not-label_test.true)
 
 pub loop-k-preserved : goal.loop-k-preserved
 loop-k-preserved c = (

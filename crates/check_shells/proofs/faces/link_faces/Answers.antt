@@ -14,13 +14,13 @@ loop-k-init c = (omega arith, joined_start c.separate.ensures c.requires.faces_l
 
 pub link_edge-requires : goal.link_edge-requires
 link_edge-requires c = record {
-      faces_le_most_items = (
+  faces_le_most_items = (
     c.requires.faces_le_most_items.0,
     c.requires.faces_le_most_items.2,
     omega arith,
   );
-      joined = c.loop-k.invariant.1;
-    }
+  joined = c.loop-k.invariant.1;
+}
 
 pub overflow_add-k : goal.overflow_add-k
 overflow_add-k c = omega arith

@@ -15,9 +15,9 @@ use Rattle.check_shells.proofs.faces.shells_whole.Goals as goal
 
 pub link_faces-requires : goal.link_faces-requires
 link_faces-requires c = record {
-      faces_le_most_items = (c.requires.0, c.requires.1, omega arith);
-      parent_len = length-replicate {A = ℕ} item_places 0;
-    }
+  faces_le_most_items = (c.requires.0, c.requires.1, omega arith);
+  parent_len = length-replicate {A = ℕ} item_places 0;
+}
 
 pub loop-k-init : goal.loop-k-init
 loop-k-init c = (omega arith, shells_here c.link_faces.ensures, all_start _)
@@ -27,13 +27,13 @@ overflow_add-k c = omega arith
 
 pub face_whole-whole-requires : goal.face_whole-whole-requires
 face_whole-whole-requires c = record {
-      faces_le_most_items = (
+  faces_le_most_items = (
     c.requires.0,
     omega arith,
     c.requires.2,
   );
-      shells = c.loop-k.invariant.1;
-    }
+  shells = c.loop-k.invariant.1;
+}
 
 pub returns-then-not-whole : goal.returns-then-not-whole
 returns-then-not-whole c = all_fail _ _ _ _ c.loop-k-test.true c.face_whole-whole.ensures.0

@@ -14,7 +14,8 @@ use Rattle.std.proofs.Common.{ap, not}
 use Rattle.check_shells.proofs.faces.shells_whole.Given as goal
 
 abbrev pub invariant-loop-k : goal.invariant-loop-k
-invariant-loop-k l = (l.k ≤ l.n) × Shells l.sh l.links (side l.sh l.links) l.parent × (all_to l.k (face_whole l.sh l.links l.leaders) ≡ true)
+invariant-loop-k l = (l.k ≤ l.n) × Shells l.sh l.links (side l.sh l.links) l.parent
+    × (all_to l.k (face_whole l.sh l.links l.leaders) ≡ true)
 
 abbrev pub decreases-loop-k : goal.decreases-loop-k
 decreases-loop-k l = l.n - l.k

@@ -9,7 +9,7 @@ returns-then-owner-l c = let a = c.args in
 
 pub returns : goal.returns
 returns c = let a = c.args in (
-      side_left a.sh a.links.now a.l a.t a.k _ c.loop_of-owner.ensures.0
-          c.if-owner-l.false _ c.loop_face.ensures.0,
-      c.loop_face.ensures.1,
-    )
+  side_left a.sh a.links.now a.l a.t a.k _ c.loop_of-owner.ensures.0
+      c.if-owner-l.false _ c.loop_face.ensures.0,
+  c.loop_face.ensures.1,
+)

@@ -23,17 +23,17 @@ bounds-parent-k-in-loop-p c = omega arith
 
 pub offset_bounds-parent-k-in-loop-p-2 : goal.offset_bounds-parent-k-in-loop-p-2
 offset_bounds-parent-k-in-loop-p-2 c = omega (
-      arith,
-      climb_less c.loop-p.invariant.1 _ _ c.loop-p.invariant.0
-          c.loop-p-test.true c.wide-k.ensures,
-    )
+  arith,
+  climb_less c.loop-p.invariant.1 _ _ c.loop-p.invariant.0
+      c.loop-p-test.true c.wide-k.ensures,
+)
 
 pub bounds-parent-k-in-loop-p-2 : goal.bounds-parent-k-in-loop-p-2
 bounds-parent-k-in-loop-p-2 c = omega (
-      arith,
-      climb_less c.loop-p.invariant.1 _ _ c.loop-p.invariant.0
-          c.loop-p-test.true c.wide-k.ensures,
-    )
+  arith,
+  climb_less c.loop-p.invariant.1 _ _ c.loop-p.invariant.0
+      c.loop-p-test.true c.wide-k.ensures,
+)
 
 pub loop-p-smaller : goal.loop-p-smaller
 loop-p-smaller c = climb_less c.loop-p.invariant.1 _ _

@@ -6,7 +6,8 @@ use Rattle.codec.proofs.bytes.operands_size.Given as goal
 
 abbrev pub invariant-loop-i : goal.invariant-loop-i
 invariant-loop-i l = (l.i ≤ 8) × (length l.kinds ≡ 8) × (length l.numbers ≡ 8) × (l.size ≤ 3 * l.i)
-    × (l.size + length (operands_bytes (drop l.i l.kinds) (drop l.i l.numbers)) ≡ length (operands_bytes l.kinds l.numbers))
+    × (l.size + length (operands_bytes (drop l.i l.kinds) (drop l.i l.numbers))
+    ≡ length (operands_bytes l.kinds l.numbers))
 
 abbrev pub decreases-loop-i : goal.decreases-loop-i
 decreases-loop-i l = 8 - l.i

@@ -10,8 +10,18 @@ loop-i-init c = let f = c.requires.kinds_value in
     let l = c.well_formed.1.1.1.0.1.0.1 in
     let k = filled_fits c.args.count c.args.kinds f in
     let m = c.well_formed.1.1.1.1.0.1.0.1 in
-    let z = last_none c.args.kinds c.args.args l m c.args.count f in
-    (omega arith, omega arith, f, l, m, refl, c.requires.args_len_bound.0, c.requires.args_len_bound.1, rw z (omega arith), rw z refl)
+    let z = last_none c.args.kinds c.args.args l m c.args.count f in (
+      omega arith,
+      omega arith,
+      f,
+      l,
+      m,
+      refl,
+      c.requires.args_len_bound.0,
+      c.requires.args_len_bound.1,
+      rw z (omega arith),
+      rw z refl,
+    )
 
 pub write_before-p-requires : goal.write_before-p-requires
 write_before-p-requires c = let v = c.loop-i.invariant in

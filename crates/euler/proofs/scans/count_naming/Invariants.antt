@@ -5,7 +5,8 @@ use Rattle.euler.specs.Scans.{naming}
 use Rattle.euler.proofs.scans.count_naming.Given as goal
 
 abbrev pub invariant-loop-i : goal.invariant-loop-i
-invariant-loop-i l = (l.i ≤ l.column.count) × (l.count ≡ count_to l.i (naming l.column l.links l.label)) × (l.count ≤ l.i)
+invariant-loop-i l = (l.i ≤ l.column.count) × (l.count ≡ count_to l.i (naming l.column l.links l.label))
+    × (l.count ≤ l.i)
 
 abbrev pub decreases-loop-i : goal.decreases-loop-i
 decreases-loop-i l = l.column.count - l.i

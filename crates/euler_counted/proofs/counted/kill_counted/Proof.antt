@@ -53,7 +53,9 @@ returns c =
     c.before.before.before.before.before.before.before.before.before.before.before.before.before.before.before.before.before.before.before.before.before.before.args.s _ _ _
     c.before.before.before.before.before.before.before.before.before.before.before.before.before.before.before.before.before.before.before.face-in.ensures.0
     c.before.before.before.before.before.before.before.before.before.before.before.before.before.before.before.before.before.face-outer.ensures.0 c.before.before.before.before.before.before.before.before.before.before.before.before.before.before.before.loop-isolated.ensures.0 _ _
-    c.before.before.before.before.before.before.before.before.before.before.before.before.before.loop-face.ensures.0 c.before.before.before.before.before.before.before.before.before.before.before.kvsf-links.ensures c.before.before.before.before.before.before.before.clear-point.ensures
+    c.before.before.before.before.before.before.before.before.before.before.before.before.before.loop-face.ensures.0
+    c.before.before.before.before.before.before.before.before.before.before.before.kvsf-links.ensures
+    c.before.before.before.before.before.before.before.clear-point.ensures
     c.before.before.before.before.lower-count.ensures
     c.before.loop-face2.ensures.0 c.raise-count.ensures
 

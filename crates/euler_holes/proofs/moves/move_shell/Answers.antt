@@ -30,9 +30,9 @@ overflow_add-k-in-loop-k c = omega arith
 
 pub same_shell-here-requires : goal.same_shell-here-requires
 same_shell-here-requires c = record {
-      faces_le_most_items = c.requires.faces_le_most_items.0;
-      forest = c.loop-k.invariant.2;
-    }
+  faces_le_most_items = c.requires.faces_le_most_items.0;
+  forest = c.loop-k.invariant.2;
+}
 
 pub overflow_add-k-in-loop-k-2 : goal.overflow_add-k-in-loop-k-2
 overflow_add-k-in-loop-k-2 c = omega arith

@@ -18,7 +18,8 @@ returns-in-1 c = inverse_of_one _ _ _ _ 1 0 (λ _ _ _. mvsf_inverse) c.in-1.is r
     c.mvsf_inverse.ensures
 
 pub returns-in-2 : goal.returns-in-2
-returns-in-2 c = inverse_of_one _ _ _ _ 2 0 (λ sh x p s. kvsf_inverse p s (face_in sh x s) (only_loop sh x s) (only_vertex sh x s))
+returns-in-2 c = inverse_of_one _ _ _ _ 2 0
+    (λ sh x p s. kvsf_inverse p s (face_in sh x s) (only_loop sh x s) (only_vertex sh x s))
     c.in-2.is refl c.item_of-a0.ensures.0
     c.solid_again.ensures
 

@@ -8,21 +8,21 @@ use Rattle.layout.proofs.cells.put_cell.Goals as goal
 
 pub overflow_mul-width : goal.overflow_mul-width
 overflow_mul-width c = omega (
-      arith,
-      width_bound c.args.width (c.args.n - 1) (omega arith),
-    )
+  arith,
+  width_bound c.args.width (c.args.n - 1) (omega arith),
+)
 
 pub overflow_add-base : goal.overflow_add-base
 overflow_add-base c = omega (
-      arith,
-      width_bound c.args.width (c.args.n - 1) (omega arith),
-    )
+  arith,
+  width_bound c.args.width (c.args.n - 1) (omega arith),
+)
 
 pub overflow_add-base-2 : goal.overflow_add-base-2
 overflow_add-base-2 c = omega (
-      arith,
-      width_bound c.args.width (c.args.n - 1) (omega arith),
-    )
+  arith,
+  width_bound c.args.width (c.args.n - 1) (omega arith),
+)
 
 pub returns : goal.returns
 returns c = c.put.ensures ∙ store_at _ _ _ _ _ _ c.if-n-eq0.false

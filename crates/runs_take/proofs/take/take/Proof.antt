@@ -41,10 +41,12 @@ returns_2 : tie.Need-returns-2
 returns_2 c =
     let g = c.before.before.before.before.x.given.0 in
     take_some _ _ _ _ _ g.0 g.1.0
-    (sym c.before.before.before.before.before.before.read_number.ensures ∙ c.before.before.before.before.x.given.1) _ c.take_behind.ensures
+    (sym c.before.before.before.before.before.before.read_number.ensures ∙ c.before.before.before.before.x.given.1) _
+    c.take_behind.ensures
 
 returns_3 : tie.Need-returns-3
-returns_3 c = take_bad _ _ _ _ _ (sym c.before.before.before.read_number.ensures ∙ c.before.enum_told.given.1) c.told2.ensures _
+returns_3 c = take_bad _ _ _ _ _ (sym c.before.before.before.read_number.ensures ∙ c.before.enum_told.given.1)
+    c.told2.ensures _
 
 pub take_spec : {M : Type 1} → statement M
 take_spec =

@@ -35,7 +35,9 @@ refused_requires_2 c κs = search rules
 
 returns_2 : tie.Need-returns-2
 returns_2 c =
-    plan_few _ _ _ _ _ _ _ (vector_back c.before.before.before.before.before.before.before.before.ranges.dx c.before.before.before.before.before.before.before.before.ranges.dy
+    plan_few _ _ _ _ _ _ _
+    (vector_back c.before.before.before.before.before.before.before.before.ranges.dx
+    c.before.before.before.before.before.before.before.before.ranges.dy
     c.before.before.before.before.before.before.before.before.ranges.dz) _ _ _
     c.before.before.before.before.before.before.face-refusal.ensures
     c.before.before.before.before.before.if1.false _ c.before.before.before.write-script.ensures
@@ -46,7 +48,10 @@ refused_requires_3 c κs = search rules
 
 returns_3 : tie.Need-returns-3
 returns_3 c =
-    plan_short _ _ _ _ _ _ _ (vector_back c.before.before.before.before.before.before.before.before.before.before.ranges.dx c.before.before.before.before.before.before.before.before.before.before.ranges.dy c.before.before.before.before.before.before.before.before.before.before.ranges.dz) _ _ _
+    plan_short _ _ _ _ _ _ _
+    (vector_back c.before.before.before.before.before.before.before.before.before.before.ranges.dx
+    c.before.before.before.before.before.before.before.before.before.before.ranges.dy
+    c.before.before.before.before.before.before.before.before.before.before.ranges.dz) _ _ _
     c.before.before.before.before.before.before.before.before.face-refusal.ensures
     c.before.before.before.before.before.before.before.if1.false _
     c.before.before.before.before.before.write-script.ensures c.before.before.before.if2.false
@@ -54,7 +59,9 @@ returns_3 c =
 
 returns_4 : tie.Need-returns-4
 returns_4 c =
-    plan_all _ _ _ _ _ _ _ (vector_back c.before.before.before.before.before.before.before.before.before.ranges.dx c.before.before.before.before.before.before.before.before.before.ranges.dy
+    plan_all _ _ _ _ _ _ _
+    (vector_back c.before.before.before.before.before.before.before.before.before.ranges.dx
+    c.before.before.before.before.before.before.before.before.before.ranges.dy
     c.before.before.before.before.before.before.before.before.before.ranges.dz) _ _ _
     c.before.before.before.before.before.before.before.face-refusal.ensures
     c.before.before.before.before.before.before.if1.false _

@@ -36,7 +36,9 @@ refused_requires c κs = search rules
 
 returns : tie.Need-returns
 returns c =
-    written_none _ _ _ _ _ _ _ _ _ _ _ _ _ c.before.before.before.before.before.before.before.before.free-numbers2.ensures.many c.before.before.before.before.before.before.before.before.before.before.free-numbers.ensures.many
+    written_none _ _ _ _ _ _ _ _ _ _ _ _ _
+    c.before.before.before.before.before.before.before.before.free-numbers2.ensures.many
+    c.before.before.before.before.before.before.before.before.before.before.free-numbers.ensures.many
     c.before.before.before.before.before.before.free-numbers3.ensures.many
     c.before.before.before.before.free-numbers4.ensures.many
     c.before.before.before.corners-to.ensures.0

@@ -52,7 +52,8 @@ all_move_requires : tie.Need-all-move-requires
 all_move_requires c κs = search rules
 
 returns_5 : tie.Need-returns-5
-returns_5 c = early_far c.before.before.before.before.before.before.before.before.before.before.args.sh c.before.before.before.before.before.before.before.before.before.before.args.links.now
+returns_5 c = early_far c.before.before.before.before.before.before.before.before.before.before.args.sh
+    c.before.before.before.before.before.before.before.before.before.before.args.links.now
     c.before.before.before.before.before.before.before.before.before.before.args.points.now
     c.before.before.before.before.before.before.before.before.before.before.args.f _
     c.before.before.before.before.before.before.before.before.if1.false
@@ -69,7 +70,8 @@ returns_5 c = early_far c.before.before.before.before.before.before.before.befor
     c.before.before.before.before.before.before.before.before.before.before.ranges.dz)
 
 returns_6 : tie.Need-returns-6
-returns_6 c = early_all c.before.before.before.before.before.before.before.before.before.before.args.sh c.before.before.before.before.before.before.before.before.before.before.args.links.now
+returns_6 c = early_all c.before.before.before.before.before.before.before.before.before.before.args.sh
+    c.before.before.before.before.before.before.before.before.before.before.args.links.now
     c.before.before.before.before.before.before.before.before.before.before.args.points.now
     c.before.before.before.before.before.before.before.before.before.before.args.f _
     c.before.before.before.before.before.before.before.before.if1.false

@@ -21,7 +21,8 @@ use Rattle.sweep_reads.proofs.corners.corners_of.Reads as corners-of-reads
 abbrev invariant_loop : tie.invariant_loop
 invariant_loop links points sh edges vertices faces loops f dx dy dz out₀ n at₀ room₀ b₀ l₀ out at room b l =
     (l ≤ sh.loops) × (at ≤ 54 * b) × (room ≤ 54 * b) × (length out ≡ length out₀) × (b ≡ corners_to sh links f l)
-    × Laid (joined 0 l (ops_of sh links points f (vector (to_z w32 dx) (to_z w32 dy) (to_z w32 dz)))) out₀ 0 0 out at room
+    × Laid (joined 0 l (ops_of sh links points f (vector (to_z w32 dx) (to_z w32 dy) (to_z w32 dz)))) out₀ 0 0 out at
+    room
 
 abbrev decreases_loop : tie.decreases_loop
 decreases_loop links points sh edges vertices faces loops f dx dy dz out₀ n at₀ room₀ b₀ l₀ out at room b l =
@@ -62,7 +63,8 @@ put_part_requires c κs = let w = face_few c.before.before.before.before.before.
     )
 
 add_b : tie.Need-overflow-add-b invariant_loop decreases_loop
-add_b c = let w = face_few c.before.before.before.before.before.before.before.before.before.before.args.sh c.before.before.before.before.before.before.before.before.before.before.args.links.now
+add_b c = let w = face_few c.before.before.before.before.before.before.before.before.before.before.args.sh
+    c.before.before.before.before.before.before.before.before.before.before.args.links.now
     c.before.before.before.before.before.before.before.before.before.before.args.f _
     c.before.before.before.before.before.before.loop.l _
     c.before.before.before.before.before.loop-test.true
@@ -79,7 +81,8 @@ loop_less : tie.Need-loop-smaller invariant_loop decreases_loop
 loop_less c = search rules
 
 loop_again : tie.Need-loop-preserved invariant_loop decreases_loop
-loop_again c = face_turn c.before.before.before.before.before.before.before.before.before.before.args.sh c.before.before.before.before.before.before.before.before.before.before.args.links.now
+loop_again c = face_turn c.before.before.before.before.before.before.before.before.before.before.args.sh
+    c.before.before.before.before.before.before.before.before.before.before.args.links.now
     c.before.before.before.before.before.before.before.before.before.before.args.points.now
     c.before.before.before.before.before.before.before.before.before.before.args.f _ _ _ _ _ _ _
     c.before.before.before.before.before.before.loop.l _ _ _ _

@@ -25,7 +25,8 @@ abbrev invariant_loop : tie.invariant_loop
 invariant_loop links points sh edges vertices l n b dx dy dz out₀ at room k₀ place₀ sum₀ j₀ out k place sum j =
     (j ≤ n) × (k < 65536) × (place ≤ at + 27 * j) × (sum ≤ room + 27 * j) × (length out ≡ length out₀)
     × (k ≡ corner_of sh links l j)
-    × Laid (series 0 j (riser_of sh links points (vector (to_z w32 dx) (to_z w32 dy) (to_z w32 dz)) l b)) out₀ at room out
+    × Laid (series 0 j (riser_of sh links points (vector (to_z w32 dx) (to_z w32 dy) (to_z w32 dz)) l b)) out₀ at room
+    out
     place sum
 
 abbrev decreases_loop : tie.decreases_loop
@@ -93,13 +94,15 @@ kev_size_requires c κs = omega (
 
 put_one_requires : tie.Need-put-one-requires invariant_loop decreases_loop
 put_one_requires c κs = (
-  riser_undone c.before.before.before.before.before.before.before.before.before.before.args.sh c.before.before.before.before.before.before.before.before.before.before.args.links.now c.before.before.before.before.before.before.before.before.before.before.args.points.now _ _ _ _ _ _ _ (omega (
-    arith,
-    c.before.before.before.before.name-at.ensures.0,
-    c.before.before.before.before.before.before.before.before.before.before.requires.1.0.high
-        (2 * c.before.before.before.before.before.before.before.before.before.before.args.b +
-        c.before.before.before.before.before.before.loop.j) (omega arith),
-  ))
+  riser_undone c.before.before.before.before.before.before.before.before.before.before.args.sh
+      c.before.before.before.before.before.before.before.before.before.before.args.links.now
+      c.before.before.before.before.before.before.before.before.before.before.args.points.now _ _ _ _ _ _ _ (omega (
+        arith,
+        c.before.before.before.before.name-at.ensures.0,
+        c.before.before.before.before.before.before.before.before.before.before.requires.1.0.high
+            (2 * c.before.before.before.before.before.before.before.before.before.before.args.b +
+            c.before.before.before.before.before.before.loop.j) (omega arith),
+      ))
       c.before.before.riser-of.ensures c.before.kev-size.ensures.0 c.before.kev-size.ensures.1,
   omega arith,
   omega arith,
@@ -123,7 +126,8 @@ loop_less c = search rules
 
 loop_again : tie.Need-loop-preserved invariant_loop decreases_loop
 loop_again c = risers_turn c.before.before.before.before.before.before.before.before.before.before.before.before.before.before.args.sh c.before.before.before.before.before.before.before.before.before.before.before.before.before.before.args.links.now
-    c.before.before.before.before.before.before.before.before.before.before.before.before.before.before.args.points.now _ _ _ _ _ _ _ _ _ _ _ _ _ _ _ _ _ _ _ _ _ _
+    c.before.before.before.before.before.before.before.before.before.before.before.before.before.before.args.points.now
+    _ _ _ _ _ _ _ _ _ _ _ _ _ _ _ _ _ _ _ _ _ _
     c.before.before.before.before.before.before.before.before.before.before.before.before.before.before.requires.1.0 c.before.before.before.before.before.before.before.before.before.before.before.before.before.before.requires.1.1.0 c.before.before.before.before.before.before.before.before.before.before.before.before.before.before.requires.1.1.1
     (vector_back c.before.before.before.before.before.before.before.before.before.before.before.before.before.before.ranges.dx c.before.before.before.before.before.before.before.before.before.before.before.before.before.before.ranges.dy c.before.before.before.before.before.before.before.before.before.before.before.before.before.before.ranges.dz)
     c.before.before.before.before.before.before.before.before.before.loop-test.true

@@ -75,7 +75,14 @@ same_length : tie.Need-same-length
 same_length c = search rules
 
 returns : tie.Need-returns
-returns c = only_made c.before.before.before.before.before.before.before.before.before.before.before.before.args.edges.now c.before.before.before.before.before.before.before.before.before.before.before.before.args.faces.now c.before.before.before.before.before.before.before.before.before.before.before.before.args.loops.now c.before.before.before.before.before.before.before.before.before.before.before.before.args.l c.before.before.before.before.before.before.before.before.before.before.before.before.args.z c.before.before.before.before.before.before.before.before.before.before.before.before.args.b _ _ _ _ _ _ _ _ _
+returns c = only_made
+    c.before.before.before.before.before.before.before.before.before.before.before.before.args.edges.now
+    c.before.before.before.before.before.before.before.before.before.before.before.before.args.faces.now
+    c.before.before.before.before.before.before.before.before.before.before.before.before.args.loops.now
+    c.before.before.before.before.before.before.before.before.before.before.before.before.args.l
+    c.before.before.before.before.before.before.before.before.before.before.before.before.args.z
+    c.before.before.before.before.before.before.before.before.before.before.before.before.args.b _ _
+    _ _ _ _ _ _ _
     _ _ _ c.before.before.before.before.before.before.before.before.before.before.name-at.ensures.0
     c.before.before.before.before.before.before.before.before.before.down-of.ensures.0
     c.before.before.before.before.before.before.before.before.name-at2.ensures.0

@@ -93,8 +93,15 @@ same_length : tie.Need-same-length
 same_length c = search rules
 
 returns : tie.Need-returns
-returns c = side_made c.before.before.before.before.before.before.before.before.before.before.before.before.before.args.edges.now c.before.before.before.before.before.before.before.before.before.before.before.before.before.args.faces.now c.before.before.before.before.before.before.before.before.before.before.before.before.before.args.loops.now
-    c.before.before.before.before.before.before.before.before.before.before.before.before.before.args.l c.before.before.before.before.before.before.before.before.before.before.before.before.before.args.z c.before.before.before.before.before.before.before.before.before.before.before.before.before.args.b c.before.before.before.before.before.before.before.before.before.before.before.before.before.args.j _ _ _ _ _ _ _ _ _ _ _ _ _
+returns c = side_made
+    c.before.before.before.before.before.before.before.before.before.before.before.before.before.args.edges.now
+    c.before.before.before.before.before.before.before.before.before.before.before.before.before.args.faces.now
+    c.before.before.before.before.before.before.before.before.before.before.before.before.before.args.loops.now
+    c.before.before.before.before.before.before.before.before.before.before.before.before.before.args.l
+    c.before.before.before.before.before.before.before.before.before.before.before.before.before.args.z
+    c.before.before.before.before.before.before.before.before.before.before.before.before.before.args.b
+    c.before.before.before.before.before.before.before.before.before.before.before.before.before.args.j _ _
+    _ _ _ _ _ _ _ _ _ _ _
     c.before.before.before.before.before.before.before.before.before.before.before.name-at.ensures.0
     c.before.before.before.before.before.before.before.before.before.before.down-of.ensures.0
     c.before.before.before.before.before.before.before.before.before.end_of_lem.ensures.0

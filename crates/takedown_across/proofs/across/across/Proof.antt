@@ -31,8 +31,10 @@ same_length_3 c = search rules
 returns : tie.Need-returns
 returns c = (
   across_is
-      c.before.before.before.before.before.before.before.before.before.before.before.before.before.before.before.args.sh _
-      c.before.before.before.before.before.before.before.before.before.before.before.before.before.before.before.args.e _
+      c.before.before.before.before.before.before.before.before.before.before.before.before.before.before.before.args.sh
+      _
+      c.before.before.before.before.before.before.before.before.before.before.before.before.before.before.before.args.e
+      _
       c.before.before.before.before.before.before.before.before.before.before.before.passage-of.ensures.0 _ _ _ _
       c.before.before.before.before.before.before.before.pass.ensures.0
       c.before.before.before.before.before.before.before.pass.ensures.1 c.across-ends.ensures.0,

@@ -7,12 +7,12 @@ returns-then-k-n c = unpaired_no c.args.n c.args.marks.now c.args.k c.if-k-n.tru
 
 pub bounds-marks-m : goal.bounds-marks-m
 bounds-marks-m c = omega (
-      arith,
-      c.mate_of-m.ensures.2,
-      (unpaired_range c.args.n c.args.marks.now c.args.k
-          c.if-k-n.false).1,
-      c.requires.0,
-    )
+  arith,
+  c.mate_of-m.ensures.2,
+  (unpaired_range c.args.n c.args.marks.now c.args.k
+      c.if-k-n.false).1,
+  c.requires.0,
+)
 
 pub returns : goal.returns
 returns c = unpaired_is c.args.n c.args.marks.now

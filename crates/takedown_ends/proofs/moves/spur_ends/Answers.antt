@@ -4,23 +4,23 @@ use Rattle.takedown_ends.proofs.moves.spur_ends.Goals as goal
 
 pub returns : goal.returns
 returns c = let w = c.requires.1 in (
-      spur_ends_are c.args.sh _
-          c.args.e _ _ _ _ _ _
-          c.prev_of-before.ensures.0
-          c.greater.ensures.0
-          c.choose.ensures.0 c.choose-2.ensures.0
-          c.choose-3.ensures.0,
-      record {
-        solid = w.solid;
-        root = w.root;
-        spur =
-            c.greater.ensures.1;
-        tip =
-            c.prev_of-before.ensures.1;
-        tip2 =
-            c.choose.ensures.1;
-        tip3 = c.choose-2.ensures.1;
-        tip4 =
-            c.choose-3.ensures.1;
-      },
-    )
+  spur_ends_are c.args.sh _
+      c.args.e _ _ _ _ _ _
+      c.prev_of-before.ensures.0
+      c.greater.ensures.0
+      c.choose.ensures.0 c.choose-2.ensures.0
+      c.choose-3.ensures.0,
+  record {
+    solid = w.solid;
+    root = w.root;
+    spur =
+        c.greater.ensures.1;
+    tip =
+        c.prev_of-before.ensures.1;
+    tip2 =
+        c.choose.ensures.1;
+    tip3 = c.choose-2.ensures.1;
+    tip4 =
+        c.choose-3.ensures.1;
+  },
+)

@@ -34,7 +34,8 @@ returns_2 c = (
   refl,
   carried_some
       c.before.before.before.before.before.before.before.before.before.before.before.before.before.args.sh
-      c.before.before.before.before.before.before.before.before.before.before.before.before.before.args.plan _ _ c.before.before.before.before.before.before.before.before.before.if1.false
+      c.before.before.before.before.before.before.before.before.before.before.before.before.before.args.plan _ _
+      c.before.before.before.before.before.before.before.before.before.if1.false
       c.before.before.before.before.before.operate.ensures.0,
   omega (arith, c.before.before.before.before.before.operate.ensures.1),
   refl,

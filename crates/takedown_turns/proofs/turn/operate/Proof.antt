@@ -50,7 +50,8 @@ returns_2 : tie.Need-returns-2
 returns_2 c = (
   operated_one
       c.before.before.before.before.before.before.before.before.before.before.before.before.before.before.args.sh
-      c.before.before.before.before.before.before.before.before.before.before.before.before.before.before.args.plan _ _ c.before.before.before.before.before.before.act.ensures.0 c.if1.false,
+      c.before.before.before.before.before.before.before.before.before.before.before.before.before.before.args.plan _ _
+      c.before.before.before.before.before.before.act.ensures.0 c.if1.false,
   omega (arith, c.before.before.before.before.before.before.act.ensures.1),
 )
 

@@ -31,7 +31,10 @@ returns_2 c = solid_refused c.before.before.before.before.before.before.before.b
     c.before.before.before.before.before.before.before.before.args.out.now c.if2.true
 
 write_solid_requires : tie.Need-write-solid-requires
-write_solid_requires c κs = drawable c.before.before.before.before.before.before.before.before.before.args.links.now c.before.before.before.before.before.before.before.before.before.args.points.now c.before.before.before.before.before.before.before.before.before.args.s _ c.before.before.before.before.before.before.check.ensures
+write_solid_requires c κs = drawable c.before.before.before.before.before.before.before.before.before.args.links.now
+    c.before.before.before.before.before.before.before.before.before.args.points.now
+    c.before.before.before.before.before.before.before.before.before.args.s _
+    c.before.before.before.before.before.before.check.ensures
     c.before.before.before.before.if1.false _ c.before.before.before.shape_of.ensures
     _ c.before.before.solid-refusal.ensures c.before.if2.false
 
@@ -39,10 +42,16 @@ same_length : tie.Need-same-length
 same_length c = search rules
 
 returns_3 : tie.Need-returns-3
-returns_3 c = answered c.before.before.before.before.before.before.before.before.before.before.before.before.args.links.now c.before.before.before.before.before.before.before.before.before.before.before.before.args.points.now c.before.before.before.before.before.before.before.before.before.before.before.before.args.s _ c.before.before.before.before.before.before.before.before.before.check.ensures c.before.before.before.before.before.before.before.if1.false
+returns_3 c = answered
+    c.before.before.before.before.before.before.before.before.before.before.before.before.args.links.now
+    c.before.before.before.before.before.before.before.before.before.before.before.before.args.points.now
+    c.before.before.before.before.before.before.before.before.before.before.before.before.args.s _
+    c.before.before.before.before.before.before.before.before.before.check.ensures
+    c.before.before.before.before.before.before.before.if1.false
     _ c.before.before.before.before.before.before.shape_of.ensures
     _ c.before.before.before.before.before.solid-refusal.ensures
-    c.before.before.before.before.before.before.before.before.before.before.before.before.args.out.now _ c.before.before.before.before.if2.false
+    c.before.before.before.before.before.before.before.before.before.before.before.before.args.out.now _
+    c.before.before.before.before.if2.false
     c.before.before.write-solid.ensures
 
 pub obj_spec : {M : Type 1} → statement M

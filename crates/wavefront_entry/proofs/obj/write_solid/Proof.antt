@@ -23,8 +23,10 @@ same_length : tie.Need-same-length
 same_length c = search rules
 
 returns_2 : tie.Need-returns-2
-returns_2 c = written_in c.before.before.before.before.before.before.before.before.before.before.before.before.requires _ c.before.before.before.before.before.before.before.before.rank-vertices.ensures
-    c.before.before.before.before.before.before.before.before.before.before.before.before.args.out.now _ _ _ c.before.before.before.before.before.before.overlong.ensures
+returns_2 c = written_in c.before.before.before.before.before.before.before.before.before.before.before.before.requires
+    _ c.before.before.before.before.before.before.before.before.rank-vertices.ensures
+    c.before.before.before.before.before.before.before.before.before.before.before.before.args.out.now _ _ _
+    c.before.before.before.before.before.before.overlong.ensures
     c.before.before.before.before.before.if1.false c.before.before.put-text.ensures
 
 pub write_solid_spec : {M : Type 1} → statement M

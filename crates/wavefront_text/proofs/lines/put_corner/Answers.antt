@@ -24,4 +24,4 @@ returns c = let a = c.args in
     c.rank_of-rank.ensures
     c.put_byte-number.ensures
     c.put_number.ensures (omega arith) in
-    let both = r in record {put = both.0; upper_bound = both.1; }
+    let both = r in record { put = both.0; upper_bound = both.1 }

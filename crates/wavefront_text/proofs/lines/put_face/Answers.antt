@@ -42,7 +42,7 @@ shape_of-out c = c.put_byte.auto.out ∙ c.loop-left.invariant.3
 
 pub returns : goal.returns
 returns c = record {
-      put = put_face c.args.out.now
+  put = put_face c.args.out.now
       _ _ _ _ _ _ _ c.args.sh
       c.args.links.now
       (λ v. get_or c.args.ranks.now v 0)
@@ -56,5 +56,5 @@ returns c = record {
       c.args.links.now) _ c.loop-left.left
       c.loop-left.k (omega arith)
       c.loop-left.invariant.4) c.put_byte.ensures;
-      upper_bound = omega arith;
-    }
+  upper_bound = omega arith;
+}

@@ -13,12 +13,12 @@ loop-f-init c = (omega arith, omega arith, listed_none _ _ _ _)
 
 pub put_own_face-place-requires : goal.put_own_face-place-requires
 put_own_face-place-requires c = record {
-      at_bound = (omega arith, omega arith);
-      low = (
+  at_bound = (omega arith, omega arith);
+  low = (
     c.requires.1,
     c.requires.2,
   );
-    }
+}
 
 pub loop-f-preserved : goal.loop-f-preserved
 loop-f-preserved c = (

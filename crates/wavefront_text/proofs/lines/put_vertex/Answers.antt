@@ -30,12 +30,12 @@ put_word-end-requires c = (
 
 pub returns : goal.returns
 returns c = record {
-      put = put_vertex c.args.out.now
+  put = put_vertex c.args.out.now
       _ _ _ _ _ _ _ _ _ _ _ c.args.points.now
       c.args.v
       c.put_byte-x.ensures
       c.put_word-y.ensures.put
       c.put_word-z.ensures.put c.put_word-end.ensures.put
       c.put_byte.ensures;
-      upper_bound = omega arith;
-    }
+  upper_bound = omega arith;
+}

@@ -35,8 +35,8 @@ shape_of-out c = put_length _ _ _ _ (concat_map (vertex_line c.args.points.now)
 
 pub returns : goal.returns
 returns c = record {
-      put = listed_all _ _ _ _ (vertex_line c.args.points.now)
+  put = listed_all _ _ _ _ (vertex_line c.args.points.now)
       (λ u. some (get_or c.args.ranks.now u 0)) c.loop-v.v
       c.args.n (omega arith) (omega arith) c.loop-v.invariant.2;
-      upper_bound = omega arith;
-    }
+  upper_bound = omega arith;
+}

@@ -39,7 +39,8 @@ text_requires c κs = search rules
 returns : tie.Need-returns
 returns c = (
   reported _ _ _ _ _ _ _ (cleared_empty _ _ _
-      c.before.before.before.before.before.before.before.before.before.before.before.before.before.before.clear.ensures) c.before.before.before.before.before.before.before.before.run.ensures
+      c.before.before.before.before.before.before.before.before.before.before.before.before.before.before.clear.ensures)
+      c.before.before.before.before.before.before.before.before.run.ensures
       c.before.before.count.ensures c.text.ensures.0,
   c.text.ensures.1,
 )

@@ -31,7 +31,8 @@ put_refusal_requires c κs = search rules
 returns : tie.Need-returns
 returns c = (
   run_refused _ _ (search rules) (search rules) _ _ _ _ _ _
-      c.before.before.before.before.before.before.before.before.before.before.before.before.before.clear.ensures c.before.before.before.before.before.before.before.run.ensures (search rules)
+      c.before.before.before.before.before.before.before.before.before.before.before.before.before.clear.ensures
+      c.before.before.before.before.before.before.before.run.ensures (search rules)
       _ _ _ (omega arith) c.put-refusal.ensures.0,
   c.put-refusal.ensures.1,
 )
@@ -45,7 +46,8 @@ slice_aggregate_put_part_2 c = search rules
 put_part_requires : tie.Need-put-part-requires
 put_part_requires c κs =
     run_good _ _ (search rules) (search rules) _ _ _ _ _ _
-    c.before.before.before.before.before.before.before.before.before.before.before.before.before.before.clear.ensures c.before.before.before.before.before.before.before.before.run.ensures
+    c.before.before.before.before.before.before.before.before.before.before.before.before.before.before.clear.ensures
+    c.before.before.before.before.before.before.before.before.run.ensures
     (search rules)
 
 returns_2 : tie.Need-returns-2
