@@ -1,6 +1,5 @@
 -- A rule as a list of small tests, joined from the left as code joins them with `&`; the facts come out by place.
-use Rattle.std.specs.Prelude.{◌≡◌, refl, Bool, true, false, ◌&&◌, List, [], ◌∷◌, T}
-use Rattle.std.proofs.Common.{sym, ◌∙◌}
+use Rattle.std.specs.Prelude.{Bool, true, ◌&&◌, List, [], ◌∷◌, T}
 use Rattle.laws.specs.Bools.{All, and_T, T_and}
 
 -- `done` and all tests of the list, from the left

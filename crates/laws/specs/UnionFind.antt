@@ -1,5 +1,5 @@
 -- Union-find: parents that never rise, the root found, paths shortened, two classes united.
-use Rattle.std.specs.Prelude.{◌≡◌, refl, ◌≢◌, ◌⊎◌, Bool, not, List, ℕ, zero, suc, ◌≤◌, ◌<◌, eqb, length, get_or, set}
+use Rattle.std.specs.Prelude.{◌≡◌, refl, ◌≢◌, ◌⊎◌, Bool, List, ℕ, zero, suc, ◌≤◌, ◌<◌, eqb, length, get_or, set}
 use Rattle.std.proofs.Common.{sym, ap, ◌∙◌, subst, inl, inr, arith, ltb→lt, lt→ltb, length-set, get_or-set_same}
 use Rattle.std.proofs.Common.{get_or-set_other}
 use Rattle.std.proofs.Math.Logic.{⊎_elim}
@@ -8,7 +8,7 @@ use Rattle.std.proofs.Math.Dec.{ltb}
 use Rattle.std.proofs.Math.Seq.{set_out}
 use Rattle.laws.specs.Bools.{pick, true_T, false_T, ask, split, le?, eqb_same, eqb_other}
 use Rattle.laws.specs.Update.{relabel, relabel_at, relabel_off, relabel_same}
-use Rattle.laws.specs.Linked.{Linked, same, link, back, via, linked_same}
+use Rattle.laws.specs.Linked.{Linked, link, back, via, linked_same}
 
 -- parents never rise
 pub record Down (p : List ℕ) : Type 0 where

@@ -1,5 +1,5 @@
 -- The two halves of an edge: edge e has the half-edges 2e − 1 and 2e, each the other's mate.
-use Rattle.std.specs.Prelude.{ℕ, ◌+◌, ◌-◌, ◌*◌, ◌/◌, ◌%◌, eqb}
+use Rattle.std.specs.Prelude.{ℕ, ◌+◌, ◌-◌, ◌/◌, ◌%◌, eqb}
 use Rattle.laws.specs.Bools.{pick}
 
 -- the other half of k's edge

@@ -1,9 +1,9 @@
 -- A group by masks and shifts, as the code has it: the mask is a remainder, the shift a product that fits, and the two
 -- share no bit.
 use Rattle.std.specs.Prelude.{◌≡◌, ℕ, ◌+◌, ◌*◌, ◌%◌, ◌<◌}
-use Rattle.std.proofs.Common.{sym, ap, ◌∙◌, add_comm, lit≤, shl_exact}
+use Rattle.std.proofs.Common.{◌∙◌, add_comm, lit≤, shl_exact}
 use Rattle.std.specs.Int.Bits.{bit_and, bit_or, mask_lt, or_shifted_r}
-use Rattle.std.proofs.lemmas.Nat.{and_mask, or_comm, or_shifted}
+use Rattle.std.proofs.lemmas.Nat.{and_mask, or_comm}
 
 -- the lowest seven bits
 pub masked : (n : ℕ) → bit_and n 127 ≡ n % 128

@@ -1,6 +1,6 @@
 -- How a number is read, group by group; and from this: the place behind it, the bytes it is read from, and that it is
 -- read from each of its forms and from nothing else.
-use Rattle.std.specs.Prelude.{◌≡◌, refl, ℕ, zero, suc, ◌+◌, ◌-◌, ◌*◌, ◌/◌, ◌%◌, ◌≤◌, ◌<◌, length, get_or, take, drop}
+use Rattle.std.specs.Prelude.{◌≡◌, refl, ℕ, zero, suc, ◌+◌, ◌*◌, ◌/◌, ◌%◌, ◌≤◌, ◌<◌, length, get_or, take, drop}
 use Rattle.std.proofs.Common.{sym, ap, ◌∙◌, subst, arith, length-drop, take-append-drop, get_or-drop, drop-drop, lt-ltb}
 use Rattle.std.proofs.Common.{le-ltb}
 use Rattle.std.proofs.Math.Logic.{⊎_elim}

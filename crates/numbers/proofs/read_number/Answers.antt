@@ -1,4 +1,3 @@
-use borrow.Author.Rules.{rules}
 use Rattle.numbers.specs.NumberLaws.{bad_0, got_1, bad_1, got_2, bad_2, got_3, bad_3}
 use Rattle.numbers.specs.NumberLaws.{joined}
 use native.Mathlib.Omega.{arith}

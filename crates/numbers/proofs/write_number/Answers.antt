@@ -1,4 +1,3 @@
-use borrow.Author.Rules.{rules}
 use native.Mathlib.Omega.{arith}
 use lib.ListN.{length-set}
 use Rattle.numbers.specs.NumberLaws.{size_1, size_2, size_3, wrote_1, wrote_2, wrote_3}

@@ -1,6 +1,5 @@
 use mathlib.Core.Path.{sym}
 use lib.Seq.{set_out}
-use borrow.Author.Rules.{rules}
 use Rattle.layout.proofs.cells.put.Goals as goal
 
 pub returns-else-i-links : goal.returns-else-i-links

@@ -3,7 +3,6 @@ use Prim.Native.Nat.{◌-◌}
 use native.Mathlib.Omega.{arith}
 use Rattle.layout.specs.LayoutLaws.{width_bound}
 use Rattle.laws.specs.Columns.{store_at}
-use borrow.Author.Rules.{rules}
 use Rattle.layout.proofs.cells.put_cell.Goals as goal
 
 pub overflow_mul-width : goal.overflow_mul-width

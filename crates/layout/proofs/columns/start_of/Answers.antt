@@ -1,5 +1,4 @@
 use mathlib.Core.Path.{refl}
-use borrow.Author.Rules.{rules}
 use Rattle.layout.specs.Fields.{Start}
 use Rattle.layout.specs.LayoutLaws.{read_field}
 use Rattle.layout.proofs.columns.start_of.Goals as goal

@@ -2,7 +2,6 @@ use mathlib.Core.Path.{refl, sym}
 use native.Mathlib.Omega.{arith}
 use Rattle.layout.specs.Mate.{mate}
 use Rattle.layout.specs.MateLaws.{mate_odd, mate_even}
-use borrow.Author.Rules.{rules}
 use Rattle.layout.proofs.mates.mate_of.Goals as goal
 
 pub returns-then-k-eq1 : goal.returns-then-k-eq1

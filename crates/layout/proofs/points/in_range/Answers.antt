@@ -1,7 +1,6 @@
 use mathlib.Core.Path.{ap, ◌∙◌}
 use Rattle.layout.specs.Points.{range_test}
 use Rattle.layout.specs.PointsLaws.{coordinate_at}
-use borrow.Author.Rules.{rules}
 use Rattle.layout.proofs.points.in_range.Goals as goal
 
 pub returns : goal.returns

@@ -1,7 +1,6 @@
 use mathlib.Core.Path.{ap, ◌∙◌}
 use Rattle.layout.specs.Points.{zero_test}
 use Rattle.layout.specs.PointsLaws.{coordinate_at}
-use borrow.Author.Rules.{rules}
 use Rattle.layout.proofs.points.is_zero.Goals as goal
 
 pub returns : goal.returns

@@ -2,7 +2,6 @@ use mathlib.Core.Path.{sym, ap}
 use lib.IntN.{pos}
 use lib.ListN.{get_or-eq_default}
 use Rattle.layout.specs.Points.{range_test}
-use borrow.Author.Rules.{rules}
 use Rattle.layout.proofs.points.range_at.Goals as goal
 
 pub returns : goal.returns

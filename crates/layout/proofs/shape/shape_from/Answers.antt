@@ -1,6 +1,5 @@
 use native.Mathlib.Omega.{arith}
 use Rattle.layout.specs.LayoutLaws.{shape_is}
-use borrow.Author.Rules.{rules}
 use Rattle.layout.proofs.shape.shape_from.Goals as goal
 
 pub returns : goal.returns

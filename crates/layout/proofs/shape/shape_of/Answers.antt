@@ -1,4 +1,3 @@
-use borrow.Author.Rules.{rules}
 use Rattle.layout.proofs.shape.shape_of.Goals as goal
 
 pub returns : goal.returns
