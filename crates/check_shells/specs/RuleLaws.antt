@@ -1,6 +1,6 @@
 -- On a table whose edges have faces on both sides the shells are those of document 01: what chains of edges in use
 -- link. So the code's answer is the second part of rule 6.
-use Rattle.std.specs.Prelude.{◌≡◌, refl, ◌≢◌, Bool, true, false, ◌&&◌, ◌||◌, ℕ, ◌-◌, ◌≤◌, List, T, get_or}
+use Rattle.std.specs.Prelude.{◌≡◌, refl, ◌≢◌, Bool, true, false, ◌&&◌, ◌||◌, ℕ, ◌≤◌, List, T, get_or}
 use Rattle.std.proofs.Common.{arith}
 use Rattle.std.proofs.Math.Dec.{eqb}
 use Rattle.std.proofs.lemmas.Bool.{eqb-false}

@@ -1,6 +1,6 @@
 -- kemr on the columns: c is sound where d is, and where c has the rules with dummies (`KemrRules`) and the firsts of
 -- its two loops.
-use Rattle.std.specs.Prelude.{◌≡◌, refl, ◌≢◌, List, ℕ, ◌+◌, ◌-◌, ◌*◌, ℤ}
+use Rattle.std.specs.Prelude.{◌≡◌, refl, ◌≢◌, List, ℕ, ◌+◌, ◌*◌, ℤ}
 use Rattle.std.proofs.Common.{sym, ap, ◌∙◌, subst, ⊎_elim, arith}
 use Rattle.laws.specs.Bools.{split}
 use Rattle.laws.specs.Search.{least_ext}

@@ -1,6 +1,6 @@
 -- The columns after jekv, as the stores make them, are those of which the table before is a division.
 use Rattle.std.specs.Prelude.{◌≡◌, refl, ◌≢◌, List, ◌∷◌, ◌++◌, ℕ, ◌*◌, ℤ}
-use Rattle.std.proofs.Common.{sym, ap, ◌∙◌, subst, arith}
+use Rattle.std.proofs.Common.{sym, ap, ◌∙◌, subst}
 use Rattle.laws.specs.Bools.{split}
 use Rattle.laws.specs.Update.{Apart, apart, upd, upd_at, upd_same, upd_off}
 use Rattle.laws.specs.Permutations.{inj}

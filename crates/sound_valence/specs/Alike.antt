@@ -1,8 +1,8 @@
 -- Tables that differ in the words of vertices alone: the same are sound, and the operators that take half-edges away
 -- (kev, kef, kemr, jekv) are accepted on the same and have the same inverse, point and vertices to leave.
-use Rattle.std.specs.Prelude.{◌≡◌, ◌≢◌, ◌⊎◌, Bool, List, [], ◌∷◌, ℕ, ◌*◌, ◌≤◌, eqb, ℤ, length, get_or}
+use Rattle.std.specs.Prelude.{◌≡◌, List, ℕ, ◌*◌, ◌≤◌, eqb, ℤ, length, get_or}
 use Rattle.std.proofs.Math.Path.{refl}
-use Rattle.std.proofs.Common.{sym, ap, ◌∙◌, subst, inl, inr, arith, lit≤}
+use Rattle.std.proofs.Common.{ap, ◌∙◌, arith, lit≤}
 use Rattle.laws.specs.Bools.{split}
 use Rattle.laws.specs.Sums.{bit, sum_ext}
 use Rattle.laws.specs.Columns.{Chained}

@@ -1,7 +1,7 @@
 -- ALL OPERATORS KEEP THE VERTEX WORDS. An operator changes marks, then the words: one less where half-edges have left,
 -- one more where they have come. The theorems of the pairs are of marks; here they are used with the lowered words
 -- ahead of the steps, which leads to the same links.
-use Rattle.std.specs.Prelude.{◌≡◌, ◌≢◌, ◌⊎◌, List, ℕ, zero, suc, ◌+◌, ◌-◌, ◌*◌, ◌≤◌, ◌<◌, eqb, ℤ, length}
+use Rattle.std.specs.Prelude.{◌≡◌, ◌≢◌, List, ℕ, zero, suc, ◌+◌, ◌-◌, ◌*◌, ◌≤◌, ◌<◌, eqb, ℤ, length}
 use Rattle.std.proofs.Math.Path.{refl, ap, subst}
 use Rattle.std.proofs.Common.{sym, ◌∙◌, inl, inr, ⊎_elim, arith, lit≤}
 use Rattle.laws.specs.Bools.{split, eqb_other}

@@ -1,5 +1,5 @@
 -- The theorems of the pairs for all thirteen operators, as long as vertex words are marks.
-use Rattle.std.specs.Prelude.{◌≡◌, refl, List, ℕ, ℤ, length}
+use Rattle.std.specs.Prelude.{◌≡◌, List, ℕ, ℤ, length}
 use Rattle.std.proofs.Math.Logic.{inl}
 use Rattle.script.specs.declared.Operator.{Operator}
 use Rattle.layout.specs.declared.shape.Shape.{Shape}

@@ -1,6 +1,6 @@
 -- UNDOING GIVES THE VERTEX WORDS BACK. What leaves by the one operator comes by the one that undoes it, and the other
 -- way round; that is seen from the numbers of starts alone, for all operators at once.
-use Rattle.std.specs.Prelude.{◌≡◌, refl, ◌⊎◌, List, ℕ, zero, suc, ◌+◌, ◌-◌, ◌≤◌, ◌<◌, ℤ, length}
+use Rattle.std.specs.Prelude.{◌≡◌, ◌⊎◌, List, ℕ, zero, suc, ◌+◌, ◌-◌, ◌≤◌, ◌<◌, ℤ, length}
 use Rattle.std.proofs.Common.{sym, ◌∙◌, inl, inr, ⊎_elim, arith}
 use Rattle.std.proofs.Math.Path.{ap, subst}
 use Rattle.laws.specs.Bools.{split}

@@ -9,7 +9,7 @@ use Rattle.laws.specs.Update.{upd, upd_same, upd_off}
 use Rattle.laws.specs.Columns.{Chained}
 use Rattle.layout.specs.declared.shape.Shape.{Shape}
 use Rattle.layout.specs.Layout.{set_vertex_used}
-use Rattle.layout.specs.Fields.{Field, VertexUsed, cap_of, same_field, same_field_lem, groups}
+use Rattle.layout.specs.Fields.{VertexUsed, cap_of, same_field, same_field_lem, groups}
 use Rattle.euler.specs.declared.records.Two.{Two}
 use Rattle.euler.specs.Valence.{one_less, one_more, less_at, more_at}
 use Rattle.sound_tables.specs.Cells.{shows_own, shows_put, shows_ext}

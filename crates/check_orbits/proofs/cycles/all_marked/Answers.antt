@@ -1,10 +1,7 @@
-use mathlib.Core.Path.{◌≡◌, refl}
-use Prim.Native.Nat.{◌-◌, ◌*◌, ◌≤◌}
-use Rattle.layout.specs.Items.{half_used}
+use mathlib.Core.Path.{refl}
 use native.Mathlib.Omega.{arith}
 use Rattle.laws.specs.Marks.{all_marked}
 use Rattle.check_orbits.specs.CyclesLaws.{all_turn, all_fail, all_out}
-use borrow.Author.Rules.{rules}
 use Rattle.std.proofs.Common.{ap, not}
 use Rattle.check_orbits.proofs.cycles.all_marked.Goals as goal
 

@@ -1,11 +1,7 @@
-use mathlib.Core.Path.{◌≡◌, refl}
-use Prim.Native.Nat.{◌-◌, ◌*◌, ◌≤◌}
+use mathlib.Core.Path.{◌≡◌}
+use Prim.Native.Nat.{◌*◌, ◌≤◌}
 use Rattle.layout.specs.Items.{half_used}
-use native.Mathlib.Omega.{arith}
 use Rattle.laws.specs.Marks.{all_marked}
-use Rattle.check_orbits.specs.CyclesLaws.{all_turn, all_fail, all_out}
-use borrow.Author.Rules.{rules}
-use Rattle.std.proofs.Common.{ap, not}
 use Rattle.check_orbits.proofs.cycles.all_marked.Given as goal
 
 abbrev pub invariant-loop-k : goal.invariant-loop-k

@@ -1,4 +1,3 @@
-use borrow.Author.Rules.{rules}
 use Rattle.check_orbits.proofs.cycles.half_marked.Goals as goal
 
 pub returns : goal.returns

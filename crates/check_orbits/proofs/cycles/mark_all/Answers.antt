@@ -1,10 +1,7 @@
-use mathlib.Core.Path.{◌≡◌, refl}
-use Prim.Native.Nat.{◌-◌, ◌*◌, ◌≤◌}
+use mathlib.Core.Path.{refl}
 use native.Mathlib.Omega.{arith}
 use Rattle.laws.specs.Marks.{mark_to}
-use Rattle.check_orbits.specs.Cycles.{step_of, entry_of}
 use Rattle.check_orbits.specs.CyclesLaws.{reps_turn, reps_out, reps_long}
-use borrow.Author.Rules.{rules}
 use Rattle.check_orbits.proofs.cycles.mark_all.Goals as goal
 
 pub loop-l-init : goal.loop-l-init

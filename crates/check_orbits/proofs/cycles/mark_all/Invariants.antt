@@ -1,10 +1,7 @@
-use mathlib.Core.Path.{◌≡◌, refl}
+use mathlib.Core.Path.{◌≡◌}
 use Prim.Native.Nat.{◌-◌, ◌*◌, ◌≤◌}
-use native.Mathlib.Omega.{arith}
 use Rattle.laws.specs.Marks.{mark_to}
 use Rattle.check_orbits.specs.Cycles.{step_of, entry_of}
-use Rattle.check_orbits.specs.CyclesLaws.{reps_turn, reps_out, reps_long}
-use borrow.Author.Rules.{rules}
 use Rattle.check_orbits.proofs.cycles.mark_all.Given as goal
 
 abbrev pub invariant-loop-l : goal.invariant-loop-l

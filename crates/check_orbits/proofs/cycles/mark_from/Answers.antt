@@ -1,13 +1,7 @@
-use mathlib.Core.Path.{◌≡◌, refl}
-use Prim.Native.Nat.{◌-◌, ◌<◌}
+use mathlib.Core.Path.{refl}
 use native.Mathlib.Omega.{arith}
-use lib.ListN.{length}
-use Rattle.laws.specs.Marks.{mark_from}
-use Rattle.bounds.specs.Bounds.{half_places}
-use Rattle.check_orbits.specs.Cycles.{step_of}
 use Rattle.check_orbits.specs.CyclesLaws.{walk_stop, walk_out, walk_turn}
 use Rattle.check_orbits.specs.LabelsLaws.{long_set}
-use borrow.Author.Rules.{rules}
 use Rattle.check_orbits.proofs.cycles.mark_from.Goals as goal
 
 pub loop-left-init : goal.loop-left-init

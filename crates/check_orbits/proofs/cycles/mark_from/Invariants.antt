@@ -1,13 +1,9 @@
-use mathlib.Core.Path.{◌≡◌, refl}
-use Prim.Native.Nat.{◌-◌, ◌<◌}
-use native.Mathlib.Omega.{arith}
+use mathlib.Core.Path.{◌≡◌}
+use Prim.Native.Nat.{◌<◌}
 use lib.ListN.{length}
 use Rattle.laws.specs.Marks.{mark_from}
 use Rattle.bounds.specs.Bounds.{half_places}
 use Rattle.check_orbits.specs.Cycles.{step_of}
-use Rattle.check_orbits.specs.CyclesLaws.{walk_stop, walk_out, walk_turn}
-use Rattle.check_orbits.specs.LabelsLaws.{long_set}
-use borrow.Author.Rules.{rules}
 use Rattle.check_orbits.proofs.cycles.mark_from.Given as goal
 
 abbrev pub invariant-loop-left : goal.invariant-loop-left

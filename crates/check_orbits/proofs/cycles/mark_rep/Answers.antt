@@ -1,5 +1,4 @@
 use Rattle.check_orbits.specs.CyclesLaws.{rep_none, rep_some}
-use borrow.Author.Rules.{rules}
 use Rattle.check_orbits.proofs.cycles.mark_rep.Goals as goal
 
 pub returns-then-r-eq0 : goal.returns-then-r-eq0

@@ -5,7 +5,6 @@ use lib.ListN.{length-replicate}
 use Rattle.laws.specs.Marks.{all_marked}
 use Rattle.bounds.specs.Bounds.{half_places}
 use Rattle.check_orbits.specs.Cycles.{one_cycle_each}
-use borrow.Author.Rules.{rules}
 use Rattle.check_orbits.proofs.cycles.one_cycle_each.Goals as goal
 
 pub mark_all-requires : goal.mark_all-requires

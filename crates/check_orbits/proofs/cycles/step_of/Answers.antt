@@ -1,4 +1,3 @@
-use borrow.Author.Rules.{rules}
 use Rattle.check_orbits.proofs.cycles.step_of.Goals as goal
 
 pub returns-then-around : goal.returns-then-around

@@ -1,7 +1,6 @@
 use mathlib.Core.Path.{sym}
 use native.Mathlib.Omega.{arith}
 use lib.Seq.{set_out}
-use borrow.Author.Rules.{rules}
 use Rattle.check_orbits.proofs.labels.bump.Goals as goal
 
 pub returns-else-i-lt-ITEM_PLACES : goal.returns-else-i-lt-ITEM_PLACES

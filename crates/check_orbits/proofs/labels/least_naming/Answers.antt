@@ -1,12 +1,8 @@
-use mathlib.Core.Path.{◌≡◌, ap}
-use Prim.Native.Nat.{◌-◌, ◌≤◌}
+use mathlib.Core.Path.{ap}
 use native.Mathlib.Omega.{arith}
-use lib.ListN.{length}
-use Rattle.bounds.specs.Bounds.{item_places}
 use Rattle.layout.specs.Column.{entry_of}
-use Rattle.check_orbits.specs.Labels.{blank, least_naming}
+use Rattle.check_orbits.specs.Labels.{least_naming}
 use Rattle.check_orbits.specs.LabelsLaws.{least_turn, down_out, long_set, blank_long}
-use borrow.Author.Rules.{rules}
 use Rattle.check_orbits.proofs.labels.least_naming.Goals as goal
 
 pub loop-k-init : goal.loop-k-init

@@ -1,12 +1,8 @@
-use mathlib.Core.Path.{◌≡◌, ap}
-use Prim.Native.Nat.{◌-◌, ◌≤◌}
+use mathlib.Core.Path.{ap}
 use native.Mathlib.Omega.{arith}
-use lib.ListN.{length}
-use Rattle.bounds.specs.Bounds.{item_places}
 use Rattle.layout.specs.Layout.{loop_first}
-use Rattle.check_orbits.specs.Labels.{blank, copied}
+use Rattle.check_orbits.specs.Labels.{copied}
 use Rattle.check_orbits.specs.LabelsLaws.{down_turn, down_out, long_set, blank_long}
-use borrow.Author.Rules.{rules}
 use Rattle.check_orbits.proofs.labels.loop_firsts.Goals as goal
 
 pub loop-l-init : goal.loop-l-init

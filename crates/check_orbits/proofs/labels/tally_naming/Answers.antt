@@ -1,13 +1,10 @@
-use mathlib.Core.Path.{◌≡◌, ap}
-use Prim.Native.Nat.{ℕ, ◌+◌, ◌-◌, ◌≤◌}
+use mathlib.Core.Path.{ap}
+use Prim.Native.Nat.{◌+◌}
 use native.Mathlib.Omega.{arith}
-use lib.ListN.{length}
-use Rattle.bounds.specs.Bounds.{item_places}
 use Rattle.layout.specs.Column.{entry_of}
-use Rattle.check_orbits.specs.Labels.{blank, tally}
-use Rattle.check_orbits.specs.LabelsLaws.{tally_turn, down_out, long_set, blank_long, AtMost, blank_most}
+use Rattle.check_orbits.specs.Labels.{tally}
+use Rattle.check_orbits.specs.LabelsLaws.{tally_turn, down_out, long_set, blank_long, blank_most}
 use Rattle.check_orbits.specs.LabelsLaws.{most_bump}
-use borrow.Author.Rules.{rules}
 use Rattle.check_orbits.proofs.labels.tally_naming.Goals as goal
 
 pub loop-k-init : goal.loop-k-init

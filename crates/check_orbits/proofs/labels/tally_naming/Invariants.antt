@@ -1,13 +1,10 @@
-use mathlib.Core.Path.{◌≡◌, ap}
-use Prim.Native.Nat.{ℕ, ◌+◌, ◌-◌, ◌≤◌}
-use native.Mathlib.Omega.{arith}
+use mathlib.Core.Path.{◌≡◌}
+use Prim.Native.Nat.{ℕ, ◌+◌, ◌≤◌}
 use lib.ListN.{length}
 use Rattle.bounds.specs.Bounds.{item_places}
 use Rattle.layout.specs.Column.{entry_of}
 use Rattle.check_orbits.specs.Labels.{blank, tally}
-use Rattle.check_orbits.specs.LabelsLaws.{tally_turn, down_out, long_set, blank_long, AtMost, blank_most}
-use Rattle.check_orbits.specs.LabelsLaws.{most_bump}
-use borrow.Author.Rules.{rules}
+use Rattle.check_orbits.specs.LabelsLaws.{AtMost}
 use Rattle.check_orbits.proofs.labels.tally_naming.Given as goal
 
 -- each of the records that are done has made one entry larger by one

@@ -1,5 +1,4 @@
 use Rattle.check_shells.specs.Shells.{joins}
-use borrow.Author.Rules.{rules}
 use Rattle.check_shells.proofs.faces.edge_joins.Goals as goal
 
 pub returns : goal.returns

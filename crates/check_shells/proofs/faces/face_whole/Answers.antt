@@ -1,6 +1,5 @@
 use mathlib.Core.Path.{sym, ◌∙◌}
 use Rattle.check_shells.specs.ShellsLaws.{whole_free, whole_asked, shells_short}
-use borrow.Author.Rules.{rules}
 use Rattle.check_shells.proofs.faces.face_whole.Goals as goal
 
 pub returns-then-s-eq0 : goal.returns-then-s-eq0

@@ -1,9 +1,5 @@
-use mathlib.Core.Path.{◌≡◌}
 use Prim.Native.Nat.{◌-◌, ◌≤◌}
-use native.Mathlib.Omega.{arith}
-use borrow.Author.Rules.{rules}
 use Rattle.check_shells.specs.Shells.{side_as, Joined}
-use Rattle.check_shells.specs.ShellsLaws.{joined_start, joined_shells}
 use Rattle.check_shells.proofs.faces.link_faces.Given as goal
 
 abbrev pub invariant-loop-k : goal.invariant-loop-k

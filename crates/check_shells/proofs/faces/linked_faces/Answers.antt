@@ -1,7 +1,6 @@
 use mathlib.Core.Path.{◌∙◌}
 use Prim.Native.Nat.{ℕ}
 use lib.ListN.{length-replicate}
-use borrow.Author.Rules.{rules}
 use Rattle.bounds.specs.Bounds.{item_places}
 use Rattle.check_shells.proofs.faces.linked_faces.Goals as goal
 

@@ -1,7 +1,6 @@
 use Rattle.laws.specs.UnionFind.{same_roots_then}
 use Rattle.check_shells.specs.ForestLaws.{same_roots_here, forest_short}
 use Rattle.check_shells.specs.ShellsLaws.{faces_low, one_root_none, one_root_found}
-use borrow.Author.Rules.{rules}
 use Rattle.std.proofs.Common.{ap, not}
 use Rattle.check_shells.proofs.faces.same_shell.Goals as goal
 

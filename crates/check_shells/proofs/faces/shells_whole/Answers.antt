@@ -1,12 +1,6 @@
-use mathlib.Core.Path.{◌≡◌}
-use mathlib.Core.Bool.{true}
-use Prim.Native.Nat.{ℕ, ◌-◌, ◌≤◌}
+use Prim.Native.Nat.{ℕ}
 use native.Mathlib.Omega.{arith}
 use lib.ListN.{length-replicate}
-use borrow.Author.Rules.{rules}
-use Rattle.layout.specs.Layout.{side}
-use Rattle.laws.specs.Search.{all_to}
-use Rattle.check_shells.specs.Shells.{face_whole, Shells}
 use Rattle.check_shells.specs.ShellsLaws.{shells_here}
 use Rattle.laws.specs.ScanLaws.{all_start, all_turn, all_fail, all_end}
 use Rattle.bounds.specs.Bounds.{item_places}

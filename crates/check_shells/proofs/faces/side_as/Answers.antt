@@ -1,6 +1,5 @@
 use native.Mathlib.Omega.{arith}
 use Rattle.check_shells.specs.ShellsLaws.{side_moved, side_left}
-use borrow.Author.Rules.{rules}
 use Rattle.check_shells.proofs.faces.side_as.Goals as goal
 
 pub returns-then-owner-l : goal.returns-then-owner-l

@@ -1,8 +1,5 @@
-use mathlib.Core.Path.{◌≡◌, sym, ◌∙◌}
+use mathlib.Core.Path.{sym, ◌∙◌}
 use native.Mathlib.Omega.{arith}
-use lib.ListN.{get_or}
-use borrow.Author.Rules.{rules}
-use Rattle.check_shells.specs.Forest.{Climb}
 use Rattle.check_shells.specs.ForestLaws.{climb_start, climb_turn, climb_less, climb_end}
 use Rattle.check_shells.proofs.forest.find_root.Goals as goal
 

@@ -1,9 +1,6 @@
 use mathlib.Core.Path.{◌≡◌}
-use Prim.Native.Nat.{◌-◌, ◌≤◌}
 use native.Mathlib.Omega.{arith}
-use borrow.Author.Rules.{rules}
 use Rattle.bounds.specs.Bounds.{item_places}
-use Rattle.check_shells.specs.Forest.{Apart}
 use Rattle.check_shells.specs.ForestLaws.{apart_more}
 use Rattle.check_shells.proofs.forest.separate.Goals as goal
 

@@ -1,5 +1,4 @@
 use Rattle.check_shells.specs.ForestLaws.{hung_low, hung_high}
-use borrow.Author.Rules.{rules}
 use Rattle.check_shells.proofs.forest.unite.Goals as goal
 
 pub returns-then-a-b : goal.returns-then-a-b

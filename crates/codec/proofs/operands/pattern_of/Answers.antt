@@ -1,6 +1,5 @@
 use mathlib.Core.Path.{refl, ◌∙◌}
 use mathlib.Core.Logic.{⊎_elim, inl, inr}
-use borrow.Author.Rules.{rules}
 use Rattle.codec.specs.Operands.{pattern, rows}
 use Rattle.codec.specs.OperandLaws.{by_row, pattern_none}
 use Rattle.codec.proofs.operands.pattern_of.Goals as goal

@@ -1,5 +1,4 @@
 use Rattle.euler_cuts.specs.StepLaws.{kef_edge_steps}
-use borrow.Author.Rules.{rules}
 use Rattle.euler_cuts.proofs.mef_kef.kef_edge.Goals as goal
 
 pub returns : goal.returns

@@ -1,5 +1,4 @@
 use Rattle.euler_cuts.specs.StepLaws.{kef_tests}
-use borrow.Author.Rules.{rules}
 use Rattle.euler_cuts.proofs.mef_kef.kef_fits.Goals as goal
 
 pub returns : goal.returns

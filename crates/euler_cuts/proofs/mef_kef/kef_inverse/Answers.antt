@@ -2,7 +2,6 @@ use mathlib.Core.Bool.{not, ◌&&◌}
 use lib.Dec.{eqb}
 use native.Mathlib.Omega.{arith}
 use Rattle.euler_cuts.specs.StepLaws.{kef_undone, two_at_most}
-use borrow.Author.Rules.{rules}
 use Rattle.euler_cuts.proofs.mef_kef.kef_inverse.Goals as goal
 
 pub with_three-requires : goal.with_three-requires

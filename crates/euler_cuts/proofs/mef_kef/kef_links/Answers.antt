@@ -1,6 +1,5 @@
 use native.Mathlib.Omega.{arith}
 use Rattle.euler_cuts.specs.StepLaws.{kef_steps}
-use borrow.Author.Rules.{rules}
 use Rattle.euler_cuts.proofs.mef_kef.kef_links.Goals as goal
 
 pub put_loop-requires : goal.put_loop-requires

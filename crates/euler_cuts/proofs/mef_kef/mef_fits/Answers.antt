@@ -1,5 +1,4 @@
 use Rattle.euler.specs.EdgeOperators.{mef_test}
-use borrow.Author.Rules.{rules}
 use Rattle.euler_cuts.proofs.mef_kef.mef_fits.Goals as goal
 
 pub returns : goal.returns

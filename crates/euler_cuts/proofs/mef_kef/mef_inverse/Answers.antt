@@ -1,4 +1,3 @@
-use borrow.Author.Rules.{rules}
 use Rattle.euler_cuts.proofs.mef_kef.mef_inverse.Goals as goal
 
 pub returns : goal.returns

@@ -1,6 +1,5 @@
 use native.Mathlib.Omega.{arith}
 use Rattle.euler_cuts.specs.StepLaws.{mef_steps}
-use borrow.Author.Rules.{rules}
 use Rattle.euler_cuts.proofs.mef_kef.mef_links.Goals as goal
 
 pub put_face-requires : goal.put_face-requires

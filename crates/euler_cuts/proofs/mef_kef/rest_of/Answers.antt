@@ -1,5 +1,4 @@
 use native.Mathlib.Omega.{arith}
-use borrow.Author.Rules.{rules}
 use Rattle.euler_cuts.proofs.mef_kef.rest_of.Goals as goal
 
 pub returns : goal.returns

@@ -1,5 +1,4 @@
 use Rattle.euler_edges.specs.Parts.{clear_edge}
-use borrow.Author.Rules.{rules}
 use Rattle.euler_edges.proofs.parts.clear_edge.Goals as goal
 
 pub returns : goal.returns

@@ -1,5 +1,4 @@
 use Rattle.euler_edges.specs.Parts.{renew_sides}
-use borrow.Author.Rules.{rules}
 use Rattle.euler_edges.proofs.parts.renew_sides.Goals as goal
 
 pub returns : goal.returns

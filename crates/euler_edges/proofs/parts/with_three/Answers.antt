@@ -1,5 +1,4 @@
 use Rattle.euler_edges.specs.StepLaws.{three_steps}
-use borrow.Author.Rules.{rules}
 use Rattle.euler_edges.proofs.parts.with_three.Goals as goal
 
 pub returns : goal.returns

@@ -1,12 +1,8 @@
-use borrow.Author.Rules.{rules}
-use mathlib.Core.Path.{◌≡◌}
 use native.Mathlib.Omega.{arith}
-use Prim.Native.Nat.{◌+◌, ◌-◌, ◌≤◌}
-use Rattle.laws.specs.Search.{least_from}
 use Rattle.layout.specs.Fields.{Solid}
 use Rattle.layout.specs.Column.{column_at}
-use Rattle.euler.specs.Scans.{naming, least_here, least_on, least_past}
-use Rattle.euler_lone.specs.LoneLaws.{face_after, from_here}
+use Rattle.euler.specs.Scans.{least_here, least_on, least_past}
+use Rattle.euler_lone.specs.LoneLaws.{from_here}
 use Rattle.euler_lone.proofs.lone.face_after.Goals as goal
 
 pub loop-g-init : goal.loop-g-init

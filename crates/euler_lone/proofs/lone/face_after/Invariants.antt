@@ -1,12 +1,10 @@
-use borrow.Author.Rules.{rules}
 use mathlib.Core.Path.{◌≡◌}
-use native.Mathlib.Omega.{arith}
 use Prim.Native.Nat.{◌+◌, ◌-◌, ◌≤◌}
 use Rattle.laws.specs.Search.{least_from}
 use Rattle.layout.specs.Fields.{Solid}
 use Rattle.layout.specs.Column.{column_at}
-use Rattle.euler.specs.Scans.{naming, least_here, least_on, least_past}
-use Rattle.euler_lone.specs.LoneLaws.{face_after, from_here}
+use Rattle.euler.specs.Scans.{naming}
+use Rattle.euler_lone.specs.LoneLaws.{face_after}
 use Rattle.euler_lone.proofs.lone.face_after.Given as goal
 
 abbrev pub invariant-loop-g : goal.invariant-loop-g

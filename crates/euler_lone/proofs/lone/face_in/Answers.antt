@@ -1,7 +1,6 @@
 use native.Mathlib.Omega.{arith}
 use Rattle.layout.specs.Fields.{Solid}
 use Rattle.euler.specs.Scans.{column_short, least_by}
-use borrow.Author.Rules.{rules}
 use Rattle.euler_lone.proofs.lone.face_in.Goals as goal
 
 pub least_naming_one-requires : goal.least_naming_one-requires

@@ -1,7 +1,6 @@
 use native.Mathlib.Omega.{arith}
 use Rattle.layout.specs.Fields.{Solid}
 use Rattle.euler.specs.Scans.{column_short, count_by}
-use borrow.Author.Rules.{rules}
 use Rattle.euler_lone.proofs.lone.faces_in.Goals as goal
 
 pub count_naming-requires : goal.count_naming-requires

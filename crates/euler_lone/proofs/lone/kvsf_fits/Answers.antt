@@ -1,6 +1,5 @@
 use native.Mathlib.Omega.{arith}
 use Rattle.euler_lone.specs.LoneLaws.{kvsf_none, kvsf_several, kvsf_rings, kvsf_edged, kvsf_fits}
-use borrow.Author.Rules.{rules}
 use Rattle.euler_lone.proofs.lone.kvsf_fits.Goals as goal
 
 pub returns-then-f-eq0 : goal.returns-then-f-eq0

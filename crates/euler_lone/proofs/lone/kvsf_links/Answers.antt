@@ -1,5 +1,4 @@
 use Rattle.euler.specs.FaceOperators.{kvsf_links}
-use borrow.Author.Rules.{rules}
 use Rattle.euler_lone.proofs.lone.kvsf_links.Goals as goal
 
 pub returns : goal.returns

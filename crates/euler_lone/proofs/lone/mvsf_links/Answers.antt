@@ -1,5 +1,4 @@
 use Rattle.euler.specs.FaceOperators.{mvsf_links}
-use borrow.Author.Rules.{rules}
 use Rattle.euler_lone.proofs.lone.mvsf_links.Goals as goal
 
 pub returns : goal.returns

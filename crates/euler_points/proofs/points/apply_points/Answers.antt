@@ -1,7 +1,6 @@
 use mathlib.Core.Path.{refl}
 use mathlib.Core.Logic.{inl, inr}
 use Rattle.euler_points.specs.Chosen.{points_at, points_cleared, points_none}
-use borrow.Author.Rules.{rules}
 use Rattle.euler_points.proofs.points.apply_points.Goals as goal
 
 pub returns-in-1 : goal.returns-in-1

@@ -1,7 +1,6 @@
 use mathlib.Core.Path.{refl}
 use native.Mathlib.Omega.{arith}
 use Rattle.euler_points.specs.Chosen.{killed_at, killed_kvsf, killed_none}
-use borrow.Author.Rules.{rules}
 use Rattle.euler_points.proofs.points.killed_vertex.Goals as goal
 
 pub returns-in-2 : goal.returns-in-2

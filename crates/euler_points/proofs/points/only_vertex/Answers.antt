@@ -1,4 +1,3 @@
-use borrow.Author.Rules.{rules}
 use Rattle.euler_points.proofs.points.only_vertex.Goals as goal
 
 pub returns : goal.returns

@@ -1,7 +1,6 @@
 use borrow.Author.Tests.{not-true, not-false}
 use native.Mathlib.Omega.{arith}
 use Rattle.euler_rings.specs.RingsLaws.{rmov_outer, rmov_own, rmov_apart, rmov_beside}
-use borrow.Author.Rules.{rules}
 use Rattle.std.proofs.Common.{ap, not}
 use Rattle.euler_rings.proofs.rings.rmov_fits.Goals as goal
 

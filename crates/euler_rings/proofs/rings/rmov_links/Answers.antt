@@ -1,5 +1,4 @@
 use Rattle.euler_rings.specs.RingsLaws.{rmov_within, rmov_over}
-use borrow.Author.Rules.{rules}
 use Rattle.euler_rings.proofs.rings.rmov_links.Goals as goal
 
 pub returns-then-f-old : goal.returns-then-f-old

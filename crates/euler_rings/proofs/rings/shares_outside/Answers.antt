@@ -1,6 +1,5 @@
 use native.Mathlib.Omega.{arith}
 use Rattle.euler_rings.specs.RingsLaws.{shares_free, shares_own, shares_else, shares_far, shares_here}
-use borrow.Author.Rules.{rules}
 use Rattle.euler_rings.proofs.rings.shares_outside.Goals as goal
 
 pub returns-then-start-eq0 : goal.returns-then-start-eq0

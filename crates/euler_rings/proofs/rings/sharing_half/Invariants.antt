@@ -1,10 +1,7 @@
-use borrow.Author.Rules.{rules}
-use mathlib.Core.Path.{◌≡◌, sym, ◌∙◌}
-use native.Mathlib.Omega.{arith}
+use mathlib.Core.Path.{◌≡◌}
 use Prim.Native.Nat.{◌+◌, ◌-◌, ◌≤◌}
 use Rattle.laws.specs.Search.{least, least_from}
 use Rattle.euler.specs.FaceOperators.{shares_outside}
-use Rattle.euler.specs.Scans.{least_all, found_here, found_on, found_none}
 use Rattle.euler_rings.proofs.rings.sharing_half.Given as goal
 
 abbrev pub invariant-loop-k : goal.invariant-loop-k

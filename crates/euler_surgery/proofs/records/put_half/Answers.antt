@@ -1,4 +1,3 @@
-use borrow.Author.Rules.{rules}
 use Rattle.euler_surgery.proofs.records.put_half.Goals as goal
 
 pub returns : goal.returns

@@ -1,13 +1,8 @@
-use borrow.Author.Rules.{rules}
-use mathlib.Core.Path.{◌≡◌, sym, ap, ◌∙◌}
+use mathlib.Core.Path.{sym, ap, ◌∙◌}
 use native.Mathlib.Omega.{arith}
-use Prim.Native.Nat.{◌+◌, ◌-◌, ◌≤◌}
 use Rattle.laws.specs.Bools.{eqb_same, eqb_other}
-use Rattle.laws.specs.Search.{least, least_from}
 use Rattle.euler.specs.Scans.{least_all, found_here, found_on, found_none}
-use Prim.Native.Nat.{◌*◌}
 use lib.Dec.{eqb}
-use Rattle.layout.specs.Layout.{start_of}
 use Rattle.takedown_search.proofs.free.free_edge.Goals as goal
 
 pub loop-e-init : goal.loop-e-init

@@ -1,9 +1,6 @@
-use borrow.Author.Rules.{rules}
-use mathlib.Core.Path.{◌≡◌, sym, ap, ◌∙◌}
-use native.Mathlib.Omega.{arith}
+use mathlib.Core.Path.{◌≡◌}
 use Prim.Native.Nat.{◌+◌, ◌-◌, ◌≤◌}
 use Rattle.laws.specs.Search.{least, least_from}
-use Rattle.euler.specs.Scans.{least_all, found_here, found_on, found_none}
 use Prim.Native.Nat.{◌*◌}
 use lib.Dec.{eqb}
 use Rattle.layout.specs.Layout.{start_of}
