@@ -88,7 +88,7 @@ room_is {sh} v x₀ p₀ {x = x} {p} (first {os} o len acc r) a =
     ∙ rw (room_is v x₀ p₀ r a.1, a.0 sh x x₀ p p₀)
 
 -- THE RUN TAKES JUST THIS ROOM: so many bytes lie between the start that it leaves and the old one
-path_start : {sh : Shape} (t : State) → Within (limits sh) → {y : List ℕ} {q : List ℤ} {os : List Operator}
+path_start : {sh : Shape} {y : List ℕ} {q : List ℤ} (t : State) → Within (limits sh) → {os : List Operator}
     → Path sh y q os t.links t.points → (s : List ℕ) (at done fuel : ℕ) → at ≤ length s
     → drop at s ≡ write_script os → length os ≤ fuel
     → room_of (length os) sh (write_script os) t.links t.points ≤ t.start

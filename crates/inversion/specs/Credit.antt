@@ -1,7 +1,7 @@
 -- What is left covers what is on credit: a solid has a vertex, and where a half-edge of a ring has its mate in another
 -- loop there are a loop more than solids and a vertex. So the operators never are more than the bound, wherever the
 -- turns stop.
-use Rattle.std.specs.Prelude.{◌≡◌, ◌≢◌, Bool, true, not, ◌&&◌, List, ℕ, ◌+◌, ◌*◌, ◌≤◌, eqb, ℤ}
+use Rattle.std.specs.Prelude.{◌≡◌, ◌≢◌, Bool, true, ◌&&◌, List, ℕ, ◌+◌, ◌*◌, ◌≤◌, eqb, ℤ}
 use Rattle.std.proofs.Common.{sym, ap, ◌∙◌, ⊎_elim, arith}
 use Rattle.laws.specs.Search.{least}
 use Rattle.laws.specs.Sums.{bit, count_to, sum_lt, sum_zero}
@@ -14,7 +14,7 @@ use Rattle.sound_tables.specs.Labels.{label_found}
 use Rattle.sound_tables.specs.Names.{named_used}
 use Rattle.sound_tables.specs.Good.{Good, own}
 use Rattle.takedown.specs.Inversion.{solid_at, of_solid, in_ring, ring_half}
-use Rattle.inversion.specs.Counts.{solids, faces, loops, edges, vertices, rings}
+use Rattle.inversion.specs.Counts.{solids, vertices, rings}
 use Rattle.inversion.specs.Same.{vertices_is}
 use Rattle.inversion.specs.OfSolid.{least_some, both, joint, some_is, of_solid_lem}
 use Rattle.inversion.specs.Root.{root_is, outer_in, outer_face}

@@ -1,6 +1,6 @@
 -- What a turn lacks: where it calls for a free face, loop or edge number and none of that kind is left (`Lack`); that
 -- the test says just this; and that a turn that does not lack has what it calls for.
-use Rattle.std.specs.Prelude.{◌≡◌, refl, ◌≢◌, Bool, true, false, List, ℕ, ◌*◌, eqb}
+use Rattle.std.specs.Prelude.{◌≡◌, ◌≢◌, true, false, List, ℕ, ◌*◌, eqb}
 use Rattle.std.proofs.Common.{sym, ◌∙◌, eqb→eq}
 use Rattle.std.proofs.Math.Logic.{⊎_elim}
 use Rattle.std.proofs.Math.Bool.{false≢true}

@@ -1,7 +1,7 @@
 -- The course of the take-down of a state that is let in and has room: a chain of accepted operators, with 19 bytes for
 -- each, down to nothing or to a turn that lacks a number (`course`). And what it has come to where nothing is left
 -- (`whole`). The promises from it are in Theorem.
-use Rattle.std.specs.Prelude.{◌≡◌, refl, ◌≢◌, Bool, true, false, List, [], ◌++◌, ℕ, ◌+◌, ◌-◌, ◌*◌, ◌≤◌, eqb, ℤ, length}
+use Rattle.std.specs.Prelude.{◌≡◌, refl, ◌≢◌, Bool, true, false, List, [], ◌++◌, ℕ, ◌+◌, ◌-◌, ◌*◌, ◌≤◌, ℤ, length}
 use Rattle.std.specs.Prelude.{take, drop}
 use Rattle.std.proofs.Common.{sym, ap, ◌∙◌, subst, ⊎_elim, append_assoc, zero-add, arith, length-append, length-drop}
 use Rattle.std.proofs.Common.{ltb-false}

@@ -68,7 +68,7 @@ step_back sh t₀ w o b len acc room =
     (back_stepped t₀ w.state o b len acc (omega (arith, m, room)), omega (arith, m, room))
 
 -- undoing leads back over the whole chain, if there are 19 bytes for each of its operators
-pub path_back : (sh : Shape) {n : ℕ} {y : List ℕ} {q : List ℤ} {os : List Operator} (t₀ : State) (w : Work)
+pub path_back : (sh : Shape) {y : List ℕ} {q : List ℤ} {n : ℕ} {os : List Operator} (t₀ : State) (w : Work)
     → Back sh n t₀ w.state
     → Path sh y q os w.state.links w.state.points → 19 * length os ≤ w.state.start
     → Back sh (n + length os) t₀ (acted sh w os).state
@@ -81,7 +81,7 @@ path_back sh {n} t₀ w b (first {os} o len acc r) h =
     (path_back sh t₀ (act sh w o) s.0 r (omega (arith, h, s.1)))
 
 -- and its start is at most 19 bytes lower for each of them
-pub path_low : (sh : Shape) {n : ℕ} {y : List ℕ} {q : List ℤ} {os : List Operator} (t₀ : State) (w : Work)
+pub path_low : (sh : Shape) {y : List ℕ} {q : List ℤ} {n : ℕ} {os : List Operator} (t₀ : State) (w : Work)
     → Back sh n t₀ w.state
     → Path sh y q os w.state.links w.state.points → 19 * length os ≤ w.state.start
     → w.state.start ≤ (acted sh w os).state.start + 19 * length os
@@ -118,7 +118,7 @@ step_joins sh {n} t₀ w o b len acc room =
     ∙ rw h.1.links
 
 -- and the whole chain
-pub path_joins : (sh : Shape) {n : ℕ} {y : List ℕ} {q : List ℤ} {os : List Operator} (t₀ : State) (w : Work)
+pub path_joins : (sh : Shape) {y : List ℕ} {q : List ℤ} {n : ℕ} {os : List Operator} (t₀ : State) (w : Work)
     → Back sh n t₀ w.state
     → Path sh y q os w.state.links w.state.points → 19 * length os ≤ w.state.start
     → joins_of (n + length os) sh (drop (acted sh w os).state.start (acted sh w os).state.log) (acted sh w

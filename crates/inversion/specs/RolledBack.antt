@@ -1,6 +1,6 @@
 -- The roll-back of the take-down: as many operators as were done, read off the log and carried out unlogged, lead to
 -- the table handed in. So by 10 the code leaves the table that the definition says.
-use Rattle.std.specs.Prelude.{◌≡◌, refl, List, ◌++◌, ℕ, suc, ◌+◌, ℤ, length, drop}
+use Rattle.std.specs.Prelude.{◌≡◌, refl, List, ℕ, ◌+◌, ℤ, length, drop}
 use Rattle.std.proofs.Common.{◌∙◌}
 use Rattle.numbers.specs.PaddedLaws.{drop_part}
 use Rattle.script.specs.Operator.{operator_bytes}

@@ -1,5 +1,5 @@
 -- The solid at hand and its root.
-use Rattle.std.specs.Prelude.{◌≡◌, ◌≢◌, true, false, ◌&&◌, List, ℕ, ◌*◌, eqb, ℤ}
+use Rattle.std.specs.Prelude.{◌≡◌, ◌≢◌, false, ◌&&◌, List, ℕ, ◌*◌, eqb, ℤ}
 use Rattle.std.proofs.Common.{sym, ap, ◌∙◌, ⊎_elim, eqb→eq}
 use Rattle.std.proofs.lemmas.Bool.{false≢true}
 use Rattle.std.proofs.Math.Dec.{not_T}

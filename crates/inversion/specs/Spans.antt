@@ -1,7 +1,7 @@
 -- After kemr the edges lie in one loop each, but those that lead from the new ring to the rest of the old loop; the
 -- ring turn joins the two again.
 use Rattle.std.specs.Prelude.{◌≡◌, ◌≢◌, ◌⊎◌, true, false, List, ℕ, ◌*◌, ◌<◌, ℤ}
-use Rattle.std.proofs.Common.{sym, ap, ◌∙◌, subst, inl, inr, ⊎_elim}
+use Rattle.std.proofs.Common.{sym, ◌∙◌, inl, inr, ⊎_elim}
 use Rattle.laws.specs.Bools.{ask}
 use Rattle.laws.specs.Permutations.{iter}
 use Rattle.layout.specs.declared.shape.Shape.{Shape}

@@ -10,7 +10,7 @@ use Rattle.laws.specs.Search.{least_ext, least_unique}
 use Rattle.layout.specs.declared.shape.Shape.{Shape}
 use Rattle.euler.specs.Queries.{faces_in}
 use Rattle.euler.specs.Exec.{links_after}
-use Rattle.layout.specs.Fields.{change, Solid, Face, Loop}
+use Rattle.layout.specs.Fields.{Solid, Face, Loop}
 use Rattle.layout.specs.Items.{face_in}
 use Rattle.sound_tables.specs.Sound.{In, side}
 use Rattle.sound_tables.specs.Labels.{label_found}
@@ -20,7 +20,7 @@ use Rattle.sound_cuts.specs.KefAccepted.{kef_points}
 use Rattle.takedown.specs.Inversion.{Work, act, solid_at, free_edge, turned, border_half, move_rings}
 use Rattle.takedown.specs.Inversion.{turn_a, kef}
 use Rattle.inversion.specs.Path.{Path, there, first, acted, path_append, acted_append, acted_table, joins_in}
-use Rattle.inversion.specs.Counts.{solids, faces, loops, is_stray, strays}
+use Rattle.inversion.specs.Counts.{is_stray, strays}
 use Rattle.inversion.specs.Same.{count_fewer_in, free_edge_kept}
 use Rattle.inversion.specs.OfSolid.{least_there}
 use Rattle.inversion.specs.Root.{root_is}

@@ -1,7 +1,7 @@
 -- The turn by kemr, whole.
 use Rattle.std.specs.Prelude.{◌≡◌, ◌≢◌, true, List, [], ◌∷◌, ℕ, ◌*◌, eqb, ℤ}
 use Rattle.std.proofs.Math.Path.{refl}
-use Rattle.std.proofs.Common.{sym, ◌∙◌, subst, ⊎_elim, arith, eqb→eq}
+use Rattle.std.proofs.Common.{sym, ◌∙◌, subst, arith, eqb→eq}
 use Rattle.std.proofs.Math.Logic.{inr}
 use Rattle.laws.specs.Bools.{true_T}
 use Rattle.layout.specs.declared.shape.Shape.{Shape}
@@ -18,7 +18,6 @@ use Rattle.takedown.specs.Inversion.{solid_at, free_loop, edges_left, is_crossed
 use Rattle.takedown.specs.Inversion.{ring_half}
 use Rattle.takedown.specs.Inversion.{spur_half, kemr}
 use Rattle.inversion.specs.Path.{there, first, acted, joins_in}
-use Rattle.inversion.specs.Counts.{solids, faces, loops, edges}
 use Rattle.inversion.specs.Same.{faces_in_same, free_face_same, solid_at_same, free_edge_kept}
 use Rattle.takedown.specs.Crossed.{crossed_at}
 use Rattle.inversion.specs.OfSolid.{least_some, both, Of, of_solid_lem, one_loop, crossed_there}

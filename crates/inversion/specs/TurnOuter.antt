@@ -23,7 +23,7 @@ use Rattle.sound_rings.specs.Exact.{rmov_accepted, rmov_points}
 use Rattle.takedown.specs.Inversion.{Work, act, solid_at, outside, border_half, make_outer}
 use Rattle.takedown.specs.Inversion.{rmov}
 use Rattle.inversion.specs.Path.{Path, there, first, acted, joins_in}
-use Rattle.inversion.specs.Counts.{solids, faces, loops, edges, vertices, strays}
+use Rattle.inversion.specs.Counts.{strays}
 use Rattle.inversion.specs.Same.{words_same, solids_is, faces_is, loops_same, edges_is, vertices_is, face_in_same}
 use Rattle.inversion.specs.Same.{strays_same}
 use Rattle.inversion.specs.OfSolid.{least_some, least_no, both, joint}

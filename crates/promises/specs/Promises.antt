@@ -3,7 +3,7 @@
 -- `kernel`) cite: these say that answer, session, links, points and logs after a call are the definition's, for every
 -- input. So what is said here of a chain of such values is said of the same calls made one after the other on memory
 -- that nobody else writes to.
-use Rattle.std.specs.Prelude.{◌≡◌, refl, List, [], ◌∷◌, ◌++◌, ℕ, ◌+◌, ◌-◌, ◌*◌, ◌≤◌, ◌<◌, eqb, ℤ, drop}
+use Rattle.std.specs.Prelude.{◌≡◌, refl, List, [], ◌∷◌, ◌++◌, ℕ, ◌-◌, ◌*◌, ◌≤◌, ◌<◌, eqb, ℤ, drop}
 use Rattle.std.proofs.Common.{sym, ◌∙◌, subst, ⊎_elim, zero-add, arith, eqb-true}
 use Rattle.std.proofs.Math.Path.{ap}
 use Rattle.std.proofs.Math.ListN.{length}

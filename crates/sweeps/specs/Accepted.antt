@@ -285,9 +285,9 @@ module _ {sh : Shape} {x : List ℕ} {p : List ℤ} (g : Good sh x p) {start f :
 
   -- a loop that is lifted stays so while a later one is swept
   lifted_on : (l m : ℕ) → In sh.loops l → own sh x Face l ≡ f → In sh.loops m → own sh x Face m ≡ f → l ≢ m
-      → {y y' : List ℕ} {q q' : List ℤ} → Keeps sh (own sh y) q (own sh y') q' (λ n. n ≢ m)
+      → (y y' : List ℕ) {q q' : List ℤ} → Keeps sh (own sh y) q (own sh y') q' (λ n. n ≢ m)
       → LiftedAt sh x p f v l (own sh y) q → LiftedAt sh x p f v l (own sh y') q'
-  lifted_on l m li lf mi mf ne k d = lifted_keeps k ne (λ j u.
+  lifted_on l m li lf mi mf ne y y' k d = lifted_keeps k ne (λ j u.
       let h = corner_rank (setting l li lf (corners_to sh x f (l - 1)) refl) j u in (
         λ e. l_used m mi mf (ap (own sh x Face) (sym e) ∙ fresh.loops _ (omega arith) h),
         supply.loop_in _ h,
@@ -313,7 +313,7 @@ module _ {sh : Shape} {x : List ℕ} {p : List ℤ} (g : Good sh x p) {start f :
         ));
         lifted = λ l i u k. split l (suc j)
             (λ w. subst (λ m. LiftedAt sh x p f v m (own sh y') q') (sym w) (rw (← e0) d.0))
-            (λ w. lifted_on l (suc j) i k li e w d.1.keeps (h.lifted l i (omega arith) k));
+            (λ w. lifted_on l (suc j) i k li e w y y' d.1.keeps (h.lifted l i (omega arith) k));
         fresh = rw more d.1.fresh;
         taking = rw more d.1.taking;
         grew = rw more d.1.grew;

@@ -155,7 +155,7 @@ unfolding is_least all_least pattern rows use_word
 mef_least sh x l h1 h2 e f m w ei fi mi a b c =
     rw (a, b, c, eqb_same {m = e} refl, eqb_same {m = f} refl, eqb_same {m = m} refl, one e ei, one f fi, one m mi)
 
-module _ {sh : Shape} {x : List ℕ} {c₀ : Columns} {N : Names} {ne n e v f : ℕ} (s : Supply sh c₀ N ne n)
+module _ {sh : Shape} (x : List ℕ) {c₀ : Columns} {N : Names} {ne n e v f : ℕ} (s : Supply sh c₀ N ne n)
     (q : Fresh (own sh x) N ne n e v f) (t : Taking sh c₀ (own sh x) N e v f) (ej : e < ne) where
   -- the next edge is the least
   edge_least : least sh.edges (λ i. eqb (own sh x Start (2 * i)) 0) ≡ N.edge e

@@ -1,6 +1,6 @@
 -- The sweep of one loop: its mev and its mef are accepted one after the other, each with the least numbers. They leave
 -- the loop lifted and keep the other loops.
-use Rattle.std.specs.Prelude.{◌≡◌, refl, ◌≢◌, List, ◌++◌, ℕ, suc, ◌+◌, ◌-◌, ◌*◌, ◌≤◌, ℤ}
+use Rattle.std.specs.Prelude.{◌≡◌, refl, ◌≢◌, List, ◌++◌, ℕ, suc, ◌+◌, ◌*◌, ◌≤◌, ℤ}
 use Rattle.std.proofs.Common.{sym, subst, arith}
 use Rattle.laws.specs.Bools.{split, eqb_same, eqb_other}
 use Rattle.layout.specs.declared.shape.Shape.{Shape}
@@ -32,10 +32,10 @@ module _ {sh : Shape} {c₀ : Columns} {N : Names} {ne nn l z B : ℕ} {k : ℕ 
       × Amid sh c₀ c₁ p₁ (own sh x) p l N ne nn (2 * (B + suc z)) (B + suc z) (B + suc z)
 
   -- all numbers are taken
-  amid_done : {x : List ℕ} {p : List ℤ} (j : ℕ) → j ≡ suc z
+  amid_done : (x : List ℕ) {p : List ℤ} (j : ℕ) → j ≡ suc z
       → Amid sh c₀ c₁ p₁ (own sh x) p l N ne nn (2 * B + suc z + j) (B + suc z) (B + j)
       → Amid sh c₀ c₁ p₁ (own sh x) p l N ne nn (2 * (B + suc z)) (B + suc z) (B + suc z)
-  amid_done j e q =
+  amid_done x j e q =
       let e1 : 2 * B + suc z + j ≡ 2 * (B + suc z) = omega (arith, e) in
       let e2 : B + j ≡ B + suc z = omega (arith, e) in
       amid_at e1 refl e2 q
@@ -50,7 +50,7 @@ module _ {sh : Shape} {c₀ : Columns} {N : Names} {ne nn l z B : ℕ} {k : ℕ 
           (λ e. rw (eqb_other e) (q.0.top j (omega arith)));
       risen = q.1.0;
     },
-    amid_done (1 + z) (omega arith) q.1.1,
+    amid_done _ (1 + z) (omega arith) q.1.1,
   )
 
   -- ---- one corner
@@ -91,7 +91,7 @@ module _ {sh : Shape} {c₀ : Columns} {N : Names} {ne nn l z B : ℕ} {k : ℕ 
             ));
             risen = cl.0;
           },
-          amid_done (suc 0) (omega (arith, z0)) cl.1,
+          amid_done _ (suc 0) (omega (arith, z0)) cl.1,
         ),
       )
 
@@ -117,7 +117,7 @@ pub loop_reach : {sh : Shape} {c₀ : Columns} {N : Names} {ne nn l z B : ℕ} {
     → Reach sh (LeastNew sh) (series 0 (suc z) (riser_at N l B k X Y Z) ++ sides_of N l z B) x p (Done Q (own sh x) p)
 loop_reach {sh} {l = l} {z} {O = O} Q {x} {p} g R o F T₀ G =
     reach_append {Q = AfterMev Q (own sh x) p (suc z)} {P = Done Q (own sh x) p} (risers_reach Q (own sh x) p g
-    (risers_start Q (own sh x) p
+    (risers_start Q (own sh x) p x
     (λ j u. R.half _ (Q.lap.used j u) (subst O (sym (Q.lap.loop j u)) o))
     (record {
       used = loop_keeps R l Q.l_in Q.l_used;

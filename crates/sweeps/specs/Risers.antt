@@ -1,5 +1,5 @@
 -- The mev half of a loop's sweep: each mev is accepted and has the least numbers. Then the risers stand.
-use Rattle.std.specs.Prelude.{◌≡◌, refl, ◌≢◌, List, ℕ, suc, ◌+◌, ◌-◌, ◌*◌, ◌≤◌, ◌<◌, ℤ}
+use Rattle.std.specs.Prelude.{◌≡◌, refl, ◌≢◌, List, ℕ, suc, ◌+◌, ◌*◌, ◌≤◌, ◌<◌, ℤ}
 use Rattle.std.proofs.Common.{sym, ◌∙◌, subst, inr, arith, lit≤}
 use Rattle.laws.specs.Bools.{split}
 use Rattle.layout.specs.declared.shape.Shape.{Shape}
@@ -88,7 +88,7 @@ module _ {sh : Shape} {c₀ : Columns} {N : Names} {ne nn l z B : ℕ} {k : ℕ 
       let e2 : B + j + 1 ≡ B + suc j = omega arith in (
         refl,
         mev_accepted sh x g.capacities fits,
-        next_mev Q.supply am.fresh am.taking ej vj l (k j) 0 (X j) (Y j) (Z j),
+        next_mev _ Q.supply am.fresh am.taking ej vj l (k j) 0 (X j) (Y j) (Z j),
         (
           rising_more Q.lap.apart q.0 jz R fr.0 bin fr.1 fr.2 v1 (up_no_corner Q) (down_no_corner Q),
           risen_more (risen_keeps K q.1) (bin.0, bin.1, λ y. v1 (sym R.start_b ∙ y)) R.start_b
@@ -98,9 +98,9 @@ module _ {sh : Shape} {c₀ : Columns} {N : Names} {ne nn l z B : ℕ} {k : ℕ 
       )
 
   -- at first
-  pub risers_start : {x : List ℕ} {p : List ℤ} → ((j : ℕ) → j ≤ z → SameHalf c₀ (own sh x) (k j))
+  pub risers_start : (x : List ℕ) {p : List ℤ} → ((j : ℕ) → j ≤ z → SameHalf c₀ (own sh x) (k j))
       → Amid sh c₀ c₁ p₁ (own sh x) p l N ne nn (2 * B) B B → AfterMev 0 x p
-  risers_start same am =
+  risers_start x same am =
       let e1 : 2 * B ≡ 2 * B + 0 = omega arith in
       let e2 : B ≡ B + 0 = omega arith in (
         record {

@@ -1,6 +1,6 @@
 -- The mef half of a loop's sweep, for two corners and more: each mef is accepted and has the least numbers. Then all
 -- sides stand, and the loop is lifted.
-use Rattle.std.specs.Prelude.{◌≡◌, refl, ◌≢◌, List, ℕ, suc, ◌+◌, ◌-◌, ◌*◌, ◌≤◌, ◌<◌, ℤ}
+use Rattle.std.specs.Prelude.{◌≡◌, refl, ◌≢◌, List, ℕ, suc, ◌+◌, ◌*◌, ◌≤◌, ◌<◌, ℤ}
 use Rattle.std.proofs.Common.{sym, ap, ◌∙◌, subst, arith}
 use Rattle.laws.specs.Bools.{split, eqb_same, eqb_other}
 use Rattle.script.specs.declared.Operator.{Operator}
@@ -101,7 +101,7 @@ module _ {sh : Shape} {c₀ : Columns} {N : Names} {ne nn l z B : ℕ} {k : ℕ 
     pub side_least : (w h1 h2 : ℕ) → LeastNew sh x (mef_of l h1 h2 (N.edge (2 * B + suc z + j)) (N.face (B + j))
         (N.loop (B + j)) w)
     side_least w h1 h2 =
-        next_mef Q.supply q.1.fresh q.1.taking (side_rank Q j jz) (corner_rank Q j jz) l h1 h2 w
+        next_mef _ Q.supply q.1.fresh q.1.taking (side_rank Q j jz) (corner_rank Q j jz) l h1 h2 w
 
     -- what is left once it is done
     pub amid_more : (y : List ℕ) (t : List ℤ)

@@ -99,10 +99,10 @@ sum_lines zero m = refl
 sum_lines (suc n) m = omega (arith, sum_lines n m)
 
 -- a vertex
-vertex_most : {sh : Shape} {x : List ℕ} {p : List ℤ} → Sound sh p (own sh x) → (v : ℕ) → In sh.vertices v
+vertex_most : {sh : Shape} (x : List ℕ) {p : List ℤ} → Sound sh p (own sh x) → (v : ℕ) → In sh.vertices v
     → length (vertex_line p v) ≤ 26
 unfolding vertex_line
-vertex_most {p = p} a v i =
+vertex_most x {p = p} a v i =
     let word : ℕ → List ℕ = λ j. millimetres (coordinate p v j) in
     let most : (j : ℕ) → j < 3 → length (word j) ≤ 7 = λ j h.
     millimetres_length (coordinate p v j) ((a.point v i).range j h) in
@@ -177,7 +177,7 @@ module _ {sh : Shape} {x : List ℕ} {p : List ℤ} (g : Good sh x p) {s : ℕ} 
         arith,
         length-append (concat_map (vertex_line p) (own_vertices sh x s))
             (concat_map (face_line sh x (rank sh x s)) (own_faces sh x s)),
-        concat_map_sum (vertex_line p) (λ v. 26) sh.vertices (own_vertex sh x s) (λ v i t. vertex_most g.sound v i),
+        concat_map_sum (vertex_line p) (λ v. 26) sh.vertices (own_vertex sh x s) (λ v i t. vertex_most _ g.sound v i),
         sum_const sh.vertices 26,
         concat_map_sum (face_line sh x (rank sh x s)) (λ f. 2 + 5 * many_with n (side sh x) f) sh.faces
             (own_face sh x s)

@@ -32,7 +32,8 @@ module _ (word : ℕ → List ℕ) (above : (n : ℕ) → Above 32 (word n)) whe
   words_pieces : {w : List ℕ} → Above 32 w → (ns : List ℕ) → pieces 32 (w ++ spaced_words word ns) ≡ w ∷ map word ns
   unfolding concat_map
   words_pieces {w} a [] = rw (append-nil w) (pieces_one a)
-  words_pieces {w} a (n ∷ ns) = rw (pieces_more (word n ++ spaced_words word ns) a, words_pieces (above n) ns)
+  words_pieces {w} a (n ∷ ns) = rw
+      (pieces_more (word n ++ spaced_words word ns) a, words_pieces {w = word n} (above n) ns)
 
   -- there is no line feed in them
   words_above : (ns : List ℕ) → Above 10 (spaced_words word ns)

@@ -74,10 +74,10 @@ module _ (sh : Shape) (x : List ℕ) (s : ℕ) where
 -- ---- the corners of a solid that OBJ can show
 
 -- where a half-edge of the solid starts is a vertex of it
-pub start_own : {sh : Shape} {x : List ℕ} {p : List ℤ} → Sound sh p (own sh x) → {s : ℕ} (k : ℕ)
+pub start_own : {sh : Shape} (x : List ℕ) {p : List ℤ} → Sound sh p (own sh x) → {s : ℕ} (k : ℕ)
     → HalfUsed sh (own sh x) k → face_solid sh x (side sh x k) ≡ s → OwnVertex sh x s (start_of sh x k)
 unfolding own_vertex
-start_own {sh} {x} a {s} k u e = (
+start_own {sh} x a {s} k u e = (
   (a.half k (u.0, u.1) u.2).start_in,
   any_of (2 * sh.edges) _ k u.0 u.1
       (T_and (eqb (start_of sh x k) (start_of sh x k)) (eqb (face_solid sh x (side sh x k)) s)
@@ -101,7 +101,7 @@ module _ {sh : Shape} {x : List ℕ} {p : List ℤ} (a : Sound sh p (own sh x)) 
 
     -- and starts at a vertex of the solid
     pub corner_own : (k : ℕ) → Among k (backwards sh x f) → OwnVertex sh x s (start_of sh x k)
-    corner_own k h = let w = written_in k h in start_own a k w.0 (ap (face_solid sh x) w.1 ∙ e)
+    corner_own k h = let w = written_in k h in start_own _ a k w.0 (ap (face_solid sh x) w.1 ∙ e)
 
     -- each index of a cycle is the rank of a vertex
     pub index_names : (j : ℕ) → Among j (cycle_of sh x s f) → (v : ℕ) × OwnVertex sh x s v × (rank sh x s v ≡ j)

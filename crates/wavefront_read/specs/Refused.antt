@@ -91,7 +91,7 @@ case_refused (shown e i n) = record {
   refusal_0 = (λ q. (i, n), λ h. e);
 }
 
-module _ {sh : Shape} {x : List ℕ} {p : List ℤ} (a : Sound sh p (own sh x)) (s : ℕ) where
+module _ {sh : Shape} (x : List ℕ) {p : List ℤ} (a : Sound sh p (own sh x)) (s : ℕ) where
   module _ (i : SolidIn sh x s) where
     -- a loop of the solid is in use
     loop_used : (l : ℕ) → LoopOf sh x s l → loop_face sh x l ≢ 0
@@ -104,7 +104,7 @@ module _ {sh : Shape} {x : List ℕ} {p : List ℤ} (a : Sound sh p (own sh x)) 
     none_bad q l o (few k) = omega (
       arith,
       k,
-      (three_sides_lem a l o.0 (loop_used l o) (q.edged l o.0 o.1)).0 (q.sides l o.0 o.1),
+      (three_sides_lem _ a l o.0 (loop_used l o) (q.edged l o.0 o.1)).0 (q.sides l o.0 o.1),
     )
 
     -- and one that has none passes the tests
@@ -121,7 +121,7 @@ module _ {sh : Shape} {x : List ℕ} {p : List ℤ} (a : Sound sh p (own sh x)) 
         ((differ (loop_first sh x l) 0).1 (λ z. h l (of l b c t) (lone z))))))
         (all_of sh.loops _ (λ l b c. T_imp (own_loop sh x s l) _ (λ t.
         let o = of l b c t in
-        (three_sides_lem a l (b, c) (loop_used l o) (λ z. h l o (lone z))).1
+        (three_sides_lem _ a l (b, c) (loop_used l o) (λ z. h l o (lone z))).1
         (⊎_elim (λ k. k) (λ k. absurd (h l o (few k))) (le? 3 (many_with (2 * sh.edges) (loop_of sh x) l))))))
 
     -- a loop can stand in OBJ or not
@@ -177,4 +177,4 @@ module _ {sh : Shape} {x : List ℕ} {p : List ℤ} (a : Sound sh p (own sh x)) 
 -- EACH NUMBER JUST WHERE IT IS DUE, for every table that passes the check
 pub solid_refused : (x : List ℕ) (p : List ℤ) → Valid x p → (s : ℕ)
     → RefusedAs (shape_of x) x s (solid_refusal (shape_of x) x s)
-solid_refused x p v s = case_refused (case_is (valid_good x p v).sound s)
+solid_refused x p v s = case_refused (case_is _ (valid_good x p v).sound s)

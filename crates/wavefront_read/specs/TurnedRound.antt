@@ -67,7 +67,7 @@ showable sh x s h =
 
 -- ---- loops
 
-module _ {sh : Shape} {x : List ℕ} {p : List ℤ} (a : Sound sh p (own sh x)) where
+module _ {sh : Shape} (x : List ℕ) {p : List ℤ} (a : Sound sh p (own sh x)) where
   -- the first half-edge of a loop is in use and names it
   first_used : (l : ℕ) → In sh.loops l → loop_face sh x l ≢ 0 → loop_first sh x l ≢ 0
       → HalfUsed sh (own sh x) (loop_first sh x l) × (loop_of sh x (loop_first sh x l) ≡ l)
@@ -143,7 +143,7 @@ turned_round {sh} {x} a {s} q f i e =
     let o : face_solid sh x (loop_face sh x l) ≡ s = ap (face_solid sh x) r.outer_face ∙ e in
     let h = q.edged l r.outer_in o in
     let k = loop_first sh x l in
-    let w = first_used a l r.outer_in u h in
+    let w = first_used _ a l r.outer_in u h in
     let c = a.rules.loops in
     let m = lap_order c k w.0 in
     record {
@@ -161,5 +161,5 @@ turned_round {sh} {x} a {s} q f i e =
           (y.0, ap (loop_face sh x) (y.1 ∙ w.1) ∙ r.outer_face);
       once = lap_different c k w.0;
       three =
-          rw (loop_count a l r.outer_in u h) ((three_sides_lem a l r.outer_in u h).0 (q.sides l r.outer_in o));
+          rw (loop_count _ a l r.outer_in u h) ((three_sides_lem _ a l r.outer_in u h).0 (q.sides l r.outer_in o));
     }

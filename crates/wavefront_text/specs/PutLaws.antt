@@ -1,7 +1,7 @@
 -- What the code that puts numbers and lines leaves, step by step.
-use Rattle.std.specs.Prelude.{◌≡◌, refl, List, [], ◌∷◌, ◌++◌, ℕ, suc, ◌+◌, ◌/◌, ◌%◌, ◌≤◌, ◌<◌, true, T, leb, ℤ, pos}
-use Rattle.std.specs.Prelude.{negsuc, nat_abs, length}
-use Rattle.std.proofs.Common.{ap, ◌∙◌, arith, add-one, leb→le, length-append, SFits, to_z-of_z}
+use Rattle.std.specs.Prelude.{◌≡◌, refl, List, [], ◌∷◌, ℕ, suc, ◌+◌, ◌/◌, ◌%◌, ◌≤◌, ◌<◌, T, ℤ, pos}
+use Rattle.std.specs.Prelude.{negsuc, nat_abs}
+use Rattle.std.proofs.Common.{ap, ◌∙◌, arith, add-one, SFits, to_z-of_z}
 use Rattle.std.specs.Int.{w32}
 use Rattle.codec.specs.SignedLaws.{back}
 use Rattle.layout.specs.Points.{range_test}

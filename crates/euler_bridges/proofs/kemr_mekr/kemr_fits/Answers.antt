@@ -1,5 +1,4 @@
 use Rattle.euler.specs.EdgeOperators.{kemr_test}
-use borrow.Author.Rules.{rules}
 use Rattle.euler_bridges.proofs.kemr_mekr.kemr_fits.Goals as goal
 
 pub returns : goal.returns

@@ -1,5 +1,4 @@
 use Rattle.euler_bridges.specs.StepLaws.{kemr_undone}
-use borrow.Author.Rules.{rules}
 use Rattle.euler_bridges.proofs.kemr_mekr.kemr_inverse.Goals as goal
 
 pub returns : goal.returns

@@ -1,6 +1,5 @@
 use native.Mathlib.Omega.{arith}
 use Rattle.euler_bridges.specs.StepLaws.{kemr_steps}
-use borrow.Author.Rules.{rules}
 use Rattle.euler_bridges.proofs.kemr_mekr.kemr_links.Goals as goal
 
 pub edge_out-requires : goal.edge_out-requires

@@ -1,5 +1,4 @@
 use Rattle.euler_bridges.specs.StepLaws.{mekr_edge_steps}
-use borrow.Author.Rules.{rules}
 use Rattle.euler_bridges.proofs.kemr_mekr.mekr_edge.Goals as goal
 
 pub returns : goal.returns

@@ -1,7 +1,6 @@
 use Rattle.euler_bridges.specs.StepLaws.{mekr_tests}
 use native.Mathlib.Omega.{arith}
 use Rattle.laws.specs.TestLaws.{as_far}
-use borrow.Author.Rules.{rules}
 use Rattle.euler_bridges.proofs.kemr_mekr.mekr_fits.Goals as goal
 
 pub returns : goal.returns

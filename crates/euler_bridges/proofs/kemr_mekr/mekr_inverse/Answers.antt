@@ -1,4 +1,3 @@
-use borrow.Author.Rules.{rules}
 use Rattle.euler_bridges.proofs.kemr_mekr.mekr_inverse.Goals as goal
 
 pub returns : goal.returns

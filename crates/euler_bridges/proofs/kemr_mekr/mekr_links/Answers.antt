@@ -1,6 +1,5 @@
 use Rattle.euler_bridges.specs.StepLaws.{mekr_steps}
 use native.Mathlib.Omega.{arith}
-use borrow.Author.Rules.{rules}
 use Rattle.euler_bridges.proofs.kemr_mekr.mekr_links.Goals as goal
 
 pub renew_loop-requires : goal.renew_loop-requires

@@ -3,7 +3,6 @@ use Rattle.layout.specs.Layout.{next_of}
 use Rattle.euler.specs.EdgeOperators.{kev_links, kef_links, kemr_links, jekv_links}
 use Rattle.euler.specs.FaceOperators.{kfmrh_links, mfkrh_links, rmov_links}
 use Rattle.euler_effects.specs.Chosen.{links_of, marks_at, marks_kvsf, marks_none}
-use borrow.Author.Rules.{rules}
 use Rattle.euler_effects.proofs.effects.apply_links.Goals as goal
 
 pub returns-in-1 : goal.returns-in-1

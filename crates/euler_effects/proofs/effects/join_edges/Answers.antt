@@ -1,5 +1,4 @@
 use Rattle.euler_effects.specs.Chosen.{jekv_found}
-use borrow.Author.Rules.{rules}
 use Rattle.euler_effects.proofs.effects.join_edges.Goals as goal
 
 pub returns : goal.returns

@@ -1,5 +1,4 @@
 use Rattle.euler_effects.specs.Chosen.{kvsf_found}
-use borrow.Author.Rules.{rules}
 use Rattle.euler_effects.proofs.effects.kill_solid.Goals as goal
 
 pub returns : goal.returns

@@ -1,7 +1,6 @@
 use mathlib.Core.Path.{refl}
 use Rattle.euler.specs.EdgeOperators.{mef_links}
 use Rattle.euler_effects.specs.Chosen.{half_read, links_of}
-use borrow.Author.Rules.{rules}
 use Rattle.euler_effects.proofs.effects.make_face.Goals as goal
 
 pub returns : goal.returns

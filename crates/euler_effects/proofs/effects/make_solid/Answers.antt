@@ -1,7 +1,6 @@
 use mathlib.Core.Path.{refl}
 use Rattle.euler.specs.FaceOperators.{mvsf_links}
 use Rattle.euler_effects.specs.Chosen.{links_of}
-use borrow.Author.Rules.{rules}
 use Rattle.euler_effects.proofs.effects.make_solid.Goals as goal
 
 pub returns : goal.returns

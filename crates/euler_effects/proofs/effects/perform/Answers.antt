@@ -1,7 +1,6 @@
 use Rattle.euler_points.specs.Chosen.{points_by_lem}
 use Rattle.euler_valence.specs.Starts.{less_read}
 use Rattle.euler_effects.specs.Performed.{links_steps}
-use borrow.Author.Rules.{rules}
 use Rattle.euler_effects.proofs.effects.perform.Goals as goal
 
 pub returns : goal.returns

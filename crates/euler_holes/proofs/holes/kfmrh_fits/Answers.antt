@@ -1,6 +1,5 @@
 use native.Mathlib.Omega.{arith}
 use Rattle.euler_holes.specs.HolesLaws.{kfmrh_one, kfmrh_rings, kfmrh_fits}
-use borrow.Author.Rules.{rules}
 use Rattle.euler_holes.proofs.holes.kfmrh_fits.Goals as goal
 
 pub returns-then-f1-f2 : goal.returns-then-f1-f2

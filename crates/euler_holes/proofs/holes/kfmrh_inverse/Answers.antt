@@ -1,4 +1,3 @@
-use borrow.Author.Rules.{rules}
 use Rattle.euler_holes.proofs.holes.kfmrh_inverse.Goals as goal
 
 pub returns : goal.returns

@@ -1,5 +1,4 @@
 use Rattle.euler_holes.specs.HolesLaws.{kfmrh_steps}
-use borrow.Author.Rules.{rules}
 use Rattle.euler_holes.proofs.holes.kfmrh_links.Goals as goal
 
 pub returns : goal.returns

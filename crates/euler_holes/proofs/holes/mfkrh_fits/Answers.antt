@@ -1,7 +1,6 @@
 use borrow.Author.Tests.{not-true, not-false}
 use native.Mathlib.Omega.{arith}
 use Rattle.euler_holes.specs.HolesLaws.{mfkrh_outer, mfkrh_surplus, mfkrh_within, mfkrh_nameless, mfkrh_parts}
-use borrow.Author.Rules.{rules}
 use Rattle.std.proofs.Common.{ap, not}
 use Rattle.euler_holes.proofs.holes.mfkrh_fits.Goals as goal
 

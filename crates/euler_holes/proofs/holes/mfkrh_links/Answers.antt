@@ -1,5 +1,4 @@
 use Rattle.euler_holes.specs.HolesLaws.{mfkrh_stays, mfkrh_leaves}
-use borrow.Author.Rules.{rules}
 use Rattle.euler_holes.proofs.holes.mfkrh_links.Goals as goal
 
 pub returns-then-s-eq0 : goal.returns-then-s-eq0

@@ -1,4 +1,3 @@
-use borrow.Author.Rules.{rules}
 use Rattle.euler_holes.proofs.moves.join_solids.Goals as goal
 
 pub returns : goal.returns

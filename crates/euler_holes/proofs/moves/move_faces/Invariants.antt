@@ -1,12 +1,9 @@
-use borrow.Author.Rules.{rules}
 use mathlib.Core.Path.{◌≡◌}
-use native.Mathlib.Omega.{arith}
 use Prim.Native.Nat.{◌-◌, ◌≤◌}
 use lib.Dec.{eqb}
 use lib.ListN.{length}
 use Rattle.laws.specs.Bools.{pick}
 use Rattle.euler_holes.specs.Moves.{sweep_faces}
-use Rattle.euler_holes.specs.HolesLaws.{sweep_none, sweep_more, sweep_all, move_none}
 use Rattle.euler_holes.proofs.moves.move_faces.Given as goal
 
 abbrev pub invariant-loop-k : goal.invariant-loop-k

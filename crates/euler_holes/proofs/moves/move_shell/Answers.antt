@@ -1,12 +1,7 @@
-use borrow.Author.Rules.{rules}
-use mathlib.Core.Path.{◌≡◌}
 use native.Mathlib.Omega.{arith}
-use Prim.Native.Nat.{◌-◌, ◌≤◌}
-use lib.ListN.{length}
-use Rattle.laws.specs.UnionFind.{SameRoots, same_roots_then}
-use Rattle.check_shells.specs.Forest.{Forest}
+use Rattle.laws.specs.UnionFind.{same_roots_then}
 use Rattle.check_shells.specs.ForestLaws.{same_roots_here, forest_short}
-use Rattle.euler_holes.specs.Moves.{sweep_faces, by_root, move_shell}
+use Rattle.euler_holes.specs.Moves.{move_shell}
 use Rattle.euler_holes.specs.HolesLaws.{sweep_none, sweep_more, sweep_all, by_root_lem}
 use Rattle.euler_holes.proofs.moves.move_shell.Goals as goal
 

@@ -1,5 +1,4 @@
 use Rattle.euler_inverses.specs.Chosen.{mef_undone}
-use borrow.Author.Rules.{rules}
 use Rattle.euler_inverses.proofs.inverses.edge_again.Goals as goal
 
 pub returns : goal.returns

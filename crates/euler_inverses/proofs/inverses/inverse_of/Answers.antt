@@ -9,7 +9,6 @@ use Rattle.euler.specs.FaceOperators.{mvsf_inverse, kvsf_inverse, kfmrh_inverse,
 use Rattle.euler.specs.Exec.{only_loop, only_vertex}
 use Rattle.euler_inverses.specs.Chosen.{mekr_undone, inverse_none}
 use Rattle.euler_inverses.specs.Chosen.{inverse_of_one, inverse_of_two, inverse_of_three}
-use borrow.Author.Rules.{rules}
 use Rattle.euler_inverses.proofs.inverses.inverse_of.Goals as goal
 
 pub returns-in-1 : goal.returns-in-1

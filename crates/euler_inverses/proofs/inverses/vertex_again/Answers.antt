@@ -1,5 +1,4 @@
 use Rattle.euler_inverses.specs.Chosen.{jekv_undone}
-use borrow.Author.Rules.{rules}
 use Rattle.euler_inverses.proofs.inverses.vertex_again.Goals as goal
 
 pub returns : goal.returns

@@ -1,4 +1,3 @@
-use borrow.Author.Rules.{rules}
 use Rattle.euler_splits.proofs.semv_jekv.insert_after.Goals as goal
 
 pub returns : goal.returns

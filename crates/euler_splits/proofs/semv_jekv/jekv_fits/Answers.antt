@@ -1,5 +1,4 @@
 use Rattle.euler_splits.specs.StepLaws.{jekv_tests}
-use borrow.Author.Rules.{rules}
 use Rattle.euler_splits.proofs.semv_jekv.jekv_fits.Goals as goal
 
 pub returns : goal.returns

@@ -1,5 +1,4 @@
 use Rattle.euler_splits.specs.StepLaws.{jekv_undone}
-use borrow.Author.Rules.{rules}
 use Rattle.euler_splits.proofs.semv_jekv.jekv_inverse.Goals as goal
 
 pub returns : goal.returns

@@ -1,5 +1,4 @@
 use Rattle.euler_splits.specs.StepLaws.{jekv_steps}
-use borrow.Author.Rules.{rules}
 use Rattle.euler_splits.proofs.semv_jekv.jekv_links.Goals as goal
 
 pub returns : goal.returns

@@ -1,5 +1,4 @@
 use Rattle.euler_splits.specs.Parts.{join_halves}
-use borrow.Author.Rules.{rules}
 use Rattle.euler_splits.proofs.semv_jekv.join_halves.Goals as goal
 
 pub returns : goal.returns

@@ -1,4 +1,3 @@
-use borrow.Author.Rules.{rules}
 use Rattle.euler_splits.proofs.semv_jekv.semv_inverse.Goals as goal
 
 pub returns : goal.returns

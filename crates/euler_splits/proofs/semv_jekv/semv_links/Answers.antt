@@ -1,6 +1,5 @@
 use native.Mathlib.Omega.{arith}
 use Rattle.euler_splits.specs.StepLaws.{semv_steps}
-use borrow.Author.Rules.{rules}
 use Rattle.euler_splits.proofs.semv_jekv.semv_links.Goals as goal
 
 pub insert_after-requires-2 : goal.insert_after-requires-2

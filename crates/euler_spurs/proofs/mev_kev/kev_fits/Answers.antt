@@ -1,5 +1,4 @@
 use Rattle.euler.specs.EdgeOperators.{kev_test}
-use borrow.Author.Rules.{rules}
 use Rattle.euler_spurs.proofs.mev_kev.kev_fits.Goals as goal
 
 pub returns : goal.returns

@@ -1,5 +1,4 @@
 use Rattle.euler_spurs.specs.StepLaws.{kev_undone}
-use borrow.Author.Rules.{rules}
 use Rattle.euler_spurs.proofs.mev_kev.kev_inverse.Goals as goal
 
 pub returns : goal.returns

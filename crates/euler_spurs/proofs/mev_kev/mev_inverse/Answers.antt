@@ -1,4 +1,3 @@
-use borrow.Author.Rules.{rules}
 use Rattle.euler_spurs.proofs.mev_kev.mev_inverse.Goals as goal
 
 pub returns : goal.returns

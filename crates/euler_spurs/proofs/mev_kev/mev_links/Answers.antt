@@ -1,5 +1,4 @@
 use Rattle.euler_spurs.specs.StepLaws.{mev_steps}
-use borrow.Author.Rules.{rules}
 use Rattle.euler_spurs.proofs.mev_kev.mev_links.Goals as goal
 
 pub returns : goal.returns

@@ -1,5 +1,4 @@
 use Rattle.euler_valence.specs.Starts.{less_both}
-use borrow.Author.Rules.{rules}
 use Rattle.euler_valence.proofs.valence.lower_both.Goals as goal
 
 pub returns : goal.returns

@@ -1,6 +1,5 @@
 use native.Mathlib.Omega.{arith}
 use Rattle.euler_valence.specs.Starts.{lower_none, lower_one}
-use borrow.Author.Rules.{rules}
 use Rattle.euler_valence.proofs.valence.lower_word.Goals as goal
 
 pub returns-then-n-gt0 : goal.returns-then-n-gt0

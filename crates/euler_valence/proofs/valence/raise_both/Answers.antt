@@ -1,5 +1,4 @@
 use Rattle.euler_valence.specs.Starts.{more_both}
-use borrow.Author.Rules.{rules}
 use Rattle.euler_valence.proofs.valence.raise_both.Goals as goal
 
 pub returns : goal.returns

@@ -1,5 +1,4 @@
 use Rattle.euler_valence.specs.Starts.{more_read}
-use borrow.Author.Rules.{rules}
 use Rattle.euler_valence.proofs.valence.raise_starts.Goals as goal
 
 pub returns : goal.returns

@@ -1,6 +1,5 @@
 use native.Mathlib.Omega.{arith}
 use Rattle.euler_valence.specs.Starts.{raise_full, raise_one}
-use borrow.Author.Rules.{rules}
 use Rattle.euler_valence.proofs.valence.raise_word.Goals as goal
 
 pub returns-then-n-lt65535 : goal.returns-then-n-lt65535

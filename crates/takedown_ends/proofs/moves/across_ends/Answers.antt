@@ -1,5 +1,4 @@
 use Rattle.takedown_ends.specs.EndsLaws.{across_still, across_moved}
-use borrow.Author.Rules.{rules}
 use Rattle.takedown_ends.proofs.moves.across_ends.Goals as goal
 
 pub returns-then-still : goal.returns-then-still

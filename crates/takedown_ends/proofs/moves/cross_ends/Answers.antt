@@ -1,6 +1,5 @@
 use native.Mathlib.Omega.{arith}
 use Rattle.takedown_ends.specs.EndsLaws.{cross_ends_are}
-use borrow.Author.Rules.{rules}
 use Rattle.takedown_ends.proofs.moves.cross_ends.Goals as goal
 
 pub returns : goal.returns

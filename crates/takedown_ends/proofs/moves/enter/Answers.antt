@@ -1,7 +1,5 @@
 use Rattle.takedown_search.specs.Sought.{passing, last_of}
-use native.Mathlib.Omega.{arith}
 use Rattle.takedown_ends.specs.EndsLaws.{entered_is}
-use borrow.Author.Rules.{rules}
 use Rattle.takedown_ends.proofs.moves.enter.Goals as goal
 
 pub returns : goal.returns

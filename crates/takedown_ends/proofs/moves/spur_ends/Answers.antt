@@ -1,5 +1,4 @@
 use Rattle.takedown_ends.specs.EndsLaws.{spur_ends_are}
-use borrow.Author.Rules.{rules}
 use Rattle.takedown_ends.proofs.moves.spur_ends.Goals as goal
 
 pub returns : goal.returns

@@ -1,6 +1,5 @@
 use native.Mathlib.Omega.{arith}
 use Rattle.takedown_ends.specs.EndsLaws.{tips_tried}
-use borrow.Author.Rules.{rules}
 use Rattle.takedown_ends.proofs.tips.least_tip.Goals as goal
 
 pub returns : goal.returns

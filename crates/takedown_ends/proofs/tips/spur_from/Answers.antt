@@ -1,7 +1,6 @@
 use Rattle.takedown_search.specs.Sought.{passing, last_of}
 use native.Mathlib.Omega.{arith}
 use Rattle.takedown_ends.specs.EndsLaws.{spur_sought, spur_tip}
-use borrow.Author.Rules.{rules}
 use Rattle.takedown_ends.proofs.tips.spur_from.Goals as goal
 
 pub returns-then-t-past : goal.returns-then-t-past

@@ -1,6 +1,5 @@
 use native.Mathlib.Omega.{arith}
 use Rattle.takedown_ends.specs.EndsLaws.{tip_taken, tip_left}
-use borrow.Author.Rules.{rules}
 use Rattle.takedown_ends.proofs.tips.with_tip.Goals as goal
 
 pub returns-then-tip-e : goal.returns-then-tip-e

@@ -1,8 +1,5 @@
-use borrow.Author.Rules.{rules}
 use native.Mathlib.Omega.{arith}
-use mathlib.Core.Path.{◌≡◌, refl}
-use Prim.Native.Nat.{◌<◌}
-use Rattle.takedown.specs.Swift.{least_mate}
+use mathlib.Core.Path.{refl}
 use Rattle.takedown_ends.specs.EndsLaws.{mate_stop, mate_turn, mate_out}
 use Rattle.takedown_ends.proofs.walks.least_mate.Goals as goal
 

@@ -1,9 +1,6 @@
-use borrow.Author.Rules.{rules}
-use native.Mathlib.Omega.{arith}
-use mathlib.Core.Path.{◌≡◌, refl}
+use mathlib.Core.Path.{◌≡◌}
 use Prim.Native.Nat.{◌<◌}
 use Rattle.takedown.specs.Swift.{least_mate}
-use Rattle.takedown_ends.specs.EndsLaws.{mate_stop, mate_turn, mate_out}
 use Rattle.takedown_ends.proofs.walks.least_mate.Given as goal
 
 abbrev pub invariant-loop-left : goal.invariant-loop-left

@@ -1,8 +1,5 @@
-use borrow.Author.Rules.{rules}
 use native.Mathlib.Omega.{arith}
-use mathlib.Core.Path.{◌≡◌, refl}
-use Prim.Native.Nat.{◌<◌}
-use Rattle.takedown.specs.Swift.{least_run}
+use mathlib.Core.Path.{refl}
 use Rattle.takedown_ends.specs.EndsLaws.{run_stop, run_turn, run_out}
 use Rattle.takedown_ends.proofs.walks.least_run.Goals as goal
 

@@ -1,9 +1,6 @@
-use borrow.Author.Rules.{rules}
-use native.Mathlib.Omega.{arith}
-use mathlib.Core.Path.{◌≡◌, refl}
+use mathlib.Core.Path.{◌≡◌}
 use Prim.Native.Nat.{◌<◌}
 use Rattle.takedown.specs.Swift.{least_run}
-use Rattle.takedown_ends.specs.EndsLaws.{run_stop, run_turn, run_out}
 use Rattle.takedown_ends.proofs.walks.least_run.Given as goal
 
 abbrev pub invariant-loop-left : goal.invariant-loop-left

@@ -1,4 +1,3 @@
-use borrow.Author.Rules.{rules}
 use Rattle.takedown_plans.proofs.operators.mfkrh.Goals as goal
 
 pub returns : goal.returns

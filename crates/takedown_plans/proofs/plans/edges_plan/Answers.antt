@@ -1,7 +1,6 @@
 use Rattle.takedown_plans.specs.PlanLaws.{edges_ring, edges_spur, edges_crossed, ring_lacks_lem}
 use Rattle.takedown_plans.specs.PlanLaws.{spur_lacks, cross_lacks}
 use Rattle.takedown_search.specs.Sought.{passing, last_of}
-use borrow.Author.Rules.{rules}
 use Rattle.takedown_plans.proofs.plans.edges_plan.Goals as goal
 
 pub returns-then-ring-ne0 : goal.returns-then-ring-ne0

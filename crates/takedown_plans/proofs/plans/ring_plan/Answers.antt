@@ -1,5 +1,4 @@
 use Rattle.takedown_plans.specs.PlanLaws.{ring_planned, lack_read}
-use borrow.Author.Rules.{rules}
 use Rattle.takedown_plans.proofs.plans.ring_plan.Goals as goal
 
 pub returns : goal.returns

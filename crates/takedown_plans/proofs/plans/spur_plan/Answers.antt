@@ -1,6 +1,5 @@
 use mathlib.Core.Path.{refl}
 use Rattle.takedown_plans.specs.PlanLaws.{spur_planned}
-use borrow.Author.Rules.{rules}
 use Rattle.takedown_plans.proofs.plans.spur_plan.Goals as goal
 
 pub returns : goal.returns

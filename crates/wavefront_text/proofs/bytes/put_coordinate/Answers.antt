@@ -1,5 +1,4 @@
 use native.Mathlib.Omega.{arith}
-use borrow.Author.Rules.{rules}
 use Rattle.codec.specs.SignedLaws.{negative, positive}
 use Rattle.wavefront_text.specs.PutLaws.{size_held, put_positive, put_negative}
 use Rattle.wavefront.specs.Lengths.{range_size}

@@ -1,5 +1,4 @@
 use native.Mathlib.Omega.{arith}
-use borrow.Author.Rules.{rules}
 use Rattle.wavefront_text.specs.PutLaws.{place_point, put_hundredths}
 use Rattle.wavefront_text.proofs.bytes.put_hundredths.Goals as goal
 

@@ -2,7 +2,6 @@ use mathlib.Core.Path.{◌∙◌}
 use mir.Facts.{to_z-of_z}
 use Rattle.wavefront_text.specs.LineLaws.{no_vertex, no_coordinate}
 use Rattle.layout.specs.PointsLaws.{coordinate_at}
-use borrow.Author.Rules.{rules}
 use Rattle.wavefront_text.proofs.lines.coordinate_of.Goals as goal
 
 pub returns-then-v-eq0 : goal.returns-then-v-eq0

@@ -1,6 +1,5 @@
 use Rattle.wavefront_text.specs.LineLaws.{put_corner, rank_low}
 use native.Mathlib.Omega.{arith}
-use borrow.Author.Rules.{rules}
 use Rattle.wavefront_text.proofs.lines.put_corner.Goals as goal
 
 pub put_number-requires : goal.put_number-requires

@@ -1,12 +1,8 @@
 use Rattle.wavefront_text.specs.LineLaws.{lap_next, lap_end, put_face, put_length}
-use Rattle.wavefront.specs.Obj.{concat_map, lap, corner_word}
-use Rattle.text.specs.Put.{Put}
+use Rattle.wavefront.specs.Obj.{corner_word}
 use Rattle.layout.specs.Layout.{prev_of}
-use lib.Seq.{sets}
-use lib.ListN.{length, get_or}
-use mathlib.Core.Path.{◌≡◌, refl, ◌∙◌}
-use Prim.Native.Nat.{◌-◌, ◌+◌, ◌*◌, ◌≤◌}
-use borrow.Author.Rules.{rules}
+use lib.ListN.{get_or}
+use mathlib.Core.Path.{refl, ◌∙◌}
 use native.Mathlib.Omega.{arith}
 use Rattle.wavefront_text.proofs.lines.put_face.Goals as goal
 

@@ -1,13 +1,10 @@
-use Rattle.wavefront_text.specs.LineLaws.{lap_next, lap_end, put_face, put_length}
 use Rattle.wavefront.specs.Obj.{concat_map, lap, corner_word}
 use Rattle.text.specs.Put.{Put}
 use Rattle.layout.specs.Layout.{prev_of}
 use lib.Seq.{sets}
 use lib.ListN.{length, get_or}
-use mathlib.Core.Path.{◌≡◌, refl, ◌∙◌}
+use mathlib.Core.Path.{◌≡◌}
 use Prim.Native.Nat.{◌-◌, ◌+◌, ◌*◌, ◌≤◌}
-use borrow.Author.Rules.{rules}
-use native.Mathlib.Omega.{arith}
 use Rattle.wavefront_text.proofs.lines.put_face.Given as goal
 
 abbrev pub invariant-loop-left : goal.invariant-loop-left

@@ -1,11 +1,7 @@
-use Rattle.wavefront_text.specs.LineLaws.{listed_none, listed_next, listed_all, put_length}
 use Rattle.wavefront.specs.Obj.{concat_map, passing_to, face_line, own_face}
 use Rattle.text.specs.Put.{Put}
-use lib.ListN.{length, get_or}
-use mathlib.Core.Path.{◌≡◌}
+use lib.ListN.{get_or}
 use Prim.Native.Nat.{◌-◌, ◌+◌, ◌*◌, ◌≤◌}
-use borrow.Author.Rules.{rules}
-use native.Mathlib.Omega.{arith}
 use Rattle.wavefront_text.proofs.lines.put_faces.Given as goal
 
 abbrev pub invariant-loop-f : goal.invariant-loop-f

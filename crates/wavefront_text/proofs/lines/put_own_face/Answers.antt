@@ -2,7 +2,6 @@ use Rattle.wavefront_text.specs.LineLaws.{put_own, put_other}
 use native.Mathlib.Omega.{arith}
 use lib.ListN.{get_or}
 use Rattle.wavefront.specs.Obj.{face_line}
-use borrow.Author.Rules.{rules}
 use Rattle.wavefront_text.proofs.lines.put_own_face.Goals as goal
 
 pub returns-then-face_solid-s : goal.returns-then-face_solid-s

@@ -1,7 +1,6 @@
 use Rattle.wavefront_text.specs.LineLaws.{put_unranked, put_own_rank}
 use native.Mathlib.Omega.{arith}
 use Rattle.wavefront.specs.Obj.{vertex_line}
-use borrow.Author.Rules.{rules}
 use Rattle.wavefront_text.proofs.lines.put_ranked.Goals as goal
 
 pub returns-then-rank_of-eq0 : goal.returns-then-rank_of-eq0

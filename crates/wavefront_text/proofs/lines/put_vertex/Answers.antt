@@ -1,7 +1,6 @@
 use Rattle.wavefront_text.specs.LineLaws.{put_vertex}
 use lib.Dec.{lit≤}
 use native.Mathlib.Omega.{arith}
-use borrow.Author.Rules.{rules}
 use Rattle.wavefront_text.proofs.lines.put_vertex.Goals as goal
 
 pub put_word-y-requires : goal.put_word-y-requires

@@ -1,11 +1,8 @@
 use Rattle.wavefront_text.specs.LineLaws.{listed_none, listed_next, listed_all, put_length}
 use Rattle.wavefront.specs.Obj.{concat_map, passing_to, vertex_line}
-use Rattle.text.specs.Put.{Put}
 use Rattle.layout.specs.Items.{some}
-use lib.ListN.{length, get_or}
-use mathlib.Core.Path.{◌≡◌}
-use Prim.Native.Nat.{◌+◌, ◌-◌, ◌*◌, ◌≤◌}
-use borrow.Author.Rules.{rules}
+use lib.ListN.{get_or}
+use Prim.Native.Nat.{◌+◌}
 use native.Mathlib.Omega.{arith}
 use Rattle.wavefront_text.proofs.lines.put_vertices.Goals as goal
 

@@ -1,6 +1,5 @@
 use Rattle.wavefront_text.specs.LineLaws.{word_asks, word_put, place_word}
 use native.Mathlib.Omega.{arith}
-use borrow.Author.Rules.{rules}
 use Rattle.wavefront_text.proofs.lines.put_word.Goals as goal
 
 pub put_coordinate-requires : goal.put_coordinate-requires

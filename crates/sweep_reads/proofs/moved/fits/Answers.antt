@@ -1,0 +1,8 @@
+use mathlib.Core.Path.{◌∙◌}
+use Rattle.sweep_reads.specs.MovedLaws.{fits_at}
+use borrow.Author.Rules.{rules}
+use Rattle.sweep_reads.proofs.moved.fits.Goals as goal
+
+pub returns : goal.returns
+returns c = c.fits_sum.ensures ∙ fits_at c.coordinate_of.result _ _ c.coordinate_of.type_inv
+    c.coordinate_of.ensures c.ranges.d

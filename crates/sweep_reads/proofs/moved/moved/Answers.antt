@@ -1,0 +1,8 @@
+use mathlib.Core.Path.{◌∙◌}
+use Rattle.sweep_reads.specs.MovedLaws.{moved_at_lem}
+use borrow.Author.Rules.{rules}
+use Rattle.sweep_reads.proofs.moved.moved.Goals as goal
+
+pub returns : goal.returns
+returns c = moved_at_lem c.coordinate_of.result _ _ c.sum_of.result c.coordinate_of.type_inv
+    c.coordinate_of.ensures c.ranges.d c.sum_of.type_inv c.sum_of.ensures
