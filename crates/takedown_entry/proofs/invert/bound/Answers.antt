@@ -1,0 +1,5 @@
+use native.Mathlib.Omega.{arith}
+use Rattle.takedown_entry.proofs.invert.bound.Goals as goal
+
+pub returns : goal.returns
+returns c = (omega (arith, c.less.ensures), omega (arith, c.less.ensures))
