@@ -1,6 +1,4 @@
 use Rattle.wavefront_entry.specs.ObjLaws.{drawable_ranges, drawable_small, written_in, refused_13}
-use native.Mathlib.Omega.{arith}
-use borrow.Author.Rules.{rules}
 use Rattle.wavefront_entry.proofs.obj.write_solid.Goals as goal
 
 pub rank_vertices-requires : goal.rank_vertices-requires
@@ -19,8 +17,6 @@ put_text-length-requires c = let a = c.requires in
     }
 
 pub returns : goal.returns
-returns c = written_in c.requires
-    _ c.rank_vertices.ensures
-    c.args.out.now _ _ _
-    c.overlong-long.ensures
+returns c = written_in c.requires _ c.rank_vertices.ensures
+    c.args.out.now _ _ _ c.overlong-long.ensures
     c.if-long-ne0.false c.put_text-length.ensures

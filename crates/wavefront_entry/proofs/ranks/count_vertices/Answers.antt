@@ -1,20 +1,8 @@
-use Rattle.wavefront_entry.specs.RankLaws.{
-use Rattle.bounds.specs.Bounds.{item_places}
-use Rattle.laws.specs.Sums.{count_to, count_le}
-use lib.ListN.{length}
+use Rattle.wavefront_entry.specs.RankLaws.{is_marked, counted_none, count_none, counted_next, counted_all}
+use Rattle.laws.specs.Sums.{count_le}
 use native.Mathlib.Omega.{arith}
-use Prim.Native.Nat.{◌≤◌, ◌-◌}
-use mathlib.Core.Path.{◌≡◌, ◌∙◌}
-use borrow.Author.Rules.{rules}
+use mathlib.Core.Path.{◌∙◌}
 use Rattle.wavefront_entry.proofs.ranks.count_vertices.Goals as goal
-
-  is_marked,
-  CountedTo,
-  counted_none,
-  count_none,
-  counted_next,
-  counted_all,
-}
 
 pub loop-v-init : goal.loop-v-init
 loop-v-init c = (omega arith, c.requires.1, count_none c.args.ranks.now, counted_none c.args.ranks.now)

@@ -1,11 +1,9 @@
-use Rattle.wavefront_entry.specs.RankLaws.{
+use Rattle.wavefront_entry.specs.RankLaws.{is_marked, CountedTo}
 use Rattle.bounds.specs.Bounds.{item_places}
-use Rattle.laws.specs.Sums.{count_to, count_le}
+use Rattle.laws.specs.Sums.{count_to}
 use lib.ListN.{length}
-use native.Mathlib.Omega.{arith}
 use Prim.Native.Nat.{◌≤◌, ◌-◌}
-use mathlib.Core.Path.{◌≡◌, ◌∙◌}
-use borrow.Author.Rules.{rules}
+use mathlib.Core.Path.{◌≡◌}
 use Rattle.wavefront_entry.proofs.ranks.count_vertices.Given as goal
 
 abbrev pub invariant-loop-v : goal.invariant-loop-v

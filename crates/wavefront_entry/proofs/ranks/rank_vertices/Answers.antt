@@ -1,6 +1,4 @@
 use Rattle.wavefront_entry.specs.RankLaws.{ranked_all}
-use native.Mathlib.Omega.{arith}
-use borrow.Author.Rules.{rules}
 use Rattle.wavefront_entry.proofs.ranks.rank_vertices.Goals as goal
 
 pub returns : goal.returns
