@@ -77,7 +77,7 @@ returns-then-s-ne0 c = let l = c.loop-done.invariant in
     let t = c.loop-done-test.true in
     let h = c.if-at-script.true in
     let r = c.run_step-s.ensures in
-    run_stop _ _ _ _ _ _ _ l.6 (ltb-true _ _ h) (omega (arith, t)) _ r.start_after
+    run_stop _ _ _ _ _ _ _ l.6 h (omega (arith, t)) _ r.start_after
     (λ z. omega (arith, z, c.if-s-ne0.true))
 
 pub overflow_add-done : goal.overflow_add-done
@@ -111,7 +111,7 @@ loop-done-preserved c = let l = c.loop-done.invariant in
         c.log-1.given,
         c.requires.most_value.1,
       ),
-      turned _ _ _ _ _ _ _ l.6 (ltb-true _ _ h) (omega (arith, t)) _ _ _ _ _ _ r.start_after
+      turned _ _ _ _ _ _ _ l.6 h (omega (arith, t)) _ _ _ _ _ _ r.start_after
           (omega (arith, c.if-s-ne0.false)) _ _ _ _ (omega (arith, t)) (omega arith) (omega arith) (omega arith),
     )
 
@@ -125,7 +125,7 @@ pub shape_of-log-else-at-script : goal.shape_of-log-else-at-script
 shape_of-log-else-at-script c = omega (arith, c.loop-done.invariant.2)
 
 pub returns-else-at-script : goal.returns-else-at-script
-returns-else-at-script c = run_end _ _ _ _ _ _ _ c.loop-done.invariant.6 (ltb-false _ _ c.if-at-script.false)
+returns-else-at-script c = run_end _ _ _ _ _ _ _ c.loop-done.invariant.6 c.if-at-script.false
 
 pub shape_of-links-after-loop-done : goal.shape_of-links-after-loop-done
 shape_of-links-after-loop-done c = omega (arith, c.loop-done.invariant.0)

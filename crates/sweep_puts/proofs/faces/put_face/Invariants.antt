@@ -16,7 +16,7 @@ use Rattle.sweep_puts.proofs.faces.put_face.Given as goal
 abbrev pub invariant-loop-l : goal.invariant-loop-l
 invariant-loop-l l = (l.l ≤ l.sh.loops) × (l.at ≤ 54 * l.b) × (l.room ≤ 54 * l.b)
     × (length l.out ≡ length l.initial.out) × (l.b ≡ corners_to l.sh l.links l.f l.l)
-    × Laid (joined 0 l.l (ops_of l.sh l.links l.points l.f (vector (to_z w32 l.dx) (to_z w32 l.dy) (to_z w32 l.dz))))
+    × Laid (joined 0 l.l (ops_of l.sh l.links l.points l.f (vector l.dx l.dy l.dz)))
     l.initial.out 0 0 l.out l.at
     l.room
 

@@ -16,7 +16,7 @@ abbrev pub invariant-loop-j : goal.invariant-loop-j
 invariant-loop-j l = (l.j ≤ l.n) × (l.k < 65536) × (l.place ≤ l.at + 27 * l.j) × (l.sum ≤ l.room + 27 * l.j)
     × (length l.out ≡ length l.initial.out)
     × (l.k ≡ corner_of l.sh l.links l.l l.j)
-    × Laid (series 0 l.j (riser_of l.sh l.links l.points (vector (to_z w32 l.dx) (to_z w32 l.dy) (to_z w32 l.dz)) l.l
+    × Laid (series 0 l.j (riser_of l.sh l.links l.points (vector l.dx l.dy l.dz) l.l
     l.b)) l.initial.out l.at l.room
     l.out
     l.place l.sum

@@ -1,6 +1,5 @@
 use Rattle.takedown_entry.specs.Entry.{invert_beyond, invert_refused, in_small, in_counted, invert_short}
 use Rattle.takedown_entry.specs.Entry.{invert_done, invert_lack}
-use borrow.Author.Rules.{rules}
 use Rattle.takedown_entry.proofs.invert.invert.Goals as goal
 
 pub returns-then-start-log : goal.returns-then-start-log
@@ -26,7 +25,8 @@ invert_all-end-requires c = in_small _ _ c.args.log.now _ c.if-start-log.false _
     c.shape_of-sh.ensures
 
 pub roll_back-requires : goal.roll_back-requires
-roll_back-requires c = in_small _ _ c.args.log.now _ c.if-start-log.false _ c.count-counts.ensures c.if-counts-ne0.false _
+roll_back-requires c = in_small _ _ c.args.log.now _ c.if-start-log.false _ c.count-counts.ensures c.if-counts-ne0.false
+    _
     c.shape_of-sh.ensures
 
 pub returns-then-end : goal.returns-then-end
