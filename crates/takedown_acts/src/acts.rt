@@ -8,7 +8,7 @@ use euler_effects::effects::perform;
 use euler_inverses::inverses::inverse_of;
 use layout::shape::Shape;
 use script::{Operator, operator_size, put_operator};
-use takedown_ends::numbers::less;
+use takedown_ends::order::less;
 
 // How far it has come: the operators done, and the log's start. There are at most 8,192 turns of at most 4,099
 // operators each; the bounds on `done` in the contracts below say no more than that counting does not wrap.

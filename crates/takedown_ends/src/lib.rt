@@ -3,6 +3,6 @@
 #![tactic(auto)]
 
 pub mod moves;
-pub mod numbers;
+pub mod order;
 pub mod tips;
 pub mod walks;

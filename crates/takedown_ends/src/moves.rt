@@ -6,7 +6,7 @@ ghost use Rattle.takedown.specs.Swift as swift;
 ghost use Rattle.takedown.specs.Swift.{ends_at, with_half, ring_ends, spur_ends, cross_ends, bare_ends};
 ghost use Rattle.takedown_ends.specs.InWords.{InWords};
 
-use crate::numbers::{greater, less, lesser};
+use crate::order::{greater, less, lesser};
 use crate::walks::least_run;
 use euler::records::choose;
 use euler_lone::lone::{face_in, faces_in};

@@ -5,7 +5,7 @@ ghost use Rattle.layout.specs.Small.{Small};
 ghost use Rattle.takedown.specs.Swift.{tipped, least_tip, spur_from};
 ghost use Rattle.takedown_ends.specs.InWords.{InWords};
 
-use crate::numbers::lesser;
+use crate::order::lesser;
 use layout::shape::Shape;
 use takedown::ends::Ends;
 use takedown_search::seek::{Sought, seek};

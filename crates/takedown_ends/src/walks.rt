@@ -2,7 +2,7 @@
 ghost use Rattle.std.specs.Prelude.{◌≡◌, ℕ, ◌<◌, ◌≤◌};
 ghost use Rattle.takedown.specs.Swift.{least_mate, least_run};
 
-use crate::numbers::lesser;
+use crate::order::lesser;
 use layout::columns::next_of;
 use layout::mates::mate_of;
 use layout::shape::Shape;

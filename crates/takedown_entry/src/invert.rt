@@ -11,7 +11,7 @@ use takedown::answer::InvertAnswer;
 use takedown_acts::acts::Progress;
 use takedown_all::back::roll_back;
 use takedown_all::turns::invert_all;
-use takedown_ends::numbers::less;
+use takedown_ends::order::less;
 
 // The most operators that it takes: v + 2f + 2r + 3h − 2s.
 fn bound(c: CountAnswer) -> usize

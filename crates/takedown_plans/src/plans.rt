@@ -14,7 +14,7 @@ use layout::shape::Shape;
 use script::Operator;
 use takedown::ends::Ends;
 use takedown_ends::moves::{bare_ends, cross_ends, ring_ends, spur_ends, with_half};
-use takedown_ends::numbers::less;
+use takedown_ends::order::less;
 use takedown_ends::tips::spur_from;
 use takedown_search::free::{free_edge, free_face, free_loop};
 use takedown_search::seek::{Sought, seek};

@@ -1,6 +1,6 @@
 use native.Mathlib.Omega.{arith}
 use Rattle.takedown_ends.specs.EndsLaws.{lesser_left, lesser_right}
-use Rattle.takedown_ends.proofs.numbers.lesser.Goals as goal
+use Rattle.takedown_ends.proofs.order.lesser.Goals as goal
 
 pub returns-then-a-b : goal.returns-then-a-b
 returns-then-a-b c = (lesser_left _ _ c.if-a-b.true, omega arith, omega arith)
