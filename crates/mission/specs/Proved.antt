@@ -3,7 +3,8 @@ use Rattle.std.proofs.Common.{ap}
 use Rattle.codec.specs.Operands.{widest}
 use Rattle.numbers.specs.NumberTrip.{form_read, read_form}
 use Rattle.numbers.specs.Unread.{unread, unread_bad}
-use Rattle.script.specs.EntryTrips.{write_read, read_write, script_copied, script_shortened, script_shortest}
+use Rattle.script.specs.EntryTrips.{read_write, script_copied, script_shortened, script_shortest}
+use Rattle.script.proofs.WriteRead.{write_read}
 use Rattle.script.specs.Scripts.{operator_shortest}
 use Rattle.script.specs.Unread.{refused_3, cut_refused}
 use Rattle.table.specs.declared.check.CheckAnswer.{CheckAnswer}
