@@ -10,7 +10,7 @@ use Rattle.script.specs.Unread.{refused_3, cut_refused}
 use Rattle.table.specs.declared.check.CheckAnswer.{CheckAnswer}
 use Rattle.sound_tables.specs.Good.{marked}
 use Rattle.sound_tables.specs.ClearSound.{clear_valid}
-use Rattle.sound_cuts.specs.KefAmid.{kef_in_place}
+use Rattle.sound_cuts.proofs.KefInPlace.{kef_in_place}
 use Rattle.sound_valence.specs.WrongWord.{wrong_word, freed_word}
 use Rattle.sound_valence.specs.Kept.{valence_kept}
 use Rattle.sound_operators.specs.Theorems.{valid_kept, inverse_exact}
