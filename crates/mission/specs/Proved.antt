@@ -21,7 +21,8 @@ use Rattle.promises.specs.Carried.{step_refusal, run_carried, refused_apart}
 use Rattle.promises.specs.Moves.{move_sound}
 use Rattle.promises.specs.MoveParts.{move_apart}
 use Rattle.promises.specs.MoveSteps.{move_carried}
-use Rattle.promises.specs.Promises.{undo_exact, undo_full, used_room, nineteen_room, redo_met}
+use Rattle.promises.proofs.UndoExact.{undo_exact}
+use Rattle.promises.specs.Promises.{undo_full, used_room, nineteen_room, redo_met}
 use Rattle.promises.specs.Promises.{runs_sound}
 use Rattle.promises.specs.Redo.{undo_redo, redo_undo, undo_redo_less}
 use Rattle.promises.specs.Sessions.{redo_emptied, starts_answered, redo_ended, redo_beyond, undo_out, redo_out}
