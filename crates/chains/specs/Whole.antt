@@ -19,7 +19,8 @@ use Rattle.sessions.specs.Session.{session_run}
 use Rattle.sessions.specs.Editing.{Editing, log_state, logged, run_in, undo_in, undone_from}
 use Rattle.promises.specs.Sessions.{with_redo_start}
 use Rattle.promises.specs.Edits.{edit_all, used_all}
-use Rattle.promises.specs.Promises.{Restored, redo_met, undo_exact, used_room, nineteen_room}
+use Rattle.promises.specs.Promises.{Restored, redo_met, used_room, nineteen_room}
+use Rattle.promises.proofs.UndoExact.{undo_exact}
 use Rattle.inversion.specs.Rebuild.{Builds}
 
 -- refusal, rule and operators done, with the session (redo answers so too)

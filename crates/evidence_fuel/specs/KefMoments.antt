@@ -24,7 +24,8 @@ use Rattle.euler.specs.EdgeOperators.{kef_test}
 use Rattle.euler.specs.Exec.{refusal_of, admit_of, range_refusal, use_refusals, use_refusal, use_word, condition}
 use Rattle.sound_tables.specs.Good.{Good, marked}
 use Rattle.sound_tables.specs.Walking.{Steps, steps_one}
-use Rattle.sound_cuts.specs.KefAmid.{KefInPlace, amid_kef, kef_in_place}
+use Rattle.sound_cuts.specs.KefAmid.{KefInPlace, amid_kef}
+use Rattle.sound_cuts.proofs.KefInPlace.{kef_in_place}
 use Rattle.promises.specs.Checked.{checked_good}
 
 -- the links where half-edges 1, 3 and 6 name the loops a, b, c

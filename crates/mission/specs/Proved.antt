@@ -3,13 +3,14 @@ use Rattle.std.proofs.Common.{ap}
 use Rattle.codec.specs.Operands.{widest}
 use Rattle.numbers.specs.NumberTrip.{form_read, read_form}
 use Rattle.numbers.specs.Unread.{unread, unread_bad}
-use Rattle.script.specs.EntryTrips.{write_read, read_write, script_copied, script_shortened, script_shortest}
+use Rattle.script.specs.EntryTrips.{read_write, script_copied, script_shortened, script_shortest}
+use Rattle.script.proofs.WriteRead.{write_read}
 use Rattle.script.specs.Scripts.{operator_shortest}
 use Rattle.script.specs.Unread.{refused_3, cut_refused}
 use Rattle.table.specs.declared.check.CheckAnswer.{CheckAnswer}
 use Rattle.sound_tables.specs.Good.{marked}
 use Rattle.sound_tables.specs.ClearSound.{clear_valid}
-use Rattle.sound_cuts.specs.KefAmid.{kef_in_place}
+use Rattle.sound_cuts.proofs.KefInPlace.{kef_in_place}
 use Rattle.sound_valence.specs.WrongWord.{wrong_word, freed_word}
 use Rattle.sound_valence.specs.Kept.{valence_kept}
 use Rattle.sound_operators.specs.Theorems.{valid_kept, inverse_exact}
@@ -20,7 +21,8 @@ use Rattle.promises.specs.Carried.{step_refusal, run_carried, refused_apart}
 use Rattle.promises.specs.Moves.{move_sound}
 use Rattle.promises.specs.MoveParts.{move_apart}
 use Rattle.promises.specs.MoveSteps.{move_carried}
-use Rattle.promises.specs.Promises.{undo_exact, undo_full, used_room, nineteen_room, redo_met}
+use Rattle.promises.proofs.UndoExact.{undo_exact}
+use Rattle.promises.specs.Promises.{undo_full, used_room, nineteen_room, redo_met}
 use Rattle.promises.specs.Promises.{runs_sound}
 use Rattle.promises.specs.Redo.{undo_redo, redo_undo, undo_redo_less}
 use Rattle.promises.specs.Sessions.{redo_emptied, starts_answered, redo_ended, redo_beyond, undo_out, redo_out}

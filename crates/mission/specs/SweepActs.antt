@@ -8,7 +8,8 @@ use Rattle.script.specs.Operator.{write_script}
 use Rattle.table.specs.Check.{check_of}
 use Rattle.sessions.specs.Editing.{Editing, run_in, ran_from}
 use Rattle.promises.specs.Edits.{edit_all}
-use Rattle.promises.specs.Promises.{RedoRoom, undo_exact, nineteen_room, redo_met}
+use Rattle.promises.specs.Promises.{RedoRoom, nineteen_room, redo_met}
+use Rattle.promises.proofs.UndoExact.{undo_exact}
 use Rattle.machine.specs.Machine.{Act, Clear, Check, Count, Read, Write, Run, Undo, Redo, Invert, Obj}
 use Rattle.machine.specs.Machine.{does, do_all, last_of, behind, done_of, done_in, done_by, only_runs}
 use Rattle.machine.specs.Acts.{scripts_of}

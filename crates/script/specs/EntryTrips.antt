@@ -1,23 +1,22 @@
 -- The round trips of the entry points' own definitions, for one operator and for a whole script: `read_operator`
 -- without
 -- a table and `write_operator`, which the contracts of `zoghvari_read` and `zoghvari_write` (crate `kernel`) cite.
-use Rattle.std.specs.Prelude.{◌≡◌, refl, Bool, true, false, List, [], ◌∷◌, ◌++◌, ℕ, zero, suc, ◌+◌, ◌≤◌, ◌<◌, eqb, leb}
+use Rattle.std.specs.Prelude.{◌≡◌, refl, Bool, true, false, List, [], ◌∷◌, ◌++◌, ℕ, zero, suc, ◌+◌, ◌≤◌, ◌<◌, eqb}
 use Rattle.std.specs.Prelude.{ltb, length, take, drop}
-use Rattle.std.proofs.Common.{◌∙◌, zero-add, arith, lit≤, le-leb, leb-true, eq-eqb, eqb-true}
+use Rattle.std.proofs.Common.{◌∙◌, zero-add, arith, lit≤, le-leb, eq-eqb, eqb-true}
 use Rattle.std.proofs.lemmas.List.Edits.{sets-eq}
 use Rattle.std.proofs.Math.Seq.{take-append_seam}
-use Rattle.std.proofs.lemmas.Bool.{eqb-false}
 use Rattle.laws.specs.Bools.{pick}
 use Rattle.script.specs.declared.Operator.{Operator}
 use Rattle.script.specs.declared.ReadAnswer.{ReadAnswer}
 use Rattle.codec.specs.Operands.{widest}
-use Rattle.script.specs.Operator.{read_operator, operator_bytes, operator_refusal, Written, written, not_written}
+use Rattle.script.specs.Operator.{read_operator, operator_bytes, operator_refusal, Written, written}
 use Rattle.script.specs.Operator.{write_operator, write_script, Script, script_is, before, read_from, read_script}
 use Rattle.numbers.specs.NumberTrip.{Bytes}
 use Rattle.numbers.specs.Padded.{shorten, shortest}
 use Rattle.numbers.specs.PaddedLaws.{shorten_whole, shortest_same, shorten_shortest}
 use Rattle.codec.specs.Ranges.{Within}
-use Rattle.script.specs.RoundTrip.{Writable, operator_written, read_next, read_size, read_pads, read_writable}
+use Rattle.script.specs.RoundTrip.{Writable, read_next, read_size, read_pads, read_writable}
 use Rattle.script.specs.Scripts.{AllWritable, operator_size, script_pads, written_script}
 
 -- ---- what writing leaves where it does not refuse
@@ -27,7 +26,7 @@ abbrev pub in_front : List ℕ → List ℕ → Written
 in_front bytes out = written (record { refusal = 0; length = length bytes }) (bytes ++ drop (length bytes) out)
 
 -- the operator's bytes in front
-write_fits : (o : Operator) (out : List ℕ) → operator_refusal o ≡ 0 → length (operator_bytes o) ≤ length out
+pub write_fits : (o : Operator) (out : List ℕ) → operator_refusal o ≡ 0 → length (operator_bytes o) ≤ length out
     → write_operator o out ≡ in_front (operator_bytes o) out
 unfolding write_operator
 write_fits o out z h =
@@ -39,32 +38,6 @@ write_fits o out z h =
       sets-eq (operator_bytes o) out 0 k,
       n,
     )
-
--- by its two tests
-tests : (a b : Bool) (r : ℕ) (u : Written) (out : List ℕ) → (a ≡ false → r ≡ 0 → ⊥)
-    → (pick a (pick b u (not_written 9 out)) (not_written r out)).answer.refusal ≡ 0 → (a ≡ true) × (b ≡ true)
-tests true true r u out f e = (refl, refl)
-tests true false r u out f e = absurd (omega arith)
-tests false b r u out f e = absurd (f refl e)
-
--- what it did not refuse can be written and fits
-write_parts : (o : Operator) (out : List ℕ) → (write_operator o out).answer.refusal ≡ 0
-    → (operator_refusal o ≡ 0) × (length (operator_bytes o) ≤ length out)
-unfolding write_operator
-write_parts o out e =
-    let fits = leb (length (operator_bytes o)) (length out) in
-    let t = tests (eqb (operator_refusal o) 0) fits (operator_refusal o) _ out (eqb-false _ 0) e in
-    (eqb-true _ 0 t.0, leb-true _ _ t.1)
-
--- WRITE, THEN READ: what is written is read back as the same operator, and behind it is the length answered
-pub write_read : (o : Operator) (out : List ℕ) → length o.args ≡ 8 → (write_operator o out).answer.refusal ≡ 0
-    → read_operator widest (write_operator o out).out 0
-    ≡ record { refusal = 0; next = (write_operator o out).answer.length; op = o }
-write_read o out eight e =
-    let p = write_parts o out e in
-    let w : Writable o = record { eight_args = eight; not_refused = p.0 } in
-    rw (write_fits o out p.0 p.1)
-    (operator_written o w _ 0 (drop (length (operator_bytes o)) out) refl ∙ rw (zero-add (length (operator_bytes o))))
 
 -- READ, THEN WRITE: an operator that was read, from at most 27 bytes, those from `at` up to the place behind it, is
 -- written as the shortest form of these bytes, at most 19, and of the destination nothing else changes. (Where they are
