@@ -29,7 +29,6 @@ def steps():
         ("kef has no scratch memory", ["tests/gate/scratch.py", "."]),
         ("the middle of kef", ["tests/gate/amid.py", "."]),
         ("the sweep is above the kernel", ["tests/gate/above.py", "."]),
-        ("walks of the calls that are lent a session", ["tools/walks.py", "--check"]),
         ("the gate itself", ["tests/gate/test_gate.py"]),
         ("model", ["tests/model/test_model.py"]),
         ("rows of the examples", ["tests/model/rows.py", "--check"]),
