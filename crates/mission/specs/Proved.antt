@@ -32,7 +32,8 @@ use Rattle.machine.specs.Acts.{undo_acts_lem}
 use Rattle.inversion.specs.Theorem.{inversion_exact, ten_exactly, refused_as_before, log_enough, spare_never_ten}
 use Rattle.inversion.specs.Theorem.{invert_answers, spare_exact, invert_out, holes_one, count_holes}
 use Rattle.wavefront_read.specs.Refused.{solid_refused}
-use Rattle.wavefront_read.specs.Written.{obj_ends, obj_out, obj_reads}
+use Rattle.wavefront_read.specs.Written.{obj_ends, obj_out}
+use Rattle.wavefront_read.proofs.ObjReads.{obj_reads}
 use Rattle.mission.specs.Refusals.{clear_numbered, check_numbered, count_numbered, read_numbered, write_numbered}
 use Rattle.mission.specs.Refusals.{run_numbered, undo_numbered, redo_numbered, invert_numbered, obj_numbered}
 use Rattle.mission.specs.Refusals.{rule_named, entry_numbered, clear_out, write_out}
