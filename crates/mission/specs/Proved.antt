@@ -28,7 +28,7 @@ use Rattle.promises.specs.Redo.{undo_redo, redo_undo, undo_redo_less}
 use Rattle.promises.specs.Sessions.{redo_emptied, starts_answered, redo_ended, redo_beyond, undo_out, redo_out}
 use Rattle.promises.specs.Padded.{padded_run, padded_move}
 use Rattle.promises.specs.ShortLog.{runs_written, log_shortest, move_written, move_shortest}
-use Rattle.machine.specs.Acts.{undo_acts_lem}
+use Rattle.machine.proofs.UndoActs.{undo_acts_lem}
 use Rattle.inversion.specs.Theorem.{inversion_exact, ten_exactly, refused_as_before, log_enough, spare_never_ten}
 use Rattle.inversion.specs.Theorem.{invert_answers, spare_exact, invert_out, holes_one, count_holes}
 use Rattle.wavefront_read.specs.Refused.{solid_refused}
