@@ -29,8 +29,9 @@ use Rattle.promises.specs.Sessions.{redo_emptied, starts_answered, redo_ended, r
 use Rattle.promises.specs.Padded.{padded_run, padded_move}
 use Rattle.promises.specs.ShortLog.{runs_written, log_shortest, move_written, move_shortest}
 use Rattle.machine.proofs.UndoActs.{undo_acts_lem}
-use Rattle.inversion.specs.Theorem.{inversion_exact, ten_exactly, refused_as_before, log_enough, spare_never_ten}
-use Rattle.inversion.specs.Theorem.{invert_answers, spare_exact, invert_out, holes_one, count_holes}
+use Rattle.inversion.proofs.InversionExact.{inversion_exact, spare_exact}
+use Rattle.inversion.specs.Theorem.{ten_exactly, refused_as_before, log_enough, spare_never_ten}
+use Rattle.inversion.specs.Theorem.{invert_answers, invert_out, holes_one, count_holes}
 use Rattle.wavefront_read.specs.Refused.{solid_refused}
 use Rattle.wavefront_read.specs.Written.{obj_ends, obj_out}
 use Rattle.wavefront_read.proofs.ObjReads.{obj_reads}
