@@ -38,9 +38,10 @@ use Rattle.wavefront_read.proofs.ObjReads.{obj_reads}
 use Rattle.mission.specs.Refusals.{clear_numbered, check_numbered, count_numbered, read_numbered, write_numbered}
 use Rattle.mission.specs.Refusals.{run_numbered, undo_numbered, redo_numbered, invert_numbered, obj_numbered}
 use Rattle.mission.specs.Refusals.{rule_named, entry_numbered, clear_out, write_out}
-use Rattle.sweeps.specs.Swept.{sweep_unchanged, sweep_whole, sweep_run, sweep_least, sweep_left, sweep_counted}
+use Rattle.sweeps.specs.Swept.{sweep_unchanged, sweep_whole, sweep_run, sweep_least, sweep_left}
 use Rattle.sweeps.specs.Swept.{sweep_sound}
 use Rattle.sweeps.specs.Swept.{sweep_undone, sweep_answers, sweep_refused, sweep_room, sweep_empties, sweep_any_redo}
+use Rattle.sweeps.proofs.Counted.{sweep_counted}
 use Rattle.mission.specs.SweepRefusals.{sweep_numbered, sweep_named}
 use Rattle.mission.specs.SweepActs.{calls_acts, calls_sound, calls_undone, calls_room}
 use Rattle.mission.specs.Sweeping.{Sweeping}
