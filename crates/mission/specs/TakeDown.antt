@@ -1,7 +1,7 @@
 -- The take-down whenever it answers 0: what is asked for it is then so; a sound table stays sound, whatever it answers;
 -- and a refused one leaves the session. And clearing with a table's own capacities, of which the promise of the
 -- take-down speaks.
-use Rattle.std.specs.Prelude.{◌≡◌, refl, ◌≢◌, false, List, ℕ, ◌≤◌, ℤ, length, get_or}
+use Rattle.std.specs.Prelude.{◌≡◌, ◌≢◌, false, List, ℕ, ◌≤◌, ℤ, length, get_or}
 use Rattle.std.proofs.Common.{ap}
 use Rattle.laws.specs.Bools.{split}
 use Rattle.layout.specs.Layout.{shape_of}
