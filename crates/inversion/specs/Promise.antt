@@ -1,6 +1,6 @@
 -- THE TAKE-DOWN'S PROMISE (document 01, "Demand 3 in detail", and document 02, job 6), about `invert_of`, the
--- definition
--- that the contract of the entry point cites. And the number of holes. Statements only: all are proved in Theorem.
+-- definition that the contract of the entry point cites. And the number of holes. Statements only: `InversionExact` and
+-- `SpareExact` are proved in InversionExact of proofs/, all others in Theorem.
 use Rattle.std.specs.Prelude.{◌≡◌, ◌≢◌, Bool, true, false, ◌||◌, List, [], ◌∷◌, ℕ, ◌+◌, ◌-◌, ◌*◌, ◌≤◌, eqb, ℤ, length}
 use Rattle.std.specs.Prelude.{get_or, take, drop}
 use Rattle.script.specs.declared.Operator.{Operator}

@@ -5,4 +5,3 @@ pub mod SweepActs
 pub mod TakeDown
 pub mod Sweeping
 pub mod Mission
-pub mod Proved

@@ -17,7 +17,8 @@ use Rattle.sessions.specs.Editing.{Editing, log_state, invert_in}
 use Rattle.sound_tables.specs.ClearSound.{clear_valid}
 use Rattle.inversion.specs.Promise.{clear_links, clear_points}
 use Rattle.inversion.specs.Main.{invert_passed}
-use Rattle.inversion.specs.Theorem.{inversion_exact, refused_as_before, holes_one}
+use Rattle.inversion.specs.Theorem.{refused_as_before, holes_one}
+use Rattle.inversion.proofs.InversionExact.{inversion_exact}
 
 -- clearing with a table's own capacities: what the take-down leaves, and what its script is run on
 pub clear_own : (x : List ℕ) (p : List ℤ) → (check_of x p).refusal ≡ 0

@@ -1,16 +1,12 @@
 -- THE CALL: what a sweep leaves of all that is lent, and the promises about it.
 use Rattle.std.specs.Prelude.{◌≡◌, ◌≢◌, ◌⊎◌, List, ℕ, ◌+◌, ◌*◌, ◌≤◌, ℤ, length}
 use Rattle.std.proofs.Math.Path.{refl, ap}
-use Rattle.std.proofs.Common.{sym, ◌∙◌, subst, inl, inr, ⊎_elim, arith}
+use Rattle.std.proofs.Common.{sym, ◌∙◌, inl, inr, ⊎_elim, arith}
 use Rattle.laws.specs.Bools.{split, eqb_same, eqb_other}
 use Rattle.script.specs.declared.Operator.{Operator}
 use Rattle.script.specs.Operator.{write_script}
 use Rattle.layout.specs.Layout.{shape_of}
-use Rattle.table.specs.declared.check.CheckAnswer.{CheckAnswer}
 use Rattle.table.specs.Check.{check_of}
-use Rattle.table.specs.Count.{tally_of, count_of}
-use Rattle.table.specs.CountLaws.{count_done}
-use Rattle.runs.specs.Clauses.{entry_passed}
 use Rattle.runs.specs.Run.{Leaves, leaves, entry, run_of}
 use Rattle.sessions.specs.declared.Session.{Session}
 use Rattle.chains.specs.declared.DoneLeft.{DoneLeft}
@@ -30,7 +26,6 @@ use Rattle.sweeps.specs.Sweep.{Vector, vector, corners_to, sweep_ops, sweep_refu
 use Rattle.sweeps.specs.Run.{sweep_accepted, sweep_many, sweep_any, sweep_good, sweep_able, sweep_plain}
 use Rattle.sweeps.specs.Accepted.{Midway, sweep_reach, names_least}
 use Rattle.sweeps.specs.Refused.{RefusedAs, refused_as}
-use Rattle.sweeps.specs.Counted.{CountsGrown, sweep_counts}
 use Rattle.sweeps.specs.Result.{SweptFace, sweep_sides}
 
 -- SWEEP: refusals 1 and 2 as in a run, then those of `sweep_refusal`, then the run of the operators' script
@@ -180,20 +175,3 @@ module _ (e : Editing) (f : ℕ) (v : Vector) where
     -- it passes the check
     pub sweep_sound : (check_of (swept_from e f v).links (swept_from e f v).points).refusal ≡ 0
     sweep_sound = let a = all ok free in rw (a.2, a.3, good_checked (reached ok free).good) refl
-
-    -- A LOOP OF n CORNERS ADDS n VERTICES, 2n EDGES AND n FACES AND LEAVES s, r AND h: for all loops together
-    pub sweep_counted : CountsGrown (count_of e.links e.points)
-        (count_of (swept_from e f v).links (swept_from e f v).points) (corners_lent e f)
-    sweep_counted =
-        let a = all ok free in
-        let g = sweep_good (log_state e) f v ok free in
-        let w = reached ok free in
-        let n = corners_lent e f in
-        let s : tally_of (shape_of e.links) e.links ≡ count_of e.links e.points =
-        count_done e.links e.points _ refl (entry_passed (log_state e) ok).1 (shape_of e.links) refl _ refl in
-        let t : tally_of (shape_of e.links) w.links ≡ count_of w.links w.points =
-        count_done w.links w.points _ refl (ap (λ (c : CheckAnswer). c.refusal) (good_checked w.good))
-        (shape_of e.links) w.good.shape _ refl in
-        rw (a.2, a.3) (subst (λ m. CountsGrown m (count_of w.links w.points) n) s
-        (subst (λ m. CountsGrown (tally_of (shape_of e.links) e.links) m n) t
-        (sweep_counts g (sweep_able (log_state e) f v ok free))))

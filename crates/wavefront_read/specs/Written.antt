@@ -1,19 +1,17 @@
 -- How a call ends, for every input: which refusal, what length, and every byte of the buffer; and what a reader finds
 -- in a buffer that was written.
-use Rattle.std.specs.Prelude.{◌≡◌, refl, ◌≢◌, List, ◌++◌, ℕ, ◌≤◌, ◌<◌, ℤ, length, take, drop}
-use Rattle.std.proofs.Common.{sym, ap, ◌∙◌, ⊎_elim, zero-add, arith, le-leb}
+use Rattle.std.specs.Prelude.{◌≡◌, refl, ◌≢◌, List, ℕ, ◌≤◌, ◌<◌, ℤ, length, take, drop}
+use Rattle.std.proofs.Common.{ap, ⊎_elim, le-leb}
 use Rattle.std.proofs.Math.Option.{some}
-use Rattle.std.proofs.lemmas.List.Edits.{sets, sets-eq}
-use Rattle.std.proofs.Math.Seq.{take-append_seam, drop-append_seam}
+use Rattle.std.proofs.lemmas.List.Edits.{sets}
 use Rattle.std.proofs.lemmas.Bool.{lt-leb}
 use Rattle.laws.specs.Bools.{split, le?, eqb_same, eqb_other}
 use Rattle.layout.specs.Layout.{shape_of}
 use Rattle.table.specs.Check.{check_of}
-use Rattle.promises.specs.Checked.{checked_valid}
 use Rattle.wavefront.specs.Obj.{obj_text, solid_refusal, Texted, texted, fitted, obj_of}
 use Rattle.wavefront_read.specs.Reader.{mesh, read_obj}
-use Rattle.wavefront_read.specs.ReadBack.{points_of, cycles_of, obj_read}
-use Rattle.wavefront_read.specs.Shown.{TextShows, text_shows}
+use Rattle.wavefront_read.specs.ReadBack.{points_of, cycles_of}
+use Rattle.wavefront_read.specs.Shown.{TextShows}
 
 -- ---- the four ends
 
@@ -58,14 +56,6 @@ obj_out x p s out d = go (obj_ends x p s out)
 
 -- ---- a text
 
--- the front of the buffer is the text, and behind it nothing changed
-front : (t out : List ℕ) → length t ≤ length out
-    → (take (length t) (sets out 0 t) ≡ t) × (drop (length t) (sets out 0 t) ≡ drop (length t) out)
-front t out h =
-    let e : sets out 0 t ≡ t ++ drop (length t) out =
-    sets-eq t out 0 (omega arith) ∙ ap (λ n. t ++ drop n out) (zero-add (length t)) in
-    rw e (take-append_seam t (drop (length t) out), drop-append_seam t (drop (length t) out))
-
 -- a call that answers 0: so many bytes at the front of the buffer are the text, of which a reader makes the solid's
 -- points and cycles, turned round (`TextShows`); what stood behind stands there still
 pub record TextRead (x : List ℕ) (p : List ℤ) (s : ℕ) (out : List ℕ) (r : Texted) : Type 0 where
@@ -74,24 +64,3 @@ pub record TextRead (x : List ℕ) (p : List ℤ) (s : ℕ) (out : List ℕ) (r 
       ≡ some (mesh (points_of (shape_of x) x p s) (cycles_of (shape_of x) x s))
   pub shows : TextShows (shape_of x) x p s
   pub behind : drop r.answer.length r.out ≡ drop r.answer.length out
-
--- A READER FINDS THE SOLID IN THE BUFFER, of every call that answers 0
-pub obj_reads : (x : List ℕ) (p : List ℤ) (s : ℕ) (out : List ℕ) → (obj_of x p s out).answer.refusal ≡ 0
-    → TextRead x p s out (obj_of x p s out)
-obj_reads x p s out h = go (obj_ends x p s out)
-  where
-    number : {r : Texted} → obj_of x p s out ≡ r → r.answer.refusal ≡ 0
-    number e = ap (λ (r : Texted). r.answer.refusal) (sym e) ∙ h
-
-    go : TextEnds x p s out → TextRead x p s out (obj_of x p s out)
-    go (unsound d e) = absurd (d (number e))
-    go (unshown z d e) = absurd (d (number e))
-    go (unfitting z y l e) = absurd (omega (arith, number e))
-    go (written z y l e) =
-        let f = front (whole_text x p s) out l in
-        rw e (record {
-          text = f.0;
-          read = ap read_obj f.0 ∙ obj_read (shape_of x) x p s;
-          shows = text_shows x p (checked_valid x p z) s y;
-          behind = f.1;
-        })

@@ -28,17 +28,20 @@ use Rattle.promises.specs.Redo.{undo_redo, redo_undo, undo_redo_less}
 use Rattle.promises.specs.Sessions.{redo_emptied, starts_answered, redo_ended, redo_beyond, undo_out, redo_out}
 use Rattle.promises.specs.Padded.{padded_run, padded_move}
 use Rattle.promises.specs.ShortLog.{runs_written, log_shortest, move_written, move_shortest}
-use Rattle.machine.specs.Acts.{undo_acts_lem}
-use Rattle.inversion.specs.Theorem.{inversion_exact, ten_exactly, refused_as_before, log_enough, spare_never_ten}
-use Rattle.inversion.specs.Theorem.{invert_answers, spare_exact, invert_out, holes_one, count_holes}
+use Rattle.machine.proofs.UndoActs.{undo_acts_lem}
+use Rattle.inversion.proofs.InversionExact.{inversion_exact, spare_exact}
+use Rattle.inversion.specs.Theorem.{ten_exactly, refused_as_before, log_enough, spare_never_ten}
+use Rattle.inversion.specs.Theorem.{invert_answers, invert_out, holes_one, count_holes}
 use Rattle.wavefront_read.specs.Refused.{solid_refused}
-use Rattle.wavefront_read.specs.Written.{obj_ends, obj_out, obj_reads}
+use Rattle.wavefront_read.specs.Written.{obj_ends, obj_out}
+use Rattle.wavefront_read.proofs.ObjReads.{obj_reads}
 use Rattle.mission.specs.Refusals.{clear_numbered, check_numbered, count_numbered, read_numbered, write_numbered}
 use Rattle.mission.specs.Refusals.{run_numbered, undo_numbered, redo_numbered, invert_numbered, obj_numbered}
 use Rattle.mission.specs.Refusals.{rule_named, entry_numbered, clear_out, write_out}
-use Rattle.sweeps.specs.Swept.{sweep_unchanged, sweep_whole, sweep_run, sweep_least, sweep_left, sweep_counted}
+use Rattle.sweeps.specs.Swept.{sweep_unchanged, sweep_whole, sweep_run, sweep_least, sweep_left}
 use Rattle.sweeps.specs.Swept.{sweep_sound}
 use Rattle.sweeps.specs.Swept.{sweep_undone, sweep_answers, sweep_refused, sweep_room, sweep_empties, sweep_any_redo}
+use Rattle.sweeps.proofs.Counted.{sweep_counted}
 use Rattle.mission.specs.SweepRefusals.{sweep_numbered, sweep_named}
 use Rattle.mission.specs.SweepActs.{calls_acts, calls_sound, calls_undone, calls_room}
 use Rattle.mission.specs.Sweeping.{Sweeping}

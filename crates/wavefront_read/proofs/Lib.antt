@@ -1,0 +1,3 @@
+pub mod TextShows
+pub mod Triangle
+pub mod ObjReads
