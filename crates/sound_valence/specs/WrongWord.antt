@@ -187,7 +187,8 @@ wrong_word x p c v w i some other =
 -- 0 FOR A VERTEX IN USE BREAKS RULE 1 where its point is not zero, else rule 2
 pub freed_word : (x : List ℕ) (p : List ℤ) → Valid x p → (v : ℕ) → In (shape_of x).vertices v
     → own (shape_of x) x VertexUsed v ≢ 0
-    → check_of (set_vertex_used (shape_of x) x v 0) p ≡ answer 2 (pick (is_zero p v 0 && is_zero p v 1 && is_zero p v 2) 2 1)
+    → check_of (set_vertex_used (shape_of x) x v 0) p
+    ≡ answer 2 (pick (is_zero p v 0 && is_zero p v 1 && is_zero p v 2) 2 1)
 freed_word x p c v i used =
     let g = valid_good x p c in
     rule_named x p c (set_vertex_used (shape_of x) x v 0) (R g v 0 i)
