@@ -51,7 +51,29 @@ fn put_part(links: &[u16], points: &[i32], out: &mut [u8; ROOM]) -> usize
     a.length
 }
 
-// What a script builds on an empty table as text, at the front of `out`; how long it is.
+// What a script builds on an empty table as text, at the front of `out`; how long it is. The memory is the caller's,
+// whatever it holds, so that the proof does not look into it.
+fn put_run_in(
+    links: &mut [u16; WORDS],
+    points: &mut [i32; COORDINATES],
+    log: &mut [u8; LOG],
+    script: &[u8],
+    out: &mut [u8; ROOM],
+) -> usize
+    ensures put { Put out.old 0 (run_text (run_of empty script.now)) result out.new }
+    ensures upper_bound { result ≤ 38912 }
+{
+    clear(
+        links, points, CAPACITY, CAPACITY, CAPACITY, CAPACITY, CAPACITY,
+    );
+    let ran = run(links, points, log, LOG, script);
+    if ran.refusal != 0 {
+        return put_refusal(out, ran.refusal);
+    }
+    put_part(links, points, out)
+}
+
+// The same on memory of its own.
 fn put_run(script: &[u8], out: &mut [u8; ROOM]) -> usize
     ensures put { Put out.old 0 (run_text (run_of empty script.now)) result out.new }
     ensures upper_bound { result ≤ 38912 }
@@ -59,20 +81,7 @@ fn put_run(script: &[u8], out: &mut [u8; ROOM]) -> usize
     let mut links = [0u16; WORDS];
     let mut points = [0i32; COORDINATES];
     let mut log = [0u8; LOG];
-    clear(
-        &mut links,
-        &mut points,
-        CAPACITY,
-        CAPACITY,
-        CAPACITY,
-        CAPACITY,
-        CAPACITY,
-    );
-    let ran = run(&mut links, &mut points, &mut log, LOG, script);
-    if ran.refusal != 0 {
-        return put_refusal(out, ran.refusal);
-    }
-    put_part(&links, &points, out)
+    put_run_in(&mut links, &mut points, &mut log, script, out)
 }
 
 // What the program prints for an input, at the front of `out`; how long it is. What stands behind it stays.

@@ -1,7 +1,7 @@
 use native.Mathlib.Omega.{arith}
 use Rattle.zoghvari_obj.specs.ProgramLaws.{run_good, run_refused, run_done}
 use borrow.Author.Rules.{rules}
-use Rattle.zoghvari_obj.proofs.program.put_run.Goals as goal
+use Rattle.zoghvari_obj.proofs.program.put_run_in.Goals as goal
 
 pub returns-then-ran-ne0 : goal.returns-then-ran-ne0
 returns-then-ran-ne0 c = record {
