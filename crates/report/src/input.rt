@@ -6,10 +6,8 @@ ghost use Rattle.io.specs.Counts.{IsPrefixLen};
 use std::io::{Read, Result};
 
 // Reads until the buffer is full, the input ends or a read fails, however small the pieces in which the input comes.
-// How
-// many bytes it put at the front of the buffer, and the error of the read that failed. They are what the reader gave,
-// in
-// order, and it gave no others.
+// The answer is how many bytes it put at the front of the buffer, and the error of the read that failed. They are what
+// the reader gave, in order, and it gave no others.
 pub fn read_full<R: Read>(reader: &mut R, buf: &mut [u8]) -> (usize, Result<()>)
     ensures in_bounds { IsPrefixLen result.0 buf.new }
     ensures same_length { length buf.new ≡ length buf.old }
