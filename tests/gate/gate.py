@@ -13,6 +13,9 @@ CLOSING = re.compile(r"^(\d+) passed, (\d+) failed$")
 # what `rt ci` says of a good run: the edits that were refused, and the bad ones, which fail nothing there
 GOOD_RUN = re.compile(r"^rt: ok\b.*$", re.M)
 REFUSED, BAD = re.compile(r"\bmust-fail edits: [1-9]\d* refused\b"), re.compile(r", (\d+) bad\b")
+# what it says of edits that are refused and show nothing: by a limit of the check, or for a name that is gone
+LIMITED = re.compile(r", (\d+) of them only by a limit\b")
+EMPTY = re.compile(r"^rt: must-fail \S+ refused\b.*(?:only because|gave up at one of its limits).*$", re.M)
 
 
 def steps():
@@ -59,10 +62,12 @@ def judge(status, output):
 
 
 def judge_proofs(status, output):
-    """The same of `rt ci`: it fails where there are bad edits, or where it does not say that edits were refused."""
+    """The same of `rt ci`: it fails where edits are bad or show nothing, or where it does not say that edits were
+    refused."""
     passed, failed = judge(status, output)
     said = GOOD_RUN.findall(output)
-    bad = sum(int(count) for line in said for count in BAD.findall(line))
+    bad = sum(int(count) for line in said for count in BAD.findall(line) + LIMITED.findall(line))
+    bad += len(EMPTY.findall(output))
     if bad > 0 or len(said) != 1 or not REFUSED.search(said[0]):
         failed = max(failed, bad, 1)
     return passed, failed

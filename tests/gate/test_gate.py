@@ -333,7 +333,16 @@ CASES = [
     ("bad edits fail the proofs", lambda: gate.judge_proofs(0, proofs_said("; must-fail edits: 5 refused, 2 bad"))
      == (3, 2)),
     ("also beside edits that a limit refused", lambda: gate.judge_proofs(0, proofs_said(
-        "; must-fail edits: 5 refused, 1 of them only by a limit, 12 bad")) == (3, 12)),
+        "; must-fail edits: 5 refused, 1 of them only by a limit, 12 bad")) == (3, 13)),
+    ("edits that a limit refused fail the proofs", lambda: gate.judge_proofs(0, proofs_said(
+        "; must-fail edits: 5 refused, 2 of them only by a limit")) == (3, 2)),
+    ("so do edits that are refused and show nothing", lambda: all(gate.judge_proofs(
+        0, f"rt: must-fail a/b.edit: refused, as it must be{words}\n" + proofs_said("; must-fail edits: 5 refused"))
+        == (3, 1) for words in (" (only because a proof file names what the edit took away, so this says little)",
+                                ": note: src/lib.rt:4:9: (`returns`); `search` gave up at one of its limits"))),
+    ("an edit that is refused for a fact passes", lambda: gate.judge_proofs(
+        0, "rt: must-fail a/b.edit: refused, as it must be: ./proofs/f/Answers.antt:8:5: error: `returns`: no\n"
+        + proofs_said("; must-fail edits: 5 refused")) == (3, 0)),
     ("no edit fails the proofs", lambda: gate.judge_proofs(0, proofs_said("")) == (3, 1)),
     ("edits that are all bad fail the proofs", lambda: gate.judge_proofs(0, proofs_said(
         "; must-fail edits: 0 refused, 1 bad")) == (3, 1)),
