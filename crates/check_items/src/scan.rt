@@ -7,6 +7,7 @@ use crate::joins::{first_names, half_links, half_sides};
 use crate::names::{face_names, half_names, loop_either, loop_names};
 use crate::ranges::{face_range, half_range, loop_range, solid_range, vertex_range};
 use layout::shape::Shape;
+use searching::all_pass;
 
 // The tests of one item that read the table and nothing else.
 #[derive(Clone, Copy)]
@@ -51,12 +52,5 @@ pub fn all_items(links: &[u16], points: &[i32], sh: Shape, test: Test, n: usize)
     requires { n < 65536 }
     ensures { result ≡ all_to n (item_test test sh links.now points.now) }
 {
-    let mut k: usize = 0;
-    while k < n {
-        if !item_test(links, points, sh, test, k + 1) {
-            return false;
-        }
-        k += 1;
-    }
-    true
+    all_pass(n, |k| item_test(links, points, sh, test, k))
 }

@@ -1,30 +1,23 @@
 // The points of a table: three coordinates for each vertex. Reading is total, as for the links.
-ghost use Rattle.std.specs.Prelude.{◌≡◌, ℕ, ◌<◌, ◌≤◌, ℤ, pos, get_or};
-ghost use Rattle.layout.specs.Points.{point_width, range_test, zero_test, in_range, is_zero};
+ghost use Rattle.std.specs.Prelude.{◌≡◌, ◌<◌, ◌≤◌};
+ghost use Rattle.layout.specs.Points.{point_width, coordinate, in_range, is_zero};
 
 // How many coordinates a point has.
 pub const POINT_WIDTH: usize = 3;
 
-// The number at i is in range, as a coordinate; past the end it reads 0.
-fn range_at(points: &[i32], i: usize) -> bool
-    ensures { result ≡ range_test (get_or points.now i (pos 0)) }
+// Coordinate i of vertex v, and 0 where there is none.
+pub fn coordinate(points: &[i32], v: usize, i: usize) -> i32
+    requires { (v ≤ 65536) × (i < point_width) }
+    ensures { result ≡ coordinate points.now v i }
 {
-    if i < points.len() {
-        let c = points[i];
-        return (-50000 <= c) & (c <= 50000);
+    if v == 0 {
+        return 0;
     }
-    true
-}
-
-// The number at i is 0; past the end it reads 0.
-fn zero_at(points: &[i32], i: usize) -> bool
-    ensures { result ≡ zero_test (get_or points.now i (pos 0)) }
-{
-    if i < points.len() {
-        let c = points[i];
-        return (0 <= c) & (c <= 0);
+    let at = POINT_WIDTH * (v - 1) + i;
+    if at < points.len() {
+        return points[at];
     }
-    true
+    0
 }
 
 // Coordinate i of vertex v is −50,000 to 50,000.
@@ -32,10 +25,8 @@ pub fn in_range(points: &[i32], v: usize, i: usize) -> bool
     requires { (v ≤ 65536) × (i < point_width) }
     ensures { result ≡ in_range points.now v i }
 {
-    if v == 0 {
-        return true;
-    }
-    range_at(points, POINT_WIDTH * (v - 1) + i)
+    let c = coordinate(points, v, i);
+    (-50000 <= c) & (c <= 50000)
 }
 
 // Coordinate i of vertex v is 0.
@@ -43,8 +34,6 @@ pub fn is_zero(points: &[i32], v: usize, i: usize) -> bool
     requires { (v ≤ 65536) × (i < point_width) }
     ensures { result ≡ is_zero points.now v i }
 {
-    if v == 0 {
-        return true;
-    }
-    zero_at(points, POINT_WIDTH * (v - 1) + i)
+    let c = coordinate(points, v, i);
+    (0 <= c) & (c <= 0)
 }

@@ -2,5 +2,4 @@ pub mod TakeLaws
 pub mod FreeLaws
 pub mod CornerLaws
 pub mod MovedLaws
-pub mod PointLaws
 pub mod ConditionLaws

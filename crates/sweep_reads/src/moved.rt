@@ -3,22 +3,7 @@ ghost use Rattle.std.specs.Prelude.{◌≡◌, ◌<◌, ◌≤◌, ◌+ℤ◌};
 ghost use Rattle.layout.specs.Points.{point_width, coordinate, range_test};
 ghost use Rattle.sweep_reads.specs.MovedLaws.{held_in};
 
-use layout::points::POINT_WIDTH;
-
-// Coordinate i of vertex v; total, as for the links.
-fn coordinate_of(points: &[i32], v: usize, i: usize) -> i32
-    requires { (v ≤ 65536) × (i < point_width) }
-    ensures { result ≡ coordinate points.now v i }
-{
-    if v == 0 {
-        return 0;
-    }
-    let at = POINT_WIDTH * (v - 1) + i;
-    if at < points.len() {
-        return points[at];
-    }
-    0
-}
+use layout::points::coordinate;
 
 // The sum of a coordinate and the vector's is a coordinate.
 fn fits_sum(c: i32, d: i32) -> bool
@@ -43,7 +28,7 @@ pub fn fits(points: &[i32], v: usize, i: usize, d: i32) -> bool
     requires { (v ≤ 65536) × (i < point_width) }
     ensures { result ≡ range_test (coordinate points.now v i +ℤ d) }
 {
-    fits_sum(coordinate_of(points, v, i), d)
+    fits_sum(coordinate(points, v, i), d)
 }
 
 // Coordinate i of vertex v, moved; 0 where it is out of range.
@@ -51,5 +36,5 @@ pub fn moved(points: &[i32], v: usize, i: usize, d: i32) -> i32
     requires { (v ≤ 65536) × (i < point_width) }
     ensures { result ≡ held_in (coordinate points.now v i +ℤ d) }
 {
-    sum_of(coordinate_of(points, v, i), d)
+    sum_of(coordinate(points, v, i), d)
 }

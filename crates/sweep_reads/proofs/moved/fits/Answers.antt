@@ -4,5 +4,5 @@ use borrow.Author.Rules.{rules}
 use Rattle.sweep_reads.proofs.moved.fits.Goals as goal
 
 pub returns : goal.returns
-returns c = c.fits_sum.ensures ∙ fits_at c.coordinate_of.result _ _ c.coordinate_of.type_inv
-    c.coordinate_of.ensures c.ranges.d
+returns c = c.fits_sum.ensures ∙ fits_at c.coordinate.result _ _ c.coordinate.type_inv
+    c.coordinate.ensures c.ranges.d

@@ -4,5 +4,5 @@ use borrow.Author.Rules.{rules}
 use Rattle.sweep_reads.proofs.moved.moved.Goals as goal
 
 pub returns : goal.returns
-returns c = moved_at_lem c.coordinate_of.result _ _ c.sum_of.result c.coordinate_of.type_inv
-    c.coordinate_of.ensures c.ranges.d c.sum_of.type_inv c.sum_of.ensures
+returns c = moved_at_lem c.coordinate.result _ _ c.sum_of.result c.coordinate.type_inv
+    c.coordinate.ensures c.ranges.d c.sum_of.type_inv c.sum_of.ensures

@@ -1,9 +1,8 @@
 use mathlib.Core.Path.{◌∙◌}
 use mir.Facts.{to_z-of_z}
-use Rattle.sweep_reads.specs.PointLaws.{no_vertex, no_coordinate}
-use Rattle.layout.specs.PointsLaws.{coordinate_at}
+use Rattle.layout.specs.PointsLaws.{no_vertex, no_coordinate, coordinate_at}
 use borrow.Author.Rules.{rules}
-use Rattle.sweep_reads.proofs.moved.coordinate_of.Goals as goal
+use Rattle.layout.proofs.points.coordinate.Goals as goal
 
 pub returns-then-v-eq0 : goal.returns-then-v-eq0
 returns-then-v-eq0 c = no_vertex _ _ _ c.if-v-eq0.true

@@ -1,0 +1,5 @@
+use Rattle.std.proofs.Common.{ℕ, ◌≤◌, ◌<◌, false}
+use Rattle.searching.proofs.least.Given as goal
+
+abbrev pub invariant-loop-k : goal.invariant-loop-k
+invariant-loop-k g l = (k : ℕ) → l.low ≤ k → k < l.k → goal.F-post g l.test k false
