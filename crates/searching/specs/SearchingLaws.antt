@@ -1,5 +1,5 @@
 -- A search by a test that has one answer for each number finds what the definitions say.
-use Rattle.std.specs.Prelude.{◌≡◌, refl, Bool, true, false, ℕ, zero, suc, ◌+◌, ◌-◌, ◌≤◌, ◌<◌, T, Option, None, Some}
+use Rattle.std.specs.Prelude.{◌≡◌, Bool, true, false, ℕ, zero, suc, ◌+◌, ◌-◌, ◌≤◌, ◌<◌, T, Option, None, Some}
 use Rattle.std.proofs.Common.{sym, add_comm, arith}
 use Rattle.std.specs.Option.{unwrap_or}
 use Rattle.laws.specs.Bools.{T_true, true_T, T_false, false_T}
@@ -12,16 +12,16 @@ module _ {answers : ℕ → Bool → Type 0} {n : ℕ} (p : ℕ → Bool) where
   -- all pass
   pub all_by : {r : Bool} → AllPass answers n r
       → ((k : ℕ) → 1 ≤ k → k ≤ n → (b : Bool) → answers k b → b ≡ p k) → r ≡ all_to n p
-  all_by {r = true} s h = sym (T_true (all_of n p (λ k l u. true_T (sym (h k l u true (s.each refl k l u))))))
-  all_by {r = false} s h = let f = s.but refl in
+  all_by {r = true} s h = sym (T_true (all_of n p (λ k l u. true_T (sym (h k l u true (s.found k l u))))))
+  all_by {r = false} s h = let f = s.found in
       sym (T_false (λ t. false_T (sym (h f.0 f.1 f.2 false f.3)) (all_at n p t f.0 f.1 f.2)))
 
   -- one passes
   pub one_by : {r : Bool} → OnePasses answers n r
       → ((k : ℕ) → 1 ≤ k → k ≤ n → (b : Bool) → answers k b → b ≡ p k) → r ≡ any_to n p
-  one_by {r = true} s h = let f = s.one refl in sym (T_true (any_of n p f.0 f.1 f.2 (true_T (sym (h f.0 f.1 f.2 true f.3)))))
+  one_by {r = true} s h = let f = s.found in sym (T_true (any_of n p f.0 f.1 f.2 (true_T (sym (h f.0 f.1 f.2 true f.3)))))
   one_by {r = false} s h = sym (T_false (λ t. let f = any_at n p t in
-      false_T (sym (h f.0 f.1 f.2 false (s.none refl f.0 f.1 f.2))) f.3))
+      false_T (sym (h f.0 f.1 f.2 false (s.found f.0 f.1 f.2))) f.3))
 
   -- the least that passes, 0 for none
   pub least_by : {low : ℕ} {r : Option ℕ} → LeastPasses answers low n r
@@ -32,11 +32,11 @@ module _ {answers : ℕ → Bool → Type 0} {n : ℕ} (p : ℕ → Bool) where
       go : Least (n + 1 - low) low p (least_from (n + 1 - low) low p) → 0 ≡ least_from (n + 1 - low) low p
       go (none_is z f) = sym z
       go (one_is l u t f) =
-          absurd (false_T (sym (h _ l (omega arith) false (s.none refl _ l (omega arith)))) (true_T t))
+          absurd (false_T (sym (h _ l (omega arith) false (s.found _ l (omega arith)))) (true_T t))
   least_by {low = low} {r = Some r} s h = go (least_from_is (n + 1 - low) low p)
     where
       f : (low ≤ r) × (r ≤ n) × answers r true × ((k : ℕ) → low ≤ k → k < r → answers k false)
-      f = s.least r refl
+      f = s.found
 
       t : T (p r)
       t = true_T (sym (h r f.0 f.1 true f.2))
