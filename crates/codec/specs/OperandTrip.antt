@@ -13,7 +13,7 @@ use Rattle.codec.specs.OperandBytes.{operands_bytes}
 use Rattle.codec.specs.SignedLaws.{zig_zag, zag_zig}
 use Rattle.codec.specs.ReadLaws.{operand_unused, operand_number}
 use Rattle.codec.specs.WriteLaws.{bytes_unused, bytes_number}
-use Rattle.numbers.specs.NumberTrip.{number_written, number_next}
+use Rattle.numbers.specs.NumberTrip.{same_read, number_written, number_next}
 use Rattle.numbers.specs.Padded.{shorten}
 use Rattle.numbers.specs.PaddedLaws.{drop_part, PadsAt, pads_none, pads_both, number_pads, number_same}
 use Rattle.numbers.specs.PaddedLaws.{alike_behind}
@@ -44,7 +44,7 @@ operand_pads k n s at next e =
     ⊎_elim
     (λ z.
     let f : Some (0, at) ≡ Some (n, next) = operand_unused k s at z ∙ e in
-    let g : next ≡ at = cc in
+    let g : next ≡ at = sym (same_read f).1 in
     rw (bytes_unused k n z, g) (pads_none s at))
     (λ z. rw (bytes_number k n z) (number_pads s at n next (operand_number k s at z _ refl ∙ e)))
     (same? k unused)
@@ -60,7 +60,7 @@ operand_same k s u a b e =
     (same? k unused)
   where
     by : (k ≡ unused → ⊥) → (x : Option (ℕ × ℕ))
-        → on_num x (λ n next. Some (n, b + length (groups n))) None
+        → on_num {X = Option (ℕ × ℕ)} x (λ n next. Some (n, b + length (groups n))) None
         ≡ on_num x (λ n next. Some (n, b + length (operand_bytes k n))) None
     by z (Some (n, next)) = rw (bytes_number k n z)
     by z None = refl
@@ -72,7 +72,7 @@ operand_next k n s at next h e =
     ⊎_elim
     (λ z.
     let f : Some (0, at) ≡ Some (n, next) = operand_unused k s at z ∙ e in
-    let g : next ≡ at = cc in
+    let g : next ≡ at = sym (same_read f).1 in
     (omega arith, omega arith, omega arith))
     (λ z. let b = number_next s at n next (operand_number k s at z _ refl ∙ e) in (omega (arith, b.0), b.1, b.2))
     (same? k unused)

@@ -70,7 +70,8 @@ module _ (lim : Limits) (s : List ℕ) (at : ℕ) where
       (λ t. numbered code from (read_operands (pattern code).kinds s from) r a (eqb-false _ 0 t) refl (rw t at e) z)
       (ask (eqb (pattern code).count 0))
 
-  begun : (x : Option (ℕ × ℕ)) (r : ReadAnswer) → read_number s at ≡ x → r ≡ on_num x (read_behind lim s at) (refused 3 at)
+  begun : (x : Option (ℕ × ℕ)) (r : ReadAnswer) → read_number s at ≡ x
+      → r ≡ on_num x (read_behind lim s at) (refused 3 at)
       → r.refusal ≡ 0 → Accepted lim s at r
   begun (Some (code, from)) r a e z = coded code from r a e z
   begun None r a e z = not_0 3 at (omega arith) (rw e at z)
