@@ -12,7 +12,7 @@ use Rattle.script.specs.declared.ReadAnswer.{ReadAnswer}
 use Rattle.numbers.specs.Number.{read_number, on_num}
 use Rattle.codec.specs.Operands.{pattern, largests, widest, in_ranges}
 use Rattle.script.specs.Accepted.{operator_is}
-use Rattle.codec.specs.OperandBytes.{Numbers, Read, Cut, on_numbers, read_operands}
+use Rattle.codec.specs.OperandBytes.{on_numbers, read_operands}
 use Rattle.script.specs.Operator.{refused, read_behind, read_operator}
 use Rattle.script.specs.Operator.{numbers_of, operator_bytes, operator_refusal, Written, not_written, write_operator}
 use Rattle.layout.specs.declared.shape.Shape.{Shape}
@@ -152,11 +152,11 @@ read_numbered lim s at = begun (read_number s at)
     P : ReadAnswer → Type 0
     P r = OneOf reads r.refusal
 
-    numbered : (code : ℕ) (x : Numbers)
+    numbered : (code : ℕ) (x : Option (List ℕ × ℕ))
         → P (on_numbers x (λ ns next. pick (in_ranges (largests lim) (pattern code).kinds ns)
         (record { refusal = 0; next = next; op = operator_is code ns }) (refused 5 at)) (refused 3 at))
-    numbered code (Read ns next) = pick_ind P (in_ranges (largests lim) (pattern code).kinds ns) _ _ tt tt
-    numbered code Cut = tt
+    numbered code (Some (ns, next)) = pick_ind P (in_ranges (largests lim) (pattern code).kinds ns) _ _ tt tt
+    numbered code None = tt
 
     begun : (x : Option (ℕ × ℕ)) → P (on_num x (read_behind lim s at) (refused 3 at))
     begun (Some (code, from)) =

@@ -4,10 +4,11 @@ use Rattle.std.specs.Prelude.{◌≡◌, refl, ℕ, zero, suc, ◌+◌, ◌*◌,
 use Rattle.std.specs.Prelude.{Option, Some, None}
 use Rattle.std.proofs.Common.{sym, ap, ◌∙◌, subst, arith, length-drop, take-append-drop, get_or-drop, drop-drop, lt-ltb}
 use Rattle.std.proofs.Common.{le-ltb}
+use Rattle.std.specs.Option.{unwrap_or}
 use Rattle.std.proofs.Math.Logic.{⊎_elim}
 use mathlib.Core.List.{List, [], ◌∷◌, ◌++◌}
 use Rattle.laws.specs.Bools.{le?}
-use Rattle.numbers.specs.Number.{first, second, third, read_number, groups, on_num}
+use Rattle.numbers.specs.Number.{first, second, third, read_number, groups}
 use Rattle.numbers.specs.NumberLaws.{groups_1, groups_2, groups_3, size_1, size_2, size_3, groups_size}
 use Rattle.numbers.specs.Padded.{form}
 
@@ -35,9 +36,11 @@ pub record Found (at : ℕ) (l : List ℕ) (n k : ℕ) : Type 0 where
 pub never : {X : Type 0} {n k : ℕ} → ◌≡◌ {A = Option (ℕ × ℕ)} None (Some (n, k)) → X
 never e = absurd (let z : ◌≡◌ {A = ℕ} 0 1 = cc in omega arith)
 
--- what is read once is one number, and one place behind it
-pub same_read : {v j n k : ℕ} → ◌≡◌ {A = Option (ℕ × ℕ)} (Some (v, j)) (Some (n, k)) → (v ≡ n) × (j ≡ k)
-same_read {v} {j} e = (ap (λ x. on_num x (λ m p. m) v) e, ap (λ x. on_num x (λ m p. p) j) e)
+-- what is read once is one number, or one list of them, and one place behind it
+pub same_read : {A : Type 0} {v n : A} {j k : ℕ} → ◌≡◌ {A = Option (A × ℕ)} (Some (v, j)) (Some (n, k))
+    → (v ≡ n) × (j ≡ k)
+same_read {A} {v = v} {j = j} e =
+    (ap (λ (x : Option (A × ℕ)). (unwrap_or x (v, j)).0) e, ap (λ (x : Option (A × ℕ)). (unwrap_or x (v, j)).1) e)
 
 module _ (at n k : ℕ) where
   -- from the groups, whose value and place are the ones read

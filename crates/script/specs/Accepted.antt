@@ -12,7 +12,7 @@ use Rattle.script.specs.declared.Operator.{Operator}
 use Rattle.script.specs.declared.ReadAnswer.{ReadAnswer}
 use Rattle.numbers.specs.Number.{read_number, on_num}
 use Rattle.codec.specs.Operands.{pattern, largests, in_ranges, unwires}
-use Rattle.codec.specs.OperandBytes.{Numbers, Read, Cut, on_numbers, read_operands}
+use Rattle.codec.specs.OperandBytes.{on_numbers, read_operands}
 use Rattle.script.specs.Operator.{refused, read_behind, read_operator}
 
 -- the operator that these numbers are
@@ -25,7 +25,7 @@ pub record Accepted (lim : Limits) (s : List ℕ) (at : ℕ) (r : ReadAnswer) : 
   pub numbers : List ℕ
   pub code_read : read_number s at ≡ Some (code, from)
   pub is_code : (pattern code).count ≡ 0 → ⊥
-  pub read : read_operands (pattern code).kinds s from ≡ Read numbers r.next
+  pub read : read_operands (pattern code).kinds s from ≡ Some (numbers, r.next)
   pub ranges : in_ranges (largests lim) (pattern code).kinds numbers ≡ true
   pub op_is : r.op ≡ operator_is code numbers
 
@@ -36,7 +36,7 @@ not_0 n at h e = absurd (omega arith)
 module _ (lim : Limits) (s : List ℕ) (at : ℕ) where
   ranged : (code from : ℕ) (ns : List ℕ) (next : ℕ) (t : Bool) (r : ReadAnswer) → read_number s at ≡ Some (code, from)
       → ((pattern code).count ≡ 0 → ⊥)
-      → read_operands (pattern code).kinds s from ≡ Read ns next → in_ranges (largests lim) (pattern code).kinds ns ≡ t
+      → read_operands (pattern code).kinds s from ≡ Some (ns, next) → in_ranges (largests lim) (pattern code).kinds ns ≡ t
       → r ≡ pick t (record { refusal = 0; next = next; op = operator_is code ns }) (refused 5 at) → r.refusal ≡ 0
       → Accepted lim s at r
   ranged code from ns next true r a b d e f z =
@@ -52,15 +52,15 @@ module _ (lim : Limits) (s : List ℕ) (at : ℕ) where
       }
   ranged code from ns next false r a b d e f z = not_0 5 at (omega arith) (rw f at z)
 
-  numbered : (code from : ℕ) (x : Numbers) (r : ReadAnswer) → read_number s at ≡ Some (code, from)
+  numbered : (code from : ℕ) (x : Option (List ℕ × ℕ)) (r : ReadAnswer) → read_number s at ≡ Some (code, from)
       → ((pattern code).count ≡ 0 → ⊥)
       → read_operands (pattern code).kinds s from ≡ x
       → r ≡ on_numbers x (λ ns next. pick (in_ranges (largests lim) (pattern code).kinds ns)
       (record { refusal = 0; next = next; op = operator_is code ns }) (refused 5 at)) (refused 3 at)
       → r.refusal ≡ 0 → Accepted lim s at r
-  numbered code from (Read ns next) r a b d e z =
+  numbered code from (Some (ns, next)) r a b d e z =
       ranged code from ns next (in_ranges (largests lim) (pattern code).kinds ns) r a b d refl e z
-  numbered code from Cut r a b d e z = not_0 3 at (omega arith) (rw e at z)
+  numbered code from None r a b d e z = not_0 3 at (omega arith) (rw e at z)
 
   coded : (code from : ℕ) (r : ReadAnswer) → read_number s at ≡ Some (code, from) → r ≡ read_behind lim s at code from
       → r.refusal ≡ 0 → Accepted lim s at r
@@ -83,7 +83,7 @@ module _ (lim : Limits) (s : List ℕ) (at : ℕ) where
   -- and back: what is so is read
   pub read_accepted : (code from : ℕ) (ns : List ℕ) (next : ℕ) → read_number s at ≡ Some (code, from)
       → ((pattern code).count ≡ 0 → ⊥)
-      → read_operands (pattern code).kinds s from ≡ Read ns next → in_ranges (largests lim) (pattern code).kinds ns
+      → read_operands (pattern code).kinds s from ≡ Some (ns, next) → in_ranges (largests lim) (pattern code).kinds ns
       ≡ true
       → read_operator lim s at ≡ record { refusal = 0; next = next; op = operator_is code ns }
   unfolding read_operator read_behind

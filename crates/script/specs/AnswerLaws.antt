@@ -8,7 +8,7 @@ use Rattle.script.specs.declared.ReadAnswer.{ReadAnswer}
 use Rattle.codec.specs.declared.bytes.NumbersAnswer.{NumbersAnswer}
 use Rattle.numbers.specs.Number.{read_number}
 use Rattle.codec.specs.Operands.{last_code, row, pattern, largests, in_ranges, unwires}
-use Rattle.codec.specs.OperandBytes.{numbers_answer, read_operands}
+use Rattle.codec.specs.OperandBytes.{read_operands}
 use Rattle.script.specs.Operator.{refused, read_behind, read_operator}
 use Rattle.codec.specs.OperandLaws.{no_code}
 use Rattle.codec.specs.ReadLaws.{cut_is, read_is}

@@ -13,7 +13,7 @@ use Rattle.numbers.specs.Number.{read_number, groups, on_num}
 use Rattle.numbers.specs.Padded.{shorten}
 use Rattle.numbers.specs.PaddedLaws.{number_pads, number_same, alike_behind}
 use Rattle.codec.specs.Operands.{pattern, largests, in_ranges}
-use Rattle.codec.specs.OperandBytes.{Numbers, Read, Cut, on_numbers, read_operands, operands_bytes}
+use Rattle.codec.specs.OperandBytes.{on_numbers, read_operands, operands_bytes}
 use Rattle.codec.specs.OperandTrip.{operands_same, operands_length, wires_unwires}
 use Rattle.script.specs.Operator.{refused, read_behind, read_operator, operator_bytes}
 use Rattle.script.specs.Accepted.{operator_is}
@@ -36,14 +36,14 @@ module _ (lim : Limits) (s u : List ℕ) (a b code i j : ℕ) where
   ranged ns k m e false = refl
 
   -- the numbers behind a code that was read from both
-  numbered : j ≡ b + length (groups code) → (x : Numbers) → read_operands (pattern code).kinds s i ≡ x
-      → on_numbers (on_numbers x (λ ns next. Read ns (j + length (operands_bytes (pattern code).kinds ns))) Cut)
+  numbered : j ≡ b + length (groups code) → (x : Option (List ℕ × ℕ)) → read_operands (pattern code).kinds s i ≡ x
+      → on_numbers (on_numbers x (λ ns next. Some (ns, j + length (operands_bytes (pattern code).kinds ns))) None)
       (λ ns next. pick (in_ranges (largests lim) (pattern code).kinds ns)
       (record { refusal = 0; next = next; op = operator_is code ns }) (refused 5 b)) (refused 3 b)
       ≡ in_short b (on_numbers x (λ ns next. pick (in_ranges (largests lim) (pattern code).kinds ns)
       (record { refusal = 0; next = next; op = operator_is code ns }) (refused 5 a)) (refused 3 a))
   unfolding operator_bytes
-  numbered e (Read ns next) f =
+  numbered e (Some (ns, next)) f =
       let l = operands_length (pattern code).kinds s i ns next f in
       ranged ns next _
       (rw (
@@ -53,7 +53,7 @@ module _ (lim : Limits) (s u : List ℕ) (a b code i j : ℕ) where
         add_assoc b (length (groups code)) (length (operands_bytes (pattern code).kinds ns)),
       ))
       (in_ranges (largests lim) (pattern code).kinds ns)
-  numbered e Cut f = refl
+  numbered e None f = refl
 
   -- all that is behind a code
   behind : j ≡ b + length (groups code) → drop j u ≡ shorten (drop i s)
@@ -63,7 +63,7 @@ module _ (lim : Limits) (s u : List ℕ) (a b code i j : ℕ) where
     where
       by : (t : Bool)
           → pick t (refused 4 b) (on_numbers (on_numbers (read_operands (pattern code).kinds s i)
-          (λ ns next. Read ns (j + length (operands_bytes (pattern code).kinds ns))) Cut)
+          (λ ns next. Some (ns, j + length (operands_bytes (pattern code).kinds ns))) None)
           (λ ns next. pick (in_ranges (largests lim) (pattern code).kinds ns)
           (record { refusal = 0; next = next; op = operator_is code ns }) (refused 5 b)) (refused 3 b))
           ≡ in_short b (pick t (refused 4 a) (on_numbers (read_operands (pattern code).kinds s i)
