@@ -6,7 +6,7 @@ use Rattle.std.proofs.Common.{sym, ap, ◌∙◌, ⊎_elim, arith}
 use borrow.Author.Tests.{eqb-false, ne_eqb}
 use Rattle.laws.specs.Bools.{pick, same?}
 use Rattle.numbers.specs.Number.{read_number, on_num}
-use Rattle.numbers.specs.NumberTrip.{never}
+use Rattle.numbers.specs.NumberTrip.{same_read, never}
 use Rattle.numbers.specs.Unread.{Unread, unread, unread_bad}
 use Rattle.codec.specs.declared.Limits.{Limits}
 use Rattle.codec.specs.Operands.{unused, pattern, largests, in_ranges}
@@ -76,12 +76,14 @@ unfolding read_operands
 cut_stuck [] s at e = cut _ _ (sym e)
 cut_stuck (k ∷ ks) s at e = one (read_operand k s at) refl e (λ mid f. cut_stuck ks s mid f)
   where
-    two : (n : ℕ) (y : Option (List ℕ × ℕ)) → on_numbers y (λ ms end. Some (n ∷ ms, end)) None ≡ None → y ≡ None
+    two : (n : ℕ) (y : Option (List ℕ × ℕ))
+        → on_numbers {X = Option (List ℕ × ℕ)} y (λ ms end. Some (n ∷ ms, end)) None ≡ None → y ≡ None
     two n (Some (ms, end)) f = cut _ _ (sym f)
     two n None f = refl
 
     one : (x : Option (ℕ × ℕ)) → read_operand k s at ≡ x
-        → on_num x (λ n mid. on_numbers (read_operands ks s mid) (λ ms end. Some (n ∷ ms, end)) None) None ≡ None
+        → on_num {X = Option (List ℕ × ℕ)} x
+        (λ n mid. on_numbers (read_operands ks s mid) (λ ms end. Some (n ∷ ms, end)) None) None ≡ None
         → ((mid : ℕ) → read_operands ks s mid ≡ None → Stuck ks s mid) → Stuck (k ∷ ks) s at
     one (Some (n, mid)) a f rest = stuck_behind k n ks s at mid a (rest mid (two n (read_operands ks s mid) f))
     one None a f rest = stuck_here k ks s at a
@@ -92,7 +94,7 @@ read_cut : (front : List ℕ) (k : ℕ) (ks s : List ℕ) (at : ℕ) (ns : List 
     → read_operands (front ++ (k ∷ ks)) s at ≡ None
 unfolding read_operands
 read_cut [] k ks s at ns place e u b =
-    let p : place ≡ at = cc in
+    let p : place ≡ at = sym (same_read e).1 in
     let f : read_operand k s at ≡ None = sym (operand_number k s at u _ refl) ∙ unread_bad s at (rw p at b) in
     rw f
 read_cut (j ∷ js) k ks s at ns place e u b =

@@ -4,13 +4,16 @@
 
 ghost use Rattle.std.specs.Prelude.{◌≡◌, ℕ, ◌+◌, ◌-◌, ◌≤◌, ◌<◌, length};
 ghost use Rattle.codec.specs.Operands.{widest};
-ghost use Rattle.script.specs.Operator.{blank_of, operand_of, with_number, refused, read_behind, read_operator};
-ghost use Rattle.script.specs.Operator.{operator_bytes, operator_refusal, put_bytes, written};
+ghost use Rattle.refusals.specs.Numbers.{refusal_in};
+ghost use Rattle.script.specs.Operator.{blank_of, operand_of, with_number, read_answer, read_operator};
+ghost use Rattle.script.specs.Operator.{operator_bytes, operator_refusal, put_bytes, written, write_answer};
 ghost use Rattle.script.specs.Operator.{write_operator};
 
 use bounds::MOST_ITEMS;
 use codec::{Limits, bytes, operands};
+use codec::operands::Pattern;
 use numbers::{number_size, read_number, write_before, write_number};
+use refusals::{Refusal, ensure};
 
 // An operator: its code, how many operands it has, and the operands, zeros behind them.
 #[repr(C)]
@@ -89,59 +92,33 @@ fn widest() -> Limits
     }
 }
 
-// The answer of a refused read.
-fn refused(refusal: u8, at: usize) -> ReadAnswer
-    ensures { result ≡ refused refusal at }
+// The operator that stands at `at`, its numbers within the limits, and the place behind it.
+fn read_at(script: &[u8], at: usize, limits: Limits) -> Result<(Operator, usize), Refusal>
+    ensures { read_answer at result ≡ read_operator limits script.now at }
 {
-    let op = blank(0, 0);
-    ReadAnswer {
-        refusal,
-        next: at,
-        op,
-    }
-}
-
-// The operator whose code was read at `at`, its operands behind it.
-fn read_behind(script: &[u8], at: usize, code: u8, behind: usize, limits: Limits) -> ReadAnswer
-    ensures { result ≡ read_behind limits script.now at code behind }
-{
-    let pattern = operands::pattern_of(code);
-    let count = pattern.count;
-    if count == 0 {
-        return refused(4, at);
-    }
-    let kinds = pattern.kinds;
-    let read = bytes::read_operands(kinds, script, behind);
-    if read.refusal != 0 {
-        return refused(3, at);
-    }
-    let numbers = read.numbers;
+    let (number, behind) = read_number(script, at).ok_or(Refusal::BadNumber)?;
+    ensure(number <= operands::LAST_CODE, Refusal::BadCode)?;
+    let code = number as u8;
+    let Pattern { count, kinds } = operands::pattern_of(code);
+    ensure(count != 0, Refusal::BadCode)?;
+    let (numbers, next) = bytes::read_operands(kinds, script, behind).ok_or(Refusal::BadNumber)?;
     let most = operands::largest(limits);
-    if !operands::in_ranges(&most, kinds, numbers) {
-        return refused(5, at);
-    }
+    ensure(operands::in_ranges(&most, kinds, numbers), Refusal::OutOfRange)?;
     let args = operands::from_wires(kinds, numbers);
-    let op = Operator { code, count, args };
-    ReadAnswer {
-        refusal: 0,
-        next: read.next,
-        op,
-    }
+    Ok((Operator { code, count, args }, next))
 }
 
 // The operator that stands at `at`, its numbers within the limits: refusal 3, 4 or 5.
 pub fn read_within(script: &[u8], at: usize, limits: Limits) -> ReadAnswer
     ensures { result ≡ read_operator limits script.now at }
 {
-    let x = read_number(script, at);
-    match x {
-        Some((n, behind)) => {
-            if n > operands::LAST_CODE {
-                return refused(4, at);
-            }
-            read_behind(script, at, n as u8, behind, limits)
-        }
-        None => refused(3, at),
+    match read_at(script, at, limits) {
+        Ok((op, next)) => ReadAnswer { refusal: 0, next, op },
+        Err(refusal) => ReadAnswer {
+            refusal: refusal.number(),
+            next: at,
+            op: blank(0, 0),
+        },
     }
 }
 
@@ -152,25 +129,16 @@ pub fn read_operator(script: &[u8], at: usize) -> ReadAnswer
     read_within(script, at, widest())
 }
 
-// The refusal of writing an operator into enough space: 4, 5, or 0 for none.
-pub fn operator_refusal(op: Operator) -> u8
-    ensures { result ≡ operator_refusal op }
+// Nothing where an operator can be written into enough space, else refusal 4 or 5.
+pub fn operator_refusal(op: Operator) -> Result<(), Refusal>
+    ensures { refusal_in result ≡ operator_refusal op }
 {
-    let pattern = operands::pattern_of(op.code);
-    if pattern.count == 0 {
-        return 4;
-    }
-    if op.count != pattern.count {
-        return 5;
-    }
-    let kinds = pattern.kinds;
-    let args = op.args;
-    let numbers = operands::to_wires(kinds, args);
+    let Pattern { count, kinds } = operands::pattern_of(op.code);
+    ensure(count != 0, Refusal::BadCode)?;
+    ensure(op.count == count, Refusal::OutOfRange)?;
+    let numbers = operands::to_wires(kinds, op.args);
     let most = operands::largest(widest());
-    if operands::in_ranges(&most, kinds, numbers) {
-        return 0;
-    }
-    5
+    ensure(operands::in_ranges(&most, kinds, numbers), Refusal::OutOfRange)
 }
 
 // How many bytes an operator takes.
@@ -218,24 +186,26 @@ pub fn put_before(op: Operator, out: &mut [u8], end: usize) -> usize
     write_before(out, behind, op.code as u32)
 }
 
+// The operator's bytes at the front of `out`, and how many they are; on a refusal `out` is left as it is.
+fn put_front(op: Operator, out: &mut [u8]) -> Result<usize, Refusal>
+    ensures { written (write_answer result) out.new ≡ write_operator op out.old }
+{
+    operator_refusal(op)?;
+    let size = operator_size(op);
+    ensure(size <= out.len(), Refusal::LogFull)?;
+    put_operator(op, out, 0);
+    Ok(size)
+}
+
 // The operator at the front of `out`: refusal 4 or 5, then 9 where it does not fit, with `out` left as it is.
 pub fn write_operator(op: Operator, out: &mut [u8]) -> WriteAnswer
     ensures { written result out.new ≡ write_operator op out.old }
 {
-    let refusal = operator_refusal(op);
-    if refusal != 0 {
-        return WriteAnswer { refusal, length: 0 };
-    }
-    let size = operator_size(op);
-    if out.len() < size {
-        return WriteAnswer {
-            refusal: 9,
+    match put_front(op, out) {
+        Ok(length) => WriteAnswer { refusal: 0, length },
+        Err(refusal) => WriteAnswer {
+            refusal: refusal.number(),
             length: 0,
-        };
-    }
-    put_operator(op, out, 0);
-    WriteAnswer {
-        refusal: 0,
-        length: size,
+        },
     }
 }
