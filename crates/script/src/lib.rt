@@ -10,8 +10,8 @@ ghost use Rattle.script.specs.Operator.{operator_bytes, operator_refusal, put_by
 ghost use Rattle.script.specs.Operator.{write_operator};
 
 use bounds::MOST_ITEMS;
-use codec::{Limits, bytes, operands};
 use codec::operands::Pattern;
+use codec::{Limits, bytes, operands};
 use numbers::{number_size, read_number, write_before, write_number};
 use refusals::{Refusal, ensure};
 
@@ -56,14 +56,10 @@ pub fn blank(code: u8, count: u8) -> Operator
 pub fn operand(op: Operator, i: usize) -> usize
     ensures { (result ≡ operand_of op i) × (result < 2147483648) }
 {
-    if i < 8 {
-        let a = op.args[i];
-        if a < 0 {
-            return 0;
-        }
-        return a as usize;
+    match op.args.get(i) {
+        Some(&a) if a >= 0 => a as usize,
+        _ => 0,
     }
-    0
 }
 
 // The operator with v for operand i.
@@ -71,9 +67,9 @@ pub fn with_number(op: Operator, i: usize, v: usize) -> Operator
     requires { (i < 8) × (v < 65536) }
     ensures { result ≡ with_number op i v }
 {
-    let mut next = op;
-    next.args[i] = v as i32;
-    next
+    let mut args = op.args;
+    args[i] = v as i32;
+    Operator { args, ..op }
 }
 
 // A capacity is a word of a table.
@@ -103,7 +99,10 @@ fn read_at(script: &[u8], at: usize, limits: Limits) -> Result<(Operator, usize)
     ensure(count != 0, Refusal::BadCode)?;
     let (numbers, next) = bytes::read_operands(kinds, script, behind).ok_or(Refusal::BadNumber)?;
     let most = operands::largest(limits);
-    ensure(operands::in_ranges(&most, kinds, numbers), Refusal::OutOfRange)?;
+    ensure(
+        operands::in_ranges(&most, kinds, numbers),
+        Refusal::OutOfRange,
+    )?;
     let args = operands::from_wires(kinds, numbers);
     Ok((Operator { code, count, args }, next))
 }
@@ -113,7 +112,11 @@ pub fn read_within(script: &[u8], at: usize, limits: Limits) -> ReadAnswer
     ensures { result ≡ read_operator limits script.now at }
 {
     match read_at(script, at, limits) {
-        Ok((op, next)) => ReadAnswer { refusal: 0, next, op },
+        Ok((op, next)) => ReadAnswer {
+            refusal: 0,
+            next,
+            op,
+        },
         Err(refusal) => ReadAnswer {
             refusal: refusal.number(),
             next: at,
@@ -138,18 +141,19 @@ pub fn operator_refusal(op: Operator) -> Result<(), Refusal>
     ensure(op.count == count, Refusal::OutOfRange)?;
     let numbers = operands::to_wires(kinds, op.args);
     let most = operands::largest(widest());
-    ensure(operands::in_ranges(&most, kinds, numbers), Refusal::OutOfRange)
+    ensure(
+        operands::in_ranges(&most, kinds, numbers),
+        Refusal::OutOfRange,
+    )
 }
 
 // How many bytes an operator takes.
 pub fn operator_size(op: Operator) -> usize
     ensures { (result ≡ length (operator_bytes op)) × (result ≤ 27) }
 {
-    let pattern = operands::pattern_of(op.code);
-    let kinds = pattern.kinds;
-    let args = op.args;
-    let numbers = operands::to_wires(kinds, args);
-    number_size(op.code as u32) + bytes::operands_size(kinds, numbers)
+    let kinds = operands::pattern_of(op.code).kinds;
+    let numbers = operands::to_wires(kinds, op.args);
+    number_size(u32::from(op.code)) + bytes::operands_size(kinds, numbers)
 }
 
 // The operator's bytes at `at`, where they fit; else nothing changes.
@@ -157,18 +161,12 @@ pub fn put_operator(op: Operator, out: &mut [u8], at: usize)
     ensures { out.new ≡ put_bytes out.old at (operator_bytes op) }
 {
     let size = operator_size(op);
-    let n = out.len();
-    if n < size {
+    if out.len() < size || out.len() - size < at {
         return;
     }
-    if n - size < at {
-        return;
-    }
-    let pattern = operands::pattern_of(op.code);
-    let kinds = pattern.kinds;
-    let args = op.args;
-    let numbers = operands::to_wires(kinds, args);
-    let behind = write_number(out, at, op.code as u32);
+    let kinds = operands::pattern_of(op.code).kinds;
+    let numbers = operands::to_wires(kinds, op.args);
+    let behind = write_number(out, at, u32::from(op.code));
     bytes::write_operands(out, behind, kinds, numbers);
 }
 
@@ -178,12 +176,9 @@ pub fn put_before(op: Operator, out: &mut [u8], end: usize) -> usize
     ensures value { result ≡ end - length (operator_bytes op) }
     ensures out_after { out.new ≡ put_bytes out.old (end - length (operator_bytes op)) (operator_bytes op) }
 {
-    let pattern = operands::pattern_of(op.code);
-    let count = pattern.count as usize;
-    let kinds = pattern.kinds;
-    let args = op.args;
-    let behind = bytes::put_operands_before(out, end, count, kinds, args);
-    write_before(out, behind, op.code as u32)
+    let Pattern { count, kinds } = operands::pattern_of(op.code);
+    let behind = bytes::put_operands_before(out, end, usize::from(count), kinds, op.args);
+    write_before(out, behind, u32::from(op.code))
 }
 
 // The operator's bytes at the front of `out`, and how many they are; on a refusal `out` is left as it is.
