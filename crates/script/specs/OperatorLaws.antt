@@ -133,17 +133,3 @@ module _ (op : Operator) (out : List ℕ) (r : ℕ) (e : r ≡ operator_refusal 
         rw (← e, eq-eqb r 0 z, f, le-leb (length (operator_bytes op)) (length out) k)
         (ap (λ (l : List ℕ). written (record { refusal = 0; length = length (operator_bytes op) }) l)
         (rw (n, le-leb (length (operator_bytes op)) (length out) k) at g))
-
--- an operand as a number that is not negative
-pub nat_of_pos : (z : ℤ) (n : ℕ) → z ≡ pos n → n ≡ nat_of z
-nat_of_pos z n e = rw e
-
-pub nat_of_neg : (z : ℤ) (n : ℕ) → z ≡ negsuc n → 0 ≡ nat_of z
-nat_of_neg z n e = rw e
-
-pub nat_of_out : (l : List ℤ) (i : ℕ) → length l ≡ 8 → 8 ≤ i → 0 ≡ nat_of (get_or l i (pos 0))
-nat_of_out l i e h = let k : length l ≤ i = omega arith in rw (get_or-eq_default l (pos 0) k)
-
--- the length of an array in a struct, as the logic has it
-pub unmapped : (l : List ℤ) (n : ℕ) → length (map (λ (v : ℤ). v) l) ≡ n → length l ≡ n
-unmapped l n e = sym (length-map l (λ (v : ℤ). v)) ∙ e
