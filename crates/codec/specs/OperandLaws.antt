@@ -1,11 +1,13 @@
 -- Laws of the operands: which codes there are, and what is read and stored of one operand.
 use Rattle.std.specs.Prelude.{◌≡◌, ◌⊎◌, ℕ, zero, suc, ◌+◌, ◌*◌, ◌≤◌, ◌<◌, List, [], ◌∷◌, ◌++◌, take, drop, set, leb}
 use Rattle.std.specs.Prelude.{eqb, Bool, true, false, ℤ, pos, negsuc}
-use Rattle.std.proofs.Common.{sym, ◌∙◌, inl, inr, ⊎_elim, append_assoc, append-nil, drop_of_length-le, drop-cons}
+use Rattle.std.proofs.Common.{refl, sym, ap, ◌∙◌, inl, inr, ⊎_elim, append_assoc, append-nil, drop_of_length-le, drop-cons}
 use Rattle.std.proofs.Common.{take-suc-set, take_all, add-one}
 use native.Mathlib.Omega.{arith}
 use Rattle.std.proofs.Math.ListN.{length, get_or, get_or-eq_default}
 use borrow.Author.Tests.{lt-ltb, le-ltb, lt-leb, eq-eqb, ne_eqb}
+use denote.Param.Members.{Mut, Called}
+use Rattle.std.specs.Array.{IsFromFnResultFrom}
 use Rattle.laws.specs.Bools.{pick, same?}
 use Rattle.codec.specs.declared.Limits.{Limits}
 use Rattle.codec.specs.declared.operands.Pattern.{Pattern}
@@ -89,25 +91,27 @@ module _ (most ks ns : List ℕ) (i : ℕ) (p : length ks ≡ 8) (q : length ns 
   unfolding in_ranges
   ranges_end h = rw (behind ks i p h) at rest
 
--- an array filled place by place with a function of two others
-module _ {A B : Type 0} (f : ℕ → A → B) (ks : List ℕ) (xs : List A) (d : A) (i : ℕ) (p : length ks ≡ 8) (q : length xs
-    ≡ 8)
-    (ys : List B) (r : length ys ≡ 8) (whole : List B) (rest : take i ys ++ each f (drop i ks) (drop i xs)
-    ≡ whole) where
-  pub each_turn : i < 8 → (y : B) → y ≡ f (get_or ks i 0) (get_or xs i d)
-      → take (i + 1) (set ys i y) ++ each f (drop (i + 1) ks) (drop (i + 1) xs) ≡ whole
-  each_turn h y e =
-      rw (
-        add-one i,
-        take-suc-set ys i y (omega arith),
-        e,
-        append_assoc (take i ys) (f (get_or ks i 0) (get_or xs i d)
-            ∷ []) (each f (drop (suc i) ks) (drop (suc i) xs)),
-      )
-      (rw (drop-cons ks i 0 (omega arith), drop-cons xs i d (omega arith)) at rest)
+-- a list whose every place has the function of the kind and the operand there
+pub each_by : {A B : Type 0} (f : ℕ → A → B) (ks : List ℕ) (xs : List A) (ys : List B) (d : A) (e : B)
+    → length xs ≡ length ks → length ys ≡ length ks
+    → ((i : ℕ) → i < length ks → get_or ys i e ≡ f (get_or ks i 0) (get_or xs i d)) → ys ≡ each f ks xs
+each_by f [] xs [] d e p q h = refl
+each_by f [] xs (y ∷ ys) d e p q h = absurd (omega arith)
+each_by f (k ∷ ks) [] ys d e p q h = absurd (omega arith)
+each_by f (k ∷ ks) (x ∷ xs) [] d e p q h = absurd (omega arith)
+each_by f (k ∷ ks) (x ∷ xs) (y ∷ ys) d e p q h =
+    rw (h 0 (omega arith)) (ap (λ l. f k x ∷ l)
+    (each_by f ks xs ys d e (omega arith) (omega arith) (λ i l. h (suc i) (omega arith))))
 
-  pub each_end : 8 ≤ i → ys ≡ whole
-  each_end h = sym (append-nil ys) ∙ (rw (behind ks i p h, take_all i ys (omega arith)) at rest)
+-- an array made by calls, one for each place, that keep what the first began with and give w
+pub made_by : {F B : Type 0} (g : Mut F (ℕ × Unit {0}) B) (keeps : F → Type 0) (w : ℕ → B) (ys : List B) (e : B)
+    → ((p q : F) (i : ℕ) (y : B) → keeps p → Called g p (i, tt) y q → keeps q × (y ≡ w i))
+    → (n i : ℕ) (p : F) → keeps p → IsFromFnResultFrom g p ys i n → (k : ℕ) → i ≤ k → k < i + n → get_or ys k e ≡ w k
+made_by g keeps w ys e step zero i p s m k l h = absurd (omega arith)
+made_by g keeps w ys e step (suc n) i p s m k l h =
+    let t = step p m.0 i m.1 s m.3 in
+    ⊎_elim (λ d. rw d (m.2.1 e ∙ t.1)) (λ d. made_by g keeps w ys e step n (i + 1) m.0 t.0 m.4 k (omega (arith, l, d)) (omega (arith, h)))
+    (same? k i)
 
 -- one operand as it travels, and back
 module _ (k : ℕ) (a : ℤ) where

@@ -1,91 +1,78 @@
 -- What the code's loop over the operands finds, turn by turn.
-use Rattle.std.specs.Prelude.{◌≡◌, refl, ℕ, zero, suc, ◌+◌, ◌≤◌, ◌<◌, length, get_or, take, drop, set, replicate, eqb}
+use Rattle.std.specs.Prelude.{◌≡◌, refl, ℕ, zero, suc, ◌+◌, ◌≤◌, ◌<◌, length, get_or, take, drop, set, eqb}
+use Rattle.std.specs.Prelude.{Option, Some, None}
 use Rattle.std.proofs.Math.Path.{ap}
-use Rattle.std.proofs.Common.{◌∙◌, add-one, arith, drop-cons, take-suc-set, eq-eqb, ne_eqb}
+use Rattle.std.proofs.Common.{◌∙◌, subst, add-one, arith, drop-cons, take-suc-set, eq-eqb, ne_eqb}
 use mathlib.Core.List.{List, [], ◌∷◌, ◌++◌, append_assoc, append-nil}
 use Rattle.std.proofs.Math.Seq.{take_all}
 use Rattle.laws.specs.Bools.{pick_ind}
-use Rattle.numbers.specs.declared.Num.{Num}
-use Rattle.numbers.specs.declared.Num.TheVariants.{Got, Bad}
-use Rattle.codec.specs.declared.bytes.NumbersAnswer.{NumbersAnswer}
 use Rattle.numbers.specs.Number.{read_number, on_num}
 use Rattle.numbers.specs.NumberTrip.{number_small}
 use Rattle.codec.specs.Operands.{unused, Small}
-use Rattle.codec.specs.OperandBytes.{Numbers, Read, Cut, on_numbers, numbers_answer, read_operand, read_operands}
+use Rattle.codec.specs.OperandBytes.{on_numbers, read_operand, read_operands}
 use Rattle.codec.specs.OperandLaws.{behind}
 
 module _ (k : ℕ) (s : List ℕ) (at : ℕ) where
-  pub operand_unused : k ≡ unused → Got 0 at ≡ read_operand k s at
+  pub operand_unused : k ≡ unused → Some (0, at) ≡ read_operand k s at
   unfolding read_operand
   operand_unused e = rw (eq-eqb k unused e)
 
-  pub operand_number : (k ≡ unused → ⊥) → (x : Num) → x ≡ read_number s at → x ≡ read_operand k s at
+  pub operand_number : (k ≡ unused → ⊥) → (x : Option (ℕ × ℕ)) → x ≡ read_number s at → x ≡ read_operand k s at
   unfolding read_operand
   operand_number e x f = rw (ne_eqb k unused e) f
 
 -- numbers behind those that were read before
-abbrev pub front : List ℕ → Numbers → Numbers
-front l (Read ns next) = Read (l ++ ns) next
-front l Cut = Cut
+abbrev pub front : List ℕ → Option (List ℕ × ℕ) → Option (List ℕ × ℕ)
+front l (Some (ns, next)) = Some (l ++ ns, next)
+front l None = None
 
-pub front_nil : (r : Numbers) → front [] r ≡ r
-front_nil (Read ns next) = refl
-front_nil Cut = refl
+pub front_nil : (r : Option (List ℕ × ℕ)) → front [] r ≡ r
+front_nil (Some (ns, next)) = refl
+front_nil None = refl
 
-front_cons : (l : List ℕ) (n : ℕ) (r : Numbers)
-    → front (l ++ (n ∷ [])) r ≡ front l (on_numbers r (λ ns end. Read (n ∷ ns) end) Cut)
-front_cons l n (Read ns next) = ap (λ (m : List ℕ). Read m next) (append_assoc l (n ∷ []) ns)
-front_cons l n Cut = refl
+front_cons : (l : List ℕ) (n : ℕ) (r : Option (List ℕ × ℕ))
+    → front (l ++ (n ∷ [])) r ≡ front l (on_numbers r (λ ns end. Some (n ∷ ns, end)) None)
+front_cons l n (Some (ns, next)) = ap (λ (m : List ℕ). Some (m, next)) (append_assoc l (n ∷ []) ns)
+front_cons l n None = refl
 
 -- as a turn begins, at a refusal, after a turn and at the end
-module _ (s ks ys : List ℕ) (i p : ℕ) (q : length ks ≡ 8) (r : length ys ≡ 8) (whole : Numbers)
+module _ (s ks ys : List ℕ) (i p : ℕ) (q : length ks ≡ 8) (r : length ys ≡ 8) (whole : Option (List ℕ × ℕ))
     (rest : front (take i ys) (read_operands (drop i ks) s p) ≡ whole) where
   more : i < 8
       → front (take i ys) (on_num (read_operand (get_or ks i 0) s p)
-      (λ n next. on_numbers (read_operands (drop (suc i) ks) s next) (λ ns end. Read (n ∷ ns) end) Cut) Cut) ≡ whole
+      (λ n next. on_numbers (read_operands (drop (suc i) ks) s next) (λ ns end. Some (n ∷ ns, end)) None) None) ≡ whole
   unfolding read_operands
   more h = rw (drop-cons ks i 0 (omega arith)) at rest
 
-  pub operands_cut : (at : ℕ) → i < 8 → read_operand (get_or ks i 0) s p ≡ Bad
-      → record { refusal = 3; next = at; numbers = replicate 8 0 } ≡ numbers_answer at whole
-  operands_cut at h e = ap (numbers_answer at) (rw e at (more h))
+  pub operands_cut : i < 8 → read_operand (get_or ks i 0) s p ≡ None → None ≡ whole
+  operands_cut h e = rw e at (more h)
 
-  pub operands_turn : (n next : ℕ) → i < 8 → read_operand (get_or ks i 0) s p ≡ Got n next
+  pub operands_turn : (n next : ℕ) → i < 8 → read_operand (get_or ks i 0) s p ≡ Some (n, next)
       → front (take (i + 1) (set ys i n)) (read_operands (drop (i + 1) ks) s next) ≡ whole
   operands_turn n next h e =
       rw (add-one i, take-suc-set ys i n (omega arith))
       (front_cons (take i ys) n (read_operands (drop (suc i) ks) s next) ∙ (rw e at (more h)))
 
-  pub operands_end : (at : ℕ) → 8 ≤ i → record { refusal = 0; next = p; numbers = ys } ≡ numbers_answer at whole
+  pub operands_end : 8 ≤ i → Some (ys, p) ≡ whole
   unfolding read_operands
-  operands_end at h = ap (numbers_answer at) (rw (behind ks i q h, take_all i ys (omega arith), append-nil ys) at rest)
-
--- what the answer of the loop says of the numbers
-pub cut_is : (n : NumbersAnswer) (at : ℕ) (x : Numbers) → n ≡ numbers_answer at x → (n.refusal ≡ 0 → ⊥) → x ≡ Cut
-cut_is n at (Read ns next) e h = absurd (h (ap (λ (m : NumbersAnswer). m.refusal) e))
-cut_is n at Cut e h = refl
-
-pub read_is : (n : NumbersAnswer) (at : ℕ) (x : Numbers) → n ≡ numbers_answer at x → n.refusal ≡ 0
-    → x ≡ Read n.numbers n.next
-read_is n at (Read ns next) e h = rw e
-read_is n at Cut e h = absurd (let z : n.refusal ≡ 3 = ap (λ (m : NumbersAnswer). m.refusal) e in omega arith)
+  operands_end h = rw (behind ks i q h, take_all i ys (omega arith), append-nil ys) at rest
 
 -- every number that is read fits three groups
-abbrev SmallNum : Num → Type 0
-SmallNum (Got n next) = n < 2097152
-SmallNum Bad = Unit {0}
+abbrev SmallNum : Option (ℕ × ℕ) → Type 0
+SmallNum (Some (n, next)) = n < 2097152
+SmallNum None = Unit {0}
 
-abbrev SmallNumbers : Numbers → Type 0
-SmallNumbers (Read ns next) = Small ns
-SmallNumbers Cut = Unit {0}
+abbrev SmallNumbers : Option (List ℕ × ℕ) → Type 0
+SmallNumbers (Some (ns, next)) = Small ns
+SmallNumbers None = Unit {0}
 
 -- of a number, of an operand, of all of them
 small_number : (s : List ℕ) (at : ℕ) → SmallNum (read_number s at)
 small_number s at = by (read_number s at) refl
   where
-    by : (x : Num) → read_number s at ≡ x → SmallNum x
-    by (Got n next) e = number_small s at n next e
-    by Bad e = tt
+    by : (x : Option (ℕ × ℕ)) → read_number s at ≡ x → SmallNum x
+    by (Some (n, next)) e = number_small s at n next e
+    by None e = tt
 
 operand_small : (k : ℕ) (s : List ℕ) (at : ℕ) → SmallNum (read_operand k s at)
 unfolding read_operand
@@ -103,25 +90,15 @@ unfolding read_operands
 operands_small [] s at = record { at = λ i. omega arith }
 operands_small (k ∷ ks) s at = step (read_operand k s at) (operand_small k s at) (λ next. operands_small ks s next)
   where
-    cons : (n : ℕ) (r : Numbers) → n < 2097152 → SmallNumbers r
-        → SmallNumbers (on_numbers r (λ ns end. Read (n ∷ ns) end) Cut)
-    cons n (Read ns next) h rest = small_cons n ns h rest
-    cons n Cut h rest = tt
+    cons : (n : ℕ) (r : Option (List ℕ × ℕ)) → n < 2097152 → SmallNumbers r
+        → SmallNumbers (on_numbers r (λ ns end. Some (n ∷ ns, end)) None)
+    cons n (Some (ns, next)) h rest = small_cons n ns h rest
+    cons n None h rest = tt
 
-    step : (x : Num) → SmallNum x → ((next : ℕ) → SmallNumbers (read_operands ks s next))
-        → SmallNumbers (on_num x (λ n next. on_numbers (read_operands ks s next) (λ ns end. Read (n ∷ ns) end) Cut) Cut)
-    step (Got n next) h rest = cons n (read_operands ks s next) h (rest next)
-    step Bad h rest = tt
+    step : (x : Option (ℕ × ℕ)) → SmallNum x → ((next : ℕ) → SmallNumbers (read_operands ks s next))
+        → SmallNumbers (on_num x (λ n next. on_numbers (read_operands ks s next) (λ ns end. Some (n ∷ ns, end)) None) None)
+    step (Some (n, next)) h rest = cons n (read_operands ks s next) h (rest next)
+    step None h rest = tt
 
-small_answer : (at : ℕ) (x : Numbers) → SmallNumbers x → Small (numbers_answer at x).numbers
-small_answer at (Read ns next) h = h
-small_answer at Cut h = record { at = zeros 8 }
-  where
-    zeros : (n i : ℕ) → get_or (replicate n 0) i 0 < 2097152
-    zeros zero i = omega arith
-    zeros (suc n) zero = omega arith
-    zeros (suc n) (suc i) = zeros n i
-
-pub small_read : (ks s : List ℕ) (at : ℕ) (n : NumbersAnswer) → n ≡ numbers_answer at (read_operands ks s at)
-    → Small n.numbers
-small_read ks s at n e = rw e (small_answer at (read_operands ks s at) (operands_small ks s at))
+pub small_read : (ks s : List ℕ) (at : ℕ) (ns : List ℕ) (next : ℕ) → read_operands ks s at ≡ Some (ns, next) → Small ns
+small_read ks s at ns next e = subst SmallNumbers e (operands_small ks s at)

@@ -2,59 +2,34 @@
 ghost use Rattle.std.specs.Prelude.{◌≡◌, Bool, true, ℕ, ◌+◌, ◌-◌, ◌≤◌, ◌<◌, length};
 ghost use Rattle.std.proofs.lemmas.List.Edits.{sets};
 ghost use Rattle.codec.specs.Operands.{filled, wires};
-ghost use Rattle.codec.specs.OperandBytes.{read_operand, read_operands, numbers_answer, operand_bytes, operands_bytes};
+ghost use Rattle.codec.specs.OperandBytes.{read_operand, read_operands, operand_bytes, operands_bytes};
 
 use crate::operands;
 use crate::operands::NONE;
-use numbers::{Num, number_size, read_number, write_before, write_number};
-
-// What reading eight operands answers. On a refusal `next` is the place handed in and the numbers are 0.
-#[derive(Clone, Copy)]
-pub struct NumbersAnswer {
-    pub refusal: u8,
-    pub next: usize,
-    pub numbers: [u32; 8],
-}
+use numbers::{number_size, read_number, write_before, write_number};
 
 // The operand that stands at `at`; an unused one is 0 and takes no byte.
-fn read_operand(kind: u8, s: &[u8], at: usize) -> Num
+fn read_operand(kind: u8, s: &[u8], at: usize) -> Option<(u32, usize)>
     ensures { result ≡ read_operand kind s.now at }
 {
     if kind == NONE {
-        return Num::Got(0, at);
+        return Some((0, at));
     }
     read_number(s, at)
 }
 
-// The operands from `at` on.
-pub fn read_operands(kinds: [u8; 8], s: &[u8], at: usize) -> NumbersAnswer
-    ensures { result ≡ numbers_answer at (read_operands kinds s.now at) }
+// The operands from `at` on, and the place behind them.
+pub fn read_operands(kinds: [u8; 8], s: &[u8], at: usize) -> Option<([u32; 8], usize)>
+    ensures { result ≡ read_operands kinds s.now at }
 {
     let mut numbers = [0u32; 8];
-    let mut i: usize = 0;
     let mut p = at;
-    while i < 8 {
-        let x = read_operand(kinds[i], s, p);
-        match x {
-            Num::Got(n, next) => {
-                numbers[i] = n;
-                p = next;
-            }
-            Num::Bad => {
-                return NumbersAnswer {
-                    refusal: 3,
-                    next: at,
-                    numbers: [0u32; 8],
-                };
-            }
-        }
-        i += 1;
+    for i in 0..8 {
+        let (n, next) = read_operand(kinds[i], s, p)?;
+        numbers[i] = n;
+        p = next;
     }
-    NumbersAnswer {
-        refusal: 0,
-        next: p,
-        numbers,
-    }
+    Some((numbers, p))
 }
 
 // How many bytes an operand takes.

@@ -3,6 +3,8 @@ ghost use Rattle.std.specs.Prelude.{◌≡◌, ℕ, ◌+◌, ◌*◌, ◌≤◌,
 ghost use Rattle.codec.specs.Operands.{pattern, largests, in_range, in_ranges, zig, zag, wire, unwire, wires};
 ghost use Rattle.codec.specs.Operands.{unwires, Small};
 
+use std::array;
+
 use crate::Limits;
 
 // Kinds of operands. OLD must be in use, NEW must be free.
@@ -197,13 +199,7 @@ pub fn from_wire(kind: u8, n: u32) -> i32
 pub fn to_wires(kinds: [u8; 8], args: [i32; 8]) -> [u32; 8]
     ensures { result ≡ wires kinds args }
 {
-    let mut numbers = [0u32; 8];
-    let mut i: usize = 0;
-    while i < 8 {
-        numbers[i] = to_wire(kinds[i], args[i]);
-        i += 1;
-    }
-    numbers
+    array::from_fn(|i| to_wire(kinds[i], args[i]))
 }
 
 // The numbers that travelled, as the record has them.
@@ -211,11 +207,5 @@ pub fn from_wires(kinds: [u8; 8], numbers: [u32; 8]) -> [i32; 8]
     requires { Small numbers }
     ensures { result ≡ unwires kinds numbers }
 {
-    let mut args = [0i32; 8];
-    let mut i: usize = 0;
-    while i < 8 {
-        args[i] = from_wire(kinds[i], numbers[i]);
-        i += 1;
-    }
-    args
+    array::from_fn(|i| from_wire(kinds[i], numbers[i]))
 }

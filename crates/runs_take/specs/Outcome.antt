@@ -1,6 +1,7 @@
 -- Taking an operator is reading it and then admitting it: a pass over the operands of its code, then its condition.
 use Rattle.std.specs.Prelude.{◌≡◌, ◌≢◌, ◌⊎◌, Bool, ◌&&◌, not, ℕ, ◌≤◌, ◌<◌, eqb, leb, T, ℤ, pos, length, take, drop}
 use Rattle.std.specs.Prelude.{replicate}
+use Rattle.std.specs.Prelude.{Option, Some, None}
 use Rattle.std.proofs.Math.Path.{refl, ap, subst}
 use Rattle.std.proofs.Common.{sym, ◌∙◌, inl, inr, zero-add, arith, eqb→eq, take-append-drop}
 use Rattle.std.proofs.Math.Logic.{⊎_elim}
@@ -10,11 +11,10 @@ use Rattle.std.proofs.Math.ListN.{get_or}
 use borrow.Author.Tests.{eq-eqb, ne_eqb, leb-true}
 use Rattle.laws.specs.Bools.{pick, allb, ask, split, le?, eqb_same, and_T, true_T, T_true}
 use Rattle.script.specs.declared.ReadAnswer.{ReadAnswer}
-use Rattle.numbers.specs.declared.Num.TheVariants.{Got, Bad}
 use Rattle.codec.specs.declared.operands.Pattern.{Pattern}
 use Rattle.numbers.specs.Number.{read_number}
 use Rattle.codec.specs.Operands.{last_code, unused, rows, pattern, largests, in_ranges, unwires}
-use Rattle.codec.specs.OperandBytes.{Numbers, Read, Cut, on_numbers, read_operands}
+use Rattle.codec.specs.OperandBytes.{on_numbers, read_operands}
 use Rattle.script.specs.Operator.{refused, read_behind}
 use Rattle.script.specs.AnswerLaws.{operator_bad, operator_behind, operator_none}
 use Rattle.codec.specs.Ranges.{each_row, eight}
@@ -89,18 +89,18 @@ module _ (sh : Shape) (z : Small sh) (x s : List ℕ) (at code : ℕ) where
   abbrev got : List ℕ → ℕ → ReadAnswer
   got ns next = record { refusal = 0; next = next; op = operator_by code (unwires kinds ns) }
 
-  abbrev read_is : Numbers → ReadAnswer
+  abbrev read_is : Option (List ℕ × ℕ) → ReadAnswer
   read_is m = on_numbers m (λ ns next. pick (fit ns) (got ns next) (refused 5 at)) (refused 3 at)
 
   in_range_lem : (ns : List ℕ) (next : ℕ) (b : Bool) → fit ns ≡ b
-      → read_is (Read ns next) ≡ pick b (got ns next) (refused 5 at)
+      → read_is (Some (ns, next)) ≡ pick b (got ns next) (refused 5 at)
   in_range_lem ns next b t = ap (λ c. pick c (got ns next) (refused 5 at)) t
 
   -- 3 and 5 are refusals of reading
-  low : (a : Scan) (m : Numbers) → Agrees sh x s a 0 [] kinds m → a.refusal ≢ 0 → a.refusal ≤ 5
+  low : (a : Scan) (m : Option (List ℕ × ℕ)) → Agrees sh x s a 0 [] kinds m → a.refusal ≢ 0 → a.refusal ≤ 5
       → read_is m ≡ refused a.refusal at
   unfolding joined
-  low a (Read ns next) e n l =
+  low a (Some (ns, next)) e n l =
       let f = ap (λ (b : Scan). b.refusal) e in
       ⊎_elim
       (λ t.
@@ -108,7 +108,7 @@ module _ (sh : Shape) (z : Small sh) (x s : List ℕ) (at code : ℕ) where
       absurd (⊎_elim (λ u. n (g ∙ u)) (λ u. omega arith) (uses_late sh x kinds ns)))
       (λ t. let g : a.refusal ≡ 5 = rw t at f in in_range_lem ns next false t ∙ ap (λ v. refused v at) (sym g))
       (ask (fit ns))
-  low a Cut e n l = ap (λ v. refused v at) (sym e)
+  low a None e n l = ap (λ v. refused v at) (sym e)
 
   -- else the operator is read, and the refusal is that of its items
   abbrev IsRead : Scan → ReadAnswer → Type 0
@@ -116,20 +116,20 @@ module _ (sh : Shape) (z : Small sh) (x s : List ℕ) (at code : ℕ) where
       (r ≡ record { refusal = 0; next = a.next; op = operator_by code a.args })
       × (use_refusals sh x (operator_by code a.args) kinds 0 ≡ a.refusal)
 
-  high : (a : Scan) (m : Numbers) → Agrees sh x s a 0 [] kinds m → Late a.refusal → IsRead a (read_is m)
+  high : (a : Scan) (m : Option (List ℕ × ℕ)) → Agrees sh x s a 0 [] kinds m → Late a.refusal → IsRead a (read_is m)
   unfolding joined
-  high a (Read ns next) e l =
+  high a (Some (ns, next)) e l =
       let f = ap (λ (b : Scan). b.refusal) e in
       ⊎_elim
       (λ t.
       let g : a ≡ scan_is (uses_of sh x kinds ns) next (unwires kinds ns) =
       e ∙ ap (λ b. scan_is (joined 0 b (uses_of sh x kinds ns)) next (unwires kinds ns)) t in
       let u = uses_same sh z x (operator_by code (unwires kinds ns)) kinds ns 0 t in
-      subst (λ (b : Scan). IsRead b (read_is (Read ns next))) (sym g)
+      subst (λ (b : Scan). IsRead b (read_is (Some (ns, next)))) (sym g)
       (in_range_lem ns next true t, u (λ j. ap (λ i. get_or (unwires kinds ns) i (pos 0)) (zero-add j))))
       (λ t. let g : a.refusal ≡ 5 = rw t at f in absurd (⊎_elim (λ u. omega arith) (λ u. omega arith) l))
       (ask (fit ns))
-  high a Cut e l = absurd (⊎_elim (λ u. omega arith) (λ u. omega arith) l)
+  high a None e l = absurd (⊎_elim (λ u. omega arith) (λ u. omega arith) l)
 
   -- ---- the operator settled answers what was read
 
@@ -166,7 +166,7 @@ module _ (sh : Shape) (z : Small sh) (x s : List ℕ) (at code : ℕ) where
           answer r _ a.args 8 a.next (sym (settled_fails sh x at code a n _ refl c))
           (rw (e.0, e.1, eq-eqb a.refusal 0 n, c)) (rw e.0) (λ k. absurd (omega arith))
 
-  answers : (a : Scan) (m : Numbers) → Agrees sh x s a 0 [] kinds m
+  answers : (a : Scan) (m : Option (List ℕ × ℕ)) → Agrees sh x s a 0 [] kinds m
       → Answers sh x (read_is m) (settled sh x at code a) a.args
   answers a m g =
       split a.refusal 0
@@ -216,19 +216,19 @@ module _ (sh : Shape) (z : Small sh) (x s : List ℕ) (at code : ℕ) where
 
 -- the ways out of taking
 module _ (sh : Shape) (x s : List ℕ) (at : ℕ) (t : Taken) where
-  pub take_bad : read_number s at ≡ Bad → t ≡ taken 3 0 at → (args : List ℤ) → Answers sh x (read_at sh s at) t args
+  pub take_bad : read_number s at ≡ None → t ≡ taken 3 0 at → (args : List ℤ) → Answers sh x (read_at sh s at) t args
   unfolding admit_read
   take_bad e f args =
       let r = operator_bad (limits sh) s at _ e refl in rw (f, ← r) (refl, (refl, λ k. absurd (omega arith)))
 
-  pub take_none : (code behind : ℕ) → read_number s at ≡ Got code behind → last_code < code → t ≡ taken 4 0 at
+  pub take_none : (code behind : ℕ) → read_number s at ≡ Some (code, behind) → last_code < code → t ≡ taken 4 0 at
       → (args : List ℤ) → Answers sh x (read_at sh s at) t args
   unfolding admit_read
   take_none code behind e h f args =
       let r = operator_none (limits sh) s at _ code behind e h refl in
       rw (f, ← r) (refl, (refl, λ k. absurd (omega arith)))
 
-  pub take_some : (code behind : ℕ) → read_number s at ≡ Got code behind → (args : List ℤ)
+  pub take_some : (code behind : ℕ) → read_number s at ≡ Some (code, behind) → (args : List ℤ)
       → Answers sh x (read_from sh s at code behind) t args → Answers sh x (read_at sh s at) t args
   take_some code behind e args g =
       subst (λ r. Answers sh x r t args) (operator_behind (limits sh) s at _ code behind e refl) g

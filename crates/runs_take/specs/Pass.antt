@@ -1,6 +1,7 @@
 -- The one pass, and three after one another, plain lists: all numbers read, all ranges, all items. They agree.
 use Rattle.std.specs.Prelude.{◌≡◌, ◌≢◌, ◌⊎◌, Bool, true, false, ℕ, zero, suc, ◌+◌, ◌*◌, ◌≤◌, ◌<◌, eqb, ℤ, take, set}
 use Rattle.std.specs.Prelude.{replicate}
+use Rattle.std.specs.Prelude.{Option, Some, None}
 use Rattle.std.proofs.Math.Path.{refl, sym}
 use Rattle.std.proofs.Common.{ap, subst, ◌∙◌, inl, inr, ⊎_elim, arith, length-append, get_or-take, le-leb}
 use mathlib.Core.List.{List, [], ◌∷◌, ◌++◌, append_assoc}
@@ -11,11 +12,9 @@ use Rattle.std.proofs.lemmas.List.{set_at}
 use Rattle.laws.specs.Bools.{pick, pick_ind, split, le?, eqb_same, eqb_other}
 use Rattle.bounds.specs.Bounds.{most_halves}
 use Rattle.script.specs.declared.Operator.{Operator}
-use Rattle.numbers.specs.declared.Num.{Num}
-use Rattle.numbers.specs.declared.Num.TheVariants.{Got, Bad}
 use Rattle.numbers.specs.Number.{read_number, on_num}
 use Rattle.codec.specs.Operands.{unused, largests, in_range, in_ranges, unwire, unwires}
-use Rattle.codec.specs.OperandBytes.{Numbers, Read, Cut, on_numbers, read_operand, read_operands}
+use Rattle.codec.specs.OperandBytes.{on_numbers, read_operand, read_operands}
 use Rattle.codec.specs.OperandLaws.{unwire_plain}
 use Rattle.codec.specs.Ranges.{range_between, ranges_cons}
 use Rattle.layout.specs.declared.shape.Shape.{Shape}
@@ -177,7 +176,7 @@ Used [] = Unit {0}
 Used (k ∷ ks) = (k ≢ unused) × Used ks
 
 -- nothing is read for unused kinds, and nothing refused
-read_unused : (s ks : List ℕ) → Unused ks → (p : ℕ) → read_operands ks s p ≡ Read (replicate (length ks) 0) p
+read_unused : (s ks : List ℕ) → Unused ks → (p : ℕ) → read_operands ks s p ≡ Some (replicate (length ks) 0, p)
 unfolding read_operands read_operand
 read_unused s [] u p = refl
 read_unused s (k ∷ ks) u p = rw (u.0, read_unused s ks u.1 p)
@@ -206,20 +205,20 @@ module _ (sh : Shape) (x s : List ℕ) where
   abbrev most : List ℕ
   most = largests (limits sh)
 
-  abbrev pub Agrees : Scan → ℕ → List ℤ → List ℕ → Numbers → Type 0
-  Agrees a r done ks (Read ns next) =
+  abbrev pub Agrees : Scan → ℕ → List ℤ → List ℕ → Option (List ℕ × ℕ) → Type 0
+  Agrees a r done ks (Some (ns, next)) =
       a ≡ scan_is (joined r (in_ranges most ks ns) (uses_of sh x ks ns)) next (done ++ unwires ks ns)
-  Agrees a r done ks Cut = a.refusal ≡ 3
+  Agrees a r done ks None = a.refusal ≡ 3
 
   -- one number before the others
-  agree_cons : (a : Scan) (r : ℕ) (done : List ℤ) (k n : ℕ) (ks : List ℕ) (rest : Numbers)
+  agree_cons : (a : Scan) (r : ℕ) (done : List ℤ) (k n : ℕ) (ks : List ℕ) (rest : Option (List ℕ × ℕ))
       → Agrees a (joined_by sh x r k n) (done ++ (unwire k n ∷ [])) ks rest
-      → Agrees a r done (k ∷ ks) (on_numbers rest (λ ns end. Read (n ∷ ns) end) Cut)
+      → Agrees a r done (k ∷ ks) (on_numbers rest (λ ns end. Some (n ∷ ns, end)) None)
   unfolding in_ranges uses_of
-  agree_cons a r done k n ks (Read ns end) e =
+  agree_cons a r done k n ks (Some (ns, end)) e =
       let j = joined_both r (in_range most k n) (use_refusal sh x k n) (in_ranges most ks ns) (uses_of sh x ks ns) in
       e ∙ rw (j (use_late sh x k n), append_assoc done (unwire k n ∷ []) (unwires ks ns))
-  agree_cons a r done k n ks Cut e = e
+  agree_cons a r done k n ks None e = e
 
   agree_none : (none : List ℕ) → Unused none → (p r : ℕ) (done : List ℤ)
       → Agrees (scan_is r p (done ++ zeros none)) r done none (read_operands none s p)
@@ -249,14 +248,14 @@ module _ (sh : Shape) (x s : List ℕ) where
           → Agrees
           (scan sh x s ks (i + 1) next (joined_by sh x r k n) ((done ++ (unwire k n ∷ [])) ++ zeros (ks ++ none)))
           (joined_by sh x r k n) (done ++ (unwire k n ∷ [])) (ks ++ none) (read_operands (ks ++ none) s next))
-          → (m : Num)
+          → (m : Option (ℕ × ℕ))
           → Agrees
           (on_num m
           (λ n next.
           scan sh x s ks (i + 1) next (joined_by sh x r k n) (set (done ++ zeros (k ∷ (ks ++ none))) i (unwire k n)))
           (scan_is 3 p (done ++ zeros (k ∷ (ks ++ none)))))
           r done (k ∷ (ks ++ none))
-          (on_num m (λ n next. on_numbers (read_operands (ks ++ none) s next) (λ ns end. Read (n ∷ ns) end) Cut) Cut)
-      go h Bad = refl
-      go h (Got n next) =
+          (on_num m (λ n next. on_numbers (read_operands (ks ++ none) s next) (λ ns end. Some (n ∷ ns, end)) None) None)
+      go h None = refl
+      go h (Some (n, next)) =
           rw (stored n) (agree_cons _ r done k n (ks ++ none) (read_operands (ks ++ none) s next) (h n next))

@@ -1,15 +1,15 @@
 -- Reading looks at no byte behind what it reads: from the front of a script that ends behind an operator, the operator
 -- is read as from the whole.
 use Rattle.std.specs.Prelude.{◌≡◌, refl, ℕ, ◌+◌, ◌-◌, ◌≤◌, length, take, drop}
+use Rattle.std.specs.Prelude.{Some}
 use Rattle.std.proofs.Common.{sym, ap, ◌∙◌, subst, ⊎_elim, arith, take-append-drop, length-take-le, take-take, take-add}
 use Rattle.std.proofs.Common.{drop_at}
 use mathlib.Core.List.{List, [], ◌∷◌, ◌++◌}
 use Rattle.laws.specs.Bools.{same?}
-use Rattle.numbers.specs.declared.Num.TheVariants.{Got}
 use Rattle.codec.specs.declared.Limits.{Limits}
 use Rattle.numbers.specs.Number.{read_number}
 use Rattle.codec.specs.Operands.{unused, pattern}
-use Rattle.codec.specs.OperandBytes.{Read, read_operand, read_operands}
+use Rattle.codec.specs.OperandBytes.{read_operand, read_operands}
 use Rattle.script.specs.Operator.{read_operator}
 use Rattle.numbers.specs.NumberTrip.{Reads, reads_got, reads_own, number_found, number_next}
 use Rattle.codec.specs.ReadLaws.{operand_unused, operand_number}
@@ -28,7 +28,7 @@ reads_front {l} {v} {g} m h r =
 
 module _ (s : List ℕ) (n : ℕ) where
   -- a number that ends at n or before
-  number_front : (at v k : ℕ) → read_number s at ≡ Got v k → k ≤ n → read_number (take n s) at ≡ Got v k
+  number_front : (at v k : ℕ) → read_number s at ≡ Some (v, k) → k ≤ n → read_number (take n s) at ≡ Some (v, k)
   unfolding read_number
   number_front at v k e h =
       let b = number_next s at v k e in
@@ -40,8 +40,8 @@ module _ (s : List ℕ) (n : ℕ) where
   -- ---- operands
 
   -- one operand
-  operand_front : (kind at v k : ℕ) → read_operand kind s at ≡ Got v k → k ≤ n
-      → read_operand kind (take n s) at ≡ Got v k
+  operand_front : (kind at v k : ℕ) → read_operand kind s at ≡ Some (v, k) → k ≤ n
+      → read_operand kind (take n s) at ≡ Some (v, k)
   operand_front kind at v k e h =
       ⊎_elim
       (λ z. sym (operand_unused kind (take n s) at z) ∙ operand_unused kind s at z ∙ e)
@@ -51,8 +51,8 @@ module _ (s : List ℕ) (n : ℕ) where
 
   -- all of them
   operands_front : (ks : List ℕ) (at : ℕ) (ns : List ℕ) (next : ℕ) → at ≤ length s
-      → read_operands ks s at ≡ Read ns next
-      → next ≤ n → read_operands ks (take n s) at ≡ Read ns next
+      → read_operands ks s at ≡ Some (ns, next)
+      → next ≤ n → read_operands ks (take n s) at ≡ Some (ns, next)
   unfolding read_operands
   operands_front [] at ns next h e l = e
   operands_front (kind ∷ ks) at ns next h e l =
@@ -62,7 +62,7 @@ module _ (s : List ℕ) (n : ℕ) where
       rw (
         operand_front kind at t.n t.mid t.first (omega (arith, b.0)),
         operands_front ks t.mid t.rest next a.1 t.others l,
-      ) (ap (λ (m : List ℕ). Read m next) (sym t.all))
+      ) (ap (λ (m : List ℕ). Some (m, next)) (sym t.all))
 
 -- THE OPERATOR AT A PLACE is read from the first n bytes as from the whole script, if it ends there or before
 pub operator_front : (lim : Limits) (s : List ℕ) (at n : ℕ) → (read_operator lim s at).refusal ≡ 0

@@ -1,9 +1,11 @@
 -- An operator is its code and its operands, as numbers one behind the other. Reading one gives 3, 4 or 5; writing one
 -- 4, 5, then 9.
 use Rattle.std.specs.Prelude.{ℕ, zero, suc, ◌+◌, List, [], ◌∷◌, ◌++◌, length, get_or, set, replicate, ℤ, pos, negsuc}
-use Rattle.std.specs.Prelude.{ltb, leb, eqb}
+use Rattle.std.specs.Prelude.{ltb, leb, eqb, Result, Ok, Err}
 use Rattle.std.proofs.lemmas.List.Edits.{sets}
 use Rattle.laws.specs.Bools.{pick}
+use Rattle.refusals.specs.declared.Refusal.{Refusal}
+use Rattle.refusals.specs.Numbers.{number_of}
 use Rattle.codec.specs.declared.Limits.{Limits}
 use Rattle.script.specs.declared.Operator.{Operator}
 use Rattle.script.specs.declared.ReadAnswer.{ReadAnswer}
@@ -33,6 +35,11 @@ with_number op i n = record { code = op.code; count = op.count; args = set op.ar
 -- a refused read answers the place it was given and the blank operator 0
 abbrev pub refused : ℕ → ℕ → ReadAnswer
 refused refusal at = record { refusal = refusal; next = at; op = blank_of 0 0 }
+
+-- what a read answers: the operator and the place behind it, or a refusal
+abbrev pub read_answer : ℕ → Result (Operator × ℕ) Refusal → ReadAnswer
+read_answer at (Ok (op, next)) = record { refusal = 0; next = next; op = op }
+read_answer at (Err e) = refused (number_of e) at
 
 -- the operator whose code was read at `at`, the operands behind it
 unfoldable pub read_behind : Limits → List ℕ → ℕ → ℕ → ℕ → ReadAnswer
@@ -79,6 +86,11 @@ pub record Written : Type 0 where
 
 abbrev pub written : WriteAnswer → List ℕ → Written
 written a out = record { answer = a; out = out }
+
+-- what a write answers: how many bytes it took, or a refusal
+abbrev pub write_answer : Result ℕ Refusal → WriteAnswer
+write_answer (Ok n) = record { refusal = 0; length = n }
+write_answer (Err e) = record { refusal = number_of e; length = 0 }
 
 -- a refused write answers the length 0
 abbrev pub not_written : ℕ → List ℕ → Written

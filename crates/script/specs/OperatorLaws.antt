@@ -1,5 +1,5 @@
 -- The ways out of the code that writes an operator.
-use Rattle.std.specs.Prelude.{◌≡◌, ℕ, ◌+◌, ◌-◌, ◌≤◌, ◌<◌, true, false, get_or, ℤ, pos, negsuc}
+use Rattle.std.specs.Prelude.{◌≡◌, ◌≢◌, ℕ, ◌+◌, ◌-◌, ◌≤◌, ◌<◌, Bool, true, false, get_or, ℤ, pos, negsuc}
 use Rattle.std.proofs.Math.Path.{refl}
 use Rattle.std.proofs.Common.{sym, ap, ◌∙◌, length-append}
 use native.Mathlib.Omega.{arith}
@@ -8,6 +8,11 @@ use Rattle.std.proofs.Math.ListN.{length, get_or-eq_default}
 use Rattle.std.proofs.lemmas.List.{length-map}
 use Rattle.std.proofs.lemmas.List.Edits.{sets}
 use borrow.Author.Tests.{le-leb, lt-leb, eq-eqb, ne_eqb}
+use Rattle.refusals.specs.declared.Refusal.{Refusal}
+use Rattle.refusals.specs.declared.Refusal.TheVariants.{Memory, Unsound, BadNumber, BadCode, OutOfRange, ItemFree}
+use Rattle.refusals.specs.declared.Refusal.TheVariants.{ItemUsed, ConditionFails, LogFull, NoNumberLeft}
+use Rattle.refusals.specs.declared.Refusal.TheVariants.{LogEnded, NotPlain, TextTooLong, LoneLoop}
+use Rattle.refusals.specs.Numbers.{number_of, refusal_in, unless}
 use Rattle.script.specs.declared.Operator.{Operator}
 use Rattle.codec.specs.declared.operands.Pattern.{Pattern}
 use Rattle.numbers.specs.Number.{groups}
@@ -40,15 +45,11 @@ module _ (op : Operator) (p : Pattern) (e : p ≡ pattern op.code) where
   refusal_count z n = rw (← e, ne_eqb p.count 0 z, ne_eqb op.count p.count n)
 
   module _ (ns : List ℕ) (f : ns ≡ wires p.kinds op.args) where
-    pub refusal_range : (p.count ≡ 0 → ⊥) → op.count ≡ p.count → (most : List ℕ) → most ≡ largests widest
-        → in_ranges most p.kinds ns ≡ false → 5 ≡ operator_refusal op
+    pub refusal_ranges : p.count ≢ 0 → op.count ≡ p.count → (most : List ℕ) → most ≡ largests widest → (t : Bool)
+        → t ≡ in_ranges most p.kinds ns → refusal_in (unless t OutOfRange) ≡ operator_refusal op
     unfolding operator_refusal
-    refusal_range z n most m t = rw (← e, ne_eqb p.count 0 z, eq-eqb op.count p.count n, ← f, ← m, t)
-
-    pub refusal_none : (p.count ≡ 0 → ⊥) → op.count ≡ p.count → (most : List ℕ) → most ≡ largests widest
-        → in_ranges most p.kinds ns ≡ true → 0 ≡ operator_refusal op
-    unfolding operator_refusal
-    refusal_none z n most m t = rw (← e, ne_eqb p.count 0 z, eq-eqb op.count p.count n, ← f, ← m, t)
+    refusal_ranges z n most m true t = rw (← e, ne_eqb p.count 0 z, eq-eqb op.count p.count n, ← f, ← m, ← t)
+    refusal_ranges z n most m false t = rw (← e, ne_eqb p.count 0 z, eq-eqb op.count p.count n, ← f, ← m, ← t)
 
     bytes_are : operator_bytes op ≡ groups op.code ++ operands_bytes p.kinds ns
     unfolding operator_bytes
@@ -96,6 +97,23 @@ pub put_not : (l : List ℕ) (at : ℕ) (bytes : List ℕ) → length l < at + l
 unfolding put_bytes
 put_not l at bytes h = rw (lt-leb (at + length bytes) (length l) h)
 
+-- each refusal has a number
+pub refusal_some : (e : Refusal) → 0 < number_of e
+refusal_some Memory = omega arith
+refusal_some (Unsound rule) = omega arith
+refusal_some BadNumber = omega arith
+refusal_some BadCode = omega arith
+refusal_some OutOfRange = omega arith
+refusal_some ItemFree = omega arith
+refusal_some ItemUsed = omega arith
+refusal_some ConditionFails = omega arith
+refusal_some LogFull = omega arith
+refusal_some NoNumberLeft = omega arith
+refusal_some LogEnded = omega arith
+refusal_some NotPlain = omega arith
+refusal_some TextTooLong = omega arith
+refusal_some LoneLoop = omega arith
+
 module _ (op : Operator) (out : List ℕ) (r : ℕ) (e : r ≡ operator_refusal op) where
   pub write_refused : (r ≡ 0 → ⊥) → not_written r out ≡ write_operator op out
   unfolding write_operator
@@ -115,17 +133,3 @@ module _ (op : Operator) (out : List ℕ) (r : ℕ) (e : r ≡ operator_refusal 
         rw (← e, eq-eqb r 0 z, f, le-leb (length (operator_bytes op)) (length out) k)
         (ap (λ (l : List ℕ). written (record { refusal = 0; length = length (operator_bytes op) }) l)
         (rw (n, le-leb (length (operator_bytes op)) (length out) k) at g))
-
--- an operand as a number that is not negative
-pub nat_of_pos : (z : ℤ) (n : ℕ) → z ≡ pos n → n ≡ nat_of z
-nat_of_pos z n e = rw e
-
-pub nat_of_neg : (z : ℤ) (n : ℕ) → z ≡ negsuc n → 0 ≡ nat_of z
-nat_of_neg z n e = rw e
-
-pub nat_of_out : (l : List ℤ) (i : ℕ) → length l ≡ 8 → 8 ≤ i → 0 ≡ nat_of (get_or l i (pos 0))
-nat_of_out l i e h = let k : length l ≤ i = omega arith in rw (get_or-eq_default l (pos 0) k)
-
--- the length of an array in a struct, as the logic has it
-pub unmapped : (l : List ℤ) (n : ℕ) → length (map (λ (v : ℤ). v) l) ≡ n → length l ≡ n
-unmapped l n e = sym (length-map l (λ (v : ℤ). v)) ∙ e

@@ -1,20 +1,19 @@
 -- An operator is read from the shortest form of a script as from the script itself, refusal included (document 02, job
 -- 1, "a padded script must do what its shortest form does, bytes taken aside").
 use Rattle.std.specs.Prelude.{◌≡◌, Bool, List, ℕ, ◌+◌, eqb, drop}
+use Rattle.std.specs.Prelude.{Option, Some, None}
 use Rattle.std.proofs.Math.Path.{refl}
 use Rattle.std.proofs.Math.Bool.{true, false}
 use Rattle.std.proofs.Math.Nat.{add_assoc}
 use Rattle.std.proofs.Math.ListN.{length, length-append}
 use Rattle.laws.specs.Bools.{pick}
-use Rattle.numbers.specs.declared.Num.{Num}
-use Rattle.numbers.specs.declared.Num.TheVariants.{Got, Bad}
 use Rattle.codec.specs.declared.Limits.{Limits}
 use Rattle.script.specs.declared.ReadAnswer.{ReadAnswer}
 use Rattle.numbers.specs.Number.{read_number, groups, on_num}
 use Rattle.numbers.specs.Padded.{shorten}
 use Rattle.numbers.specs.PaddedLaws.{number_pads, number_same, alike_behind}
 use Rattle.codec.specs.Operands.{pattern, largests, in_ranges}
-use Rattle.codec.specs.OperandBytes.{Numbers, Read, Cut, on_numbers, read_operands, operands_bytes}
+use Rattle.codec.specs.OperandBytes.{on_numbers, read_operands, operands_bytes}
 use Rattle.codec.specs.OperandTrip.{operands_same, operands_length, wires_unwires}
 use Rattle.script.specs.Operator.{refused, read_behind, read_operator, operator_bytes}
 use Rattle.script.specs.Accepted.{operator_is}
@@ -37,14 +36,14 @@ module _ (lim : Limits) (s u : List ℕ) (a b code i j : ℕ) where
   ranged ns k m e false = refl
 
   -- the numbers behind a code that was read from both
-  numbered : j ≡ b + length (groups code) → (x : Numbers) → read_operands (pattern code).kinds s i ≡ x
-      → on_numbers (on_numbers x (λ ns next. Read ns (j + length (operands_bytes (pattern code).kinds ns))) Cut)
+  numbered : j ≡ b + length (groups code) → (x : Option (List ℕ × ℕ)) → read_operands (pattern code).kinds s i ≡ x
+      → on_numbers (on_numbers x (λ ns next. Some (ns, j + length (operands_bytes (pattern code).kinds ns))) None)
       (λ ns next. pick (in_ranges (largests lim) (pattern code).kinds ns)
       (record { refusal = 0; next = next; op = operator_is code ns }) (refused 5 b)) (refused 3 b)
       ≡ in_short b (on_numbers x (λ ns next. pick (in_ranges (largests lim) (pattern code).kinds ns)
       (record { refusal = 0; next = next; op = operator_is code ns }) (refused 5 a)) (refused 3 a))
   unfolding operator_bytes
-  numbered e (Read ns next) f =
+  numbered e (Some (ns, next)) f =
       let l = operands_length (pattern code).kinds s i ns next f in
       ranged ns next _
       (rw (
@@ -54,7 +53,7 @@ module _ (lim : Limits) (s u : List ℕ) (a b code i j : ℕ) where
         add_assoc b (length (groups code)) (length (operands_bytes (pattern code).kinds ns)),
       ))
       (in_ranges (largests lim) (pattern code).kinds ns)
-  numbered e Cut f = refl
+  numbered e None f = refl
 
   -- all that is behind a code
   behind : j ≡ b + length (groups code) → drop j u ≡ shorten (drop i s)
@@ -64,7 +63,7 @@ module _ (lim : Limits) (s u : List ℕ) (a b code i j : ℕ) where
     where
       by : (t : Bool)
           → pick t (refused 4 b) (on_numbers (on_numbers (read_operands (pattern code).kinds s i)
-          (λ ns next. Read ns (j + length (operands_bytes (pattern code).kinds ns))) Cut)
+          (λ ns next. Some (ns, j + length (operands_bytes (pattern code).kinds ns))) None)
           (λ ns next. pick (in_ranges (largests lim) (pattern code).kinds ns)
           (record { refusal = 0; next = next; op = operator_is code ns }) (refused 5 b)) (refused 3 b))
           ≡ in_short b (pick t (refused 4 a) (on_numbers (read_operands (pattern code).kinds s i)
@@ -79,9 +78,9 @@ pub read_padded : (lim : Limits) (s u : List ℕ) (a b : ℕ) → drop b u ≡ s
 unfolding read_operator
 read_padded lim s u a b e = rw (number_same s u a b e) (by (read_number s a) refl)
   where
-    by : (x : Num) → read_number s a ≡ x
-        → on_num (on_num x (λ n k. Got n (b + length (groups n))) Bad) (read_behind lim u b) (refused 3 b)
+    by : (x : Option (ℕ × ℕ)) → read_number s a ≡ x
+        → on_num (on_num x (λ n k. Some (n, b + length (groups n))) None) (read_behind lim u b) (refused 3 b)
         ≡ in_short b (on_num x (read_behind lim s a) (refused 3 a))
-    by (Got n k) f =
+    by (Some (n, k)) f =
         behind lim s u a b n k (b + length (groups n)) refl (alike_behind (number_pads s a n k f) u b e)
-    by Bad f = refl
+    by None f = refl

@@ -4,13 +4,16 @@
 
 ghost use Rattle.std.specs.Prelude.{◌≡◌, ℕ, ◌+◌, ◌-◌, ◌≤◌, ◌<◌, length};
 ghost use Rattle.codec.specs.Operands.{widest};
-ghost use Rattle.script.specs.Operator.{blank_of, operand_of, with_number, refused, read_behind, read_operator};
-ghost use Rattle.script.specs.Operator.{operator_bytes, operator_refusal, put_bytes, written};
+ghost use Rattle.refusals.specs.Numbers.{refusal_in};
+ghost use Rattle.script.specs.Operator.{blank_of, operand_of, with_number, read_answer, read_operator};
+ghost use Rattle.script.specs.Operator.{operator_bytes, operator_refusal, put_bytes, written, write_answer};
 ghost use Rattle.script.specs.Operator.{write_operator};
 
 use bounds::MOST_ITEMS;
+use codec::operands::Pattern;
 use codec::{Limits, bytes, operands};
-use numbers::{Num, number_size, read_number, write_before, write_number};
+use numbers::{number_size, read_number, write_before, write_number};
+use refusals::{Refusal, ensure};
 
 // An operator: its code, how many operands it has, and the operands, zeros behind them.
 #[repr(C)]
@@ -53,14 +56,10 @@ pub fn blank(code: u8, count: u8) -> Operator
 pub fn operand(op: Operator, i: usize) -> usize
     ensures { (result ≡ operand_of op i) × (result < 2147483648) }
 {
-    if i < 8 {
-        let a = op.args[i];
-        if a < 0 {
-            return 0;
-        }
-        return a as usize;
+    match op.args.get(i) {
+        Some(&a) if a >= 0 => a as usize,
+        _ => 0,
     }
-    0
 }
 
 // The operator with v for operand i.
@@ -68,9 +67,9 @@ pub fn with_number(op: Operator, i: usize, v: usize) -> Operator
     requires { (i < 8) × (v < 65536) }
     ensures { result ≡ with_number op i v }
 {
-    let mut next = op;
-    next.args[i] = v as i32;
-    next
+    let mut args = op.args;
+    args[i] = v as i32;
+    Operator { args, ..op }
 }
 
 // A capacity is a word of a table.
@@ -89,59 +88,40 @@ fn widest() -> Limits
     }
 }
 
-// The answer of a refused read.
-fn refused(refusal: u8, at: usize) -> ReadAnswer
-    ensures { result ≡ refused refusal at }
+// The operator that stands at `at`, its numbers within the limits, and the place behind it.
+fn read_at(script: &[u8], at: usize, limits: Limits) -> Result<(Operator, usize), Refusal>
+    ensures { read_answer at result ≡ read_operator limits script.now at }
 {
-    let op = blank(0, 0);
-    ReadAnswer {
-        refusal,
-        next: at,
-        op,
-    }
-}
-
-// The operator whose code was read at `at`, its operands behind it.
-fn read_behind(script: &[u8], at: usize, code: u8, behind: usize, limits: Limits) -> ReadAnswer
-    ensures { result ≡ read_behind limits script.now at code behind }
-{
-    let pattern = operands::pattern_of(code);
-    let count = pattern.count;
-    if count == 0 {
-        return refused(4, at);
-    }
-    let kinds = pattern.kinds;
-    let read = bytes::read_operands(kinds, script, behind);
-    if read.refusal != 0 {
-        return refused(3, at);
-    }
-    let numbers = read.numbers;
+    let (number, behind) = read_number(script, at).ok_or(Refusal::BadNumber)?;
+    ensure(number <= operands::LAST_CODE, Refusal::BadCode)?;
+    let code = number as u8;
+    let Pattern { count, kinds } = operands::pattern_of(code);
+    ensure(count != 0, Refusal::BadCode)?;
+    let (numbers, next) = bytes::read_operands(kinds, script, behind).ok_or(Refusal::BadNumber)?;
     let most = operands::largest(limits);
-    if !operands::in_ranges(&most, kinds, numbers) {
-        return refused(5, at);
-    }
+    ensure(
+        operands::in_ranges(&most, kinds, numbers),
+        Refusal::OutOfRange,
+    )?;
     let args = operands::from_wires(kinds, numbers);
-    let op = Operator { code, count, args };
-    ReadAnswer {
-        refusal: 0,
-        next: read.next,
-        op,
-    }
+    Ok((Operator { code, count, args }, next))
 }
 
 // The operator that stands at `at`, its numbers within the limits: refusal 3, 4 or 5.
 pub fn read_within(script: &[u8], at: usize, limits: Limits) -> ReadAnswer
     ensures { result ≡ read_operator limits script.now at }
 {
-    let x = read_number(script, at);
-    match x {
-        Num::Got(n, behind) => {
-            if n > operands::LAST_CODE {
-                return refused(4, at);
-            }
-            read_behind(script, at, n as u8, behind, limits)
-        }
-        Num::Bad => refused(3, at),
+    match read_at(script, at, limits) {
+        Ok((op, next)) => ReadAnswer {
+            refusal: 0,
+            next,
+            op,
+        },
+        Err(refusal) => ReadAnswer {
+            refusal: refusal.number(),
+            next: at,
+            op: blank(0, 0),
+        },
     }
 }
 
@@ -152,36 +132,28 @@ pub fn read_operator(script: &[u8], at: usize) -> ReadAnswer
     read_within(script, at, widest())
 }
 
-// The refusal of writing an operator into enough space: 4, 5, or 0 for none.
-pub fn operator_refusal(op: Operator) -> u8
-    ensures { result ≡ operator_refusal op }
+// Nothing where an operator can be written into enough space, else refusal 4 or 5.
+pub fn operator_refusal(op: Operator) -> Result<(), Refusal>
+    ensures { refusal_in result ≡ operator_refusal op }
 {
-    let pattern = operands::pattern_of(op.code);
-    if pattern.count == 0 {
-        return 4;
-    }
-    if op.count != pattern.count {
-        return 5;
-    }
-    let kinds = pattern.kinds;
-    let args = op.args;
-    let numbers = operands::to_wires(kinds, args);
+    let Pattern { count, kinds } = operands::pattern_of(op.code);
+    ensure(count != 0, Refusal::BadCode)?;
+    ensure(op.count == count, Refusal::OutOfRange)?;
+    let numbers = operands::to_wires(kinds, op.args);
     let most = operands::largest(widest());
-    if operands::in_ranges(&most, kinds, numbers) {
-        return 0;
-    }
-    5
+    ensure(
+        operands::in_ranges(&most, kinds, numbers),
+        Refusal::OutOfRange,
+    )
 }
 
 // How many bytes an operator takes.
 pub fn operator_size(op: Operator) -> usize
     ensures { (result ≡ length (operator_bytes op)) × (result ≤ 27) }
 {
-    let pattern = operands::pattern_of(op.code);
-    let kinds = pattern.kinds;
-    let args = op.args;
-    let numbers = operands::to_wires(kinds, args);
-    number_size(op.code as u32) + bytes::operands_size(kinds, numbers)
+    let kinds = operands::pattern_of(op.code).kinds;
+    let numbers = operands::to_wires(kinds, op.args);
+    number_size(u32::from(op.code)) + bytes::operands_size(kinds, numbers)
 }
 
 // The operator's bytes at `at`, where they fit; else nothing changes.
@@ -189,18 +161,12 @@ pub fn put_operator(op: Operator, out: &mut [u8], at: usize)
     ensures { out.new ≡ put_bytes out.old at (operator_bytes op) }
 {
     let size = operator_size(op);
-    let n = out.len();
-    if n < size {
+    if out.len() < size || out.len() - size < at {
         return;
     }
-    if n - size < at {
-        return;
-    }
-    let pattern = operands::pattern_of(op.code);
-    let kinds = pattern.kinds;
-    let args = op.args;
-    let numbers = operands::to_wires(kinds, args);
-    let behind = write_number(out, at, op.code as u32);
+    let kinds = operands::pattern_of(op.code).kinds;
+    let numbers = operands::to_wires(kinds, op.args);
+    let behind = write_number(out, at, u32::from(op.code));
     bytes::write_operands(out, behind, kinds, numbers);
 }
 
@@ -210,32 +176,31 @@ pub fn put_before(op: Operator, out: &mut [u8], end: usize) -> usize
     ensures value { result ≡ end - length (operator_bytes op) }
     ensures out_after { out.new ≡ put_bytes out.old (end - length (operator_bytes op)) (operator_bytes op) }
 {
-    let pattern = operands::pattern_of(op.code);
-    let count = pattern.count as usize;
-    let kinds = pattern.kinds;
-    let args = op.args;
-    let behind = bytes::put_operands_before(out, end, count, kinds, args);
-    write_before(out, behind, op.code as u32)
+    let Pattern { count, kinds } = operands::pattern_of(op.code);
+    let behind = bytes::put_operands_before(out, end, usize::from(count), kinds, op.args);
+    write_before(out, behind, u32::from(op.code))
+}
+
+// The operator's bytes at the front of `out`, and how many they are; on a refusal `out` is left as it is.
+fn put_front(op: Operator, out: &mut [u8]) -> Result<usize, Refusal>
+    ensures { written (write_answer result) out.new ≡ write_operator op out.old }
+{
+    operator_refusal(op)?;
+    let size = operator_size(op);
+    ensure(size <= out.len(), Refusal::LogFull)?;
+    put_operator(op, out, 0);
+    Ok(size)
 }
 
 // The operator at the front of `out`: refusal 4 or 5, then 9 where it does not fit, with `out` left as it is.
 pub fn write_operator(op: Operator, out: &mut [u8]) -> WriteAnswer
     ensures { written result out.new ≡ write_operator op out.old }
 {
-    let refusal = operator_refusal(op);
-    if refusal != 0 {
-        return WriteAnswer { refusal, length: 0 };
-    }
-    let size = operator_size(op);
-    if out.len() < size {
-        return WriteAnswer {
-            refusal: 9,
+    match put_front(op, out) {
+        Ok(length) => WriteAnswer { refusal: 0, length },
+        Err(refusal) => WriteAnswer {
+            refusal: refusal.number(),
             length: 0,
-        };
-    }
-    put_operator(op, out, 0);
-    WriteAnswer {
-        refusal: 0,
-        length: size,
+        },
     }
 }

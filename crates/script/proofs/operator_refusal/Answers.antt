@@ -1,27 +1,24 @@
-use mathlib.Core.Path.{sym, ap, ◌∙◌}
+use mathlib.Core.Path.{ap, ◌∙◌}
+use borrow.Author.Tests.{not-true, not-false, eqb-false}
+use Rattle.std.proofs.Common.{eqb-true}
 use Rattle.codec.specs.Operands.{largests}
-use Rattle.script.specs.OperatorLaws.{refusal_code, refusal_count, refusal_range, refusal_none}
+use Rattle.refusals.specs.Numbers.{refusal_in}
+use Rattle.script.specs.AnswerLaws.{tested, passed}
+use Rattle.script.specs.OperatorLaws.{refusal_code, refusal_count, refusal_ranges}
 use Rattle.script.proofs.operator_refusal.Goals as goal
 
-pub returns-then-pattern-eq0 : goal.returns-then-pattern-eq0
-returns-then-pattern-eq0 c = refusal_code _ _ c.pattern_of-pattern.ensures c.if-pattern-eq0.true
+pub returns-in_err-ensure : goal.returns-in_err-ensure
+returns-in_err-ensure c = let h = tested _ _ _ c.from_residual.ensures.1 c.in_err-ensure.ensures in
+    rw h.1 (refusal_code _ _ c.pattern_of-count.ensures (eqb-true _ 0 (not-false _ h.0)))
 
-pub returns-then-op-pattern : goal.returns-then-op-pattern
-returns-then-op-pattern c = refusal_count _ _ c.pattern_of-pattern.ensures
-    c.if-pattern-eq0.false c.if-op-pattern.true
-
-pub returns-then-in_ranges : goal.returns-then-in_ranges
-returns-then-in_ranges c = refusal_none _ _
-    c.pattern_of-pattern.ensures _ c.to_wires-numbers.ensures
-    c.if-pattern-eq0.false
-    c.if-op-pattern.false _
-    (c.largest-most.ensures ∙ ap largests c.widest.ensures)
-    (sym c.in_ranges.ensures ∙ c.if-in_ranges.true)
+pub returns-in_err-ensure-2 : goal.returns-in_err-ensure-2
+returns-in_err-ensure-2 c = let h = tested _ _ _ c.from_residual-in_err-ensure-2.ensures.1 c.in_err-ensure-2.ensures in
+    let some = eqb-false _ 0 (not-true _ (passed _ _ c.in_ok-ensure.ensures)) in
+    rw h.1 (refusal_count _ _ c.pattern_of-count.ensures some (eqb-false _ _ h.0))
 
 pub returns : goal.returns
-returns c = refusal_range _ _
-    c.pattern_of-pattern.ensures _ c.to_wires-numbers.ensures
-    c.if-pattern-eq0.false
-    c.if-op-pattern.false _
-    (c.largest-most.ensures ∙ ap largests c.widest.ensures)
-    (sym c.in_ranges.ensures ∙ c.if-in_ranges.false)
+returns c = let some = eqb-false _ 0 (not-true _ (passed _ _ c.in_ok-ensure.ensures)) in
+    ap refusal_in c.ensure-3.ensures
+    ∙ refusal_ranges _ _ c.pattern_of-count.ensures _ c.to_wires-numbers.ensures some
+    (eqb-true _ _ (passed _ _ c.in_ok-ensure-2.ensures)) _
+    (c.largest-most.ensures ∙ ap largests c.widest.ensures) _ c.in_ranges.ensures

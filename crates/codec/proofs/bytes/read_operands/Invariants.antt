@@ -6,8 +6,5 @@ use Rattle.codec.specs.ReadLaws.{front}
 use Rattle.codec.proofs.bytes.read_operands.Given as goal
 
 abbrev pub invariant-loop-i : goal.invariant-loop-i
-invariant-loop-i l = (l.i ≤ 8) × (length l.kinds ≡ 8) × (length l.numbers ≡ 8)
+invariant-loop-i l = (length l.kinds ≡ 8) × (length l.numbers ≡ 8)
     × (front (take l.i l.numbers) (read_operands (drop l.i l.kinds) l.s l.p) ≡ read_operands l.kinds l.s l.at)
-
-abbrev pub decreases-loop-i : goal.decreases-loop-i
-decreases-loop-i l = 8 - l.i

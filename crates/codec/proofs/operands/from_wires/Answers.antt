@@ -1,29 +1,16 @@
-use mathlib.Core.Path.{refl, ◌∙◌}
+use lib.IntN.{pos}
+use Rattle.std.proofs.Common.{rules, ◌≡◌}
+use mathlib.Core.Path.{sym, ◌∙◌, refl}
 use native.Mathlib.Omega.{arith}
-use lib.ListN.{length-set}
-use mir.Facts.{to_z-of_z}
-use mir.Syntax.{w32}
+use lib.ListN.{get_or}
 use Rattle.codec.specs.Operands.{unwire}
-use Rattle.codec.specs.OperandLaws.{each_turn, each_end}
+use Rattle.codec.specs.OperandLaws.{each_by, made_by}
 use Rattle.codec.proofs.operands.from_wires.Goals as goal
 
-pub loop-i-init : goal.loop-i-init
-loop-i-init c = (omega arith, c.well_formed.0.1.0.1, c.well_formed.1.0.1.0.1, refl, refl, c.requires)
-
-pub from_wire-requires : goal.from_wire-requires
-from_wire-requires c = c.loop-i.invariant.5.at _
-
-pub loop-i-preserved : goal.loop-i-preserved
-loop-i-preserved c = let v = c.loop-i.invariant in
-    rw (to_z-of_z {w = w32} {z = c.from_wire.result} (record { sfits = c.from_wire.type_inv })) (
-      omega arith,
-      v.1,
-      v.2,
-      length-set c.loop-i.args c.loop-i.i c.from_wire.result ∙ v.3,
-      each_turn unwire _ _ 0 _ v.1 v.2 _ v.3 _ v.4 c.loop-i-test.true _
-          c.from_wire.ensures,
-      v.5,
-    )
-
 pub returns : goal.returns
-returns c = let v = c.loop-i.invariant in each_end unwire _ _ 0 _ v.1 v.2 _ v.3 _ v.4 c.loop-i-test.false
+returns c = let made = c.from_fn.ensures.items in
+    let ks = c.well_formed.0.1.0.1 in
+    each_by unwire _ _ _ 0 (pos 0) (c.well_formed.1.0.1.0.1 ∙ sym ks) (made.long ∙ sym ks)
+    (λ i l. made_by _ (λ f. (f.0.now ≡ c.args.kinds) × (f.1.now ≡ c.args.numbers))
+    (λ i. unwire (get_or c.args.kinds i 0) (get_or c.args.numbers i 0)) _ (pos 0)
+    (λ p q i y s d. (search rules, search rules)) 8 0 _ (refl, refl) made.each i (omega arith) (rw ks at l))

@@ -1,25 +1,16 @@
-use mathlib.Core.Path.{refl}
-use native.Mathlib.Omega.{arith}
-use lib.ListN.{length-set}
 use lib.IntN.{pos}
-use mir.Facts.{to_z-of_z}
+use Rattle.std.proofs.Common.{rules, ◌≡◌, length}
+use mathlib.Core.Path.{sym, ◌∙◌, refl}
+use native.Mathlib.Omega.{arith}
+use lib.ListN.{get_or}
 use Rattle.codec.specs.Operands.{wire}
-use Rattle.codec.specs.OperandLaws.{each_turn, each_end}
+use Rattle.codec.specs.OperandLaws.{each_by, made_by}
 use Rattle.codec.proofs.operands.to_wires.Goals as goal
 
-pub loop-i-init : goal.loop-i-init
-loop-i-init c = (omega arith, c.well_formed.0.1.0.1, c.well_formed.1.0.1.0.1, refl, refl)
-
-pub loop-i-preserved : goal.loop-i-preserved
-loop-i-preserved c = let v = c.loop-i.invariant in
-    let e = rw (to_z-of_z (record { sfits = c.to_wire-arg-1.given })) at c.to_wire.ensures in (
-      omega arith,
-      v.1,
-      v.2,
-      simp length-set v.3,
-      each_turn wire _ _ (pos 0) _ v.1 v.2 _ v.3 _ v.4 c.loop-i-test.true _ e,
-    )
-
 pub returns : goal.returns
-returns c = let v = c.loop-i.invariant in
-    each_end wire _ _ (pos 0) _ v.1 v.2 _ v.3 _ v.4 c.loop-i-test.false
+returns c = let made = c.from_fn.ensures.items in
+    let ks = c.well_formed.0.1.0.1 in
+    each_by wire _ _ _ (pos 0) 0 (c.well_formed.1.0.1.0.1 ∙ sym ks) (made.long ∙ sym ks)
+    (λ i l. made_by _ (λ f. (f.0.now ≡ c.args.kinds) × (f.1.now ≡ c.args.args))
+    (λ i. wire (get_or c.args.kinds i 0) (get_or c.args.args i (pos 0))) _ 0
+    (λ p q i y s d. (search rules, search rules)) 8 0 _ (refl, refl) made.each i (omega arith) (rw ks at l))

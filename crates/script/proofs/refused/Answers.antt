@@ -1,4 +1,0 @@
-use Rattle.script.proofs.refused.Goals as goal
-
-pub returns : goal.returns
-returns c = cc
