@@ -1,8 +1,7 @@
 -- Operands as bytes: numbers one behind the other, none for an unused operand.
 use Rattle.std.specs.Prelude.{ℕ, List, [], ◌∷◌, ◌++◌, replicate, eqb}
+use Rattle.std.specs.Prelude.{Option, Some}
 use Rattle.laws.specs.Bools.{pick}
-use Rattle.numbers.specs.declared.Num.{Num}
-use Rattle.numbers.specs.declared.Num.TheVariants.{Got}
 use Rattle.codec.specs.declared.bytes.NumbersAnswer.{NumbersAnswer}
 use Rattle.numbers.specs.Number.{read_number, groups, on_num}
 use Rattle.codec.specs.Operands.{unused}
@@ -18,8 +17,8 @@ on_numbers (Read ns next) got cut = got ns next
 on_numbers Cut got cut = cut
 
 -- an unused operand is 0 and takes no byte
-unfoldable pub read_operand : ℕ → List ℕ → ℕ → Num
-read_operand kind s at = pick (eqb kind unused) (Got 0 at) (read_number s at)
+unfoldable pub read_operand : ℕ → List ℕ → ℕ → Option (ℕ × ℕ)
+read_operand kind s at = pick (eqb kind unused) (Some (0, at)) (read_number s at)
 
 -- the operands of these kinds, from `at` on
 unfoldable pub read_operands : List ℕ → List ℕ → ℕ → Numbers

@@ -2,10 +2,9 @@
 -- same is read from the shortest form.
 use Rattle.std.specs.Prelude.{◌≡◌, refl, ℕ, suc, ◌+◌, ◌*◌, ◌≤◌, true, List, [], ◌∷◌, ◌++◌, length, get_or, drop, ℤ, pos}
 use Rattle.std.specs.Prelude.{negsuc, eqb}
+use Rattle.std.specs.Prelude.{Option, Some, None}
 use Rattle.std.proofs.Common.{sym, ap, ◌∙◌, ⊎_elim, add-zero, add_assoc, arith, append_assoc, length-append}
 use Rattle.laws.specs.Bools.{ask, same?}
-use Rattle.numbers.specs.declared.Num.{Num}
-use Rattle.numbers.specs.declared.Num.TheVariants.{Got, Bad}
 use Rattle.numbers.specs.Number.{read_number, groups, on_num}
 use Rattle.codec.specs.Operands.{unused, coordinate, largests, widest, in_range, in_ranges}
 use Rattle.codec.specs.Operands.{plain, wire, unwire, each, wires, unwires}
@@ -14,7 +13,7 @@ use Rattle.codec.specs.OperandBytes.{operands_bytes}
 use Rattle.codec.specs.SignedLaws.{zig_zag, zag_zig}
 use Rattle.codec.specs.ReadLaws.{operand_unused, operand_number}
 use Rattle.codec.specs.WriteLaws.{bytes_unused, bytes_number}
-use Rattle.numbers.specs.NumberTrip.{number_written, number_next}
+use Rattle.numbers.specs.NumberTrip.{same_read, number_written, number_next}
 use Rattle.numbers.specs.Padded.{shorten}
 use Rattle.numbers.specs.PaddedLaws.{drop_part, PadsAt, pads_none, pads_both, number_pads, number_same}
 use Rattle.numbers.specs.PaddedLaws.{alike_behind}
@@ -24,7 +23,7 @@ use Rattle.codec.specs.Ranges.{range_between, range_small, ranges_cons}
 -- write, then read
 operand_written : (k n : ℕ) (s : List ℕ) (at : ℕ) (q : List ℕ) → in_range (largests widest) k n ≡ true
     → drop at s ≡ operand_bytes k n ++ q
-    → read_operand k s at ≡ Got n (at + length (operand_bytes k n))
+    → read_operand k s at ≡ Some (n, at + length (operand_bytes k n))
 operand_written k n s at q e f =
     ⊎_elim
     (λ z.
@@ -39,20 +38,20 @@ operand_written k n s at q e f =
     (same? k unused)
 
 -- read, then write
-operand_pads : (k n : ℕ) (s : List ℕ) (at next : ℕ) → read_operand k s at ≡ Got n next
+operand_pads : (k n : ℕ) (s : List ℕ) (at next : ℕ) → read_operand k s at ≡ Some (n, next)
     → PadsAt s at next (operand_bytes k n)
 operand_pads k n s at next e =
     ⊎_elim
     (λ z.
-    let f : Got 0 at ≡ Got n next = operand_unused k s at z ∙ e in
-    let g : next ≡ at = cc in
+    let f : Some (0, at) ≡ Some (n, next) = operand_unused k s at z ∙ e in
+    let g : next ≡ at = sym (same_read f).1 in
     rw (bytes_unused k n z, g) (pads_none s at))
     (λ z. rw (bytes_number k n z) (number_pads s at n next (operand_number k s at z _ refl ∙ e)))
     (same? k unused)
 
 -- from the shortest form
 operand_same : (k : ℕ) (s u : List ℕ) (a b : ℕ) → drop b u ≡ shorten (drop a s)
-    → read_operand k u b ≡ on_num (read_operand k s a) (λ n next. Got n (b + length (operand_bytes k n))) Bad
+    → read_operand k u b ≡ on_num (read_operand k s a) (λ n next. Some (n, b + length (operand_bytes k n))) None
 operand_same k s u a b e =
     ⊎_elim
     (λ z. rw (← operand_unused k u b z, ← operand_unused k s a z, bytes_unused k 0 z, add-zero b))
@@ -60,20 +59,20 @@ operand_same k s u a b e =
     (number_same s u a b e ∙ by z (read_number s a)))
     (same? k unused)
   where
-    by : (k ≡ unused → ⊥) → (x : Num)
-        → on_num x (λ n next. Got n (b + length (groups n))) Bad
-        ≡ on_num x (λ n next. Got n (b + length (operand_bytes k n))) Bad
-    by z (Got n next) = rw (bytes_number k n z)
-    by z Bad = refl
+    by : (k ≡ unused → ⊥) → (x : Option (ℕ × ℕ))
+        → on_num {X = Option (ℕ × ℕ)} x (λ n next. Some (n, b + length (groups n))) None
+        ≡ on_num x (λ n next. Some (n, b + length (operand_bytes k n))) None
+    by z (Some (n, next)) = rw (bytes_number k n z)
+    by z None = refl
 
 -- reading goes forward
-pub operand_next : (k n : ℕ) (s : List ℕ) (at next : ℕ) → at ≤ length s → read_operand k s at ≡ Got n next
+pub operand_next : (k n : ℕ) (s : List ℕ) (at next : ℕ) → at ≤ length s → read_operand k s at ≡ Some (n, next)
     → (at ≤ next) × (next ≤ length s) × (next ≤ at + 3)
 operand_next k n s at next h e =
     ⊎_elim
     (λ z.
-    let f : Got 0 at ≡ Got n next = operand_unused k s at z ∙ e in
-    let g : next ≡ at = cc in
+    let f : Some (0, at) ≡ Some (n, next) = operand_unused k s at z ∙ e in
+    let g : next ≡ at = sym (same_read f).1 in
     (omega arith, omega arith, omega arith))
     (λ z. let b = number_next s at n next (operand_number k s at z _ refl ∙ e) in (omega (arith, b.0), b.1, b.2))
     (same? k unused)
@@ -84,7 +83,7 @@ pub record Step (k : ℕ) (ks s : List ℕ) (at : ℕ) (ns : List ℕ) (next : �
   pub n : ℕ
   pub mid : ℕ
   pub rest : List ℕ
-  pub first : read_operand k s at ≡ Got n mid
+  pub first : read_operand k s at ≡ Some (n, mid)
   pub others : read_operands ks s mid ≡ Read rest next
   pub all : ns ≡ n ∷ rest
 
@@ -97,7 +96,7 @@ pub step : (k : ℕ) (ks s : List ℕ) (at : ℕ) (ns : List ℕ) (next : ℕ) �
 unfolding read_operands
 step k ks s at ns next e = one (read_operand k s at) refl e
   where
-    two : (n mid : ℕ) (y : Numbers) → read_operand k s at ≡ Got n mid → read_operands ks s mid ≡ y
+    two : (n mid : ℕ) (y : Numbers) → read_operand k s at ≡ Some (n, mid) → read_operands ks s mid ≡ y
         → on_numbers y (λ ms end. Read (n ∷ ms) end) Cut ≡ Read ns next → Step k ks s at ns next
     two n mid (Read ms end) a b f =
         let g : ns ≡ n ∷ ms = cc in
@@ -105,11 +104,11 @@ step k ks s at ns next e = one (read_operand k s at) refl e
         record { n = n; mid = mid; rest = ms; first = a; others = rw h at b; all = g }
     two n mid Cut a b f = cut ns next f
 
-    one : (x : Num) → read_operand k s at ≡ x
+    one : (x : Option (ℕ × ℕ)) → read_operand k s at ≡ x
         → on_num x (λ n mid. on_numbers (read_operands ks s mid) (λ ms end. Read (n ∷ ms) end) Cut) Cut ≡ Read ns next
         → Step k ks s at ns next
-    one (Got n mid) a f = two n mid (read_operands ks s mid) a refl f
-    one Bad a f = cut ns next f
+    one (Some (n, mid)) a f = two n mid (read_operands ks s mid) a refl f
+    one None a f = cut ns next f
 
 pub operands_written : (ks ns s : List ℕ) (at : ℕ) (q : List ℕ) → length ks ≡ length ns
     → in_ranges (largests widest) ks ns ≡ true
@@ -169,17 +168,17 @@ operands_same (k ∷ ks) s u a b e =
         )
     three n Cut = refl
 
-    one : (x : Num) → read_operand k s a ≡ x
+    one : (x : Option (ℕ × ℕ)) → read_operand k s a ≡ x
         → ((c d : ℕ) → drop d u ≡ shorten (drop c s) → read_operands ks u d ≡ Short d ks (read_operands ks s c))
-        → on_num (on_num x (λ n next. Got n (b + length (operand_bytes k n))) Bad)
+        → on_num (on_num x (λ n next. Some (n, b + length (operand_bytes k n))) None)
         (λ n mid. on_numbers (read_operands ks u mid) (λ ms end. Read (n ∷ ms) end) Cut) Cut
         ≡ Short b (k ∷ ks) (on_num x (λ n mid. on_numbers (read_operands ks s mid) (λ ms end. Read (n ∷ ms) end) Cut)
         Cut)
-    one (Got n mid) f rest =
+    one (Some (n, mid)) f rest =
         let c : ℕ = b + length (operand_bytes k n) in
         rw (rest mid c (alike_behind (operand_pads k n s a mid f) u b e))
         (two n c (read_operands ks s mid) ∙ three n (read_operands ks s mid))
-    one Bad f rest = refl
+    one None f rest = refl
 
 pub operands_length : (ks s : List ℕ) (at : ℕ) (ns : List ℕ) (next : ℕ) → read_operands ks s at ≡ Read ns next
     → length ns ≡ length ks

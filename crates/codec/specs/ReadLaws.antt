@@ -1,12 +1,11 @@
 -- What the code's loop over the operands finds, turn by turn.
 use Rattle.std.specs.Prelude.{◌≡◌, refl, ℕ, zero, suc, ◌+◌, ◌≤◌, ◌<◌, length, get_or, take, drop, set, replicate, eqb}
+use Rattle.std.specs.Prelude.{Option, Some, None}
 use Rattle.std.proofs.Math.Path.{ap}
 use Rattle.std.proofs.Common.{◌∙◌, add-one, arith, drop-cons, take-suc-set, eq-eqb, ne_eqb}
 use mathlib.Core.List.{List, [], ◌∷◌, ◌++◌, append_assoc, append-nil}
 use Rattle.std.proofs.Math.Seq.{take_all}
 use Rattle.laws.specs.Bools.{pick_ind}
-use Rattle.numbers.specs.declared.Num.{Num}
-use Rattle.numbers.specs.declared.Num.TheVariants.{Got, Bad}
 use Rattle.codec.specs.declared.bytes.NumbersAnswer.{NumbersAnswer}
 use Rattle.numbers.specs.Number.{read_number, on_num}
 use Rattle.numbers.specs.NumberTrip.{number_small}
@@ -15,11 +14,11 @@ use Rattle.codec.specs.OperandBytes.{Numbers, Read, Cut, on_numbers, numbers_ans
 use Rattle.codec.specs.OperandLaws.{behind}
 
 module _ (k : ℕ) (s : List ℕ) (at : ℕ) where
-  pub operand_unused : k ≡ unused → Got 0 at ≡ read_operand k s at
+  pub operand_unused : k ≡ unused → Some (0, at) ≡ read_operand k s at
   unfolding read_operand
   operand_unused e = rw (eq-eqb k unused e)
 
-  pub operand_number : (k ≡ unused → ⊥) → (x : Num) → x ≡ read_number s at → x ≡ read_operand k s at
+  pub operand_number : (k ≡ unused → ⊥) → (x : Option (ℕ × ℕ)) → x ≡ read_number s at → x ≡ read_operand k s at
   unfolding read_operand
   operand_number e x f = rw (ne_eqb k unused e) f
 
@@ -46,11 +45,11 @@ module _ (s ks ys : List ℕ) (i p : ℕ) (q : length ks ≡ 8) (r : length ys �
   unfolding read_operands
   more h = rw (drop-cons ks i 0 (omega arith)) at rest
 
-  pub operands_cut : (at : ℕ) → i < 8 → read_operand (get_or ks i 0) s p ≡ Bad
+  pub operands_cut : (at : ℕ) → i < 8 → read_operand (get_or ks i 0) s p ≡ None
       → record { refusal = 3; next = at; numbers = replicate 8 0 } ≡ numbers_answer at whole
   operands_cut at h e = ap (numbers_answer at) (rw e at (more h))
 
-  pub operands_turn : (n next : ℕ) → i < 8 → read_operand (get_or ks i 0) s p ≡ Got n next
+  pub operands_turn : (n next : ℕ) → i < 8 → read_operand (get_or ks i 0) s p ≡ Some (n, next)
       → front (take (i + 1) (set ys i n)) (read_operands (drop (i + 1) ks) s next) ≡ whole
   operands_turn n next h e =
       rw (add-one i, take-suc-set ys i n (omega arith))
@@ -71,9 +70,9 @@ read_is n at (Read ns next) e h = rw e
 read_is n at Cut e h = absurd (let z : n.refusal ≡ 3 = ap (λ (m : NumbersAnswer). m.refusal) e in omega arith)
 
 -- every number that is read fits three groups
-abbrev SmallNum : Num → Type 0
-SmallNum (Got n next) = n < 2097152
-SmallNum Bad = Unit {0}
+abbrev SmallNum : Option (ℕ × ℕ) → Type 0
+SmallNum (Some (n, next)) = n < 2097152
+SmallNum None = Unit {0}
 
 abbrev SmallNumbers : Numbers → Type 0
 SmallNumbers (Read ns next) = Small ns
@@ -83,9 +82,9 @@ SmallNumbers Cut = Unit {0}
 small_number : (s : List ℕ) (at : ℕ) → SmallNum (read_number s at)
 small_number s at = by (read_number s at) refl
   where
-    by : (x : Num) → read_number s at ≡ x → SmallNum x
-    by (Got n next) e = number_small s at n next e
-    by Bad e = tt
+    by : (x : Option (ℕ × ℕ)) → read_number s at ≡ x → SmallNum x
+    by (Some (n, next)) e = number_small s at n next e
+    by None e = tt
 
 operand_small : (k : ℕ) (s : List ℕ) (at : ℕ) → SmallNum (read_operand k s at)
 unfolding read_operand
@@ -108,10 +107,10 @@ operands_small (k ∷ ks) s at = step (read_operand k s at) (operand_small k s a
     cons n (Read ns next) h rest = small_cons n ns h rest
     cons n Cut h rest = tt
 
-    step : (x : Num) → SmallNum x → ((next : ℕ) → SmallNumbers (read_operands ks s next))
+    step : (x : Option (ℕ × ℕ)) → SmallNum x → ((next : ℕ) → SmallNumbers (read_operands ks s next))
         → SmallNumbers (on_num x (λ n next. on_numbers (read_operands ks s next) (λ ns end. Read (n ∷ ns) end) Cut) Cut)
-    step (Got n next) h rest = cons n (read_operands ks s next) h (rest next)
-    step Bad h rest = tt
+    step (Some (n, next)) h rest = cons n (read_operands ks s next) h (rest next)
+    step None h rest = tt
 
 small_answer : (at : ℕ) (x : Numbers) → SmallNumbers x → Small (numbers_answer at x).numbers
 small_answer at (Read ns next) h = h

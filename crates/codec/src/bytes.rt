@@ -6,7 +6,7 @@ ghost use Rattle.codec.specs.OperandBytes.{read_operand, read_operands, numbers_
 
 use crate::operands;
 use crate::operands::NONE;
-use numbers::{Num, number_size, read_number, write_before, write_number};
+use numbers::{number_size, read_number, write_before, write_number};
 
 // What reading eight operands answers. On a refusal `next` is the place handed in and the numbers are 0.
 #[derive(Clone, Copy)]
@@ -17,11 +17,11 @@ pub struct NumbersAnswer {
 }
 
 // The operand that stands at `at`; an unused one is 0 and takes no byte.
-fn read_operand(kind: u8, s: &[u8], at: usize) -> Num
+fn read_operand(kind: u8, s: &[u8], at: usize) -> Option<(u32, usize)>
     ensures { result ≡ read_operand kind s.now at }
 {
     if kind == NONE {
-        return Num::Got(0, at);
+        return Some((0, at));
     }
     read_number(s, at)
 }
@@ -36,11 +36,11 @@ pub fn read_operands(kinds: [u8; 8], s: &[u8], at: usize) -> NumbersAnswer
     while i < 8 {
         let x = read_operand(kinds[i], s, p);
         match x {
-            Num::Got(n, next) => {
+            Some((n, next)) => {
                 numbers[i] = n;
                 p = next;
             }
-            Num::Bad => {
+            None => {
                 return NumbersAnswer {
                     refusal: 3,
                     next: at,

@@ -1,6 +1,6 @@
 -- Slips in numbers, operators as bytes, and the places of a table's words.
 use Rattle.std.specs.Prelude.{ℕ, List, [], ◌∷◌, map, negsuc}
-use Rattle.numbers.specs.declared.Num.{Num}
+use Rattle.std.specs.Prelude.{Option}
 use Rattle.numbers.specs.Number.{read_number, groups, on_num}
 use Rattle.codec.specs.Operands.{widest, zig}
 use Rattle.script.specs.Operator.{read_operator, operator_bytes}
@@ -11,7 +11,7 @@ use Rattle.evidence_cases.specs.RowsRefused.{mev_bytes}
 use Rattle.evidence_slips.specs.Slip.{Slip, row}
 
 -- a number that was read and the place after it; nothing where it is refused
-abbrev got : Num → List ℕ
+abbrev got : Option (ℕ × ℕ) → List ℕ
 got n = on_num n (λ m next. m ∷ next ∷ []) []
 
 abbrev pub byte_rows : List Slip

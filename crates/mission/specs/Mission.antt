@@ -18,12 +18,12 @@
 -- In quotes: documents 00 and 01; where it is document 02, it says so.
 use Rattle.std.specs.Prelude.{◌≡◌, ◌≢◌, true, false, ◌&&◌, List, [], ◌∷◌, ◌++◌, ℕ, ◌+◌, ◌-◌, ◌*◌, ◌≤◌, ◌<◌, ℤ, length}
 use Rattle.std.specs.Prelude.{get_or, take, drop}
+use Rattle.std.specs.Prelude.{Some, None}
 use Rattle.laws.specs.Bools.{pick}
 use Rattle.script.specs.declared.Operator.{Operator}
 use Rattle.codec.specs.declared.Limits.{Limits}
 use Rattle.codec.specs.Operands.{widest}
 use Rattle.script.specs.Operator.{refused, read_operator, operator_bytes, not_written, write_operator, read_script}
-use Rattle.numbers.specs.declared.Num.TheVariants.{Got, Bad}
 use Rattle.numbers.specs.Number.{read_number, groups}
 use Rattle.numbers.specs.Padded.{form, shorten, shorten_from, shortest}
 use Rattle.numbers.specs.NumberTrip.{Bytes}
@@ -173,8 +173,8 @@ pub record Demand2 : Type 0 where
   pub script_shortest : (s : List ℕ) → (read_script s).refusal ≡ 0 → shortest (shorten s) ≡ true
   -- Document 02, job 1: "Reading shall take any form of at most three groups": those and no others
   pub form_read : (s : List ℕ) (at n g : ℕ) (q : List ℕ) → n < 2097152 → length (groups n) ≤ g → g ≤ 3
-      → drop at s ≡ form g n ++ q → read_number s at ≡ Got n (at + g)
-  pub read_form : (s : List ℕ) (at n k : ℕ) → Bytes s → read_number s at ≡ Got n k
+      → drop at s ≡ form g n ++ q → read_number s at ≡ Some (n, at + g)
+  pub read_form : (s : List ℕ) (at n k : ℕ) → Bytes s → read_number s at ≡ Some (n, k)
       → (g : ℕ) × (k ≡ at + g) × (length (groups n) ≤ g) × (g ≤ 3) × (drop at s ≡ form g n ++ drop k s)
   -- the same: "writing keeps the shortest". An operator that is written in front of shortest bytes leaves them so; what
   -- runs write into the log is shortest, whatever it held (`written`: live now, and in front of the old start); so a
@@ -190,8 +190,8 @@ pub record Demand2 : Type 0 where
   -- and just such numbers are not read
   pub refused_3 : (lim : Limits) (s : List ℕ) (at : ℕ) → (read_operator lim s at).refusal ≡ 3 → CutShort s at
   pub cut_refused : (lim : Limits) (s : List ℕ) (at : ℕ) → CutShort s at → read_operator lim s at ≡ refused 3 at
-  pub unread : (s : List ℕ) (at : ℕ) → read_number s at ≡ Bad → Unread s at
-  pub unread_bad : (s : List ℕ) (at : ℕ) → Unread s at → read_number s at ≡ Bad
+  pub unread : (s : List ℕ) (at : ℕ) → read_number s at ≡ None → Unread s at
+  pub unread_bad : (s : List ℕ) (at : ℕ) → Unread s at → read_number s at ≡ None
   -- the same: "A padded script must do what its shortest form does, bytes taken aside". Of any bytes and from any
   -- state, refused or not, all but the bytes used are the same (`short_used`); so too undo of a padded log and
   -- redo of a padded redo log (`short_source`)

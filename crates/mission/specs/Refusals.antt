@@ -1,12 +1,11 @@
 -- Which numbers each entry point answers (document 01, "Who causes a refusal", and document 02), for every input; and
 -- that a refusal before anything is done leaves all as it was.
 use Rattle.std.specs.Prelude.{◌≡◌, refl, ◌≢◌, Bool, false, ◌&&◌, ◌||◌, T, eqb, leb, ℤ, length, get_or}
+use Rattle.std.specs.Prelude.{Option, Some, None}
 use Rattle.std.proofs.Common.{sym, subst, ⊎_elim, arith, eqb→eq}
 use mathlib.Core.List.{List, [], ◌∷◌, map}
 use Prim.Native.Nat.{ℕ, zero, suc, ◌+◌}
 use Rattle.laws.specs.Bools.{pick, pick_ind, split, eqb_same, eqb_other, le?, or_T, and_T, allb}
-use Rattle.numbers.specs.declared.Num.{Num}
-use Rattle.numbers.specs.declared.Num.TheVariants.{Got, Bad}
 use Rattle.codec.specs.declared.Limits.{Limits}
 use Rattle.script.specs.declared.Operator.{Operator}
 use Rattle.script.specs.declared.ReadAnswer.{ReadAnswer}
@@ -159,10 +158,10 @@ read_numbered lim s at = begun (read_number s at)
     numbered code (Read ns next) = pick_ind P (in_ranges (largests lim) (pattern code).kinds ns) _ _ tt tt
     numbered code Cut = tt
 
-    begun : (x : Num) → P (on_num x (read_behind lim s at) (refused 3 at))
-    begun (Got code from) =
+    begun : (x : Option (ℕ × ℕ)) → P (on_num x (read_behind lim s at) (refused 3 at))
+    begun (Some (code, from)) =
         pick_ind P (eqb (pattern code).count 0) _ _ tt (numbered code (read_operands (pattern code).kinds s from))
-    begun Bad = tt
+    begun None = tt
 
 -- writing 4, 5, then 9
 pub write_numbered : (o : Operator) (out : List ℕ) → OneOf (0 ∷ 4 ∷ 5 ∷ 9 ∷ []) (write_operator o out).answer.refusal

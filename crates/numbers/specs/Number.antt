@@ -1,29 +1,28 @@
 -- A number is groups of seven bits, lowest first, the high bit set on all but the last, at most three. Reading takes
 -- any such form, writing takes the fewest groups (document 02, job 1).
 use Rattle.std.specs.Prelude.{ℕ, ◌+◌, ◌*◌, ◌/◌, ◌%◌, List, [], ◌∷◌, drop, ltb}
+use Rattle.std.specs.Prelude.{Option, Some, None}
 use Rattle.laws.specs.Bools.{pick}
-use Rattle.numbers.specs.declared.Num.{Num}
-use Rattle.numbers.specs.declared.Num.TheVariants.{Got, Bad}
 
 -- the third group, `low` the value of the two before it
-unfoldable pub third : ℕ → ℕ → List ℕ → Num
-third at low [] = Bad
-third at low (b ∷ r) = pick (ltb b 128) (Got (low + b * 16384) (at + 3)) Bad
+unfoldable pub third : ℕ → ℕ → List ℕ → Option (ℕ × ℕ)
+third at low [] = None
+third at low (b ∷ r) = pick (ltb b 128) (Some (low + b * 16384, at + 3)) None
 
 -- the second group, `low` the value of the first
-unfoldable pub second : ℕ → ℕ → List ℕ → Num
+unfoldable pub second : ℕ → ℕ → List ℕ → Option (ℕ × ℕ)
 unfolding third
-second at low [] = Bad
-second at low (b ∷ r) = pick (ltb b 128) (Got (low + b * 128) (at + 2)) (third at (low + b % 128 * 128) r)
+second at low [] = None
+second at low (b ∷ r) = pick (ltb b 128) (Some (low + b * 128, at + 2)) (third at (low + b % 128 * 128) r)
 
 -- the first group of the bytes that stand at `at`
-unfoldable pub first : ℕ → List ℕ → Num
+unfoldable pub first : ℕ → List ℕ → Option (ℕ × ℕ)
 unfolding second
-first at [] = Bad
-first at (b ∷ r) = pick (ltb b 128) (Got b (at + 1)) (second at (b % 128) r)
+first at [] = None
+first at (b ∷ r) = pick (ltb b 128) (Some (b, at + 1)) (second at (b % 128) r)
 
--- the number that stands at `at` and the place behind it, or `Bad`: cut off or too long (refusal 3)
-unfoldable pub read_number : List ℕ → ℕ → Num
+-- the number that stands at `at` and the place behind it, or none where it is cut off or too long (refusal 3)
+unfoldable pub read_number : List ℕ → ℕ → Option (ℕ × ℕ)
 unfolding first
 read_number s at = first at (drop at s)
 
@@ -35,6 +34,6 @@ groups n =
     ((n % 128 + 128) ∷ (n / 128 % 128 + 128) ∷ (n / 16384 % 128) ∷ []))
 
 -- what follows a number that was read, or a refusal
-abbrev pub on_num {ℓ} : {X : Type ℓ} → Num → (ℕ → ℕ → X) → X → X
-on_num (Got n next) got bad = got n next
-on_num Bad got bad = bad
+abbrev pub on_num {ℓ} : {X : Type ℓ} → Option (ℕ × ℕ) → (ℕ → ℕ → X) → X → X
+on_num (Some (n, next)) got bad = got n next
+on_num None got bad = bad

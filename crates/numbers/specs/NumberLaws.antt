@@ -1,62 +1,62 @@
 -- What `read_number` is, place by place of the slice, as the code reads it.
 use Rattle.std.specs.Prelude.{◌≡◌, List, [], ◌∷◌, length, get_or, set, drop, ltb}
+use Rattle.std.specs.Prelude.{Some, None}
 use Rattle.std.proofs.Common.{sym, ◌∙◌, ⊎_elim, drop_of_length-le, drop-cons, lt-ltb, le-ltb}
 use Prim.Native.Nat.{ℕ, suc, ◌+◌, ◌*◌, ◌/◌, ◌%◌, ◌≤◌, ◌<◌}
 use Rattle.std.proofs.lemmas.List.Edits.{sets}
 use Rattle.std.proofs.Math.Numerals.{add-one, add-two}
 use native.Mathlib.Omega.{arith}
-use Rattle.numbers.specs.declared.Num.TheVariants.{Got, Bad}
 use Rattle.laws.specs.Bools.{pick, le?}
 use Rattle.numbers.specs.Number.{groups, second, third, read_number}
 
 module _ (s : List ℕ) (at : ℕ) where
-  pub first_end : length s ≤ at → read_number s at ≡ Bad
+  pub first_end : length s ≤ at → read_number s at ≡ None
   unfolding read_number
   first_end h = rw (drop_of_length-le s h)
 
   pub first_is : at < length s
-      → read_number s at ≡ pick (ltb (get_or s at 0) 128) (Got (get_or s at 0) (at + 1))
+      → read_number s at ≡ pick (ltb (get_or s at 0) 128) (Some (get_or s at 0, at + 1))
       (second at (get_or s at 0 % 128)
       (drop (at + 1) s))
   unfolding read_number
   first_is h = rw (drop-cons s at 0 h, add-one at)
 
-  pub second_end : (low : ℕ) → length s ≤ at + 1 → second at low (drop (at + 1) s) ≡ Bad
+  pub second_end : (low : ℕ) → length s ≤ at + 1 → second at low (drop (at + 1) s) ≡ None
   unfolding second
   second_end low h = rw (drop_of_length-le s h)
 
   pub second_is : (low : ℕ) → at + 1 < length s
       → second at low (drop (at + 1) s)
-      ≡ pick (ltb (get_or s (at + 1) 0) 128) (Got (low + get_or s (at + 1) 0 * 128) (at + 2))
+      ≡ pick (ltb (get_or s (at + 1) 0) 128) (Some (low + get_or s (at + 1) 0 * 128, at + 2))
       (third at (low + get_or s (at + 1) 0 % 128 * 128) (drop (at + 2) s))
   unfolding second
   second_is low h = let e : at + 2 ≡ suc (at + 1) = omega arith in rw (drop-cons s (at + 1) 0 h, e)
 
-  pub third_end : (low : ℕ) → length s ≤ at + 2 → third at low (drop (at + 2) s) ≡ Bad
+  pub third_end : (low : ℕ) → length s ≤ at + 2 → third at low (drop (at + 2) s) ≡ None
   unfolding third
   third_end low h = rw (drop_of_length-le s h)
 
   pub third_is : (low : ℕ) → at + 2 < length s
       → third at low (drop (at + 2) s)
-      ≡ pick (ltb (get_or s (at + 2) 0) 128) (Got (low + get_or s (at + 2) 0 * 16384) (at + 3)) Bad
+      ≡ pick (ltb (get_or s (at + 2) 0) 128) (Some (low + get_or s (at + 2) 0 * 16384, at + 3)) None
   unfolding third
   third_is low h = rw (drop-cons s (at + 2) 0 h)
 
   -- the ways out of the code, one law each, over the elements alone: `omega` closes each premise
-  pub bad_0 : length s ≤ at → Bad ≡ read_number s at
+  pub bad_0 : length s ≤ at → None ≡ read_number s at
   bad_0 h = sym (first_end h)
 
-  pub got_1 : (v : ℕ) → at < length s → get_or s at 0 < 128 → v ≡ get_or s at 0 → Got v (at + 1) ≡ read_number s at
+  pub got_1 : (v : ℕ) → at < length s → get_or s at 0 < 128 → v ≡ get_or s at 0 → Some (v, at + 1) ≡ read_number s at
   got_1 v h k e = rw (first_is h, lt-ltb (get_or s at 0) 128 k, e)
 
   more_1 : at < length s → 128 ≤ get_or s at 0 → read_number s at ≡ second at (get_or s at 0 % 128) (drop (at + 1) s)
   more_1 h k = rw (first_is h, le-ltb (get_or s at 0) 128 k)
 
-  pub bad_1 : at < length s → 128 ≤ get_or s at 0 → length s ≤ at + 1 → Bad ≡ read_number s at
+  pub bad_1 : at < length s → 128 ≤ get_or s at 0 → length s ≤ at + 1 → None ≡ read_number s at
   bad_1 h k l = sym (more_1 h k ∙ second_end _ l)
 
   pub got_2 : (v : ℕ) → 128 ≤ get_or s at 0 → at + 1 < length s → get_or s (at + 1) 0 < 128
-      → v ≡ get_or s at 0 % 128 + get_or s (at + 1) 0 * 128 → Got v (at + 2) ≡ read_number s at
+      → v ≡ get_or s at 0 % 128 + get_or s (at + 1) 0 * 128 → Some (v, at + 2) ≡ read_number s at
   got_2 v k l m e =
       sym (more_1 (omega arith) k ∙ second_is _ l ∙ rw (lt-ltb (get_or s (at + 1) 0) 128 m, e))
 
@@ -66,17 +66,17 @@ module _ (s : List ℕ) (at : ℕ) where
       more_1 (omega arith) k ∙ second_is _ l ∙ rw (le-ltb (get_or s (at + 1) 0) 128 m)
 
   pub bad_2 : 128 ≤ get_or s at 0 → at + 1 < length s → 128 ≤ get_or s (at + 1) 0 → length s ≤ at + 2
-      → Bad ≡ read_number s at
+      → None ≡ read_number s at
   bad_2 k l m n = sym (more_2 k l m ∙ third_end _ n)
 
   pub got_3 : (v : ℕ) → 128 ≤ get_or s at 0 → 128 ≤ get_or s (at + 1) 0 → at + 2 < length s → get_or s (at + 2) 0 < 128
       → v ≡ get_or s at 0 % 128 + get_or s (at + 1) 0 % 128 * 128 + get_or s (at + 2) 0 * 16384
-      → Got v (at + 3) ≡ read_number s at
+      → Some (v, at + 3) ≡ read_number s at
   got_3 v k m n p e =
       sym (more_2 k (omega arith) m ∙ third_is _ n ∙ rw (lt-ltb (get_or s (at + 2) 0) 128 p, e))
 
   pub bad_3 : 128 ≤ get_or s at 0 → 128 ≤ get_or s (at + 1) 0 → at + 2 < length s → 128 ≤ get_or s (at + 2) 0
-      → Bad ≡ read_number s at
+      → None ≡ read_number s at
   bad_3 k m n p =
       sym (more_2 k (omega arith) m ∙ third_is _ n ∙ rw (le-ltb (get_or s (at + 2) 0) 128 p))
 

@@ -1,14 +1,13 @@
 -- How a number is read, group by group; and from this: the place behind it, the bytes it is read from, and that it is
 -- read from each of its forms and from nothing else.
 use Rattle.std.specs.Prelude.{◌≡◌, refl, ℕ, zero, suc, ◌+◌, ◌*◌, ◌/◌, ◌%◌, ◌≤◌, ◌<◌, length, get_or, take, drop}
+use Rattle.std.specs.Prelude.{Option, Some, None}
 use Rattle.std.proofs.Common.{sym, ap, ◌∙◌, subst, arith, length-drop, take-append-drop, get_or-drop, drop-drop, lt-ltb}
 use Rattle.std.proofs.Common.{le-ltb}
 use Rattle.std.proofs.Math.Logic.{⊎_elim}
 use mathlib.Core.List.{List, [], ◌∷◌, ◌++◌}
 use Rattle.laws.specs.Bools.{le?}
-use Rattle.numbers.specs.declared.Num.{Num}
-use Rattle.numbers.specs.declared.Num.TheVariants.{Got, Bad}
-use Rattle.numbers.specs.Number.{first, second, third, read_number, groups}
+use Rattle.numbers.specs.Number.{first, second, third, read_number, groups, on_num}
 use Rattle.numbers.specs.NumberLaws.{groups_1, groups_2, groups_3, size_1, size_2, size_3, groups_size}
 use Rattle.numbers.specs.Padded.{form}
 
@@ -20,7 +19,7 @@ pub data Reads : List ℕ → ℕ → ℕ → Type 0 where
       → Reads (b ∷ d ∷ f ∷ r) (b % 128 + d % 128 * 128 + f * 16384) 3
 
 -- what has groups is read, at any place
-pub reads_got : {l : List ℕ} {n g : ℕ} (at : ℕ) → Reads l n g → first at l ≡ Got n (at + g)
+pub reads_got : {l : List ℕ} {n g : ℕ} (at : ℕ) → Reads l n g → first at l ≡ Some (n, at + g)
 unfolding first second third
 reads_got at (one b r h) = rw (lt-ltb b 128 h)
 reads_got at (two b d r h i) = rw (le-ltb b 128 h, lt-ltb d 128 i)
@@ -33,19 +32,23 @@ pub record Found (at : ℕ) (l : List ℕ) (n k : ℕ) : Type 0 where
   pub reads : Reads l n size
 
 -- what is not read is no number
-pub never : {X : Type 0} {n k : ℕ} → Bad ≡ Got n k → X
+pub never : {X : Type 0} {n k : ℕ} → ◌≡◌ {A = Option (ℕ × ℕ)} None (Some (n, k)) → X
 never e = absurd (let z : ◌≡◌ {A = ℕ} 0 1 = cc in omega arith)
+
+-- what is read once is one number, and one place behind it
+pub same_read : {v j n k : ℕ} → ◌≡◌ {A = Option (ℕ × ℕ)} (Some (v, j)) (Some (n, k)) → (v ≡ n) × (j ≡ k)
+same_read {v} {j} e = (ap (λ x. on_num x (λ m p. m) v) e, ap (λ x. on_num x (λ m p. p) j) e)
 
 module _ (at n k : ℕ) where
   -- from the groups, whose value and place are the ones read
-  got : {l : List ℕ} (v g : ℕ) → Reads l v g → Got v (at + g) ≡ Got n k → Found at l n k
+  got : {l : List ℕ} (v g : ℕ) → Reads l v g → ◌≡◌ {A = Option (ℕ × ℕ)} (Some (v, at + g)) (Some (n, k))
+      → Found at l n k
   got {l} v g r e =
-      let p : v ≡ n = cc in
-      let q : k ≡ at + g = cc in
-      record { size = g; behind = q; reads = subst (λ (m : ℕ). Reads l m g) p r }
+      let q = same_read e in
+      record { size = g; behind = sym q.1; reads = subst (λ (m : ℕ). Reads l m g) q.0 r }
 
   -- behind two groups
-  found_3 : (b d : ℕ) (r : List ℕ) → 128 ≤ b → 128 ≤ d → third at (b % 128 + d % 128 * 128) r ≡ Got n k
+  found_3 : (b d : ℕ) (r : List ℕ) → 128 ≤ b → 128 ≤ d → third at (b % 128 + d % 128 * 128) r ≡ Some (n, k)
       → Found at (b ∷ d ∷ r) n k
   unfolding third
   found_3 b d [] h i e = never e
@@ -54,7 +57,7 @@ module _ (at n k : ℕ) where
       (le? 128 f)
 
   -- behind one
-  found_2 : (b : ℕ) (r : List ℕ) → 128 ≤ b → second at (b % 128) r ≡ Got n k → Found at (b ∷ r) n k
+  found_2 : (b : ℕ) (r : List ℕ) → 128 ≤ b → second at (b % 128) r ≡ Some (n, k) → Found at (b ∷ r) n k
   unfolding second
   found_2 b [] h e = never e
   found_2 b (d ∷ r) h e =
@@ -62,7 +65,7 @@ module _ (at n k : ℕ) where
       (λ i. got _ 2 (two b d r h i) (rw (lt-ltb d 128 i) at e)) (le? 128 d)
 
   -- and from the first
-  pub found : (l : List ℕ) → first at l ≡ Got n k → Found at l n k
+  pub found : (l : List ℕ) → first at l ≡ Some (n, k) → Found at l n k
   unfolding first
   found [] e = never e
   found (b ∷ r) e =
@@ -70,17 +73,17 @@ module _ (at n k : ℕ) where
       (le? 128 b)
 
 -- the same at a place of a slice
-pub number_found : (s : List ℕ) (at n k : ℕ) → read_number s at ≡ Got n k → Found at (drop at s) n k
+pub number_found : (s : List ℕ) (at n k : ℕ) → read_number s at ≡ Some (n, k) → Found at (drop at s) n k
 unfolding read_number
 number_found s at n k e = found at n k (drop at s) e
 
 -- what is not read at one place is not read at another
-pub bad_anywhere : (a b : ℕ) (l : List ℕ) → first a l ≡ Bad → first b l ≡ Bad
+pub bad_anywhere : (a b : ℕ) (l : List ℕ) → first a l ≡ None → first b l ≡ None
 bad_anywhere a b l e = by (first b l) refl
   where
-    by : (x : Num) → first b l ≡ x → x ≡ Bad
-    by (Got n k) f = let r = found b n k l f in never (sym e ∙ reads_got a r.reads)
-    by Bad f = refl
+    by : (x : Option (ℕ × ℕ)) → first b l ≡ x → x ≡ None
+    by (Some (n, k)) f = let r = found b n k l f in never (sym e ∙ reads_got a r.reads)
+    by None f = refl
 
 -- ---- what the groups say
 
@@ -103,7 +106,7 @@ reads_own q (two b d r h i) = two b d q h i
 reads_own q (three b d f r h i j) = three b d f q h i j
 
 -- the place behind a number is past its own, within the slice, and past it by three at most
-pub number_next : (s : List ℕ) (at n k : ℕ) → read_number s at ≡ Got n k → (at < k) × (k ≤ length s) × (k ≤ at + 3)
+pub number_next : (s : List ℕ) (at n k : ℕ) → read_number s at ≡ Some (n, k) → (at < k) × (k ≤ length s) × (k ≤ at + 3)
 number_next s at n k e =
     let f = number_found s at n k e in
     let z = reads_size f.reads in
@@ -111,7 +114,7 @@ number_next s at n k e =
     (omega (arith, f.behind, z.0), omega (arith, f.behind, z.0, z.2, l), omega (arith, f.behind, z.1))
 
 -- every number that is read fits three groups
-pub number_small : (s : List ℕ) (at n k : ℕ) → read_number s at ≡ Got n k → n < 2097152
+pub number_small : (s : List ℕ) (at n k : ℕ) → read_number s at ≡ Some (n, k) → n < 2097152
 number_small s at n k e = reads_small (number_found s at n k e).reads
 
 -- ---- forms
@@ -155,7 +158,7 @@ form_reads n (suc (suc (suc (suc g)))) q h i j = absurd (omega arith)
 
 -- A NUMBER IS READ FROM EACH OF ITS FORMS
 pub form_read : (s : List ℕ) (at n g : ℕ) (q : List ℕ) → n < 2097152 → length (groups n) ≤ g → g ≤ 3
-    → drop at s ≡ form g n ++ q → read_number s at ≡ Got n (at + g)
+    → drop at s ≡ form g n ++ q → read_number s at ≡ Some (n, at + g)
 unfolding read_number
 form_read s at n g q h i j e = rw e (reads_got at (form_reads n g q h i j))
 
@@ -169,7 +172,7 @@ form_groups n h =
 
 -- so what is written is read back
 pub number_written : (s : List ℕ) (at n : ℕ) (q : List ℕ) → n < 2097152 → drop at s ≡ groups n ++ q
-    → read_number s at ≡ Got n (at + length (groups n))
+    → read_number s at ≡ Some (n, at + length (groups n))
 number_written s at n q h e =
     form_read s at n (length (groups n)) q h (omega arith) (groups_size n).1 (rw (form_groups n h) e)
 
@@ -207,7 +210,7 @@ reads_form w (three b d f r h i j) =
     rw (← x, ← y, ← z)
 
 -- AND FROM NOTHING ELSE: the bytes that a number is read from are a form of it, of at most three groups
-pub read_form : (s : List ℕ) (at n k : ℕ) → Bytes s → read_number s at ≡ Got n k
+pub read_form : (s : List ℕ) (at n k : ℕ) → Bytes s → read_number s at ≡ Some (n, k)
     → (g : ℕ) × (k ≡ at + g) × (length (groups n) ≤ g) × (g ≤ 3) × (drop at s ≡ form g n ++ drop k s)
 read_form s at n k w e =
     let f = number_found s at n k e in

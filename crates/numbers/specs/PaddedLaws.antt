@@ -2,6 +2,7 @@
 -- shortest bytes are their own.
 use Rattle.std.specs.Prelude.{◌≡◌, refl, ◌≢◌, Bool, true, false, ◌&&◌, List, [], ◌∷◌, ◌++◌, ℕ, zero, suc, ◌+◌, ◌-◌, ◌*◌}
 use Rattle.std.specs.Prelude.{◌/◌, ◌%◌, ◌≤◌, ◌<◌, ltb, leb, eqb, length, take, drop}
+use Rattle.std.specs.Prelude.{Option, Some, None}
 use Rattle.std.proofs.Common.{sym, ap, ◌∙◌, subst, ⊎_elim, append_assoc, append-nil, add-zero, zero-add, arith}
 use Rattle.std.proofs.Common.{length-take, length-drop, length-append, take-append-drop, drop_of_length-le}
 use Rattle.std.proofs.Common.{length-take-le, drop_at, drop-drop, get_or-take, get_or-drop, lt-ltb, le-ltb, le-leb}
@@ -10,8 +11,6 @@ use Rattle.std.proofs.Math.ListN.{get_or-eq_default}
 use Rattle.std.proofs.Math.Seq.{take-length, take-append_seam, drop-length, drop-append_seam}
 use Rattle.std.proofs.lemmas.Bool.{lt-leb, eqb-false}
 use Rattle.laws.specs.Bools.{pick, le?}
-use Rattle.numbers.specs.declared.Num.{Num}
-use Rattle.numbers.specs.declared.Num.TheVariants.{Got, Bad}
 use Rattle.numbers.specs.Number.{first, read_number, groups, on_num}
 use Rattle.numbers.specs.NumberLaws.{first_end, groups_1, groups_2, groups_3, size_2, size_3, groups_size}
 use Rattle.numbers.specs.NumberTrip.{Reads, one, two, three, reads_got, reads_size, reads_small, reads_own}
@@ -40,24 +39,24 @@ enough zero n s h i = sym (shorten_none n s h)
 enough (suc m) zero s h i = shorten_none (suc m) s i
 enough (suc m) (suc n) s h i = by (read_number s 0) refl (λ l. enough m n l)
   where
-    by : (x : Num) → read_number s 0 ≡ x
+    by : (x : Option (ℕ × ℕ)) → read_number s 0 ≡ x
         → ((l : List ℕ) → length l ≤ m → length l ≤ n → shorten_for m l ≡ shorten_for n l)
         → on_num x (λ v next. groups v ++ shorten_for m (drop next s)) s
         ≡ on_num x (λ v next. groups v ++ shorten_for n (drop next s)) s
-    by (Got v k) e rest =
+    by (Some (v, k)) e rest =
         let a = number_next s 0 v k e in
         let l = length-drop k s in
         ap (λ (r : List ℕ). groups v ++ r) (rest (drop k s) (omega (arith, a.0, l)) (omega (arith, a.0, l)))
-    by Bad e rest = refl
+    by None e rest = refl
 
 -- what is not read stays
-pub shorten_bad : (s : List ℕ) → read_number s 0 ≡ Bad → shorten s ≡ s
+pub shorten_bad : (s : List ℕ) → read_number s 0 ≡ None → shorten s ≡ s
 unfolding shorten shorten_for
 shorten_bad [] e = refl
 shorten_bad (b ∷ r) e = rw e
 
 -- a number in its fewest groups, and then the rest
-pub shorten_got : (s : List ℕ) (v k : ℕ) → read_number s 0 ≡ Got v k → shorten s ≡ groups v ++ shorten (drop k s)
+pub shorten_got : (s : List ℕ) (v k : ℕ) → read_number s 0 ≡ Some (v, k) → shorten s ≡ groups v ++ shorten (drop k s)
 unfolding shorten shorten_for
 shorten_got s v k e =
     let a = number_next s 0 v k e in
@@ -67,18 +66,18 @@ shorten_got s v k e =
     (enough (length s) (length (drop k s)) (drop k s) (omega (arith, l)) (omega arith)))
 
 -- number by number: what holds where no number is read, and of a number where it holds behind it, holds of any bytes
-module _ (P : List ℕ → Type 0) (bad : (s : List ℕ) → read_number s 0 ≡ Bad → P s)
-    (got : (s : List ℕ) (v k : ℕ) → read_number s 0 ≡ Got v k → P (drop k s) → P s) where
+module _ (P : List ℕ → Type 0) (bad : (s : List ℕ) → read_number s 0 ≡ None → P s)
+    (got : (s : List ℕ) (v k : ℕ) → read_number s 0 ≡ Some (v, k) → P (drop k s) → P s) where
   -- of n bytes at most
   numbers_for : (n : ℕ) (s : List ℕ) → length s ≤ n → P s
   numbers_for zero s h = bad s (first_end s 0 h)
   numbers_for (suc n) s h = by (read_number s 0) refl (λ l. numbers_for n l)
     where
-      by : (x : Num) → read_number s 0 ≡ x → ((l : List ℕ) → length l ≤ n → P l) → P s
-      by (Got v k) e rest =
+      by : (x : Option (ℕ × ℕ)) → read_number s 0 ≡ x → ((l : List ℕ) → length l ≤ n → P l) → P s
+      by (Some (v, k)) e rest =
           let a = number_next s 0 v k e in
           got s v k e (rest (drop k s) (omega (arith, a.0, length-drop k s, h)))
-      by Bad e rest = bad s e
+      by None e rest = bad s e
 
   -- of any
   by_numbers : (s : List ℕ) → P s
@@ -110,7 +109,7 @@ shorten_pads nothing q = refl
 shorten_pads {p} (number n r) q =
     let own : Reads (p ++ q) n (length p) =
     subst (λ (l : List ℕ). Reads (l ++ q) n (length p)) (take-length p) (reads_own q r) in
-    let e : read_number (p ++ q) 0 ≡ Got n (length p) = reads_got 0 own ∙ rw (zero-add (length p)) in
+    let e : read_number (p ++ q) 0 ≡ Some (n, length p) = reads_got 0 own ∙ rw (zero-add (length p)) in
     shorten_got (p ++ q) n (length p) e ∙ rw (drop-append_seam p q)
 shorten_pads (both {p} {q = p'} {w} {v} a b) q =
     rw (append_assoc p p' q, append_assoc w v (shorten q))
@@ -142,7 +141,7 @@ pads_both {s} {a} {b} {c} x y = record {
 }
 
 -- A NUMBER THAT IS READ
-pub number_pads : (s : List ℕ) (at n k : ℕ) → read_number s at ≡ Got n k → PadsAt s at k (groups n)
+pub number_pads : (s : List ℕ) (at n k : ℕ) → read_number s at ≡ Some (n, k) → PadsAt s at k (groups n)
 number_pads s at n k e =
     let f = number_found s at n k e in
     let z = reads_size f.reads in
@@ -184,28 +183,29 @@ module _ {s : List ℕ} {at k : ℕ} {w : List ℕ} (x : PadsAt s at k w) where
 
 -- THE SAME NUMBERS ARE READ FROM THE SHORTEST FORM: where u stands in shortest form what s has, at another place
 pub number_same : (s u : List ℕ) (a b : ℕ) → drop b u ≡ shorten (drop a s)
-    → read_number u b ≡ on_num (read_number s a) (λ n k. Got n (b + length (groups n))) Bad
+    → read_number u b ≡ on_num (read_number s a) (λ n k. Some (n, b + length (groups n))) None
 unfolding read_number
 number_same s u a b e = by (read_number s a) refl
   where
-    by : (x : Num) → read_number s a ≡ x → read_number u b ≡ on_num x (λ n k. Got n (b + length (groups n))) Bad
-    by (Got n k) f =
+    by : (x : Option (ℕ × ℕ)) → read_number s a ≡ x
+        → read_number u b ≡ on_num x (λ n k. Some (n, b + length (groups n))) None
+    by (Some (n, k)) f =
         let x = number_pads s a n k f in
         number_written u b n (shorten (drop k s)) (number_small s a n k f) (e ∙ shorten_behind x)
-    by Bad f =
-        let z : first 0 (drop a s) ≡ Bad = bad_anywhere a 0 (drop a s) f in
+    by None f =
+        let z : first 0 (drop a s) ≡ None = bad_anywhere a 0 (drop a s) f in
         bad_anywhere a b (drop b u) (rw (e ∙ shorten_bad (drop a s) z) f)
 
 -- where there are bytes there are some in shortest form, and where there are none there are none
 pub shorten_empty : (s : List ℕ) → shorten s ≡ [] → s ≡ []
 shorten_empty s e = by (read_number s 0) refl
   where
-    by : (x : Num) → read_number s 0 ≡ x → s ≡ []
-    by (Got n k) f =
+    by : (x : Option (ℕ × ℕ)) → read_number s 0 ≡ x → s ≡ []
+    by (Some (n, k)) f =
         let l = ap length (sym (shorten_got s n k f) ∙ e) in
         let z = groups_size n in
         absurd (omega (arith, l, length-append (groups n) (shorten (drop k s)), z.0))
-    by Bad f = sym (shorten_bad s f) ∙ e
+    by None f = sym (shorten_bad s f) ∙ e
 
 -- they end at the same place
 pub ends_alike : (s u : List ℕ) (a b : ℕ) → drop b u ≡ shorten (drop a s) → ltb b (length u) ≡ ltb a (length s)

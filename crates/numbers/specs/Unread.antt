@@ -1,8 +1,8 @@
 -- A number that is not read is cut off or too long, and such a number is not read (document 02, job 1).
 use Rattle.std.specs.Prelude.{◌≡◌, refl, List, ℕ, zero, suc, ◌+◌, ◌≤◌, ◌<◌, length, get_or}
+use Rattle.std.specs.Prelude.{None}
 use Rattle.std.proofs.Common.{sym, ◌∙◌, ⊎_elim, add-zero, arith}
 use Rattle.laws.specs.Bools.{le?}
-use Rattle.numbers.specs.declared.Num.TheVariants.{Bad}
 use Rattle.numbers.specs.Number.{read_number}
 use Rattle.numbers.specs.NumberLaws.{bad_0, got_1, bad_1, got_2, bad_2, got_3, bad_3}
 use Rattle.numbers.specs.NumberTrip.{never}
@@ -32,7 +32,7 @@ module _ (s : List ℕ) (at : ℕ) where
   open_first h o = rw (add-zero at) at (o 0 h)
 
   -- behind two groups
-  unread_3 : read_number s at ≡ Bad → at + 2 < length s → Open s at 2 → Unread s at
+  unread_3 : read_number s at ≡ None → at + 2 < length s → Open s at 2 → Unread s at
   unread_3 e l o =
       ⊎_elim
       (λ h. too_long (omega arith) (open_more 2 o h))
@@ -40,7 +40,7 @@ module _ (s : List ℕ) (at : ℕ) where
       (le? 128 (get_or s (at + 2) 0))
 
   -- behind one
-  unread_2 : read_number s at ≡ Bad → at + 1 < length s → Open s at 1 → Unread s at
+  unread_2 : read_number s at ≡ None → at + 1 < length s → Open s at 1 → Unread s at
   unread_2 e l o =
       ⊎_elim
       (λ h. ⊎_elim (λ k. cut_off 2 (omega arith) (open_more 1 o h) k) (λ k. unread_3 e k (open_more 1 o h))
@@ -49,7 +49,7 @@ module _ (s : List ℕ) (at : ℕ) where
       (le? 128 (get_or s (at + 1) 0))
 
   -- at the first
-  unread_1 : read_number s at ≡ Bad → at < length s → Unread s at
+  unread_1 : read_number s at ≡ None → at < length s → Unread s at
   unread_1 e l =
       ⊎_elim
       (λ h.
@@ -59,16 +59,16 @@ module _ (s : List ℕ) (at : ℕ) where
       (le? 128 (get_or s at 0))
 
   -- A NUMBER THAT IS NOT READ IS CUT OFF OR TOO LONG
-  pub unread : read_number s at ≡ Bad → Unread s at
+  pub unread : read_number s at ≡ None → Unread s at
   unread e =
       ⊎_elim (λ h. cut_off 0 (omega arith) open_none (rw (add-zero at) h)) (λ h. unread_1 e h) (le? (length s) at)
 
   -- behind one group the bytes end
-  ends_1 : 128 ≤ get_or s at 0 → length s ≤ at + 1 → read_number s at ≡ Bad
+  ends_1 : 128 ≤ get_or s at 0 → length s ≤ at + 1 → read_number s at ≡ None
   ends_1 h l = ⊎_elim (λ k. sym (bad_0 s at k)) (λ k. sym (bad_1 s at k h l)) (le? (length s) at)
 
   -- AND SUCH A NUMBER IS NOT READ
-  pub unread_bad : Unread s at → read_number s at ≡ Bad
+  pub unread_bad : Unread s at → read_number s at ≡ None
   unread_bad (cut_off zero h o l) = sym (bad_0 s at (rw (add-zero at) at l))
   unread_bad (cut_off (suc zero) h o l) =
       ends_1 (open_first (omega arith) o) l

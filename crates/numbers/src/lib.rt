@@ -6,19 +6,6 @@ ghost use Rattle.std.specs.Prelude.{◌≡◌, ℕ, ◌+◌, ◌-◌, ◌*◌, �
 ghost use Rattle.std.proofs.lemmas.List.Edits.{sets};
 ghost use Rattle.numbers.specs.Number.{read_number, groups};
 
-// What reading a number finds: the number and the place behind it, or none.
-#[derive(Clone, Copy)]
-pub enum Num {
-    Got(u32, usize),
-    Bad,
-}
-
-fn wide(b: u8) -> u32
-    ensures { result ≡ b }
-{
-    b as u32
-}
-
 // Two groups joined: the lower seven bits of `low`, with `high` above them, which has room for 25 bits.
 fn join(low: u32, high: u32) -> u32
     requires { high < 33554432 }
@@ -27,36 +14,23 @@ fn join(low: u32, high: u32) -> u32
     (low & 0x7f) | (high << 7)
 }
 
-// The number that stands at `at`, in any form of at most three groups.
-pub fn read_number(s: &[u8], at: usize) -> Num
+// The number that stands at `at`, in any form of at most three groups, and the place behind it.
+pub fn read_number(s: &[u8], at: usize) -> Option<(u32, usize)>
     ensures { result ≡ read_number s.now at }
 {
-    let n = s.len();
-    if n <= at {
-        return Num::Bad;
-    }
-    let b0 = wide(s[at]);
+    let b0 = u32::from(*s.get(at)?);
     if b0 < 128 {
-        let next = at + 1;
-        return Num::Got(b0, next);
+        return Some((b0, at + 1));
     }
-    if n - at <= 1 {
-        return Num::Bad;
-    }
-    let b1 = wide(s[at + 1]);
+    let b1 = u32::from(*s.get(at + 1)?);
     if b1 < 128 {
-        let next = at + 2;
-        return Num::Got(join(b0, b1), next);
+        return Some((join(b0, b1), at + 2));
     }
-    if n - at <= 2 {
-        return Num::Bad;
-    }
-    let b2 = wide(s[at + 2]);
+    let b2 = u32::from(*s.get(at + 2)?);
     if b2 < 128 {
-        let next = at + 3;
-        return Num::Got(join(b0, join(b1, b2)), next);
+        return Some((join(b0, join(b1, b2)), at + 3));
     }
-    Num::Bad
+    None
 }
 
 // The lowest seven bits.

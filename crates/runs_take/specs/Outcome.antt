@@ -1,6 +1,7 @@
 -- Taking an operator is reading it and then admitting it: a pass over the operands of its code, then its condition.
 use Rattle.std.specs.Prelude.{◌≡◌, ◌≢◌, ◌⊎◌, Bool, ◌&&◌, not, ℕ, ◌≤◌, ◌<◌, eqb, leb, T, ℤ, pos, length, take, drop}
 use Rattle.std.specs.Prelude.{replicate}
+use Rattle.std.specs.Prelude.{Some, None}
 use Rattle.std.proofs.Math.Path.{refl, ap, subst}
 use Rattle.std.proofs.Common.{sym, ◌∙◌, inl, inr, zero-add, arith, eqb→eq, take-append-drop}
 use Rattle.std.proofs.Math.Logic.{⊎_elim}
@@ -10,7 +11,6 @@ use Rattle.std.proofs.Math.ListN.{get_or}
 use borrow.Author.Tests.{eq-eqb, ne_eqb, leb-true}
 use Rattle.laws.specs.Bools.{pick, allb, ask, split, le?, eqb_same, and_T, true_T, T_true}
 use Rattle.script.specs.declared.ReadAnswer.{ReadAnswer}
-use Rattle.numbers.specs.declared.Num.TheVariants.{Got, Bad}
 use Rattle.codec.specs.declared.operands.Pattern.{Pattern}
 use Rattle.numbers.specs.Number.{read_number}
 use Rattle.codec.specs.Operands.{last_code, unused, rows, pattern, largests, in_ranges, unwires}
@@ -216,19 +216,19 @@ module _ (sh : Shape) (z : Small sh) (x s : List ℕ) (at code : ℕ) where
 
 -- the ways out of taking
 module _ (sh : Shape) (x s : List ℕ) (at : ℕ) (t : Taken) where
-  pub take_bad : read_number s at ≡ Bad → t ≡ taken 3 0 at → (args : List ℤ) → Answers sh x (read_at sh s at) t args
+  pub take_bad : read_number s at ≡ None → t ≡ taken 3 0 at → (args : List ℤ) → Answers sh x (read_at sh s at) t args
   unfolding admit_read
   take_bad e f args =
       let r = operator_bad (limits sh) s at _ e refl in rw (f, ← r) (refl, (refl, λ k. absurd (omega arith)))
 
-  pub take_none : (code behind : ℕ) → read_number s at ≡ Got code behind → last_code < code → t ≡ taken 4 0 at
+  pub take_none : (code behind : ℕ) → read_number s at ≡ Some (code, behind) → last_code < code → t ≡ taken 4 0 at
       → (args : List ℤ) → Answers sh x (read_at sh s at) t args
   unfolding admit_read
   take_none code behind e h f args =
       let r = operator_none (limits sh) s at _ code behind e h refl in
       rw (f, ← r) (refl, (refl, λ k. absurd (omega arith)))
 
-  pub take_some : (code behind : ℕ) → read_number s at ≡ Got code behind → (args : List ℤ)
+  pub take_some : (code behind : ℕ) → read_number s at ≡ Some (code, behind) → (args : List ℤ)
       → Answers sh x (read_from sh s at code behind) t args → Answers sh x (read_at sh s at) t args
   take_some code behind e args g =
       subst (λ r. Answers sh x r t args) (operator_behind (limits sh) s at _ code behind e refl) g

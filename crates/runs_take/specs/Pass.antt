@@ -1,6 +1,7 @@
 -- The one pass, and three after one another, plain lists: all numbers read, all ranges, all items. They agree.
 use Rattle.std.specs.Prelude.{◌≡◌, ◌≢◌, ◌⊎◌, Bool, true, false, ℕ, zero, suc, ◌+◌, ◌*◌, ◌≤◌, ◌<◌, eqb, ℤ, take, set}
 use Rattle.std.specs.Prelude.{replicate}
+use Rattle.std.specs.Prelude.{Option, Some, None}
 use Rattle.std.proofs.Math.Path.{refl, sym}
 use Rattle.std.proofs.Common.{ap, subst, ◌∙◌, inl, inr, ⊎_elim, arith, length-append, get_or-take, le-leb}
 use mathlib.Core.List.{List, [], ◌∷◌, ◌++◌, append_assoc}
@@ -11,8 +12,6 @@ use Rattle.std.proofs.lemmas.List.{set_at}
 use Rattle.laws.specs.Bools.{pick, pick_ind, split, le?, eqb_same, eqb_other}
 use Rattle.bounds.specs.Bounds.{most_halves}
 use Rattle.script.specs.declared.Operator.{Operator}
-use Rattle.numbers.specs.declared.Num.{Num}
-use Rattle.numbers.specs.declared.Num.TheVariants.{Got, Bad}
 use Rattle.numbers.specs.Number.{read_number, on_num}
 use Rattle.codec.specs.Operands.{unused, largests, in_range, in_ranges, unwire, unwires}
 use Rattle.codec.specs.OperandBytes.{Numbers, Read, Cut, on_numbers, read_operand, read_operands}
@@ -249,7 +248,7 @@ module _ (sh : Shape) (x s : List ℕ) where
           → Agrees
           (scan sh x s ks (i + 1) next (joined_by sh x r k n) ((done ++ (unwire k n ∷ [])) ++ zeros (ks ++ none)))
           (joined_by sh x r k n) (done ++ (unwire k n ∷ [])) (ks ++ none) (read_operands (ks ++ none) s next))
-          → (m : Num)
+          → (m : Option (ℕ × ℕ))
           → Agrees
           (on_num m
           (λ n next.
@@ -257,6 +256,6 @@ module _ (sh : Shape) (x s : List ℕ) where
           (scan_is 3 p (done ++ zeros (k ∷ (ks ++ none)))))
           r done (k ∷ (ks ++ none))
           (on_num m (λ n next. on_numbers (read_operands (ks ++ none) s next) (λ ns end. Read (n ∷ ns) end) Cut) Cut)
-      go h Bad = refl
-      go h (Got n next) =
+      go h None = refl
+      go h (Some (n, next)) =
           rw (stored n) (agree_cons _ r done k n (ks ++ none) (read_operands (ks ++ none) s next) (h n next))

@@ -1,10 +1,10 @@
 -- The ways out of the code of the pass, one law each.
 use Rattle.std.specs.Prelude.{◌≡◌, Bool, true, false, List, [], ◌∷◌, ℕ, ◌+◌, ◌≤◌, ◌<◌, ℤ, get_or, take, drop, set}
+use Rattle.std.specs.Prelude.{Some, None}
 use Rattle.std.proofs.Math.ListN.{length}
 use Rattle.std.proofs.Common.{drop_of_length-le, length-take-le}
 use Rattle.std.proofs.Math.Seq.{get_or-take}
 use borrow.Author.Tests.{eq-eqb, ne_eqb, le-leb, lt-leb}
-use Rattle.numbers.specs.declared.Num.TheVariants.{Got, Bad}
 use Rattle.numbers.specs.Number.{read_number, on_num}
 use Rattle.codec.specs.Operands.{in_range, unwire}
 use Rattle.codec.specs.OperandBytes.{read_operand, read_operands}
@@ -15,7 +15,7 @@ use Rattle.euler.specs.Exec.{operator_by, condition}
 use Rattle.runs_take.specs.Take.{Scan, scan_is, joined, joined_by, scan, taken, settled}
 
 -- a number that is read fits three groups
-pub number_small : (s : List ℕ) (at n next : ℕ) → read_number s at ≡ Got n next → n < 2097152
+pub number_small : (s : List ℕ) (at n next : ℕ) → read_number s at ≡ Some (n, next) → n < 2097152
 unfolding read_operands read_operand
 number_small s at n next e =
     (small_read (1 ∷ []) s at (record { refusal = 0; next = next; numbers = n ∷ [] }) (rw e)).at 0
@@ -57,10 +57,10 @@ module _ (sh : Shape) (x s ks : List ℕ) (c : ℕ) (q : c ≤ length ks) (i p r
       let l : i < length (take c ks) = rw (length-take-le c ks q) h in
       rw (ahead (take c ks) i 0 l, get_or-take c ks i 0 h) at rest
 
-  pub scan_bad : i < c → read_number s p ≡ Bad → scan_is 3 p args ≡ whole
+  pub scan_bad : i < c → read_number s p ≡ None → scan_is 3 p args ≡ whole
   scan_bad h e = rw e at (turn h)
 
-  pub scan_turn : i < c → (n next : ℕ) → read_number s p ≡ Got n next
+  pub scan_turn : i < c → (n next : ℕ) → read_number s p ≡ Some (n, next)
       → (v : ℕ) → v ≡ joined_by sh x r (get_or ks i 0) n → (a : ℤ) → a ≡ unwire (get_or ks i 0) n
       → scan sh x s (drop (i + 1) (take c ks)) (i + 1) next v (set args i a) ≡ whole
   scan_turn h n next e v f a g = rw (f, g) (rw e at (turn h))

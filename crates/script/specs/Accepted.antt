@@ -1,13 +1,12 @@
 -- What an accepted operator says of the bytes: the code, the numbers after it, their ranges; and that such bytes are
 -- accepted. From it `RoundTrip` has that reading goes forward and stays within the script.
 use Rattle.std.specs.Prelude.{◌≡◌, ℕ, ◌<◌, Bool, true, false, List, eqb}
+use Rattle.std.specs.Prelude.{Option, Some, None}
 use Rattle.std.proofs.Math.Path.{refl}
 use Rattle.std.proofs.Math.Logic.{⊎_elim}
 use Rattle.std.proofs.Common.{arith}
 use borrow.Author.Tests.{eqb-false, ne_eqb}
 use Rattle.laws.specs.Bools.{pick, ask}
-use Rattle.numbers.specs.declared.Num.{Num}
-use Rattle.numbers.specs.declared.Num.TheVariants.{Got, Bad}
 use Rattle.codec.specs.declared.Limits.{Limits}
 use Rattle.script.specs.declared.Operator.{Operator}
 use Rattle.script.specs.declared.ReadAnswer.{ReadAnswer}
@@ -24,7 +23,7 @@ pub record Accepted (lim : Limits) (s : List ℕ) (at : ℕ) (r : ReadAnswer) : 
   pub code : ℕ
   pub from : ℕ
   pub numbers : List ℕ
-  pub code_read : read_number s at ≡ Got code from
+  pub code_read : read_number s at ≡ Some (code, from)
   pub is_code : (pattern code).count ≡ 0 → ⊥
   pub read : read_operands (pattern code).kinds s from ≡ Read numbers r.next
   pub ranges : in_ranges (largests lim) (pattern code).kinds numbers ≡ true
@@ -35,7 +34,7 @@ not_0 : {X : Type 0} (n at : ℕ) → 0 < n → (refused n at).refusal ≡ 0 →
 not_0 n at h e = absurd (omega arith)
 
 module _ (lim : Limits) (s : List ℕ) (at : ℕ) where
-  ranged : (code from : ℕ) (ns : List ℕ) (next : ℕ) (t : Bool) (r : ReadAnswer) → read_number s at ≡ Got code from
+  ranged : (code from : ℕ) (ns : List ℕ) (next : ℕ) (t : Bool) (r : ReadAnswer) → read_number s at ≡ Some (code, from)
       → ((pattern code).count ≡ 0 → ⊥)
       → read_operands (pattern code).kinds s from ≡ Read ns next → in_ranges (largests lim) (pattern code).kinds ns ≡ t
       → r ≡ pick t (record { refusal = 0; next = next; op = operator_is code ns }) (refused 5 at) → r.refusal ≡ 0
@@ -53,7 +52,7 @@ module _ (lim : Limits) (s : List ℕ) (at : ℕ) where
       }
   ranged code from ns next false r a b d e f z = not_0 5 at (omega arith) (rw f at z)
 
-  numbered : (code from : ℕ) (x : Numbers) (r : ReadAnswer) → read_number s at ≡ Got code from
+  numbered : (code from : ℕ) (x : Numbers) (r : ReadAnswer) → read_number s at ≡ Some (code, from)
       → ((pattern code).count ≡ 0 → ⊥)
       → read_operands (pattern code).kinds s from ≡ x
       → r ≡ on_numbers x (λ ns next. pick (in_ranges (largests lim) (pattern code).kinds ns)
@@ -63,7 +62,7 @@ module _ (lim : Limits) (s : List ℕ) (at : ℕ) where
       ranged code from ns next (in_ranges (largests lim) (pattern code).kinds ns) r a b d refl e z
   numbered code from Cut r a b d e z = not_0 3 at (omega arith) (rw e at z)
 
-  coded : (code from : ℕ) (r : ReadAnswer) → read_number s at ≡ Got code from → r ≡ read_behind lim s at code from
+  coded : (code from : ℕ) (r : ReadAnswer) → read_number s at ≡ Some (code, from) → r ≡ read_behind lim s at code from
       → r.refusal ≡ 0 → Accepted lim s at r
   unfolding read_behind
   coded code from r a e z =
@@ -71,17 +70,18 @@ module _ (lim : Limits) (s : List ℕ) (at : ℕ) where
       (λ t. numbered code from (read_operands (pattern code).kinds s from) r a (eqb-false _ 0 t) refl (rw t at e) z)
       (ask (eqb (pattern code).count 0))
 
-  begun : (x : Num) (r : ReadAnswer) → read_number s at ≡ x → r ≡ on_num x (read_behind lim s at) (refused 3 at)
+  begun : (x : Option (ℕ × ℕ)) (r : ReadAnswer) → read_number s at ≡ x
+      → r ≡ on_num x (read_behind lim s at) (refused 3 at)
       → r.refusal ≡ 0 → Accepted lim s at r
-  begun (Got code from) r a e z = coded code from r a e z
-  begun Bad r a e z = not_0 3 at (omega arith) (rw e at z)
+  begun (Some (code, from)) r a e z = coded code from r a e z
+  begun None r a e z = not_0 3 at (omega arith) (rw e at z)
 
   pub accepted : (read_operator lim s at).refusal ≡ 0 → Accepted lim s at (read_operator lim s at)
   unfolding read_operator
   accepted z = begun (read_number s at) (read_operator lim s at) refl refl z
 
   -- and back: what is so is read
-  pub read_accepted : (code from : ℕ) (ns : List ℕ) (next : ℕ) → read_number s at ≡ Got code from
+  pub read_accepted : (code from : ℕ) (ns : List ℕ) (next : ℕ) → read_number s at ≡ Some (code, from)
       → ((pattern code).count ≡ 0 → ⊥)
       → read_operands (pattern code).kinds s from ≡ Read ns next → in_ranges (largests lim) (pattern code).kinds ns
       ≡ true

@@ -1,10 +1,10 @@
 -- The ways out of the code that reads an operator.
 use Rattle.std.specs.Prelude.{◌≡◌, refl, ℕ, ◌<◌, List, [], ℤ, Bool, true, false}
+use Rattle.std.specs.Prelude.{Some, None}
 use borrow.Author.Tests.{eq-eqb, ne_eqb}
 use Rattle.codec.specs.declared.Limits.{Limits}
 use Rattle.codec.specs.declared.operands.Pattern.{Pattern}
 use Rattle.script.specs.declared.ReadAnswer.{ReadAnswer}
-use Rattle.numbers.specs.declared.Num.TheVariants.{Got, Bad}
 use Rattle.codec.specs.declared.bytes.NumbersAnswer.{NumbersAnswer}
 use Rattle.numbers.specs.Number.{read_number}
 use Rattle.codec.specs.Operands.{last_code, row, pattern, largests, in_ranges, unwires}
@@ -58,16 +58,16 @@ refused_as k n at r e f = rw (← f) e
 
 -- the ways out of reading an operator
 module _ (lim : Limits) (s : List ℕ) (at : ℕ) (r : ReadAnswer) where
-  pub operator_bad : read_number s at ≡ Bad → r ≡ refused 3 at → r ≡ read_operator lim s at
+  pub operator_bad : read_number s at ≡ None → r ≡ refused 3 at → r ≡ read_operator lim s at
   unfolding read_operator
   operator_bad e f = rw e f
 
-  pub operator_behind : (code next : ℕ) → read_number s at ≡ Got code next → r ≡ read_behind lim s at code next
+  pub operator_behind : (code next : ℕ) → read_number s at ≡ Some (code, next) → r ≡ read_behind lim s at code next
       → r ≡ read_operator lim s at
   unfolding read_operator
   operator_behind code next e f = rw e f
 
-  pub operator_none : (code next : ℕ) → read_number s at ≡ Got code next → last_code < code
+  pub operator_none : (code next : ℕ) → read_number s at ≡ Some (code, next) → last_code < code
       → r ≡ refused 4 at → r ≡ read_operator lim s at
   operator_none code next e h f =
       operator_behind code next e (behind_code lim s at code next (row []) (no_code code h) r refl f)

@@ -1,11 +1,11 @@
 -- Reading looks at no byte behind what it reads: from the front of a script that ends behind an operator, the operator
 -- is read as from the whole.
 use Rattle.std.specs.Prelude.{◌≡◌, refl, ℕ, ◌+◌, ◌-◌, ◌≤◌, length, take, drop}
+use Rattle.std.specs.Prelude.{Some}
 use Rattle.std.proofs.Common.{sym, ap, ◌∙◌, subst, ⊎_elim, arith, take-append-drop, length-take-le, take-take, take-add}
 use Rattle.std.proofs.Common.{drop_at}
 use mathlib.Core.List.{List, [], ◌∷◌, ◌++◌}
 use Rattle.laws.specs.Bools.{same?}
-use Rattle.numbers.specs.declared.Num.TheVariants.{Got}
 use Rattle.codec.specs.declared.Limits.{Limits}
 use Rattle.numbers.specs.Number.{read_number}
 use Rattle.codec.specs.Operands.{unused, pattern}
@@ -28,7 +28,7 @@ reads_front {l} {v} {g} m h r =
 
 module _ (s : List ℕ) (n : ℕ) where
   -- a number that ends at n or before
-  number_front : (at v k : ℕ) → read_number s at ≡ Got v k → k ≤ n → read_number (take n s) at ≡ Got v k
+  number_front : (at v k : ℕ) → read_number s at ≡ Some (v, k) → k ≤ n → read_number (take n s) at ≡ Some (v, k)
   unfolding read_number
   number_front at v k e h =
       let b = number_next s at v k e in
@@ -40,8 +40,8 @@ module _ (s : List ℕ) (n : ℕ) where
   -- ---- operands
 
   -- one operand
-  operand_front : (kind at v k : ℕ) → read_operand kind s at ≡ Got v k → k ≤ n
-      → read_operand kind (take n s) at ≡ Got v k
+  operand_front : (kind at v k : ℕ) → read_operand kind s at ≡ Some (v, k) → k ≤ n
+      → read_operand kind (take n s) at ≡ Some (v, k)
   operand_front kind at v k e h =
       ⊎_elim
       (λ z. sym (operand_unused kind (take n s) at z) ∙ operand_unused kind s at z ∙ e)

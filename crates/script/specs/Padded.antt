@@ -1,13 +1,12 @@
 -- An operator is read from the shortest form of a script as from the script itself, refusal included (document 02, job
 -- 1, "a padded script must do what its shortest form does, bytes taken aside").
 use Rattle.std.specs.Prelude.{◌≡◌, Bool, List, ℕ, ◌+◌, eqb, drop}
+use Rattle.std.specs.Prelude.{Option, Some, None}
 use Rattle.std.proofs.Math.Path.{refl}
 use Rattle.std.proofs.Math.Bool.{true, false}
 use Rattle.std.proofs.Math.Nat.{add_assoc}
 use Rattle.std.proofs.Math.ListN.{length, length-append}
 use Rattle.laws.specs.Bools.{pick}
-use Rattle.numbers.specs.declared.Num.{Num}
-use Rattle.numbers.specs.declared.Num.TheVariants.{Got, Bad}
 use Rattle.codec.specs.declared.Limits.{Limits}
 use Rattle.script.specs.declared.ReadAnswer.{ReadAnswer}
 use Rattle.numbers.specs.Number.{read_number, groups, on_num}
@@ -79,9 +78,9 @@ pub read_padded : (lim : Limits) (s u : List ℕ) (a b : ℕ) → drop b u ≡ s
 unfolding read_operator
 read_padded lim s u a b e = rw (number_same s u a b e) (by (read_number s a) refl)
   where
-    by : (x : Num) → read_number s a ≡ x
-        → on_num (on_num x (λ n k. Got n (b + length (groups n))) Bad) (read_behind lim u b) (refused 3 b)
+    by : (x : Option (ℕ × ℕ)) → read_number s a ≡ x
+        → on_num (on_num x (λ n k. Some (n, b + length (groups n))) None) (read_behind lim u b) (refused 3 b)
         ≡ in_short b (on_num x (read_behind lim s a) (refused 3 a))
-    by (Got n k) f =
+    by (Some (n, k)) f =
         behind lim s u a b n k (b + length (groups n)) refl (alike_behind (number_pads s a n k f) u b e)
-    by Bad f = refl
+    by None f = refl

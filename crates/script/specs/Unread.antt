@@ -1,11 +1,10 @@
 -- Reading an operator is refused with 3 just where one of its numbers is cut off or too long (document 02, job 1).
 use Rattle.std.specs.Prelude.{◌≡◌, ◌≢◌, Bool, true, false, List, [], ◌∷◌, ◌++◌, ℕ, eqb}
+use Rattle.std.specs.Prelude.{Option, Some, None}
 use Rattle.std.proofs.Math.Path.{refl}
 use Rattle.std.proofs.Common.{sym, ap, ◌∙◌, ⊎_elim, arith}
 use borrow.Author.Tests.{eqb-false, ne_eqb}
 use Rattle.laws.specs.Bools.{pick, same?}
-use Rattle.numbers.specs.declared.Num.{Num}
-use Rattle.numbers.specs.declared.Num.TheVariants.{Got, Bad}
 use Rattle.numbers.specs.Number.{read_number, on_num}
 use Rattle.numbers.specs.NumberTrip.{never}
 use Rattle.numbers.specs.Unread.{Unread, unread, unread_bad}
@@ -32,13 +31,13 @@ pub record Stuck (ks s : List ℕ) (at : ℕ) : Type 0 where
 -- the code at a place is not read, or it is a code and one of its operands is not
 pub data CutShort (s : List ℕ) (at : ℕ) : Type 0 where
   in_code : Unread s at → CutShort s at
-  in_operand : (code from : ℕ) → read_number s at ≡ Got code from → (pattern code).count ≢ 0
+  in_operand : (code from : ℕ) → read_number s at ≡ Some (code, from) → (pattern code).count ≢ 0
       → Stuck (pattern code).kinds s from → CutShort s at
 
 -- ---- operands
 
 -- the first is not read
-stuck_here : (k : ℕ) (ks s : List ℕ) (at : ℕ) → read_operand k s at ≡ Bad → Stuck (k ∷ ks) s at
+stuck_here : (k : ℕ) (ks s : List ℕ) (at : ℕ) → read_operand k s at ≡ None → Stuck (k ∷ ks) s at
 unfolding read_operands
 stuck_here k ks s at e =
     ⊎_elim (λ z. never (sym (operand_unused k s at z ∙ e)))
@@ -56,7 +55,7 @@ stuck_here k ks s at e =
     (same? k unused)
 
 -- it is, and another is not
-stuck_behind : (k n : ℕ) (ks s : List ℕ) (at mid : ℕ) → read_operand k s at ≡ Got n mid → Stuck ks s mid
+stuck_behind : (k n : ℕ) (ks s : List ℕ) (at mid : ℕ) → read_operand k s at ≡ Some (n, mid) → Stuck ks s mid
     → Stuck (k ∷ ks) s at
 unfolding read_operands
 stuck_behind k n ks s at mid e x = record {
@@ -81,11 +80,11 @@ cut_stuck (k ∷ ks) s at e = one (read_operand k s at) refl e (λ mid f. cut_st
     two n (Read ms end) f = cut _ _ (sym f)
     two n Cut f = refl
 
-    one : (x : Num) → read_operand k s at ≡ x
+    one : (x : Option (ℕ × ℕ)) → read_operand k s at ≡ x
         → on_num x (λ n mid. on_numbers (read_operands ks s mid) (λ ms end. Read (n ∷ ms) end) Cut) Cut ≡ Cut
         → ((mid : ℕ) → read_operands ks s mid ≡ Cut → Stuck ks s mid) → Stuck (k ∷ ks) s at
-    one (Got n mid) a f rest = stuck_behind k n ks s at mid a (rest mid (two n (read_operands ks s mid) f))
-    one Bad a f rest = stuck_here k ks s at a
+    one (Some (n, mid)) a f rest = stuck_behind k n ks s at mid a (rest mid (two n (read_operands ks s mid) f))
+    one None a f rest = stuck_here k ks s at a
 
 -- and back
 read_cut : (front : List ℕ) (k : ℕ) (ks s : List ℕ) (at : ℕ) (ns : List ℕ) (place : ℕ)
@@ -94,7 +93,7 @@ read_cut : (front : List ℕ) (k : ℕ) (ks s : List ℕ) (at : ℕ) (ns : List 
 unfolding read_operands
 read_cut [] k ks s at ns place e u b =
     let p : place ≡ at = cc in
-    let f : read_operand k s at ≡ Bad = sym (operand_number k s at u _ refl) ∙ unread_bad s at (rw p at b) in
+    let f : read_operand k s at ≡ None = sym (operand_number k s at u _ refl) ∙ unread_bad s at (rw p at b) in
     rw f
 read_cut (j ∷ js) k ks s at ns place e u b =
     let t = step j js s at ns place e in
@@ -104,7 +103,7 @@ read_cut (j ∷ js) k ks s at ns place e u b =
 
 module _ (lim : Limits) (s : List ℕ) (at : ℕ) where
   -- behind the code: 4, 5 and 0 are not 3
-  behind_code : (code from : ℕ) → read_number s at ≡ Got code from → (x : Numbers)
+  behind_code : (code from : ℕ) → read_number s at ≡ Some (code, from) → (x : Numbers)
       → read_operands (pattern code).kinds s from ≡ x → (c : Bool) → eqb (pattern code).count 0 ≡ c
       → (r : List ℕ → Bool)
       → (pick c (refused 4 at) (on_numbers x (λ ns next. pick (r ns)
@@ -125,12 +124,12 @@ module _ (lim : Limits) (s : List ℕ) (at : ℕ) where
   unfolding read_operator read_behind
   refused_3 z = by (read_number s at) refl z
     where
-      by : (x : Num) → read_number s at ≡ x → (on_num x (read_behind lim s at) (refused 3 at)).refusal ≡ 3
+      by : (x : Option (ℕ × ℕ)) → read_number s at ≡ x → (on_num x (read_behind lim s at) (refused 3 at)).refusal ≡ 3
           → CutShort s at
-      by (Got code from) a z =
+      by (Some (code, from)) a z =
           behind_code code from a (read_operands (pattern code).kinds s from) refl (eqb (pattern code).count 0) refl
           (in_ranges (largests lim) (pattern code).kinds) z
-      by Bad a z = in_code (unread s at a)
+      by None a z = in_code (unread s at a)
 
   -- AND SUCH A NUMBER IS REFUSED WITH 3
   pub cut_refused : CutShort s at → read_operator lim s at ≡ refused 3 at

@@ -10,7 +10,7 @@ ghost use Rattle.script.specs.Operator.{write_operator};
 
 use bounds::MOST_ITEMS;
 use codec::{Limits, bytes, operands};
-use numbers::{Num, number_size, read_number, write_before, write_number};
+use numbers::{number_size, read_number, write_before, write_number};
 
 // An operator: its code, how many operands it has, and the operands, zeros behind them.
 #[repr(C)]
@@ -135,13 +135,13 @@ pub fn read_within(script: &[u8], at: usize, limits: Limits) -> ReadAnswer
 {
     let x = read_number(script, at);
     match x {
-        Num::Got(n, behind) => {
+        Some((n, behind)) => {
             if n > operands::LAST_CODE {
                 return refused(4, at);
             }
             read_behind(script, at, n as u8, behind, limits)
         }
-        Num::Bad => refused(3, at),
+        None => refused(3, at),
     }
 }
 

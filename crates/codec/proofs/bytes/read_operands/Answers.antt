@@ -7,8 +7,8 @@ use Rattle.codec.proofs.bytes.read_operands.Goals as goal
 pub loop-i-init : goal.loop-i-init
 loop-i-init c = (omega arith, c.well_formed.0.1.0.1, refl, front_nil _)
 
-pub returns-in-Bad : goal.returns-in-Bad
-returns-in-Bad c = let v = c.loop-i.invariant in
+pub returns-in-None : goal.returns-in-None
+returns-in-None c = let v = c.loop-i.invariant in
     operands_cut _ _ _ _ _ v.1 v.2 _ v.3 _ c.loop-i-test.true (cc)
 
 pub loop-i-preserved : goal.loop-i-preserved
