@@ -105,7 +105,8 @@ def scratch_in(parameters, body):
 ROOT = os.path.dirname(os.path.dirname(os.path.dirname(os.path.abspath(__file__))))
 
 
-WALKED = "(length l.links ≡ length l.initial.links) × Walked l.sh l.initial.links l.from l.stop l.l l.counter l.links l.k"
+WALKED = ("(length l.links ≡ length l.initial.links)"
+          " × Walked l.sh l.initial.links l.from l.stop l.l l.counter l.links l.k")
 
 
 def amid_faults(turn="put(links, k, l);", walk="k = pass_one(links, k, l);", invariant=WALKED):
