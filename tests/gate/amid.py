@@ -13,8 +13,8 @@ from closing import close
 WALK, TURN = "euler_walks::walks::relabel_steps", "euler_walks::walks::pass_one"
 PROOF = os.path.join("crates", "euler_walks", "proofs", "walks", "relabel_steps", "Invariants.antt")
 # at the head of each turn the links are those with so many half-edges passed as turns have been made
-SAID = r"× Walked l\.sh l\.initial\.links l\.from l\.stop l\.l \(l\.fuel - l\.left\) l\.links l\.k(?:\n\n|\n?\Z)"
-INVARIANT = re.compile(r"^invariant-loop-left l =(?:(?!\n\n).)*" + SAID, re.M | re.S)
+SAID = r"× Walked l\.sh l\.initial\.links l\.from l\.stop l\.l l\.counter l\.links l\.k(?:\n\n|\n?\Z)"
+INVARIANT = re.compile(r"^invariant-loop l =(?:(?!\n\n).)*" + SAID, re.M | re.S)
 STORE = re.compile(r"\]\s*=(?!=)")
 LOOP = re.compile(r"\b(?:while|loop|for)\b")
 

@@ -105,16 +105,17 @@ def scratch_in(parameters, body):
 ROOT = os.path.dirname(os.path.dirname(os.path.dirname(os.path.abspath(__file__))))
 
 
-WALKED = "(l.left ≤ l.fuel) × Walked l.sh l.initial.links l.from l.stop l.l (l.fuel - l.left) l.links l.k"
+WALKED = ("(length l.links ≡ length l.initial.links)"
+          " × Walked l.sh l.initial.links l.from l.stop l.l l.counter l.links l.k")
 
 
 def amid_faults(turn="put(links, k, l);", walk="k = pass_one(links, k, l);", invariant=WALKED):
     """What is wrong with a walk of this turn, this loop's body and this invariant."""
     code = (f"fn put(links: &mut [u16], k: usize, l: u16) {{ links[k] = l; }}\n"
             f"fn pass_one(links: &mut [u16], k: usize, l: u16) -> usize {{ {turn} k }}\n"
-            f"fn relabel_steps(links: &mut [u16], mut k: usize, l: u16) {{ while k > 0 {{ {walk} }} }}\n")
-    proof = (f"abbrev pub invariant-loop-left : goal.invariant-loop-left\ninvariant-loop-left l = (l.k ≤ 65536)\n"
-             f"    × {invariant}\n\nabbrev pub decreases-loop-left : goal.decreases-loop-left\n")
+            f"fn relabel_steps(links: &mut [u16], mut k: usize, l: u16) {{ for _ in 0..k {{ {walk} }} }}\n")
+    proof = (f"abbrev pub invariant-loop : goal.invariant-loop\ninvariant-loop l = (l.k ≤ 65536)\n"
+             f"    × {invariant}\n")
     with tempfile.TemporaryDirectory() as folder:
         for path, text in ((os.path.join("crates", "euler_walks", "src", "walks.rt"), code), (amid.PROOF, proof)):
             os.makedirs(os.path.dirname(os.path.join(folder, path)))
@@ -286,9 +287,10 @@ CASES = [
     ("a walk that stores by itself fails", lambda: len(amid_faults(
         walk="k = pass_one(links, k, l); links[k] = l;")) == 1),
     ("another invariant fails", lambda: len(amid_faults(
-        invariant="(relabel l.sh l.left l.links l.k l.stop l.l ≡ whole)")) == 1),
+        invariant="(relabel l.sh (l.fuel - l.counter) l.links l.k l.stop l.l ≡ whole)")) == 1),
     ("an invariant that says more of other links fails", lambda: all(len(amid_faults(invariant=said)) == 1 for said in (
-        WALKED.replace("l.initial.links", "l.links"), WALKED + " -- or so", WALKED.replace("- l.left", "")))),
+        WALKED.replace("l.initial.links", "l.links"), WALKED + " -- or so",
+        WALKED.replace("l.counter", "(l.counter + 1)")))),
     ("a sweep that reads and runs passes", lambda: above_faults("runs::enter(links); sessions_entry::run(links);")
      == []),
     ("a sweep that lists operator code fails", lambda: above_faults(uses="euler_edges runs_steps takedown_acts")

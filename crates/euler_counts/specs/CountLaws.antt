@@ -1,58 +1,55 @@
 -- The ways out of the functions that keep the numbers, one law each; and counting all loops, one loop after the other.
 use Rattle.std.specs.Prelude.{◌≡◌, refl, ◌≢◌, true, false, ◌&&◌, List, ℕ, suc, ◌+◌, ◌-◌, ◌≤◌, ◌<◌, eqb, ltb, length}
-use Rattle.std.specs.Prelude.{get_or, set, replicate}
+use Rattle.std.specs.Prelude.{get_or, set, replicate, min}
 use Rattle.std.proofs.Math.Path.{sym}
+use Rattle.std.proofs.Math.Logic.{⊎_elim}
 use Rattle.std.proofs.Common.{ap, ◌∙◌, add-one, length-set, get_or-set_same, get_or-set_other}
 use native.Mathlib.Omega.{arith}
 use Rattle.std.proofs.lemmas.List.{length-replicate, get_or-replicate}
 use Rattle.std.proofs.Math.Seq.{set-get_or}
 use borrow.Author.Tests.{le-leb, lt-leb, lt-ltb, le-ltb}
-use Rattle.laws.specs.Bools.{pick_ind, split, eqb_same, eqb_other}
+use Rattle.laws.specs.Bools.{pick_ind, split, le?, eqb_same, eqb_other}
 use Rattle.laws.specs.Sums.{sum_to, count_to, count_le}
 use Rattle.bounds.specs.Bounds.{item_places, most_items}
 use Rattle.layout.specs.declared.shape.Shape.{Shape}
 use Rattle.layout.specs.Layout.{loop_face}
-use Rattle.euler.specs.Queries.{loops_in}
 use Rattle.euler_counts.specs.Counts.{Counted, is_place, lowered, raised}
 
 -- ---- no place of a face
 
-pub low_zero : (c : List ℕ) (f : ℕ) → f ≡ 0 → c ≡ lowered c f
-unfolding lowered
-low_zero c f z = rw z
+module _ (c : List ℕ) (f : ℕ) (out : ¬ ((1 ≤ f) × (f ≤ most_items))) where
+  no_place : is_place f ≡ false
+  no_place = ⊎_elim (λ (h : 1 ≤ f). rw (le-leb 1 f h) (lt-leb f most_items (high h)))
+      (λ (h : f < 1). rw (lt-leb 1 f h) refl) (le? 1 f)
+    where
+      high : 1 ≤ f → most_items < f
+      high h = ⊎_elim (λ (u : f ≤ most_items). absurd (out (h, u))) (λ (u : most_items < f). u) (le? f most_items)
 
-pub low_past : (c : List ℕ) (f : ℕ) → most_items < f → c ≡ lowered c f
-unfolding lowered
-low_past c f h = rw (le-leb 1 f (omega arith), lt-leb f most_items h)
-
-pub raise_zero : (c : List ℕ) (f : ℕ) → f ≡ 0 → c ≡ raised c f
-unfolding raised
-raise_zero c f z = rw z
-
-pub raise_past : (c : List ℕ) (f : ℕ) → most_items < f → c ≡ raised c f
-unfolding raised
-raise_past c f h = rw (le-leb 1 f (omega arith), lt-leb f most_items h)
-
--- ---- the place of face f, whose number is n
-
-module _ (c : List ℕ) (f n : ℕ) (l : 1 ≤ f) (u : f ≤ most_items) (e : n ≡ get_or c f 0) where
-  pub low_none : n ≤ 0 → c ≡ lowered c f
+  pub low_out : c ≡ lowered c f
   unfolding lowered
-  low_none h =
-      let z : n ≡ 0 = omega arith in
-      rw (le-leb 1 f l, le-leb f most_items u, sym e ∙ z) (sym (ap (set c f) (sym (sym e ∙ z)) ∙ set-get_or c f 0))
+  low_out = rw no_place
 
-  pub low_one : set c f (n - 1) ≡ lowered c f
+  pub raise_out : c ≡ raised c f
+  unfolding raised
+  raise_out = rw no_place
+
+-- ---- the place of face f, whose number becomes n
+
+module _ (c : List ℕ) (f n : ℕ) (l : 1 ≤ f) (u : f ≤ most_items) where
+  pub low_in : n ≡ get_or c f 0 - 1 → set c f n ≡ lowered c f
   unfolding lowered
-  low_one = rw (le-leb 1 f l, le-leb f most_items u, e)
+  low_in e = rw (le-leb 1 f l, le-leb f most_items u, e)
 
-  pub raise_full : 65535 ≤ n → c ≡ raised c f
+  pub raise_in : get_or c f 0 < 65536 → n ≡ min (get_or c f 0 + 1) 65535 → set c f n ≡ raised c f
   unfolding raised
-  raise_full h = rw (le-leb 1 f l, le-leb f most_items u, ← e, le-ltb n 65535 h)
-
-  pub raise_one : n < 65535 → set c f (n + 1) ≡ raised c f
-  unfolding raised
-  raise_one h = rw (le-leb 1 f l, le-leb f most_items u, ← e, lt-ltb n 65535 h)
+  raise_in h e = ⊎_elim
+      (λ (k : 65535 ≤ get_or c f 0).
+      let q : n ≡ get_or c f 0 = omega arith in
+      rw (le-leb 1 f l, le-leb f most_items u, le-ltb (get_or c f 0) 65535 k, q) (set-get_or c f 0))
+      (λ (k : get_or c f 0 < 65535).
+      let q : n ≡ get_or c f 0 + 1 = omega arith in
+      rw (le-leb 1 f l, le-leb f most_items u, lt-ltb (get_or c f 0) 65535 k, q))
+      (le? 65535 (get_or c f 0))
 
 -- ---- all loops
 
@@ -113,11 +110,3 @@ filled_next sh x i c f d h a e q = record {
 pub filled_all : (sh : Shape) (x : List ℕ) (i : ℕ) (c : List ℕ) → Filled sh x i c → i ≤ sh.loops → sh.loops ≤ i
     → Counted sh x c
 filled_all sh x i c a h k = let e : sh.loops ≡ i = omega arith in record { loops = λ f l u. rw e (a.loops f l u) }
-
--- what the number at face f's place says
-pub kept_at : (sh : Shape) (x c : List ℕ) (f n : ℕ) → Counted sh x c → 1 ≤ f → f ≤ most_items → sh.loops ≤ most_items
-    → n ≡ get_or c f 0
-    → (n ≡ loops_in sh x f) × (n < 65536)
-kept_at sh x c f n a l u m e =
-    let q : n ≡ loops_in sh x f = e ∙ a.loops f l u in
-    (q, omega (arith, q, count_le sh.loops (λ k. eqb (loop_face sh x k) f)))

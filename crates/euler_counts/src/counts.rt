@@ -10,40 +10,25 @@ use euler::faces::loops_in;
 use layout::columns::loop_face;
 use layout::shape::Shape;
 
-fn wide(x: u16) -> usize
-    ensures { (result ≡ x) × (result < 65536) }
-{
-    x as usize
-}
-
 // How many loops face f has, by its number in the array; what no table has for a face is counted.
 pub fn loops_kept(links: &[u16], counts: &[u16; ITEM_PLACES], sh: Shape, f: usize) -> usize
     requires small { Small sh }
     requires counted { Counted sh links.now counts.now }
     ensures { (result ≡ loops_in sh links.now f) × (result < 65536) }
 {
-    if f == 0 {
-        return loops_in(links, sh, f);
+    if (1..=MOST_ITEMS).contains(&f) {
+        counts[f] as usize
+    } else {
+        loops_in(links, sh, f)
     }
-    if f > MOST_ITEMS {
-        return loops_in(links, sh, f);
-    }
-    wide(counts[f])
 }
 
 // Face f has one loop less.
 pub fn lower_count(counts: &mut [u16; ITEM_PLACES], f: usize)
     ensures { counts.new ≡ lowered counts.old f }
 {
-    if f == 0 {
-        return;
-    }
-    if f > MOST_ITEMS {
-        return;
-    }
-    let n = counts[f];
-    if n > 0 {
-        counts[f] = n - 1;
+    if (1..=MOST_ITEMS).contains(&f) {
+        counts[f] = counts[f].saturating_sub(1);
     }
 }
 
@@ -51,15 +36,8 @@ pub fn lower_count(counts: &mut [u16; ITEM_PLACES], f: usize)
 pub fn raise_count(counts: &mut [u16; ITEM_PLACES], f: usize)
     ensures { counts.new ≡ raised counts.old f }
 {
-    if f == 0 {
-        return;
-    }
-    if f > MOST_ITEMS {
-        return;
-    }
-    let n = counts[f];
-    if n < 65535 {
-        counts[f] = n + 1;
+    if (1..=MOST_ITEMS).contains(&f) {
+        counts[f] = counts[f].saturating_add(1);
     }
 }
 
@@ -69,11 +47,8 @@ pub fn fill_counts(links: &[u16], sh: Shape, counts: &mut [u16; ITEM_PLACES])
     ensures { (Counted sh links.now counts.new) × (length counts.new ≡ item_places) }
 {
     *counts = [0u16; ITEM_PLACES];
-    let n = sh.loops as usize;
-    let mut l: usize = 0;
-    while l < n {
-        l += 1;
-        let f = loop_face(links, sh, l);
+    for l in 0..sh.loops as usize {
+        let f = loop_face(links, sh, l + 1);
         raise_count(counts, f);
     }
 }

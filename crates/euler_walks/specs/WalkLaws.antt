@@ -1,13 +1,19 @@
 -- The ways out of the loop that looks for a loop's first, one law each: what is left of the search is the whole of it.
 -- (Those of a run given another loop are in `Passed` of crate euler.)
 use Rattle.std.specs.Prelude.{◌≡◌, List, eqb, ltb}
-use Prim.Native.Nat.{ℕ, suc, ◌+◌, ◌-◌, ◌<◌, ◌≤◌}
+use Rattle.std.proofs.Math.Logic.{⊎_elim}
+use Prim.Native.Nat.{ℕ, suc, min, ◌+◌, ◌-◌, ◌<◌, ◌≤◌}
 use native.Mathlib.Omega.{arith}
-use borrow.Author.Tests.{eq-eqb, ne_eqb}
-use Rattle.laws.specs.Bools.{pick}
+use borrow.Author.Tests.{eq-eqb, ne_eqb, lt-ltb, le-ltb}
+use Rattle.laws.specs.Bools.{pick, le?}
 use Rattle.layout.specs.declared.shape.Shape.{Shape}
 use Rattle.layout.specs.Layout.{loop_of, next_of, set_loop_first, set_loop_isolated}
 use Rattle.euler.specs.Surgery.{seek, first_from, renew}
+
+-- the lesser of two
+pub lesser : (m n : ℕ) → min m n ≡ pick (ltb n m) n m
+lesser m n = ⊎_elim (λ (h : m ≤ n). rw (le-ltb n m h) (omega arith)) (λ (h : n < m). rw (lt-ltb n m h) (omega arith))
+    (le? m n)
 
 -- the search for a loop's first begins at `low`, and with what follows k
 pub seek_from : (sh : Shape) (x : List ℕ) (l low k at j : ℕ) → at ≡ next_of sh x k → j ≡ low

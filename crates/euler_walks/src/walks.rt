@@ -3,7 +3,6 @@ ghost use Rattle.std.specs.Prelude.{◌≡◌, ℕ, ◌*◌, ◌<◌, ◌≤◌}
 ghost use Rattle.layout.specs.Layout.{next_of, set_loop};
 ghost use Rattle.euler.specs.Surgery.{relabel, relabel_run, lower, first_from, renew};
 
-use euler::records::choose;
 use layout::columns::{loop_of, next_of, set_loop, set_loop_first, set_loop_isolated};
 use layout::shape::Shape;
 
@@ -26,13 +25,11 @@ fn relabel_steps(links: &mut [u16], sh: Shape, fuel: usize, from: usize, stop: u
     ensures { links.new ≡ relabel sh fuel links.old from stop l }
 {
     let mut k = from;
-    let mut left = fuel;
-    while left > 0 {
+    for _ in 0..fuel {
         if k == stop {
             return;
         }
         k = pass_one(links, sh, k, l);
-        left -= 1;
     }
 }
 
@@ -49,7 +46,7 @@ pub fn lower(f: usize, k: usize) -> usize
     requires { (f < 65536) × (k < 65536) }
     ensures { (result ≡ lower f k) × (result < 65536) }
 {
-    choose(f == 0, k, choose(f < k, f, k))
+    if f == 0 { k } else { f.min(k) }
 }
 
 // The least half-edge that names loop l, where k names it and none below low does. The numbers from low up are tried,
@@ -60,8 +57,7 @@ pub fn first_from(links: &[u16], sh: Shape, l: usize, low: usize, k: usize) -> u
 {
     let mut at = next_of(links, sh, k);
     let mut best = k;
-    let mut j = low;
-    while j < k {
+    for j in low..k {
         let owner = loop_of(links, sh, j);
         if owner == l {
             return j;
@@ -69,9 +65,8 @@ pub fn first_from(links: &[u16], sh: Shape, l: usize, low: usize, k: usize) -> u
         if at == k {
             return best;
         }
-        best = choose(at < best, at, best);
+        best = best.min(at);
         at = next_of(links, sh, at);
-        j += 1;
     }
     best
 }
@@ -83,7 +78,7 @@ pub fn renew_loop(links: &mut [u16], sh: Shape, l: usize, low: usize, k: usize, 
     ensures { links.new ≡ renew sh links.old l low k u }
 {
     let first = first_from(links, sh, l, low, k);
-    let isolated = choose(k == 0, u, 0);
+    let isolated = if k == 0 { u } else { 0 };
     set_loop_first(links, sh, l, first);
     set_loop_isolated(links, sh, l, isolated);
 }

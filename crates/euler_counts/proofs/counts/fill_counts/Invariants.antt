@@ -1,9 +1,5 @@
-use Prim.Native.Nat.{◌≤◌, ◌-◌}
 use Rattle.euler_counts.specs.CountLaws.{Filled}
 use Rattle.euler_counts.proofs.counts.fill_counts.Given as goal
 
 abbrev pub invariant-loop-l : goal.invariant-loop-l
-invariant-loop-l l = (l.l ≤ l.n) × Filled l.sh l.links l.l l.counts
-
-abbrev pub decreases-loop-l : goal.decreases-loop-l
-decreases-loop-l l = l.n - l.l
+invariant-loop-l l = Filled l.sh l.links l.l l.counts

@@ -1,5 +1,6 @@
 use native.Mathlib.Omega.{arith}
-use Rattle.euler_walks.specs.WalkLaws.{seek_from, seek_here, seek_stop, seek_turn, seek_out}
+use mathlib.Core.Path.{◌∙◌}
+use Rattle.euler_walks.specs.WalkLaws.{lesser, seek_from, seek_here, seek_stop, seek_turn, seek_out}
 use Rattle.euler_walks.proofs.walks.first_from.Goals as goal
 
 pub loop-j-init : goal.loop-j-init
@@ -25,7 +26,7 @@ loop-j-preserved c = (
   omega arith,
   seek_turn _ _ _ _ _ _ _ _ _ c.loop-j.invariant.2 (omega arith) _
       c.loop_of-owner.ensures.0 c.if-owner-l.false
-      c.if-at-k.false _ _ c.choose-best.ensures.0 c.next_of-at-in-loop-j.ensures.0,
+      c.if-at-k.false _ _ (c.min-best.ensures ∙ lesser _ _) c.next_of-at-in-loop-j.ensures.0,
 )
 
 pub returns : goal.returns

@@ -6,6 +6,3 @@ use Rattle.euler_walks.proofs.walks.first_from.Given as goal
 abbrev pub invariant-loop-j : goal.invariant-loop-j
 invariant-loop-j l = (l.at < 65536) × (l.best < 65536)
     × (seek l.sh (l.k - l.j) l.links l.l l.j l.at l.k l.best ≡ first_from l.sh l.links l.l l.low l.k)
-
-abbrev pub decreases-loop-j : goal.decreases-loop-j
-decreases-loop-j l = l.k - l.j
