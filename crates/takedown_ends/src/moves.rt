@@ -10,11 +10,11 @@ use crate::order::{greater, less, lesser};
 use crate::walks::least_run;
 use euler::records::choose;
 use euler_lone::lone::{face_in, faces_in};
-use layout::columns::{next_of, prev_of};
+use layout::columns::{next_of, prev_of, solid_used};
 use layout::mates::mate_of;
 use layout::shape::Shape;
 use takedown::ends::Ends;
-use takedown_search::seek::{Sought, seek};
+use takedown_search::seek::seek;
 
 // Nothing is known but the solid, its root, the number of its faces, and the lower ends of A.
 fn ends_at(solid: usize, root: usize, faces: usize, border: usize, stray: usize) -> Ends
@@ -45,7 +45,7 @@ pub fn enter(links: &[u16], sh: Shape, low: usize) -> Ends
     requires { Small sh }
     ensures { (result ≡ swift.enter sh links.now low) × (InWords result) }
 {
-    let s = seek(links, sh, Sought::Solid, 0, 0, low);
+    let s = seek(low, sh.solids as usize, |k| solid_used(links, sh, k) != 0);
     let root = face_in(links, sh, s);
     let faces = faces_in(links, sh, s);
     ends_at(s, root, faces, 1, 1)

@@ -8,7 +8,7 @@ ghost use Rattle.takedown_ends.specs.InWords.{InWords};
 use crate::order::lesser;
 use layout::shape::Shape;
 use takedown::ends::Ends;
-use takedown_search::seek::{Sought, seek};
+use takedown_search::seek::seek;
 use takedown_search::tests::is_spur;
 
 // The lesser of `best` and the tip, if the tip is a spur below the lower end.
@@ -43,7 +43,7 @@ pub fn spur_from(links: &[u16], sh: Shape, e: Ends) -> usize
     let past = 2 * sh.edges as usize + 1;
     let t = least_tip(links, sh, e);
     if t == past {
-        return seek(links, sh, Sought::Spur, e.solid, e.root, e.spur);
+        return seek(e.spur, past - 1, |k| is_spur(links, sh, e.solid, k));
     }
     t
 }

@@ -17,7 +17,8 @@ use takedown_ends::moves::{bare_ends, cross_ends, ring_ends, spur_ends, with_hal
 use takedown_ends::order::less;
 use takedown_ends::tips::spur_from;
 use takedown_search::free::{free_edge, free_face, free_loop};
-use takedown_search::seek::{Sought, seek};
+use takedown_search::seek::seek;
+use takedown_search::tests::{in_ring, is_crossed};
 
 // The operators of a turn, the second only where there are two, and what is carried on. `lack`: the number that the
 // first calls for is not left.
@@ -94,7 +95,8 @@ pub fn edges_plan(links: &[u16], sh: Shape, e: Ends, half: usize) -> Plan
         (seek (2 * sh.edges) e.ring (in_ring sh links.now e.solid))) }
 {
     let on = with_half(e, half);
-    let ring = seek(links, sh, Sought::Ring, e.solid, e.root, e.ring);
+    let n = 2 * sh.edges as usize;
+    let ring = seek(e.ring, n, |k| in_ring(links, sh, e.solid, k));
     if ring != 0 {
         return ring_plan(links, sh, on, ring);
     }
@@ -102,7 +104,7 @@ pub fn edges_plan(links: &[u16], sh: Shape, e: Ends, half: usize) -> Plan
     if spur != 0 {
         return spur_plan(links, sh, on, spur);
     }
-    let k = seek(links, sh, Sought::Crossed, e.solid, e.root, e.cross);
+    let k = seek(e.cross, n, |k| is_crossed(links, sh, e.solid, k));
     cross_plan(links, sh, on, k)
 }
 
