@@ -20,7 +20,8 @@ use takedown_acts::rings::{make_outer, move_rings};
 use takedown_ends::moves::across_ends;
 use takedown_ends::walks::least_mate;
 use takedown_plans::operators::kef;
-use takedown_search::seek::{Sought, seek};
+use takedown_search::seek::seek;
+use takedown_search::tests::{is_outside, is_stray};
 
 // A stage of the work: how far it has come, and what is carried on to the next turn. `lack`: the turn calls for a
 // number of which none is left, so that nothing changed.
@@ -56,23 +57,24 @@ fn stray_from(links: &[u16], sh: Shape, e: Ends) -> usize
     requires { Small sh }
     ensures { (result ≡ swift.loop_from sh links.now e) × (result < 65536) }
 {
-    let l = seek(links, sh, Sought::Stray, e.solid, e.root, e.stray);
+    let n = sh.loops as usize;
+    let l = seek(e.stray, n, |l| is_stray(links, sh, e.solid, e.root, l));
     if l != 0 {
         return l;
     }
-    sh.loops as usize + 1
+    n + 1
 }
 
 fn passage_of(links: &[u16], sh: Shape, e: Ends) -> Passage
     requires { Small sh }
     ensures { (Planned sh links.now e result) × (Words result) }
 {
-    let half = seek(links, sh, Sought::Border, e.solid, e.root, e.border);
+    let n = 2 * sh.edges as usize;
+    let half = seek(e.border, n, |k| is_outside(links, sh, e.root, k));
     let own = loop_of(links, sh, half);
     let ring = is_ring(links, sh, own);
     let stray = stray_from(links, sh, e);
     let next = next_of(links, sh, half);
-    let n = 2 * sh.edges as usize;
     Passage {
         half,
         own,

@@ -64,10 +64,10 @@ module _ (sh : Shape) (left : ℕ) (x : List ℕ) (k stop : ℕ) (marks whole : 
   unfolding mark_run
   mark_stop h e = let n : left ≡ suc (left - 1) = omega arith in rw (n, eq-eqb k stop e) at rest
 
-  pub mark_turn : 0 < left → k ≢ stop → (y : List ℕ) → y ≡ set marks k 1 → (m : ℕ) → m ≡ next_of sh x k
-      → mark_run sh (left - 1) x m stop y ≡ whole
+  pub mark_turn : (d : ℕ) → left ≡ suc d → k ≢ stop → (y : List ℕ) → y ≡ set marks k 1 → (m : ℕ) → m ≡ next_of sh x k
+      → mark_run sh d x m stop y ≡ whole
   unfolding mark_run
-  mark_turn h e y p m q = let n : left ≡ suc (left - 1) = omega arith in rw (q, p) (rw (n, ne_eqb k stop e) at rest)
+  mark_turn d n e y p m q = rw (q, p) (rw (n, ne_eqb k stop e) at rest)
 
   pub mark_out : left ≤ 0 → marks ≡ whole
   unfolding mark_run
@@ -235,9 +235,10 @@ module _ (sh : Shape) (n left : ℕ) (x : List ℕ) (k stop : ℕ) (marks : List
     unfolding any_unpaired
     any_here t = let m : left ≡ suc (left - 1) = omega arith in rw (m, ne_eqb k stop e, ← eb, t) at rest
 
-    pub any_turn : b ≡ false → (j : ℕ) → j ≡ next_of sh x k → any_unpaired sh n (left - 1) x j stop marks ≡ whole
+    pub any_turn : b ≡ false → (j : ℕ) → j ≡ next_of sh x k → (d : ℕ) → left ≡ suc d
+        → any_unpaired sh n d x j stop marks ≡ whole
     unfolding any_unpaired
-    any_turn t j ej = let m : left ≡ suc (left - 1) = omega arith in rw ej (rw (m, ne_eqb k stop e, ← eb, t) at rest)
+    any_turn t j ej d m = rw ej (rw (m, ne_eqb k stop e, ← eb, t) at rest)
 
   pub any_out : left ≤ 0 → false ≡ whole
   unfolding any_unpaired

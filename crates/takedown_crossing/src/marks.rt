@@ -1,6 +1,6 @@
 // Crossed edges: some other edge has exactly one half between k and its mate. One walk marks what lies between; a
 // second asks each half-edge there whether its own mate is marked too.
-ghost use Rattle.std.specs.Prelude.{◌≡◌, ℕ, ◌*◌, ◌<◌, ◌≤◌, length, set};
+ghost use Rattle.std.specs.Prelude.{◌≡◌, ℕ, ◌*◌, ◌<◌, ◌≤◌, length};
 ghost use Rattle.bounds.specs.Bounds.{most_halves};
 ghost use Rattle.layout.specs.Small.{Small};
 ghost use Rattle.takedown.specs.Inversion as inversion;
@@ -10,19 +10,10 @@ use bounds::HALF_PLACES;
 use layout::columns::next_of;
 use layout::mates::mate_of;
 use layout::shape::Shape;
+use marking::put_mark;
 
 // A place for each half-edge's number, for 0, and for the mate of the number behind the last.
 const MARK_PLACES: usize = HALF_PLACES + 1;
-
-// Half-edge k marked; past the end nothing changes.
-fn put_mark(marks: &mut [u8; MARK_PLACES], k: usize)
-    requires { length marks.old ≡ mark_places }
-    ensures { marks.new ≡ set marks.old k 1 }
-{
-    if k < MARK_PLACES {
-        marks[k] = 1;
-    }
-}
 
 // The half-edges from `from` up to before stop marked; `fuel` bounds the steps in a table that is not sound.
 fn mark_run(
@@ -37,14 +28,12 @@ fn mark_run(
     ensures { marks.new ≡ mark_run sh fuel links.now from stop marks.old }
 {
     let mut k = from;
-    let mut left = fuel;
-    while left > 0 {
+    for _ in 0..fuel {
         if k == stop {
             return;
         }
         put_mark(marks, k);
         k = next_of(links, sh, k);
-        left -= 1;
     }
 }
 
@@ -73,17 +62,14 @@ fn any_unpaired(
     ensures { result ≡ any_unpaired sh n n links.now from stop marks.now }
 {
     let mut k = from;
-    let mut left = n;
-    while left > 0 {
+    for _ in 0..n {
         if k == stop {
             return false;
         }
-        let found = is_unpaired(n, marks, k);
-        if found {
+        if is_unpaired(n, marks, k) {
             return true;
         }
         k = next_of(links, sh, k);
-        left -= 1;
     }
     false
 }

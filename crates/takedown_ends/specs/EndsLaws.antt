@@ -1,8 +1,7 @@
 -- The ways through the walks, the tips and the moves of the lower ends, one law each, over plain variables.
 use Rattle.std.specs.Prelude.{◌≡◌, ◌≢◌, Bool, true, false, ◌&&◌, List, eqb, ltb}
-use Prim.Native.Nat.{ℕ, suc, ◌+◌, ◌-◌, ◌*◌, ◌≤◌, ◌<◌}
-use native.Mathlib.Omega.{arith}
-use borrow.Author.Tests.{lt-ltb, le-ltb, eq-eqb, ne_eqb}
+use Prim.Native.Nat.{ℕ, ◌+◌, ◌-◌, ◌*◌}
+use borrow.Author.Tests.{eq-eqb, ne_eqb}
 use Rattle.laws.specs.Bools.{pick}
 use Rattle.layout.specs.declared.shape.Shape.{Shape}
 use Rattle.layout.specs.Layout.{next_of, prev_of}
@@ -11,60 +10,8 @@ use Rattle.layout.specs.Items.{face_in}
 use Rattle.euler.specs.Queries.{faces_in}
 use Rattle.takedown.specs.declared.ends.Ends.{Ends}
 use Rattle.takedown.specs.Inversion.{is_spur}
-use Rattle.takedown.specs.Swift.{seek, lesser, greater, ends_at, solid_from, enter, least_mate, least_run, ring_ends}
+use Rattle.takedown.specs.Swift.{seek, lesser, greater, ends_at, solid_from, enter, least_run, ring_ends}
 use Rattle.takedown.specs.Swift.{spur_ends, cross_ends, tipped, least_tip, spur_from}
-
--- ---- the lesser and the greater
-
-module _ (a b : ℕ) where
-  pub lesser_left : a < b → a ≡ lesser a b
-  unfolding lesser
-  lesser_left h = rw (lt-ltb a b h)
-
-  pub lesser_right : b ≤ a → b ≡ lesser a b
-  unfolding lesser
-  lesser_right h = rw (le-ltb a b h)
-
-  pub greater_right : a < b → b ≡ greater a b
-  unfolding greater
-  greater_right h = rw (lt-ltb a b h)
-
-  pub greater_left : b ≤ a → a ≡ greater a b
-  unfolding greater
-  greater_left h = rw (le-ltb a b h)
-
--- ---- the walks: at the end of the run, one step more, no step left
-
-module _ (sh : Shape) (left : ℕ) (x : List ℕ) (j stop b whole : ℕ) (rest : least_mate sh left x j stop b ≡ whole) where
-  pub mate_stop : 0 < left → j ≡ stop → b ≡ whole
-  unfolding least_mate
-  mate_stop h e = let n : left ≡ suc (left - 1) = omega arith in rw (n, eq-eqb j stop e) at rest
-
-  pub mate_turn : 0 < left → j ≢ stop → (m : ℕ) → m ≡ mate j → (d : ℕ) → d ≡ lesser m b → (i : ℕ) → i ≡ next_of sh x j
-      → least_mate sh (left - 1) x i stop d ≡ whole
-  unfolding least_mate
-  mate_turn h e m em d ed i ei =
-      let n : left ≡ suc (left - 1) = omega arith in rw (ei, ed, em) (rw (n, ne_eqb j stop e) at rest)
-
-  pub mate_out : left ≤ 0 → b ≡ whole
-  unfolding least_mate
-  mate_out h = let n : left ≡ 0 = omega arith in rw n at rest
-
-module _ (sh : Shape) (left : ℕ) (x : List ℕ) (j stop b whole : ℕ) (rest : least_run sh left x j stop b ≡ whole) where
-  pub run_stop : 0 < left → j ≡ stop → b ≡ whole
-  unfolding least_run
-  run_stop h e = let n : left ≡ suc (left - 1) = omega arith in rw (n, eq-eqb j stop e) at rest
-
-  pub run_turn : 0 < left → j ≢ stop → (m : ℕ) → m ≡ mate j → (a : ℕ) → a ≡ lesser j m → (d : ℕ) → d ≡ lesser a b
-      → (i : ℕ) → i ≡ next_of sh x j
-      → least_run sh (left - 1) x i stop d ≡ whole
-  unfolding least_run
-  run_turn h e m em a ea d ed i ei =
-      let n : left ≡ suc (left - 1) = omega arith in rw (ei, ed, ea, em) (rw (n, ne_eqb j stop e) at rest)
-
-  pub run_out : left ≤ 0 → b ≡ whole
-  unfolding least_run
-  run_out h = let n : left ≡ 0 = omega arith in rw n at rest
 
 -- ---- the tips
 

@@ -1,2 +1,3 @@
 pub mod InWords
+pub mod Walks
 pub mod EndsLaws

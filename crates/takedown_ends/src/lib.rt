@@ -3,6 +3,5 @@
 #![tactic(auto)]
 
 pub mod moves;
-pub mod order;
 pub mod tips;
 pub mod walks;

@@ -6,15 +6,14 @@ ghost use Rattle.takedown.specs.Swift as swift;
 ghost use Rattle.takedown.specs.Swift.{ends_at, with_half, ring_ends, spur_ends, cross_ends, bare_ends};
 ghost use Rattle.takedown_ends.specs.InWords.{InWords};
 
-use crate::order::{greater, less, lesser};
 use crate::walks::least_run;
 use euler::records::choose;
 use euler_lone::lone::{face_in, faces_in};
-use layout::columns::{next_of, prev_of};
+use layout::columns::{next_of, prev_of, solid_used};
 use layout::mates::mate_of;
 use layout::shape::Shape;
 use takedown::ends::Ends;
-use takedown_search::seek::{Sought, seek};
+use takedown_search::seek::seek;
 
 // Nothing is known but the solid, its root, the number of its faces, and the lower ends of A.
 fn ends_at(solid: usize, root: usize, faces: usize, border: usize, stray: usize) -> Ends
@@ -45,7 +44,7 @@ pub fn enter(links: &[u16], sh: Shape, low: usize) -> Ends
     requires { Small sh }
     ensures { (result ≡ swift.enter sh links.now low) × (InWords result) }
 {
-    let s = seek(links, sh, Sought::Solid, 0, 0, low);
+    let s = seek(low, sh.solids as usize, |k| solid_used(links, sh, k) != 0);
     let root = face_in(links, sh, s);
     let faces = faces_in(links, sh, s);
     ends_at(s, root, faces, 1, 1)
@@ -58,7 +57,7 @@ pub fn across_ends(e: Ends, still: bool, near: usize, stray: usize) -> Ends
     ensures { (result ≡ ends_at e.solid e.root (e.faces - 1) (pick still near 1) (pick still stray 1))
         × (InWords result) }
 {
-    let faces = less(e.faces, 1);
+    let faces = e.faces.saturating_sub(1);
     if still {
         return ends_at(e.solid, e.root, faces, near, stray);
     }
@@ -70,23 +69,7 @@ pub fn with_half(e: Ends, half: usize) -> Ends
     requires { InWords e }
     ensures { (result ≡ with_half e half) × (InWords result) }
 {
-    Ends {
-        solid: e.solid,
-        root: e.root,
-        faces: e.faces,
-        border: e.border,
-        stray: e.stray,
-        half,
-        ring: e.ring,
-        pair: e.pair,
-        spur: e.spur,
-        tip: e.tip,
-        tip2: e.tip2,
-        tip3: e.tip3,
-        tip4: e.tip4,
-        cross: e.cross,
-        lone: e.lone,
-    }
+    Ends { half, ..e }
 }
 
 // After mfkrh and kef k: only what came before k or its mate can be a new spur; behind kemr these are two more tips.
@@ -98,23 +81,17 @@ pub fn ring_ends(links: &[u16], sh: Shape, e: Ends, k: usize) -> Ends
     let behind = e.pair == 1;
     let before = prev_of(links, sh, k);
     let other = prev_of(links, sh, mate_of(k));
-    let nearer = lesser(e.spur, lesser(before, other));
+    let nearer = e.spur.min(before.min(other));
     Ends {
-        solid: e.solid,
-        root: e.root,
-        faces: e.faces,
         border: 1,
         stray: 1,
-        half: e.half,
         ring: choose(behind, past, k),
         pair: 0,
         spur: choose(behind, e.spur, nearer),
-        tip: e.tip,
-        tip2: e.tip2,
         tip3: choose(behind, before, e.tip3),
         tip4: choose(behind, other, e.tip4),
-        cross: e.cross,
         lone: 1,
+        ..e
     }
 }
 
@@ -127,21 +104,17 @@ pub fn spur_ends(links: &[u16], sh: Shape, e: Ends, k: usize) -> Ends
     let past = 2 * sh.edges as usize + 1;
     let before = prev_of(links, sh, k);
     Ends {
-        solid: e.solid,
-        root: e.root,
-        faces: e.faces,
         border: 1,
         stray: 1,
-        half: e.half,
         ring: past,
         pair: 0,
-        spur: greater(e.spur, k),
+        spur: e.spur.max(k),
         tip: before,
         tip2: choose(e.tip2 == k, e.tip, e.tip2),
         tip3: choose(e.tip3 == k, e.tip, e.tip3),
         tip4: choose(e.tip4 == k, e.tip, e.tip4),
-        cross: e.cross,
         lone: 1,
+        ..e
     }
 }
 
@@ -158,12 +131,8 @@ pub fn cross_ends(links: &[u16], sh: Shape, e: Ends, k: usize) -> Ends
     let next = next_of(links, sh, k);
     let ring = least_run(links, sh, n, next, mate, n + 1);
     Ends {
-        solid: e.solid,
-        root: e.root,
-        faces: e.faces,
         border: 1,
         stray: 1,
-        half: e.half,
         ring,
         pair: 1,
         spur: n + 1,
@@ -173,6 +142,7 @@ pub fn cross_ends(links: &[u16], sh: Shape, e: Ends, k: usize) -> Ends
         tip4: other,
         cross: k,
         lone: 1,
+        ..e
     }
 }
 
@@ -182,20 +152,8 @@ pub fn bare_ends(sh: Shape, e: Ends, l: usize) -> Ends
     ensures { (result ≡ bare_ends sh e l) × (InWords result) }
 {
     Ends {
-        solid: e.solid,
-        root: e.root,
-        faces: e.faces,
-        border: 1,
-        stray: 1,
         half: 2 * sh.edges as usize + 1,
-        ring: 1,
-        pair: 0,
-        spur: 1,
-        tip: 1,
-        tip2: 1,
-        tip3: 1,
-        tip4: 1,
-        cross: 1,
         lone: l,
+        ..ends_at(e.solid, e.root, e.faces, 1, 1)
     }
 }

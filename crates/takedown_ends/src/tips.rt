@@ -5,10 +5,9 @@ ghost use Rattle.layout.specs.Small.{Small};
 ghost use Rattle.takedown.specs.Swift.{tipped, least_tip, spur_from};
 ghost use Rattle.takedown_ends.specs.InWords.{InWords};
 
-use crate::order::lesser;
 use layout::shape::Shape;
 use takedown::ends::Ends;
-use takedown_search::seek::{Sought, seek};
+use takedown_search::seek::seek;
 use takedown_search::tests::is_spur;
 
 // The lesser of `best` and the tip, if the tip is a spur below the lower end.
@@ -18,7 +17,7 @@ fn with_tip(links: &[u16], sh: Shape, e: Ends, tip: usize, best: usize) -> usize
 {
     let spur = is_spur(links, sh, e.solid, tip);
     if (tip < e.spur) & spur {
-        return lesser(tip, best);
+        return tip.min(best);
     }
     best
 }
@@ -40,10 +39,10 @@ pub fn spur_from(links: &[u16], sh: Shape, e: Ends) -> usize
     requires { (Small sh) × (InWords e) }
     ensures { (result ≡ spur_from sh links.now e) × (result < 65536) }
 {
-    let past = 2 * sh.edges as usize + 1;
+    let n = 2 * sh.edges as usize;
     let t = least_tip(links, sh, e);
-    if t == past {
-        return seek(links, sh, Sought::Spur, e.solid, e.root, e.spur);
+    if t == n + 1 {
+        return seek(e.spur, n, |k| is_spur(links, sh, e.solid, k));
     }
     t
 }

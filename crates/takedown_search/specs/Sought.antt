@@ -1,55 +1,23 @@
--- What each search of the take-down asks, and the last number that it asks it of.
-use Rattle.std.specs.Prelude.{◌≡◌, ℕ, ◌+◌, ◌-◌, ◌*◌, Bool, true, false, List}
-use Rattle.laws.specs.Search.{least_from}
-use Rattle.layout.specs.declared.shape.Shape.{Shape}
-use Rattle.layout.specs.Layout.{solid_used}
-use Rattle.layout.specs.Items.{some}
-use Rattle.takedown.specs.Inversion.{outside, of_solid, in_ring, is_spur, crossed, is_crossed, is_ring_of}
-use Rattle.takedown.specs.Swift.{seek, stray_ring}
-use Rattle.takedown_search.specs.declared.seek.Sought.{Sought}
-use Rattle.takedown_search.specs.declared.seek.Sought.TheVariants.{Solid, Border, Half, Ring, Spur, Crossed}
-use Rattle.takedown_search.specs.declared.seek.Sought.TheVariants.{Lone, Stray}
+-- What a search finds: the least number of a range that passes, 0 where none does.
+use Rattle.std.specs.Prelude.{◌≡◌, refl, ℕ, ◌≤◌, Bool, Option, None, Some}
+use Rattle.std.specs.Option.{unwrap_or}
+use Rattle.std.proofs.Common.{◌∙◌, arith}
+use Rattle.takedown.specs.Swift.{seek}
+use Rattle.searching.specs.Searching.{LeastPasses}
+use Rattle.searching.specs.SearchingLaws.{least_by}
 
--- item k passes, for solid s and its root
-unfoldable pub passing : Sought → Shape → List ℕ → ℕ → ℕ → ℕ → Bool
-passing Solid sh x s root k = some (solid_used sh x k)
-passing Border sh x s root k = outside sh x root k
-passing Half sh x s root k = of_solid sh x s k
-passing Ring sh x s root k = in_ring sh x s k
-passing Spur sh x s root k = is_spur sh x s k
-passing Crossed sh x s root k = is_crossed sh x s k
-passing Lone sh x s root k = is_ring_of sh x root k
-passing Stray sh x s root k = stray_ring sh x s root k
+-- r is the least of low to n that passes, or 0, for a test that answers by a relation
+abbrev pub Sought : (ℕ → Bool → Type 0) → ℕ → ℕ → ℕ → Type 0
+Sought answers low n r = (o : Option ℕ) × LeastPasses answers low n o × (r ≡ unwrap_or o 0)
 
--- the last number of the kind
-unfoldable pub last_of : Sought → Shape → ℕ
-last_of Solid sh = sh.solids
-last_of Border sh = 2 * sh.edges
-last_of Half sh = 2 * sh.edges
-last_of Ring sh = 2 * sh.edges
-last_of Spur sh = 2 * sh.edges
-last_of Crossed sh = 2 * sh.edges
-last_of Lone sh = sh.loops
-last_of Stray sh = sh.loops
+-- for a test that has one answer for each number it is what the definitions seek
+pub seek_by : {answers : ℕ → Bool → Type 0} {n low r : ℕ} (p : ℕ → Bool) → Sought answers low n r
+    → ((k : ℕ) → low ≤ k → k ≤ n → (b : Bool) → answers k b → b ≡ p k)
+    → r ≡ seek n low p
+seek_by p (o, s, e) h = e ∙ least_by p s h
 
--- the arm that was taken is the one of what is looked for
-pub by_sought : (what t : Sought) → what ≡ t → (sh : Shape) (x : List ℕ) (s root k : ℕ) (r : Bool)
-    → r ≡ passing t sh x s root k → r ≡ passing what sh x s root k
-by_sought what t e sh x s root k r h = rw e h
-
-pub by_last : (what t : Sought) → what ≡ t → (sh : Shape) (r : ℕ) → r ≡ last_of t sh → r ≡ last_of what sh
-by_last what t e sh r h = rw e h
-
--- a search begins at its lower end
-pub seek_begins : (p : ℕ → Bool) (low n m : ℕ) → n ≡ m → least_from (n + 1 - low) low p ≡ seek m low p
-seek_begins p low n m e = rw e
-
--- of solid s, and crossed
-pub here_crossed : (sh : Shape) (x : List ℕ) (s k : ℕ) (b : Bool) → b ≡ of_solid sh x s k → b ≡ true → (r : Bool)
-    → r ≡ crossed sh x k → r ≡ is_crossed sh x s k
-here_crossed sh x s k b e t r q = rw (← e, t) q
-
--- of another
-pub not_here : (sh : Shape) (x : List ℕ) (s k : ℕ) (b : Bool) → b ≡ of_solid sh x s k → b ≡ false
-    → false ≡ is_crossed sh x s k
-not_here sh x s k b e t = rw (← e, t)
+-- the number that is found is at most the last
+pub found_most : {answers : ℕ → Bool → Type 0} {n low r : ℕ} (o : Option ℕ) → LeastPasses answers low n o
+    → r ≡ unwrap_or o 0 → r ≤ n
+found_most None s e = omega (arith, e)
+found_most (Some m) s e = omega (arith, e, (s.least m refl).1)

@@ -4,6 +4,7 @@ ghost use Rattle.bounds.specs.Bounds.{most_items};
 ghost use Rattle.layout.specs.Small.{Small};
 ghost use Rattle.takedown.specs.Inversion.{free_face, free_loop, free_edge};
 
+use crate::seek::seek;
 use euler::scans::least_naming_one;
 use layout::column::{faces_of_loops, solids_of_faces};
 use layout::columns::start_of;
@@ -30,14 +31,5 @@ pub fn free_edge(links: &[u16], sh: Shape) -> usize
     requires { Small sh }
     ensures { (result ≡ free_edge sh links.now) × (result ≤ most_items) }
 {
-    let n = sh.edges as usize;
-    let mut e: usize = 1;
-    while e <= n {
-        let free = start_of(links, sh, 2 * e) == 0;
-        if free {
-            return e;
-        }
-        e += 1;
-    }
-    0
+    seek(1, sh.edges as usize, |e| start_of(links, sh, 2 * e) == 0)
 }

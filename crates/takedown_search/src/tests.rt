@@ -78,9 +78,5 @@ pub fn is_crossed(links: &[u16], sh: Shape, s: usize, k: usize) -> bool
     requires { (Small sh) × (k < 65536) }
     ensures { result ≡ is_crossed sh links.now s k }
 {
-    let here = of_solid(links, sh, s, k);
-    if here {
-        return crossed(links, sh, k);
-    }
-    false
+    of_solid(links, sh, s, k) && crossed(links, sh, k)
 }

@@ -16,7 +16,8 @@ use takedown_acts::acts::{Progress, act};
 use takedown_ends::moves::enter;
 use takedown_plans::operators::kvsf;
 use takedown_plans::plans::{Plan, bridge_plan, edges_plan};
-use takedown_search::seek::{Sought, seek};
+use takedown_search::seek::seek;
+use takedown_search::tests::{is_ring_of, of_solid};
 
 // The operators of a plan.
 fn operate(
@@ -117,12 +118,13 @@ pub fn turn(
     if e.faces != 1 {
         return across(links, points, log, sh, at, e);
     }
-    let half = seek(links, sh, Sought::Half, e.solid, e.root, e.half);
+    let halves = 2 * sh.edges as usize;
+    let half = seek(e.half, halves, |k| of_solid(links, sh, e.solid, k));
     if half != 0 {
         let plan = edges_plan(links, sh, e, half);
         return carry(links, points, log, sh, at, plan);
     }
-    let l = seek(links, sh, Sought::Lone, e.solid, e.root, e.lone);
+    let l = seek(e.lone, sh.loops as usize, |l| is_ring_of(links, sh, e.root, l));
     if l != 0 {
         let plan = bridge_plan(links, sh, e, l);
         return carry(links, points, log, sh, at, plan);

@@ -7,11 +7,12 @@ ghost use Rattle.text.specs.Put.{Put};
 ghost use Rattle.zoghvari_obj.specs.Program.{empty, refusal_line, part_text, run_text, program_of};
 ghost use Rattle.zoghvari_obj.specs.ProgramLaws.{own_shape};
 
+use layout::columns::solid_used;
 use layout::shape::shape_of;
 use report::{put_bytes, put_field};
 use runs_run::run;
 use table::clear::clear;
-use takedown_search::seek::{Sought, seek};
+use takedown_search::seek::seek;
 use wavefront_entry::obj::obj;
 
 // A script of at most 65,536 bytes is run.
@@ -43,7 +44,7 @@ fn put_part(links: &[u16], points: &[i32], out: &mut [u8; ROOM]) -> usize
     ensures upper_bound { result ≤ 38912 }
 {
     let sh = shape_of(links);
-    let s = seek(links, sh, Sought::Solid, 0, 0, 1);
+    let s = seek(1, sh.solids as usize, |k| solid_used(links, sh, k) != 0);
     let a = obj(links, points, s, out);
     if a.refusal != 0 {
         return put_refusal(out, a.refusal);

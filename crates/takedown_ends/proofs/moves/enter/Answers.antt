@@ -1,11 +1,11 @@
-use Rattle.takedown_search.specs.Sought.{passing, last_of}
+use Rattle.std.proofs.Common.{rules}
+use Rattle.takedown_search.specs.Sought.{seek_by}
 use Rattle.takedown_ends.specs.EndsLaws.{entered_is}
 use Rattle.takedown_ends.proofs.moves.enter.Goals as goal
 
 pub returns : goal.returns
-unfolding passing last_of
 returns c = (
-  entered_is _ _ _ _ _ _ _ c.seek-s.ensures.0 c.face_in-root.ensures.0
+  entered_is _ _ _ _ _ _ _ (seek_by _ c.seek-s.ensures.0 (λ k l u b p. search rules)) c.face_in-root.ensures.0
       c.faces_in-faces.ensures.0 c.ends_at.ensures.0,
   c.ends_at.ensures.1,
 )

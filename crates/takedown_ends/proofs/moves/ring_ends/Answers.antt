@@ -1,3 +1,5 @@
+use Rattle.std.proofs.Common.{◌∙◌}
+use Rattle.takedown_ends.specs.Walks.{min_lesser}
 use Rattle.takedown_ends.specs.EndsLaws.{ring_ends_are}
 use Rattle.takedown_ends.proofs.moves.ring_ends.Goals as goal
 
@@ -9,8 +11,8 @@ returns c = let w = c.requires.1 in (
       _ _ _ _ _ _ _ _ _ _ c.prev_of-before.ensures.0
       c.mate_of.ensures.0
       c.prev_of-other.ensures.0
-      c.lesser.ensures.0
-      c.lesser-nearer.ensures.0 c.choose.ensures.0
+      (c.min.ensures ∙ min_lesser _ _)
+      (c.min-nearer.ensures ∙ min_lesser _ _) c.choose.ensures.0
       c.choose-2.ensures.0 c.choose-3.ensures.0 c.choose-4.ensures.0,
   record {
     solid = w.solid;

@@ -1,3 +1,5 @@
+use Rattle.std.proofs.Common.{◌∙◌, arith}
+use Rattle.takedown_ends.specs.Walks.{max_greater}
 use Rattle.takedown_ends.specs.EndsLaws.{spur_ends_are}
 use Rattle.takedown_ends.proofs.moves.spur_ends.Goals as goal
 
@@ -6,14 +8,14 @@ returns c = let w = c.requires.1 in (
   spur_ends_are c.args.sh _
       c.args.e _ _ _ _ _ _
       c.prev_of-before.ensures.0
-      c.greater.ensures.0
+      (c.max.ensures ∙ max_greater _ _)
       c.choose.ensures.0 c.choose-2.ensures.0
       c.choose-3.ensures.0,
   record {
     solid = w.solid;
     root = w.root;
     spur =
-        c.greater.ensures.1;
+        omega (arith, c.max.ensures, w.spur, c.requires.2);
     tip =
         c.prev_of-before.ensures.1;
     tip2 =
