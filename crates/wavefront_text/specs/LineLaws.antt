@@ -1,8 +1,7 @@
 -- What the code that puts lines asks of points and ranks, and what it leaves, step by step.
 use Rattle.std.specs.Prelude.{◌≡◌, refl, ◌≢◌, Bool, true, false, List, [], ◌∷◌, ◌++◌, ℕ, zero, suc, ◌+◌, ◌-◌, ◌*◌, ◌≤◌}
-use Rattle.std.specs.Prelude.{◌<◌, T, eqb, ℤ, pos, length, get_or}
+use Rattle.std.specs.Prelude.{◌<◌, T, eqb, ℤ, length, get_or}
 use Rattle.std.proofs.Common.{sym, ap, ◌∙◌, append-nil, arith, add-one, length-append}
-use Rattle.std.proofs.Math.ListN.{get_or-eq_default}
 use Rattle.std.proofs.Math.Seq.{length-sets}
 use Rattle.laws.specs.Bools.{pick, eqb_same, eqb_other}
 use Rattle.layout.specs.declared.shape.Shape.{Shape}
@@ -12,7 +11,6 @@ use Rattle.text.specs.Decimal.{decimal, decimal_length}
 use Rattle.codec.specs.SignedLaws.{back}
 use Rattle.codec.specs.WriteLaws.{sets_append}
 use Rattle.layout.specs.Points.{point_width, range_test, in_range, coordinate}
-use Rattle.layout.specs.PointsLaws.{coordinate_at}
 use Rattle.text.specs.Put.{newline, Put, then, put_4}
 use Rattle.wavefront_text.specs.PutLaws.{range_held}
 use Rattle.wavefront.specs.Lengths.{concat_map_append, millimetres_length}
@@ -30,17 +28,6 @@ AllInRange p n = (v : ℕ) → 1 ≤ v → v ≤ n → InRanges p v
 -- every number of a list has at most four digits
 abbrev pub Low : List ℕ → Type 0
 Low ranks = (v : ℕ) → get_or ranks v 0 < 10000
-
--- ---- coordinates
-
--- vertex 0 is none
-pub no_vertex : (p : List ℤ) (v i : ℕ) → v ≡ 0 → pos 0 ≡ coordinate p v i
-no_vertex p v i e = rw e refl
-
--- past the end
-pub no_coordinate : (p : List ℤ) (v i : ℕ) → (v ≡ 0 → ⊥) → length p ≤ point_width * (v - 1) + i
-    → pos 0 ≡ coordinate p v i
-no_coordinate p v i h l = sym (get_or-eq_default p (pos 0) l) ∙ coordinate_at p v i h
 
 -- ---- a vertex's line
 
@@ -130,7 +117,7 @@ lap_step f a zero k h = absurd (omega arith)
 lap_step f a (suc n) k h = let e : suc n - 1 ≡ n = omega arith in rw e (ap (λ l. k ∷ l) (cut f a n (f k) (eqb (f k) a)))
 
 -- the first corner of a lap, and the rest of it
-pub lap_next : (x y z : List ℕ) (at b d : ℕ) (g : ℕ → List ℕ) (f : ℕ → ℕ) (a n k m j : ℕ) → 0 < n
+lap_next : (x y z : List ℕ) (at b d : ℕ) (g : ℕ → List ℕ) (f : ℕ → ℕ) (a n k m j : ℕ) → 0 < n
     → Put x at (concat_map g (lap f a n k)) d z → Put x at (g k) b y → j ≡ f k → m ≡ pick (eqb j a) 0 (n - 1)
     → Put y b (concat_map g (lap f a m j)) d z
 unfolding concat_map
@@ -143,6 +130,18 @@ pub lap_end : (x z : List ℕ) (at d : ℕ) (g : ℕ → List ℕ) (f : ℕ → 
     → Put x at (concat_map g (lap f a n k)) d z → (at ≡ d) × (x ≡ z)
 unfolding concat_map lap
 lap_end x z at d g f a n k e p = let q : Put x at [] d z = rw e at p in (omega (arith, q.0), sym q.1)
+
+-- the walk goes on
+pub lap_on : (x y z : List ℕ) (at b d : ℕ) (g : ℕ → List ℕ) (f : ℕ → ℕ) (a n k m j : ℕ) → 0 < n
+    → Put x at (concat_map g (lap f a n k)) d z → Put x at (g k) b y → j ≡ f k → j ≢ a → m ≡ n - 1
+    → Put y b (concat_map g (lap f a m j)) d z
+lap_on x y z at b d g f a n k m j h p q e c i = lap_next x y z at b d g f a n k m j h p q e (rw (eqb_other c) i)
+
+-- or is back
+pub lap_back : (x y z : List ℕ) (at b d : ℕ) (g : ℕ → List ℕ) (f : ℕ → ℕ) (a n k j : ℕ) → 0 < n
+    → Put x at (concat_map g (lap f a n k)) d z → Put x at (g k) b y → j ≡ f k → j ≡ a → (b ≡ d) × (y ≡ z)
+lap_back x y z at b d g f a n k j h p q e c =
+    lap_end y z b d g f a 0 j refl (lap_next x y z at b d g f a n k 0 j h p q e (rw (eqb_same c) refl))
 
 -- ---- what is put only where a test passes
 

@@ -14,25 +14,10 @@ use crate::bytes::{put_byte, put_coordinate, put_number};
 use bounds::ITEM_PLACES;
 use layout::cells::word;
 use layout::columns::{face_outer, face_solid, loop_first, prev_of, start_of};
-use layout::points::POINT_WIDTH;
+use layout::points::coordinate;
 use layout::shape::Shape;
 
 // ---- vertices
-
-// Coordinate i of vertex v; total, as for the links.
-fn coordinate_of(points: &[i32], v: usize, i: usize) -> i32
-    requires { (v ≤ 65536) × (i < point_width) }
-    ensures { result ≡ coordinate points.now v i }
-{
-    if v == 0 {
-        return 0;
-    }
-    let at = POINT_WIDTH * (v - 1) + i;
-    if at < points.len() {
-        return points[at];
-    }
-    0
-}
 
 // A space and coordinate i of vertex v.
 fn put_word(out: &mut [u8], at: usize, points: &[i32], v: usize, i: usize) -> usize
@@ -40,7 +25,7 @@ fn put_word(out: &mut [u8], at: usize, points: &[i32], v: usize, i: usize) -> us
     ensures put { Put out.old at (spaced (millimetres (coordinate points.now v i))) result out.new }
     ensures upper_bound { result ≤ at + 8 }
 {
-    put_coordinate(out, at, coordinate_of(points, v, i))
+    put_coordinate(out, at, coordinate(points, v, i))
 }
 
 // The line of vertex v.
@@ -92,10 +77,8 @@ pub fn put_vertices(out: &mut [u8], points: &[i32], n: usize, ranks: &[u16; ITEM
     ensures upper_bound { result ≤ 26 * n }
 {
     let mut at: usize = 0;
-    let mut v: usize = 0;
-    while v < n {
-        v += 1;
-        at = put_ranked(out, at, points, ranks, v);
+    for v in 0..n {
+        at = put_ranked(out, at, points, ranks, v + 1);
     }
     at
 }
@@ -122,17 +105,6 @@ fn put_corner(
     put_number(out, number, rank)
 }
 
-// How many half-edges are left to walk at k, of `left` before it: none where the walk is back at the first.
-fn steps_left(k: usize, first: usize, left: usize) -> usize
-    requires { 0 < left }
-    ensures { (result ≡ pick (eqb k first) 0 (left - 1)) × (result < left) }
-{
-    if k == first {
-        return 0;
-    }
-    left - 1
-}
-
 // The line of face f.
 fn put_face(
     out: &mut [u8],
@@ -151,11 +123,12 @@ fn put_face(
     let first = loop_first(links, sh, face_outer(links, sh, f));
     let mut place = put_byte(out, at, b'f');
     let mut k = first;
-    let mut left = 2 * (sh.edges as usize);
-    while left > 0 {
+    for _ in 0..2 * (sh.edges as usize) {
         place = put_corner(out, place, links, sh, ranks, k);
         k = prev_of(links, sh, k);
-        left = steps_left(k, first, left);
+        if k == first {
+            break;
+        }
     }
     put_byte(out, place, b'\n')
 }
@@ -197,10 +170,8 @@ pub fn put_faces(
 {
     let n = sh.faces as usize;
     let mut place = at;
-    let mut f: usize = 0;
-    while f < n {
-        f += 1;
-        place = put_own_face(out, place, links, sh, s, ranks, f);
+    for f in 0..n {
+        place = put_own_face(out, place, links, sh, s, ranks, f + 1);
     }
     place
 }
