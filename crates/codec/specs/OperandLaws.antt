@@ -71,26 +71,6 @@ ahead l i d h = rw (add-one i) (drop-cons l i d h)
 pub behind {ℓ} : {A : Type ℓ} (l : List A) (i : ℕ) → length l ≡ 8 → 8 ≤ i → drop i l ≡ []
 behind l i e h = let k : length l ≤ i = omega arith in drop_of_length-le l k
 
--- the ranges, as a turn begins, after a turn and at the end
-module _ (most ks ns : List ℕ) (i : ℕ) (p : length ks ≡ 8) (q : length ns ≡ 8) (whole : Bool)
-    (rest : in_ranges most (drop i ks) (drop i ns) ≡ whole) where
-  turn : i < 8
-      → pick (in_range most (get_or ks i 0) (get_or ns i 0)) (in_ranges most (drop (i + 1) ks) (drop (i + 1) ns)) false
-      ≡ whole
-  unfolding in_ranges
-  turn h = rw (ahead ks i 0 (omega arith), ahead ns i 0 (omega arith)) at rest
-
-  pub ranges_stop : i < 8 → (t : Bool) → t ≡ in_range most (get_or ks i 0) (get_or ns i 0) → t ≡ false → false ≡ whole
-  ranges_stop h t e f = rw (← e, f) at (turn h)
-
-  pub ranges_turn : i < 8 → (t : Bool) → t ≡ in_range most (get_or ks i 0) (get_or ns i 0) → t ≡ true
-      → in_ranges most (drop (i + 1) ks) (drop (i + 1) ns) ≡ whole
-  ranges_turn h t e f = rw (← e, f) at (turn h)
-
-  pub ranges_end : 8 ≤ i → true ≡ whole
-  unfolding in_ranges
-  ranges_end h = rw (behind ks i p h) at rest
-
 -- a list whose every place has the function of the kind and the operand there
 pub each_by : {A B : Type 0} (f : ℕ → A → B) (ks : List ℕ) (xs : List A) (ys : List B) (d : A) (e : B)
     → length xs ≡ length ks → length ys ≡ length ks

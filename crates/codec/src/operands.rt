@@ -140,14 +140,7 @@ pub fn in_ranges(most: &[u32; 15], kinds: [u8; 8], numbers: [u32; 8]) -> bool
     requires { length most.now ≡ 15 }
     ensures { result ≡ in_ranges most.now kinds numbers }
 {
-    let mut i: usize = 0;
-    while i < 8 {
-        if !in_range(most, kinds[i], numbers[i]) {
-            return false;
-        }
-        i += 1;
-    }
-    true
+    kinds.iter().zip(&numbers).all(|(&kind, &n)| in_range(most, kind, n))
 }
 
 // A coordinate as it travels: 2c, or -2c - 1 when negative.
