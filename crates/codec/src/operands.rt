@@ -125,14 +125,8 @@ pub fn in_range(most: &[u32; 15], kind: u8, n: u32) -> bool
     requires { length most.now ≡ 15 }
     ensures { result ≡ in_range most.now kind n }
 {
-    let k = kind as usize;
-    if k < 15 {
-        if n < LEAST[k] {
-            return false;
-        }
-        return n <= most[k];
-    }
-    n == 0
+    let k = usize::from(kind);
+    if k < 15 { LEAST[k] <= n && n <= most[k] } else { n == 0 }
 }
 
 // Are all eight in range?
