@@ -1,17 +1,16 @@
 -- Laws of the operands: which codes there are, and what is read and stored of one operand.
-use Rattle.std.specs.Prelude.{◌≡◌, ◌⊎◌, ℕ, zero, suc, ◌+◌, ◌*◌, ◌≤◌, ◌<◌, List, [], ◌∷◌, ◌++◌, take, drop, set, leb}
-use Rattle.std.specs.Prelude.{eqb, Bool, true, false, ℤ, pos, negsuc}
-use Rattle.std.proofs.Common.{refl, sym, ap, ◌∙◌, inl, inr, ⊎_elim, append_assoc, append-nil, drop_of_length-le, drop-cons}
-use Rattle.std.proofs.Common.{take-suc-set, take_all, add-one}
+use Rattle.std.specs.Prelude.{◌≡◌, ◌⊎◌, ℕ, zero, suc, ◌+◌, ◌≤◌, ◌<◌, List, [], ◌∷◌, drop, leb}
+use Rattle.std.specs.Prelude.{eqb, false, ℤ, pos, negsuc}
+use Rattle.std.proofs.Common.{refl, sym, ap, ◌∙◌, inl, inr, ⊎_elim, drop_of_length-le, drop-cons}
+use Rattle.std.proofs.Common.{add-one}
 use native.Mathlib.Omega.{arith}
 use Rattle.std.proofs.Math.ListN.{length, get_or, get_or-eq_default}
 use borrow.Author.Tests.{lt-ltb, le-ltb, lt-leb, eq-eqb, ne_eqb}
 use denote.Param.Members.{Mut, Called}
 use Rattle.std.specs.Array.{IsFromFnResultFrom}
-use Rattle.laws.specs.Bools.{pick, same?}
-use Rattle.codec.specs.declared.Limits.{Limits}
+use Rattle.laws.specs.Bools.{same?}
 use Rattle.codec.specs.declared.operands.Pattern.{Pattern}
-use Rattle.codec.specs.Operands.{last_code, row, rows, pattern, leasts, largests, in_range, in_ranges, each}
+use Rattle.codec.specs.Operands.{last_code, row, rows, pattern, leasts, in_range, each}
 use Rattle.codec.specs.Operands.{coordinate}
 use Rattle.codec.specs.Operands.{zig, zag, wire, unwire, none}
 
@@ -38,12 +37,6 @@ pub pattern_none : (x : ℕ) → NoneOf last_code x → row [] ≡ pattern x
 unfolding pattern rows
 pattern_none x d =
     ⊎_elim (λ e. rw e) (λ h. no_code x h) (none_of last_code x d)
-
--- the largest numbers, each by its own equation
-pub largest_is : (lim : Limits) (s f l e h v w m c : ℕ) → s ≡ lim.solids → f ≡ lim.faces → l ≡ lim.loops
-    → e ≡ lim.edges → h ≡ 2 * e → v ≡ lim.vertices → w ≡ 1 → m ≡ 3 → c ≡ 100000
-    → 0 ∷ s ∷ s ∷ s ∷ f ∷ f ∷ l ∷ l ∷ e ∷ h ∷ h ∷ v ∷ w ∷ m ∷ c ∷ [] ≡ largests lim
-largest_is lim s f l e h v w m c ps pf pl pe ph pv pw pm pc = rw (ph, ps, pf, pl, pe, pv, pw, pm, pc)
 
 -- one number in or out of range
 module _ (most : List ℕ) (k n : ℕ) where

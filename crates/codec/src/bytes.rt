@@ -89,10 +89,8 @@ pub fn put_operands_before(
     ensures value { result ≡ end - length (operands_bytes kinds (wires kinds args)) }
     ensures out_after { out.new ≡ sets out.old result (operands_bytes kinds (wires kinds args)) }
 {
-    let mut i = count;
     let mut p = end;
-    while i > 0 {
-        i -= 1;
+    for i in (0..count).rev() {
         p = write_before(out, p, operands::to_wire(kinds[i], args[i]));
     }
     p

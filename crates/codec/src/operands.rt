@@ -3,9 +3,8 @@ ghost use Rattle.std.specs.Prelude.{◌≡◌, ℕ, ◌+◌, ◌*◌, ◌≤◌,
 ghost use Rattle.codec.specs.Operands.{pattern, largests, in_range, in_ranges, zig, zag, wire, unwire, wires};
 ghost use Rattle.codec.specs.Operands.{unwires, Small};
 
-use std::array;
-
 use crate::Limits;
+use std::array;
 
 // Kinds of operands. OLD must be in use, NEW must be free.
 pub const NONE: u8 = 0; // unused
@@ -98,12 +97,6 @@ pub fn pattern_of(code: u8) -> Pattern
     }
 }
 
-fn wide(x: u16) -> u32
-    ensures { (result ≡ x) × (result < 65536) }
-{
-    x as u32
-}
-
 // The least number of each kind, the kinds in order: 0 where 0 is allowed.
 const LEAST: [u32; 15] = [0, 1, 1, 0, 1, 1, 1, 1, 1, 1, 0, 1, 0, 0, 0];
 
@@ -111,12 +104,12 @@ const LEAST: [u32; 15] = [0, 1, 1, 0, 1, 1, 1, 1, 1, 1, 0, 1, 0, 0, 0];
 pub fn largest(limits: Limits) -> [u32; 15]
     ensures { result ≡ largests limits }
 {
-    let s = wide(limits.solids);
-    let f = wide(limits.faces);
-    let l = wide(limits.loops);
-    let e = wide(limits.edges);
+    let s = u32::from(limits.solids);
+    let f = u32::from(limits.faces);
+    let l = u32::from(limits.loops);
+    let e = u32::from(limits.edges);
     let h = 2 * e;
-    let v = wide(limits.vertices);
+    let v = u32::from(limits.vertices);
     [0, s, s, s, f, f, l, l, e, h, h, v, 1, 3, 100000]
 }
 
@@ -126,7 +119,11 @@ pub fn in_range(most: &[u32; 15], kind: u8, n: u32) -> bool
     ensures { result ≡ in_range most.now kind n }
 {
     let k = usize::from(kind);
-    if k < 15 { LEAST[k] <= n && n <= most[k] } else { n == 0 }
+    if k < 15 {
+        LEAST[k] <= n && n <= most[k]
+    } else {
+        n == 0
+    }
 }
 
 // Are all eight in range?
@@ -134,7 +131,10 @@ pub fn in_ranges(most: &[u32; 15], kinds: [u8; 8], numbers: [u32; 8]) -> bool
     requires { length most.now ≡ 15 }
     ensures { result ≡ in_ranges most.now kinds numbers }
 {
-    kinds.iter().zip(&numbers).all(|(&kind, &n)| in_range(most, kind, n))
+    kinds
+        .iter()
+        .zip(&numbers)
+        .all(|(&kind, &n)| in_range(most, kind, n))
 }
 
 // A coordinate as it travels: 2c, or -2c - 1 when negative.
