@@ -25,8 +25,8 @@ none_of zero x d = ⊎_elim (λ e. inl e) (λ e. inr (omega arith)) (same? x 0)
 none_of (suc n) x d = ⊎_elim (λ e. inl e) (λ h. let f = d.1 in inr (omega arith)) (none_of n x d.0)
 
 -- the row of a code that is known
-pub by_row : (code k : ℕ) (p : Pattern) → code ≡ k → pattern k ≡ p → (r : Pattern) → r ≡ p → r ≡ pattern code
-by_row code k p e f r g = rw (g, e, f)
+pub by_row : (code k : ℕ) (p : Pattern) → code ≡ k → pattern k ≡ p → p ≡ pattern code
+by_row code k p e f = rw (e, f)
 
 -- no such code
 pub no_code : (x : ℕ) → last_code < x → row [] ≡ pattern x

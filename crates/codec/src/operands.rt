@@ -44,35 +44,66 @@ pub struct Pattern {
     pub kinds: [u8; 8],
 }
 
-// The kinds of the operands, by the first operator that has them.
-const MVSF: [u8; 8] = [NEW_S, NEW_F, NEW_L, NEW_V, COORD, COORD, COORD, NONE];
+// The operands, by the first operator that has them.
+const MVSF: Pattern = Pattern {
+    count: 7,
+    kinds: [NEW_S, NEW_F, NEW_L, NEW_V, COORD, COORD, COORD, NONE],
+};
 
-const KVSF: [u8; 8] = [OLD_S, NONE, NONE, NONE, NONE, NONE, NONE, NONE];
+const KVSF: Pattern = Pattern {
+    count: 1,
+    kinds: [OLD_S, NONE, NONE, NONE, NONE, NONE, NONE, NONE],
+};
 
-const MEV: [u8; 8] = [OLD_L, MAY_H, NEW_E, NEW_V, WAY_1, COORD, COORD, COORD];
+const MEV: Pattern = Pattern {
+    count: 8,
+    kinds: [OLD_L, MAY_H, NEW_E, NEW_V, WAY_1, COORD, COORD, COORD],
+};
 
-const KEV: [u8; 8] = [OLD_H, NONE, NONE, NONE, NONE, NONE, NONE, NONE];
+const KEV: Pattern = Pattern {
+    count: 1,
+    kinds: [OLD_H, NONE, NONE, NONE, NONE, NONE, NONE, NONE],
+};
 
-const MEF: [u8; 8] = [OLD_L, MAY_H, MAY_H, NEW_E, NEW_F, NEW_L, WAY_3, NONE];
+const MEF: Pattern = Pattern {
+    count: 7,
+    kinds: [OLD_L, MAY_H, MAY_H, NEW_E, NEW_F, NEW_L, WAY_3, NONE],
+};
 
-const KEMR: [u8; 8] = [OLD_H, NEW_L, NONE, NONE, NONE, NONE, NONE, NONE];
+const KEMR: Pattern = Pattern {
+    count: 2,
+    kinds: [OLD_H, NEW_L, NONE, NONE, NONE, NONE, NONE, NONE],
+};
 
-const MEKR: [u8; 8] = [OLD_L, MAY_H, OLD_L, MAY_H, NEW_E, WAY_1, NONE, NONE];
+const MEKR: Pattern = Pattern {
+    count: 6,
+    kinds: [OLD_L, MAY_H, OLD_L, MAY_H, NEW_E, WAY_1, NONE, NONE],
+};
 
-const KFMRH: [u8; 8] = [OLD_F, OLD_F, NONE, NONE, NONE, NONE, NONE, NONE];
+const KFMRH: Pattern = Pattern {
+    count: 2,
+    kinds: [OLD_F, OLD_F, NONE, NONE, NONE, NONE, NONE, NONE],
+};
 
-const MFKRH: [u8; 8] = [OLD_L, NEW_F, MAY_S, NONE, NONE, NONE, NONE, NONE];
+const MFKRH: Pattern = Pattern {
+    count: 3,
+    kinds: [OLD_L, NEW_F, MAY_S, NONE, NONE, NONE, NONE, NONE],
+};
 
-const SEMV: [u8; 8] = [OLD_H, NEW_E, NEW_V, WAY_1, COORD, COORD, COORD, NONE];
+const SEMV: Pattern = Pattern {
+    count: 7,
+    kinds: [OLD_H, NEW_E, NEW_V, WAY_1, COORD, COORD, COORD, NONE],
+};
 
-const RMOV: [u8; 8] = [OLD_L, OLD_F, NONE, NONE, NONE, NONE, NONE, NONE];
+const RMOV: Pattern = Pattern {
+    count: 2,
+    kinds: [OLD_L, OLD_F, NONE, NONE, NONE, NONE, NONE, NONE],
+};
 
-// A pattern of these parts.
-fn made(count: u8, kinds: [u8; 8]) -> Pattern
-    ensures { result ≡ record { count = count; kinds = kinds } }
-{
-    Pattern { count, kinds }
-}
+const NO_CODE: Pattern = Pattern {
+    count: 0,
+    kinds: [NONE; 8],
+};
 
 // The last code.
 pub const LAST_CODE: u32 = 13;
@@ -82,18 +113,18 @@ pub fn pattern_of(code: u8) -> Pattern
     ensures { result ≡ pattern code }
 {
     match code {
-        1 => made(7, MVSF),
-        2 => made(1, KVSF),
-        3 => made(8, MEV),
-        4 | 6 | 12 => made(1, KEV),
-        5 => made(7, MEF),
-        7 => made(2, KEMR),
-        8 => made(6, MEKR),
-        9 => made(2, KFMRH),
-        10 => made(3, MFKRH),
-        11 => made(7, SEMV),
-        13 => made(2, RMOV),
-        _ => made(0, [NONE; 8]),
+        1 => MVSF,
+        2 => KVSF,
+        3 => MEV,
+        4 | 6 | 12 => KEV,
+        5 => MEF,
+        7 => KEMR,
+        8 => MEKR,
+        9 => KFMRH,
+        10 => MFKRH,
+        11 => SEMV,
+        13 => RMOV,
+        _ => NO_CODE,
     }
 }
 
