@@ -6,19 +6,16 @@ use Rattle.std.proofs.Common.{drop_of_length-le, length-take-le}
 use Rattle.std.proofs.Math.Seq.{get_or-take}
 use borrow.Author.Tests.{eq-eqb, ne_eqb, le-leb, lt-leb}
 use Rattle.numbers.specs.Number.{read_number, on_num}
+use Rattle.numbers.specs.NumberTrip.{reads_small, number_found}
 use Rattle.codec.specs.Operands.{in_range, unwire}
-use Rattle.codec.specs.OperandBytes.{read_operand, read_operands}
 use Rattle.codec.specs.OperandLaws.{ahead}
-use Rattle.codec.specs.ReadLaws.{small_read}
 use Rattle.layout.specs.declared.shape.Shape.{Shape}
 use Rattle.euler.specs.Exec.{operator_by, condition}
 use Rattle.runs_take.specs.Take.{Scan, scan_is, joined, joined_by, scan, taken, settled}
 
 -- a number that is read fits three groups
 pub number_small : (s : List ℕ) (at n next : ℕ) → read_number s at ≡ Some (n, next) → n < 2097152
-unfolding read_operands read_operand
-number_small s at n next e =
-    (small_read (1 ∷ []) s at (record { refusal = 0; next = next; numbers = n ∷ [] }) (rw e)).at 0
+number_small s at n next e = reads_small (number_found s at n next e).reads
 
 -- one operand's refusal joined to that of those before it
 module _ (r : ℕ) (t : Bool) (u : ℕ) where
