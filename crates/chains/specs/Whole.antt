@@ -13,8 +13,9 @@ use Rattle.script.specs.Operator.{write_script}
 use Rattle.runs.specs.Run.{state, Leaves, leaves, entry, run_of}
 use Rattle.runs.specs.Clauses.{entry_passed}
 use Rattle.sessions.specs.declared.Session.{Session}
-use Rattle.chains.specs.declared.DoneLeft.{DoneLeft}
-use Rattle.sessions.specs.declared.RunLeft.{RunLeft}
+use Rattle.sessions.specs.declared.Left.{Left}
+use Rattle.chains.specs.declared.DoneAnswer.{DoneAnswer}
+use Rattle.runs.specs.declared.answers.RunAnswer.{RunAnswer}
 use Rattle.sessions.specs.Session.{session_run}
 use Rattle.sessions.specs.Editing.{Editing, log_state, logged, run_in, undo_in, undone_from}
 use Rattle.promises.specs.Sessions.{with_redo_start}
@@ -24,32 +25,32 @@ use Rattle.promises.proofs.UndoExact.{undo_exact}
 use Rattle.inversion.specs.Rebuild.{Builds}
 
 -- refusal, rule and operators done, with the session (redo answers so too)
-abbrev pub answered : ℕ → ℕ → ℕ → Session → DoneLeft
+abbrev pub answered : ℕ → ℕ → ℕ → Session → Left DoneAnswer
 answered refusal rule done s = record {
   answer = record { refusal = refusal; rule = rule; done = done };
   session = s;
 }
 
 -- nothing done
-abbrev pub not_done : ℕ → ℕ → List ℕ → List ℤ → List ℕ → Session → Leaves DoneLeft
+abbrev pub not_done : ℕ → ℕ → List ℕ → List ℤ → List ℕ → Session → Leaves (Left DoneAnswer)
 not_done refusal rule x p log s = leaves (answered refusal rule 0 s) x p log
 
 -- what a run leaves
-abbrev pub done_by : Leaves RunLeft → Leaves DoneLeft
+abbrev pub done_by : Leaves (Left RunAnswer) → Leaves (Left DoneAnswer)
 done_by r =
     leaves
     (answered r.answer.answer.refusal r.answer.answer.rule r.answer.answer.done r.answer.session)
     r.links r.points r.log
 
 -- the call: 1, or 2 with the rule; the refusal; else the run. Only the length of the redo log is passed
-unfoldable pub whole_of : List ℕ → List ℤ → List ℕ → ℕ → Session → ℕ → List Operator → Leaves DoneLeft
+unfoldable pub whole_of : List ℕ → List ℤ → List ℕ → ℕ → Session → ℕ → List Operator → Leaves (Left DoneAnswer)
 whole_of x p log redo s refusal os =
     pick (eqb (entry (state x p log s.log)).refusal 0)
     (pick (eqb refusal 0) (done_by (session_run x p log redo s (write_script os))) (not_done refusal 0 x p log s))
     (not_done (entry (state x p log s.log)).refusal (entry (state x p log s.log)).rule x p log s)
 
 -- on what is lent, and what it leaves
-abbrev pub whole_in : Editing → ℕ → List Operator → Leaves DoneLeft
+abbrev pub whole_in : Editing → ℕ → List Operator → Leaves (Left DoneAnswer)
 whole_in e refusal os = whole_of e.links e.points e.log (length e.redo) e.session refusal os
 
 abbrev pub whole_from : Editing → ℕ → List Operator → Editing

@@ -3,8 +3,6 @@
 
 #![tactic(auto)]
 
-use sessions::Session;
-
 // The refusal, 0 for none; with refusal 2 the broken rule; the operators done, 0 with a refusal.
 #[repr(C)]
 #[derive(Clone, Copy)]
@@ -12,11 +10,4 @@ pub struct DoneAnswer {
     pub refusal: u8,
     pub rule: u8,
     pub done: usize,
-}
-
-// The answer with the session that the call leaves.
-#[derive(Clone, Copy)]
-pub struct DoneLeft {
-    pub answer: DoneAnswer,
-    pub session: Session,
 }

@@ -1,8 +1,7 @@
-// The rules of a sound table as far as one item can break them, and the scan of all items of a kind.
+// The rules of a sound table as far as one item can break them: each test is of one item.
 
 #![tactic(auto)]
 
-mod joins;
-mod names;
-mod ranges;
-pub mod scan;
+pub mod joins;
+pub mod names;
+pub mod ranges;

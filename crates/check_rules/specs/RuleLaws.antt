@@ -19,27 +19,16 @@ use Rattle.check_orbits.specs.Cycles.{one_cycle_each}
 use Rattle.check_orbits.specs.OrbitsLaws.{LoopFacts, loops_one_cycle, vertices_one_cycle}
 use Rattle.check_shells.specs.Shells.{shells_whole}
 use Rattle.check_shells.specs.RuleLaws.{whole_is}
-use Rattle.check_items.specs.declared.scan.Test.TheVariants.{SolidRange, FaceRange, LoopRange, HalfRange, VertexRange}
-use Rattle.check_items.specs.declared.scan.Test.TheVariants.{FaceNames, LoopNames, HalfNames, LoopEither, HalfLinks}
-use Rattle.check_items.specs.declared.scan.Test.TheVariants.{FirstNames, HalfSides}
-use Rattle.check_rules.specs.declared.labels.LabelTest.TheVariants.{SolidNames, VertexEither}
-use Rattle.check_items.specs.Rules.{rule1, solid_names, rule2, half_links, first_names, half_in_loop, rule4}
-use Rattle.check_items.specs.Rules.{vertex_either}
-use Rattle.check_items.specs.Rules.{half_at_vertex, rule5, half_sides, face_linked, rule6, broken_rule, rule3}
-use Rattle.check_items.specs.Scan.{item_test}
-use Rattle.check_rules.specs.Labels.{label_test}
+use Rattle.check_items.specs.Rules.{solid_range, face_range, loop_range, half_range, vertex_range, rule1}
+use Rattle.check_items.specs.Rules.{face_names, loop_names, half_names, solid_names, rule2, loop_either, rule3}
+use Rattle.check_items.specs.Rules.{half_links, first_names, half_in_loop, rule4, vertex_either, half_at_vertex, rule5}
+use Rattle.check_items.specs.Rules.{half_sides, face_linked, rule6}
+use Rattle.check_rules.specs.Labels.{solid_named_by, vertex_either_by}
 use Rattle.layout.specs.Small.{Small}
 use Rattle.check_rules.specs.Says.{says_all}
 use Rattle.check_rules.specs.RulesSay.{Rule1, Rule2, says_rule1, says_rule2, says_half_links, says_first_names}
 use Rattle.check_rules.specs.RuleFacts.{loop_facts, vertex_facts, sided}
 use Rattle.check_rules.specs.CyclesSay.{met_loops, met_vertices, says_rule4}
-
--- a test that the code has made, as the rule's own
-pub holds : (b r : Bool) → b ≡ r → not b ≡ false → r ≡ true
-holds b r e n = sym e ∙ not-false b n
-
-pub fails : (b r : Bool) → b ≡ r → not b ≡ true → r ≡ false
-fails b r e n = sym e ∙ not-true b n
 
 -- what follows a failed test does not matter
 stop : (a b A B C : Bool) → a ≡ A → b ≡ B → not (a && b) ≡ true → false ≡ ((A && B) && C)
@@ -85,9 +74,9 @@ module _ (sh : Shape) (x : List ℕ) where
   -- the entries of the arrays are the rule's own counts
   pub vertices_counted : (isolated starts : List ℕ) (r : Bool) → sh.vertices ≤ most_items
       → isolated ≡ tally (loop_isolated sh x) sh.loops blank → starts ≡ tally (start_of sh x) (2 * sh.edges) blank
-      → r ≡ all_to sh.vertices (label_test VertexEither sh x isolated starts)
+      → r ≡ all_to sh.vertices (vertex_either_by sh x isolated starts)
       → r ≡ all_to sh.vertices (vertex_either sh x)
-  unfolding label_test vertex_either
+  unfolding vertex_either_by vertex_either
   vertices_counted isolated starts r h ei es er = er ∙ all_ext sh.vertices _ _
       (λ k l u. rw (
         ei,
@@ -104,32 +93,33 @@ module _ (sh : Shape) (x : List ℕ) where
 
 -- ---- the rules
 
-module _ (sh : Shape) (x : List ℕ) (p : List ℤ) where
-  pub rule1_is : (a b c d e : Bool) → a ≡ all_to sh.solids (item_test SolidRange sh x p)
-      → b ≡ all_to sh.faces (item_test FaceRange sh x p)
-      → c ≡ all_to sh.loops (item_test LoopRange sh x p) → d ≡ all_to (2 * sh.edges) (item_test HalfRange sh x p)
-      → e ≡ all_to sh.vertices (item_test VertexRange sh x p) → ((((a && b) && c) && d) && e) ≡ rule1 sh x p
-  unfolding rule1 item_test
-  rule1_is a b c d e ea eb ec ed ee = rw (ea, eb, ec, ed, ee)
-
+module _ (sh : Shape) (x : List ℕ) where
   -- the leader of a solid is its least face
   solids_named : (ls : List ℕ) → sh.solids ≤ most_items → ls ≡ least_naming (face_solid sh x) sh.faces blank
-      → all_to sh.solids (label_test SolidNames sh x ls ls) ≡ all_to sh.solids (solid_names sh x)
-  unfolding label_test solid_names
+      → all_to sh.solids (solid_named_by sh x ls) ≡ all_to sh.solids (solid_names sh x)
+  unfolding solid_named_by solid_names
   solids_named ls h e =
       all_ext sh.solids _ _ (λ k l u. rw (e, least_at (face_solid sh x) sh.faces k (omega arith)))
 
   pub rule2_is : (ls : List ℕ) (a b c d : Bool) → sh.solids ≤ most_items
       → ls ≡ least_naming (face_solid sh x) sh.faces blank
-      → a ≡ all_to sh.faces (item_test FaceNames sh x p) → b ≡ all_to sh.loops (item_test LoopNames sh x p)
-      → c ≡ all_to (2 * sh.edges) (item_test HalfNames sh x p) → d ≡ all_to sh.solids (label_test SolidNames sh x ls ls)
+      → a ≡ all_to sh.faces (face_names sh x) → b ≡ all_to sh.loops (loop_names sh x)
+      → c ≡ all_to (2 * sh.edges) (half_names sh x) → d ≡ all_to sh.solids (solid_named_by sh x ls)
       → (((a && b) && c) && d) ≡ rule2 sh x
-  unfolding rule2 item_test
+  unfolding rule2
   rule2_is ls a b c d h e ea eb ec ed = rw (ea, eb, ec, ed, solids_named ls h e)
 
-  pub rule3_is : (r : Bool) → r ≡ all_to sh.loops (item_test LoopEither sh x p) → r ≡ rule3 sh x
-  unfolding rule3 item_test
+  pub rule3_is : (r : Bool) → r ≡ all_to sh.loops (loop_either sh x) → r ≡ rule3 sh x
+  unfolding rule3
   rule3_is r h = h
+
+module _ (sh : Shape) (x : List ℕ) (p : List ℤ) where
+  pub rule1_is : (a b c d e : Bool) → a ≡ all_to sh.solids (solid_range sh x)
+      → b ≡ all_to sh.faces (face_range sh x)
+      → c ≡ all_to sh.loops (loop_range sh x) → d ≡ all_to (2 * sh.edges) (half_range sh x)
+      → e ≡ all_to sh.vertices (vertex_range sh x p) → ((((a && b) && c) && d) && e) ≡ rule1 sh x p
+  unfolding rule1
+  rule1_is a b c d e ea eb ec ed ee = rw (ea, eb, ec, ed, ee)
 
   module _ (lower : Lower sh x p) where
     r1 : Rule1 sh x p
@@ -138,15 +128,14 @@ module _ (sh : Shape) (x : List ℕ) (p : List ℤ) where
     r2 : Rule2 sh x
     r2 = (says_rule2 sh x).out (true_T lower.second)
 
-    module _ (a b : Bool) (ea : a ≡ all_to (2 * sh.edges) (item_test HalfLinks sh x p))
-        (eb : b ≡ all_to sh.loops (item_test FirstNames sh x p)) where
+    module _ (a b : Bool) (ea : a ≡ all_to (2 * sh.edges) (half_links sh x))
+        (eb : b ≡ all_to sh.loops (first_names sh x)) where
       pub rule4_not : not (a && b) ≡ true → false ≡ rule4 sh x
-      unfolding rule4 item_test
+      unfolding rule4
       rule4_not n = stop a b (all_to (2 * sh.edges) (half_links sh x)) (all_to sh.loops (first_names sh x))
           (all_to (2 * sh.edges) (half_in_loop sh x)) ea eb n
 
       links_hold : not (a && b) ≡ false → LoopFacts sh x
-      unfolding item_test
       links_hold n =
           let t = and_T a b (true_T (not-false (a && b) n)) in
           let ta = true_T (sym ea ∙ T_true {b = a} t.0) in
@@ -157,7 +146,7 @@ module _ (sh : Shape) (x : List ℕ) (p : List ℤ) where
       pub rule4_is : not (a && b) ≡ false → (firsts : List ℕ) (r : Bool)
           → firsts ≡ copied (loop_first sh x) sh.loops blank
           → r ≡ one_cycle_each sh x false firsts sh.loops → r ≡ rule4 sh x
-      unfolding rule4 item_test
+      unfolding rule4
       rule4_is n firsts r ef er =
           go_on a b (all_to (2 * sh.edges) (half_links sh x)) (all_to sh.loops (first_names sh x))
           (all_to (2 * sh.edges) (half_in_loop sh x)) r ea eb n
@@ -174,47 +163,11 @@ module _ (sh : Shape) (x : List ℕ) (p : List ℤ) where
         lower.small.edges lower.small.vertices ∙ met_vertices sh x)
 
     pub rule6_is : (ls : List ℕ) (a r : Bool) → ls ≡ least_naming (face_solid sh x) sh.faces blank
-        → a ≡ all_to (2 * sh.edges) (item_test HalfSides sh x p)
+        → a ≡ all_to (2 * sh.edges) (half_sides sh x)
         → r ≡ shells_whole sh x ls → (a && r) ≡ rule6 sh x
-    unfolding rule6 item_test face_linked
+    unfolding rule6 face_linked
     rule6_is ls a r el ea er =
         both a r (all_to (2 * sh.edges) (half_sides sh x)) (all_to sh.faces (face_linked sh x)) ea
         (er ∙ whole_is sh x (sided sh x p r1 r2) ls (λ f l u d.
         let n : face_solid sh x f ≤ sh.solids = (r1.face f l u).solid in
         rw el (least_at (face_solid sh x) sh.faces (face_solid sh x f) (omega (arith, lower.small.solids)))))
-
--- ---- the lowest broken rule
-
-module _ (sh : Shape) (x : List ℕ) (p : List ℤ) where
-  pub broken_1 : rule1 sh x p ≡ false → 1 ≡ broken_rule sh x p
-  unfolding broken_rule
-  broken_1 h1 = rw h1
-
-  module _ (h1 : rule1 sh x p ≡ true) where
-    pub broken_2 : rule2 sh x ≡ false → 2 ≡ broken_rule sh x p
-    unfolding broken_rule
-    broken_2 h2 = rw (h1, h2)
-
-    module _ (h2 : rule2 sh x ≡ true) where
-      pub broken_3 : rule3 sh x ≡ false → 3 ≡ broken_rule sh x p
-      unfolding broken_rule
-      broken_3 h3 = rw (h1, h2, h3)
-
-      module _ (h3 : rule3 sh x ≡ true) where
-        pub broken_4 : rule4 sh x ≡ false → 4 ≡ broken_rule sh x p
-        unfolding broken_rule
-        broken_4 h4 = rw (h1, h2, h3, h4)
-
-        module _ (h4 : rule4 sh x ≡ true) where
-          pub broken_5 : rule5 sh x ≡ false → 5 ≡ broken_rule sh x p
-          unfolding broken_rule
-          broken_5 h5 = rw (h1, h2, h3, h4, h5)
-
-          module _ (h5 : rule5 sh x ≡ true) where
-            pub broken_6 : rule6 sh x ≡ false → 6 ≡ broken_rule sh x p
-            unfolding broken_rule
-            broken_6 h6 = rw (h1, h2, h3, h4, h5, h6)
-
-            pub broken_none : rule6 sh x ≡ true → 0 ≡ broken_rule sh x p
-            unfolding broken_rule
-            broken_none h6 = rw (h1, h2, h3, h4, h5, h6)

@@ -7,15 +7,20 @@ ghost use Rattle.check_orbits.specs.Cycles.{one_cycle_each};
 ghost use Rattle.check_rules.specs.RuleLaws.{Lower};
 ghost use Rattle.layout.specs.Layout.{start_of};
 ghost use Rattle.layout.specs.Small.{Small};
+ghost use Rattle.refusals.specs.Numbers.{broken_in};
 
-use crate::labels::{LabelTest, all_labels};
+use crate::labels::{solid_names, vertex_either};
 use bounds::ITEM_PLACES;
-use check_items::scan::{Test, all_items};
+use check_items::joins::{first_names, half_links, half_sides};
+use check_items::names::{face_names, half_names, loop_either, loop_names};
+use check_items::ranges::{face_range, half_range, loop_range, solid_range, vertex_range};
 use check_orbits::cycles::one_cycle_each;
 use check_orbits::labels::{least_naming, loop_firsts, tally_naming};
 use check_shells::faces::shells_whole;
 use layout::column::{isolated_of_loops, solids_of_faces, starts_of_halves};
 use layout::shape::Shape;
+use refusals::{Rule, ensure};
+use searching::all_pass;
 
 // The marks of solids, numbers and coordinates are in range; free records are zero; both halves of an edge are in use
 // or neither.
@@ -23,39 +28,32 @@ fn rule_1(links: &[u16], points: &[i32], sh: Shape) -> bool
     requires { Small sh }
     ensures { result ≡ rule1 sh links.now points.now }
 {
-    all_items(links, points, sh, Test::SolidRange, sh.solids as usize)
-        & all_items(links, points, sh, Test::FaceRange, sh.faces as usize)
-        & all_items(links, points, sh, Test::LoopRange, sh.loops as usize)
-        & all_items(links, points, sh, Test::HalfRange, 2 * (sh.edges as usize))
-        & all_items(links, points, sh, Test::VertexRange, sh.vertices as usize)
+    all_pass(sh.solids as usize, |n| solid_range(links, sh, n))
+        & all_pass(sh.faces as usize, |n| face_range(links, sh, n))
+        & all_pass(sh.loops as usize, |n| loop_range(links, sh, n))
+        & all_pass(2 * (sh.edges as usize), |n| half_range(links, sh, n))
+        & all_pass(sh.vertices as usize, |n| vertex_range(links, points, sh, n))
 }
 
 // Every number held names an item in use; a face's outer loop names that face; each solid in use has a face.
-fn rule_2(links: &[u16], points: &[i32], sh: Shape) -> bool
+fn rule_2(links: &[u16], sh: Shape) -> bool
     requires { Small sh }
     ensures { result ≡ rule2 sh links.now }
 {
     let mut leaders = [0u16; ITEM_PLACES];
     least_naming(links, solids_of_faces(sh), &mut leaders);
-    all_items(links, points, sh, Test::FaceNames, sh.faces as usize)
-        & all_items(links, points, sh, Test::LoopNames, sh.loops as usize)
-        & all_items(links, points, sh, Test::HalfNames, 2 * (sh.edges as usize))
-        & all_labels(
-            links,
-            sh,
-            &leaders,
-            &leaders,
-            LabelTest::SolidNames,
-            sh.solids as usize,
-        )
+    all_pass(sh.faces as usize, |n| face_names(links, sh, n))
+        & all_pass(sh.loops as usize, |n| loop_names(links, sh, n))
+        & all_pass(2 * (sh.edges as usize), |n| half_names(links, sh, n))
+        & all_pass(sh.solids as usize, |n| solid_names(links, sh, &leaders, n))
 }
 
 // A loop has either a first half-edge or an isolated vertex, not both.
-fn rule_3(links: &[u16], points: &[i32], sh: Shape) -> bool
+fn rule_3(links: &[u16], sh: Shape) -> bool
     requires { Small sh }
     ensures { result ≡ rule3 sh links.now }
 {
-    all_items(links, points, sh, Test::LoopEither, sh.loops as usize)
+    all_pass(sh.loops as usize, |n| loop_either(links, sh, n))
 }
 
 // Half-edges are joined as they should be, and those of a loop form one cycle. The walks begin once next and previous
@@ -64,8 +62,8 @@ fn rule_4(links: &[u16], points: &[i32], sh: Shape) -> bool
     requires { Lower sh links.now points.now }
     ensures { result ≡ rule4 sh links.now }
 {
-    let halves = all_items(links, points, sh, Test::HalfLinks, 2 * (sh.edges as usize));
-    let firsts_named = all_items(links, points, sh, Test::FirstNames, sh.loops as usize);
+    let halves = all_pass(2 * (sh.edges as usize), |n| half_links(links, sh, n));
+    let firsts_named = all_pass(sh.loops as usize, |n| first_names(links, sh, n));
     if !(halves & firsts_named) {
         return false;
     }
@@ -84,13 +82,9 @@ fn vertices_either(links: &[u16], sh: Shape) -> bool
     tally_naming(links, isolated_of_loops(sh), &mut isolated);
     let mut starts = [0u16; ITEM_PLACES];
     tally_naming(links, starts_of_halves(sh), &mut starts);
-    all_labels(
-        links,
-        sh,
-        &isolated,
-        &starts,
-        LabelTest::VertexEither,
+    all_pass(
         sh.vertices as usize,
+        |n| vertex_either(links, sh, &isolated, &starts, n),
     )
 }
 
@@ -122,32 +116,20 @@ fn rule_6(links: &[u16], points: &[i32], sh: Shape) -> bool
 {
     let mut leaders = [0u16; ITEM_PLACES];
     least_naming(links, solids_of_faces(sh), &mut leaders);
-    all_items(links, points, sh, Test::HalfSides, 2 * (sh.edges as usize))
+    all_pass(2 * (sh.edges as usize), |n| half_sides(links, sh, n))
         & shells_whole(links, sh, &leaders)
 }
 
-// The lowest broken rule, 0 where all hold.
-pub fn broken_rule(links: &[u16], points: &[i32], sh: Shape) -> u8
+// The lowest broken rule.
+#[tactic(auto, unfolding(check_items::specs::Rules::broken_rule))]
+pub fn broken_rule(links: &[u16], points: &[i32], sh: Shape) -> Result<(), Rule>
     requires { Small sh }
-    ensures { result ≡ broken_rule sh links.now points.now }
+    ensures { broken_in result ≡ broken_rule sh links.now points.now }
 {
-    if !rule_1(links, points, sh) {
-        return 1;
-    }
-    if !rule_2(links, points, sh) {
-        return 2;
-    }
-    if !rule_3(links, points, sh) {
-        return 3;
-    }
-    if !rule_4(links, points, sh) {
-        return 4;
-    }
-    if !rule_5(links, points, sh) {
-        return 5;
-    }
-    if !rule_6(links, points, sh) {
-        return 6;
-    }
-    0
+    ensure(rule_1(links, points, sh), Rule::Ranges)?;
+    ensure(rule_2(links, sh), Rule::Names)?;
+    ensure(rule_3(links, sh), Rule::Either)?;
+    ensure(rule_4(links, points, sh), Rule::Joins)?;
+    ensure(rule_5(links, points, sh), Rule::Vertices)?;
+    ensure(rule_6(links, points, sh), Rule::Shells)
 }

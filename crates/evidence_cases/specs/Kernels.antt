@@ -36,9 +36,10 @@ use Rattle.runs.specs.Run.{Leaves, step_of, carry_of, admit_read, inverse_bytes,
 use Rattle.runs.specs.Run.{run_from, entry, run_of}
 use Rattle.runs.specs.Move.{part_of, move_of}
 use Rattle.sessions.specs.declared.Session.{Session}
-use Rattle.sessions.specs.declared.RunLeft.{RunLeft}
-use Rattle.sessions.specs.declared.UndoLeft.{UndoLeft}
-use Rattle.sessions.specs.declared.RedoLeft.{RedoLeft}
+use Rattle.sessions.specs.declared.Left.{Left}
+use Rattle.runs.specs.declared.answers.RunAnswer.{RunAnswer}
+use Rattle.sessions.specs.declared.UndoAnswer.{UndoAnswer}
+use Rattle.sessions.specs.declared.RedoAnswer.{RedoAnswer}
 use Rattle.sessions.specs.Session.{session_run, session_undo, session_redo}
 use Rattle.sessions.specs.Editing.{Editing, log_state, run_in, undo_in, redo_in}
 use Rattle.evidence_cases.specs.Case.{redo_at}
@@ -49,14 +50,14 @@ use Rattle.evidence_cases.specs.Tables.{links_empty, links_b, links_c, log_b, em
 
 -- a kernel's run: what it leaves of table, log and session, by the redo log's length and a script
 abbrev pub Runner : Type 0
-Runner = List ℕ → List ℤ → List ℕ → ℕ → Session → List ℕ → Leaves RunLeft
+Runner = List ℕ → List ℤ → List ℕ → ℕ → Session → List ℕ → Leaves (Left RunAnswer)
 
 -- its undo or redo: what it leaves of table, redo log or log, and session, by both logs and a number
 abbrev pub Mover : Type 0 → Type 0
 Mover A = List ℕ → List ℤ → List ℕ → List ℕ → Session → ℕ → Leaves A
 
 -- a kernel's run on what an editor lends
-abbrev pub run_by : Runner → Editing → List ℕ → Leaves RunLeft
+abbrev pub run_by : Runner → Editing → List ℕ → Leaves (Left RunAnswer)
 run_by k t s = k t.links t.points t.log (length t.redo) t.session s
 
 -- and its undo or redo
@@ -137,7 +138,7 @@ module _ (k : Runner) (m : Runs k) where
   -- an invented done count: one that the script alone tells
   pub not_invented : (n : List ℕ → ℕ) → ((t : Editing) (s : List ℕ) → (run_by k t s).answer.answer.done ≡ n s) → ⊥
   not_invented n h =
-      let done : Leaves RunLeft → ℕ = λ r. r.answer.answer.done in
+      let done : Leaves (Left RunAnswer) → ℕ = λ r. r.answer.answer.done in
       let a : n script_b ≡ 1 = sym (h empty script_b) ∙ ap done (ran_by empty script_b) ∙ made.3 in
       let b : n script_b ≡ 0 = sym (h logless script_b) ∙ ap done (ran_by logless script_b) ∙ made.7 in
       omega (arith, a, b)
@@ -160,7 +161,7 @@ module _ (k : Runner) (m : Runs k) where
 
 -- ---- undo and redo
 
-module _ (k : Mover UndoLeft) (m : Moves session_undo k) where
+module _ (k : Mover (Left UndoAnswer)) (m : Moves session_undo k) where
   -- undo of b, where the redo log just holds it, is not refused
   undone_0 : (move_by k snug 1).answer.answer.refusal ≡ 0
   undone_0 = ap (λ r. r.answer.answer.refusal) (moved session_undo k m snug 1) ∙ made.8
@@ -174,7 +175,7 @@ module _ (k : Mover UndoLeft) (m : Moves session_undo k) where
   not_undo_full_early h = let z : ◌≡◌ {A = ℕ} 9 0 = sym h ∙ undone_0 in omega (arith, z)
 
 -- redo reporting operators done over an untouched table, whatever is answered
-pub not_redo_untouched : (k : Mover RedoLeft) → Moves session_redo k
+pub not_redo_untouched : (k : Mover (Left RedoAnswer)) → Moves session_redo k
     → ((t : Editing) (n : ℕ) → (move_by k t n).links ≡ t.links) → ⊥
 not_redo_untouched k m h = differ 5
     (sym (h undone_b 1) ∙ ap (λ r. r.links) (moved session_redo k m undone_b 1) ∙ made.9) refl refl

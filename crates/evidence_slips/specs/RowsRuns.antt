@@ -6,7 +6,8 @@ use Rattle.euler.specs.Exec.{admit_of}
 use Rattle.runs.specs.Run.{State, state, Leaves, Ran, run_refusal, run_from, run_of}
 use Rattle.runs.specs.Move.{Moved, moved_by, part_of, move_of}
 use Rattle.sessions.specs.declared.Session.{Session}
-use Rattle.sessions.specs.declared.UndoLeft.{UndoLeft}
+use Rattle.sessions.specs.declared.Left.{Left}
+use Rattle.sessions.specs.declared.UndoAnswer.{UndoAnswer}
 use Rattle.sessions.specs.Session.{undone_session}
 use Rattle.sessions.specs.Editing.{Editing, log_state, redo_state, clear_in, undo_in, invert_in}
 use Rattle.evidence_cases.specs.Case.{redo_at}
@@ -46,7 +47,7 @@ abbrev moved_to : Moved → List ℕ
 moved_to m = m.answer.refusal ∷ m.answer.done ∷ m.answer.from ∷ m.answer.to ∷ []
 
 -- undo's refusal, operators undone, start
-abbrev undone_to : Leaves UndoLeft → List ℕ
+abbrev undone_to : Leaves (Left UndoAnswer) → List ℕ
 undone_to u = u.answer.answer.refusal ∷ u.answer.answer.undone ∷ u.answer.answer.start ∷ []
 
 -- a session's two starts

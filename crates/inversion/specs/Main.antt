@@ -10,7 +10,7 @@ use Rattle.laws.specs.Sums.{count_le}
 use Rattle.layout.specs.declared.shape.Shape.{Shape}
 use Rattle.layout.specs.Layout.{shape_of}
 use Rattle.table.specs.Count.{item_used, tally_of, holes_of}
-use Rattle.table.specs.declared.tally.Item.TheVariants.{Edge, Vertex}
+use Rattle.table.specs.Count.{Edge, Vertex}
 use Rattle.script.specs.declared.Operator.{Operator}
 use Rattle.sound_tables.specs.Good.{Good, own}
 use Rattle.runs.specs.Run.{State, entry}

@@ -8,7 +8,8 @@ use Rattle.table.specs.Check.{check_of}
 use Rattle.runs.specs.Run.{State, state, Leaves, run_of}
 use Rattle.runs.specs.Move.{moved, not_moved}
 use Rattle.runs.specs.Clauses.{moved_beyond}
-use Rattle.sessions.specs.declared.UndoLeft.{UndoLeft}
+use Rattle.sessions.specs.declared.Left.{Left}
+use Rattle.sessions.specs.declared.UndoAnswer.{UndoAnswer}
 use Rattle.sessions.specs.Session.{undone_session, session_undo}
 use Rattle.sessions.specs.Editing.{Editing, log_state}
 use Rattle.promises.specs.Logging.{below, below_live}
@@ -78,22 +79,22 @@ module _ (e : Editing) (ss : List (List ℕ)) (sound : (check_of e.links e.point
   undo_exact q =
       ⊎_elim
       (λ h. let f = undone_is q h in let m = redo_room q in record {
-        links = ap (λ (u : Leaves UndoLeft). u.links) f;
-        points = ap (λ (u : Leaves UndoLeft). u.points) f;
-        start = ap (λ (u : Leaves UndoLeft). u.answer.session.log) f;
+        links = ap (λ (u : Leaves (Left UndoAnswer)). u.links) f;
+        points = ap (λ (u : Leaves (Left UndoAnswer)). u.points) f;
+        start = ap (λ (u : Leaves (Left UndoAnswer)). u.answer.session.log) f;
         log = log_kept;
-        answer = λ i. ap (λ (u : Leaves UndoLeft). u.answer.answer) f;
-        redo = ap (λ (u : Leaves UndoLeft). drop u.answer.session.redo u.log) f
+        answer = λ i. ap (λ (u : Leaves (Left UndoAnswer)). u.answer.answer) f;
+        redo = ap (λ (u : Leaves (Left UndoAnswer)). drop u.answer.session.redo u.log) f
             ∙ below_live ran.redo ran.session.redo m.0 script m.1
             ∙ rw (edited e ss).redo;
       })
       (λ h. let f = stays h in record {
-        links = ap (λ (u : Leaves UndoLeft). u.links) f;
-        points = ap (λ (u : Leaves UndoLeft). u.points) f;
-        start = ap (λ (u : Leaves UndoLeft). u.answer.session.log) f;
+        links = ap (λ (u : Leaves (Left UndoAnswer)). u.links) f;
+        points = ap (λ (u : Leaves (Left UndoAnswer)). u.points) f;
+        start = ap (λ (u : Leaves (Left UndoAnswer)). u.answer.session.log) f;
         log = log_kept;
         answer = λ i. absurd (omega (arith, i, h));
-        redo = ap (λ (u : Leaves UndoLeft). drop u.answer.session.redo u.log) f
+        redo = ap (λ (u : Leaves (Left UndoAnswer)). drop u.answer.session.redo u.log) f
             ∙ rw (none_done e ss sound h, (edited e ss).start, all_beyond (log_state e) ss h);
       })
       (le? e.session.log (length e.log))

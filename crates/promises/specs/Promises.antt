@@ -14,7 +14,8 @@ use Rattle.table.specs.Check.{check_of}
 use Rattle.runs.specs.Run.{State, state, Leaves, not_run, entry, run_of}
 use Rattle.runs.specs.Move.{Moved, move_of}
 use Rattle.runs.specs.Clauses.{pick_by, run_out, entry_beyond}
-use Rattle.sessions.specs.declared.UndoLeft.{UndoLeft}
+use Rattle.sessions.specs.declared.Left.{Left}
+use Rattle.sessions.specs.declared.UndoAnswer.{UndoAnswer}
 use Rattle.sessions.specs.Session.{session_undo}
 use Rattle.sessions.specs.Editing.{Editing, log_state, undo_in, undone_from}
 use Rattle.promises.specs.RunAll.{run_all}
@@ -25,7 +26,7 @@ use Rattle.promises.specs.Edits.{edit_all, emptied_by, edited, done_script, gone
 use Rattle.promises.specs.Edits.{room_by_used}
 
 -- undo by the sum of the done counts, after the scripts ss were run, one after the other, on what was lent
-abbrev pub undo_all : Editing → List (List ℕ) → Leaves UndoLeft
+abbrev pub undo_all : Editing → List (List ℕ) → Leaves (Left UndoAnswer)
 undo_all e ss = undo_in (edit_all e ss).last (edit_all e ss).done
 
 -- and all that it leaves

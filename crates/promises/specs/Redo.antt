@@ -13,8 +13,9 @@ use Rattle.numbers.specs.PaddedLaws.{shortest_take, shortest_drop}
 use Rattle.table.specs.Check.{check_of}
 use Rattle.runs.specs.Run.{Leaves}
 use Rattle.runs.specs.Move.{Moved, move_of}
-use Rattle.sessions.specs.declared.UndoLeft.{UndoLeft}
-use Rattle.sessions.specs.declared.RedoLeft.{RedoLeft}
+use Rattle.sessions.specs.declared.Left.{Left}
+use Rattle.sessions.specs.declared.UndoAnswer.{UndoAnswer}
+use Rattle.sessions.specs.declared.RedoAnswer.{RedoAnswer}
 use Rattle.sessions.specs.Session.{starts, undone_session, session_undo, redone_session, session_redo}
 use Rattle.sessions.specs.Editing.{Editing, log_state, redo_state, undo_in, redo_in, undone_from, redone_from}
 use Rattle.promises.specs.Trail.{gone_start, gone_rest}
@@ -65,15 +66,15 @@ module _ (e : Editing) (n : ℕ) (l : LetIn e) where
       let s = e.session.log in
       let h = ap redone_session (move_back e.log s (redo_state e) n l.sound l.log l.redo bytes short) in
       record {
-        answer = ap (λ (r : Leaves RedoLeft). r.answer.answer) h;
+        answer = ap (λ (r : Leaves (Left RedoAnswer)). r.answer.answer) h;
         returned = record {
-          links = ap (λ (r : Leaves RedoLeft). r.links) h;
-          points = ap (λ (r : Leaves RedoLeft). r.points) h;
-          session = ap (λ (r : Leaves RedoLeft). r.answer.session) h;
-          log = ap (λ (r : Leaves RedoLeft). drop s r.log) h;
+          links = ap (λ (r : Leaves (Left RedoAnswer)). r.links) h;
+          points = ap (λ (r : Leaves (Left RedoAnswer)). r.points) h;
+          session = ap (λ (r : Leaves (Left RedoAnswer)). r.answer.session) h;
+          log = ap (λ (r : Leaves (Left RedoAnswer)). drop s r.log) h;
           redo = gone_rest (gone_after e.log s (redo_state e) n l.sound l.log l.redo);
         };
-        log = ap (λ (r : Leaves RedoLeft). r.log) h;
+        log = ap (λ (r : Leaves (Left RedoAnswer)). r.log) h;
       }
 
   -- REDO, THEN UNDO
@@ -83,15 +84,15 @@ module _ (e : Editing) (n : ℕ) (l : LetIn e) where
       let s = e.session.redo in
       let h = ap undone_session (move_back e.redo s (log_state e) n l.sound l.redo l.log bytes short) in
       record {
-        answer = ap (λ (r : Leaves UndoLeft). r.answer.answer) h;
+        answer = ap (λ (r : Leaves (Left UndoAnswer)). r.answer.answer) h;
         returned = record {
-          links = ap (λ (r : Leaves UndoLeft). r.links) h;
-          points = ap (λ (r : Leaves UndoLeft). r.points) h;
-          session = ap (λ (r : Leaves UndoLeft). r.answer.session) h;
+          links = ap (λ (r : Leaves (Left UndoAnswer)). r.links) h;
+          points = ap (λ (r : Leaves (Left UndoAnswer)). r.points) h;
+          session = ap (λ (r : Leaves (Left UndoAnswer)). r.answer.session) h;
           log = gone_rest (gone_after e.redo s (log_state e) n l.sound l.redo l.log);
-          redo = ap (λ (r : Leaves UndoLeft). drop s r.log) h;
+          redo = ap (λ (r : Leaves (Left UndoAnswer)). drop s r.log) h;
         };
-        redo = ap (λ (r : Leaves UndoLeft). r.log) h;
+        redo = ap (λ (r : Leaves (Left UndoAnswer)). r.log) h;
       }
 
 -- what is left behind a move out of a log

@@ -9,8 +9,9 @@ use Rattle.runs.specs.Run.{Leaves}
 use Rattle.runs.specs.Move.{moved_by, moved, not_moved, move_entry}
 use Rattle.runs.specs.Clauses.{entry_beyond, moved_beyond, move_within, move_in, move_out}
 use Rattle.runs.specs.RunLaws.{run_ended}
-use Rattle.sessions.specs.declared.UndoLeft.{UndoLeft}
-use Rattle.sessions.specs.declared.RedoLeft.{RedoLeft}
+use Rattle.sessions.specs.declared.Left.{Left}
+use Rattle.sessions.specs.declared.UndoAnswer.{UndoAnswer}
+use Rattle.sessions.specs.declared.RedoAnswer.{RedoAnswer}
 use Rattle.sessions.specs.Session.{starts, session_clear, session_run, session_invert, undone_session, session_undo}
 use Rattle.sessions.specs.Session.{redone_session, session_redo}
 use Rattle.sessions.specs.Editing.{Editing, log_state, redo_state, clear_in, run_in, undo_in, redo_in, invert_in}
@@ -57,10 +58,10 @@ starts_answered e = record { ran = λ script. refl; undone = λ n. refl; inverte
 -- ---- a redo start beyond its log
 
 -- refused with 1, nothing done: the session as it was
-abbrev pub not_undone : Editing → ℕ → ℕ → Leaves UndoLeft
+abbrev pub not_undone : Editing → ℕ → ℕ → Leaves (Left UndoAnswer)
 not_undone e refusal rule = undone_session (not_moved refusal rule e.session.log (redo_state e))
 
-abbrev pub not_redone : Editing → ℕ → ℕ → Leaves RedoLeft
+abbrev pub not_redone : Editing → ℕ → ℕ → Leaves (Left RedoAnswer)
 not_redone e refusal rule = redone_session (not_moved refusal rule e.session.redo (log_state e))
 
 -- who is let in to undo, and to redo: 1 where either start is beyond its log, else what the check answers

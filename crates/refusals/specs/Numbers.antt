@@ -66,6 +66,6 @@ broken_in (Ok x) = 0
 broken_in (Err r) = rule_number r
 
 -- a test's answer
-abbrev pub unless : Bool → Refusal → Result (Unit {0}) Refusal
+abbrev pub unless : {E : Type 0} → Bool → E → Result (Unit {0}) E
 unless true e = Ok tt
 unless false e = Err e

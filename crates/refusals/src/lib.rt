@@ -90,8 +90,8 @@ impl Refusal {
     }
 }
 
-// Nothing where the test holds, else the refusal.
-pub fn ensure(holds: bool, refusal: Refusal) -> Result<(), Refusal>
+// Nothing where the test holds, else the refusal, or the broken rule.
+pub fn ensure<E: Copy>(holds: bool, refusal: E) -> Result<(), E>
     ensures { result ≡ unless holds refusal }
 {
     if holds { Ok(()) } else { Err(refusal) }

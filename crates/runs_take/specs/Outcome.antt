@@ -1,5 +1,5 @@
 -- Taking an operator is reading it and then admitting it: a pass over the operands of its code, then its condition.
-use Rattle.std.specs.Prelude.{◌≡◌, ◌≢◌, ◌⊎◌, Bool, ◌&&◌, not, ℕ, ◌≤◌, ◌<◌, eqb, leb, T, ℤ, pos, length, take, drop}
+use Rattle.std.specs.Prelude.{◌≡◌, ◌≢◌, Bool, ◌&&◌, not, ℕ, ◌≤◌, ◌<◌, eqb, leb, T, ℤ, pos, length, take, drop}
 use Rattle.std.specs.Prelude.{replicate}
 use Rattle.std.specs.Prelude.{Option, Some, None}
 use Rattle.std.proofs.Math.Path.{refl, ap, subst}
@@ -22,8 +22,7 @@ use Rattle.layout.specs.declared.shape.Shape.{Shape}
 use Rattle.layout.specs.Small.{Small}
 use Rattle.euler.specs.Exec.{operator_by, limits, condition, use_refusals, admit_of}
 use Rattle.runs.specs.Run.{admit_read, read_at}
-use Rattle.runs_take.specs.declared.take.Taken.{Taken}
-use Rattle.runs_take.specs.Take.{Scan, scan_is, joined, scan, taken, settled, read_from, Answers}
+use Rattle.runs_take.specs.Take.{Scan, scan_is, joined, scan, Told, told, settled, read_from, Answers}
 use Rattle.runs_take.specs.Turns.{settled_holds, settled_fails, settled_low, settled_high}
 use Rattle.runs_take.specs.Pass.{Late, Used, Unused, Agrees, uses_of, uses_late, uses_same, agree}
 
@@ -133,41 +132,41 @@ module _ (sh : Shape) (z : Small sh) (x s : List ℕ) (at code : ℕ) where
 
   -- ---- the operator settled answers what was read
 
-  answer : (r : ReadAnswer) (t : Taken) (args : List ℤ) (v next : ℕ) → t ≡ taken v code next → admit_read sh x r ≡ v
-      → r.next ≡ next → (v ≡ 0 → operator_by code args ≡ r.op) → Answers sh x r t args
+  answer : (r : ReadAnswer) (t : Told) (args : List ℤ) (v next : ℕ) → t ≡ told v next → admit_read sh x r ≡ v
+      → r.next ≡ next → (v ≡ 0 → operator_by code args ≡ r.op) → Answers sh x r code t args
   answer r t args v next e f g h = rw e (sym f, (sym g, h))
 
   module _ (a : Scan) (r : ReadAnswer) where
     refused_answers : r ≡ refused a.refusal at → a.refusal ≢ 0 → a.refusal ≤ 5
-        → Answers sh x r (settled sh x at code a) a.args
+        → Answers sh x r code (settled sh x at code a) a.args
     unfolding admit_read
     refused_answers e n l =
         answer r _ a.args a.refusal at (sym (settled_low sh x at code a n l))
         (rw (e, ne_eqb a.refusal 0 n)) (rw e) (λ k. absurd (n k))
 
     module _ (e : IsRead a r) where
-      used_answers : a.refusal ≢ 0 → 5 < a.refusal → Answers sh x r (settled sh x at code a) a.args
+      used_answers : a.refusal ≢ 0 → 5 < a.refusal → Answers sh x r code (settled sh x at code a) a.args
       unfolding admit_read admit_of
       used_answers n l =
           answer r _ a.args a.refusal a.next (sym (settled_high sh x at code a n l))
           (rw (e.0, e.1, ne_eqb a.refusal 0 n)) (rw e.0) (λ k. absurd (n k))
 
       fits_answers : a.refusal ≡ 0 → condition sh x (operator_by code a.args) ≡ true
-          → Answers sh x r (settled sh x at code a) a.args
+          → Answers sh x r code (settled sh x at code a) a.args
       unfolding admit_read admit_of
       fits_answers n c =
           answer r _ a.args 0 a.next (sym (settled_holds sh x at code a n _ refl c))
           (rw (e.0, e.1, eq-eqb a.refusal 0 n, c)) (rw e.0) (λ k. rw e.0)
 
       fails_answers : a.refusal ≡ 0 → condition sh x (operator_by code a.args) ≡ false
-          → Answers sh x r (settled sh x at code a) a.args
+          → Answers sh x r code (settled sh x at code a) a.args
       unfolding admit_read admit_of
       fails_answers n c =
           answer r _ a.args 8 a.next (sym (settled_fails sh x at code a n _ refl c))
           (rw (e.0, e.1, eq-eqb a.refusal 0 n, c)) (rw e.0) (λ k. absurd (omega arith))
 
   answers : (a : Scan) (m : Option (List ℕ × ℕ)) → Agrees sh x s a 0 [] kinds m
-      → Answers sh x (read_is m) (settled sh x at code a) a.args
+      → Answers sh x (read_is m) code (settled sh x at code a) a.args
   answers a m g =
       split a.refusal 0
       (λ n.
@@ -195,8 +194,8 @@ module _ (sh : Shape) (z : Small sh) (x s : List ℕ) (at code : ℕ) where
       (agree sh x s (used (pattern code)) (past (pattern code)) (both code).0 (both code).1 0 behind 0 [] refl))
 
   module _ (p : Pattern) (f : p ≡ pattern code) (behind : ℕ) where
-    pub behind_none : p.count ≡ 0 → (t : Taken) → t ≡ taken 4 code at → (args : List ℤ)
-        → Answers sh x (read_from sh s at code behind) t args
+    pub behind_none : p.count ≡ 0 → (t : Told) → t ≡ told 4 at → (args : List ℤ)
+        → Answers sh x (read_from sh s at code behind) code t args
     unfolding read_behind admit_read
     behind_none n t e args =
         let r : read_from sh s at code behind ≡ refused 4 at = rw (← f, eq-eqb p.count 0 n) in
@@ -204,7 +203,7 @@ module _ (sh : Shape) (z : Small sh) (x s : List ℕ) (at code : ℕ) where
 
     pub behind_some : p.count ≢ 0 → (a : Scan)
         → a ≡ scan sh x s (take p.count p.kinds) 0 behind 0 (replicate 8 (pos 0))
-        → (t : Taken) → t ≡ settled sh x at code a → Answers sh x (read_from sh s at code behind) t a.args
+        → (t : Told) → t ≡ settled sh x at code a → Answers sh x (read_from sh s at code behind) code t a.args
     unfolding read_behind
     behind_some n a g t h =
         let v : a ≡ passed behind (replicate 8 (pos 0)) = rw f at g in
@@ -215,20 +214,21 @@ module _ (sh : Shape) (z : Small sh) (x s : List ℕ) (at code : ℕ) where
         rw (h, r) (answers a (read_operands kinds s behind) w)
 
 -- the ways out of taking
-module _ (sh : Shape) (x s : List ℕ) (at : ℕ) (t : Taken) where
-  pub take_bad : read_number s at ≡ None → t ≡ taken 3 0 at → (args : List ℤ) → Answers sh x (read_at sh s at) t args
+module _ (sh : Shape) (x s : List ℕ) (at : ℕ) where
+  pub take_bad : read_number s at ≡ None → (t : Told) → t ≡ told 3 at → (args : List ℤ)
+      → Answers sh x (read_at sh s at) 0 t args
   unfolding admit_read
-  take_bad e f args =
+  take_bad e t f args =
       let r = operator_bad (limits sh) s at _ e refl in rw (f, ← r) (refl, (refl, λ k. absurd (omega arith)))
 
-  pub take_none : (code behind : ℕ) → read_number s at ≡ Some (code, behind) → last_code < code → t ≡ taken 4 0 at
-      → (args : List ℤ) → Answers sh x (read_at sh s at) t args
+  pub take_none : (code behind : ℕ) → read_number s at ≡ Some (code, behind) → last_code < code
+      → (t : Told) → t ≡ told 4 at → (args : List ℤ) → Answers sh x (read_at sh s at) 0 t args
   unfolding admit_read
-  take_none code behind e h f args =
+  take_none code behind e h t f args =
       let r = operator_none (limits sh) s at _ code behind e h refl in
       rw (f, ← r) (refl, (refl, λ k. absurd (omega arith)))
 
-  pub take_some : (code behind : ℕ) → read_number s at ≡ Some (code, behind) → (args : List ℤ)
-      → Answers sh x (read_from sh s at code behind) t args → Answers sh x (read_at sh s at) t args
-  take_some code behind e args g =
-      subst (λ r. Answers sh x r t args) (operator_behind (limits sh) s at _ code behind e refl) g
+  pub take_some : (code behind : ℕ) → read_number s at ≡ Some (code, behind) → (t : Told) (args : List ℤ)
+      → Answers sh x (read_from sh s at code behind) code t args → Answers sh x (read_at sh s at) code t args
+  take_some code behind e t args g =
+      subst (λ r. Answers sh x r code t args) (operator_behind (limits sh) s at _ code behind e refl) g

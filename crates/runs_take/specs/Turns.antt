@@ -1,35 +1,65 @@
 -- The ways out of the code of the pass, one law each.
-use Rattle.std.specs.Prelude.{◌≡◌, Bool, true, false, List, [], ◌∷◌, ℕ, ◌+◌, ◌≤◌, ◌<◌, ℤ, get_or, take, drop, set}
-use Rattle.std.specs.Prelude.{Some, None}
+use Rattle.std.specs.Prelude.{◌≡◌, ◌≢◌, Bool, true, false, List, [], ◌∷◌, ℕ, ◌+◌, ◌≤◌, ◌<◌, ℤ, get_or, take, drop, set, leb}
+use Rattle.std.specs.Prelude.{Some, None, Ok, Err}
 use Rattle.std.proofs.Math.ListN.{length}
-use Rattle.std.proofs.Common.{drop_of_length-le, length-take-le}
+use Rattle.std.proofs.Common.{refl, sym, ap, drop_of_length-le, length-take-le}
 use Rattle.std.proofs.Math.Seq.{get_or-take}
 use borrow.Author.Tests.{eq-eqb, ne_eqb, le-leb, lt-leb}
+use native.Mathlib.Omega.{arith}
+use Rattle.std.proofs.Math.Logic.{⊎_elim}
+use Rattle.laws.specs.Bools.{pick, split, le?, eqb_same, eqb_other}
+use Rattle.refusals.specs.declared.Refusal.{Refusal}
+use Rattle.refusals.specs.declared.Refusal.TheVariants.{Memory, Unsound, BadNumber, BadCode, OutOfRange, ItemFree}
+use Rattle.refusals.specs.declared.Refusal.TheVariants.{ItemUsed, ConditionFails, LogFull, NoNumberLeft}
+use Rattle.refusals.specs.declared.Refusal.TheVariants.{LogEnded, NotPlain, TextTooLong, LoneLoop}
+use Rattle.refusals.specs.Numbers.{number_of, refusal_in, unless}
 use Rattle.numbers.specs.Number.{read_number, on_num}
 use Rattle.numbers.specs.NumberTrip.{reads_small, number_found}
 use Rattle.codec.specs.Operands.{in_range, unwire}
 use Rattle.codec.specs.OperandLaws.{ahead}
 use Rattle.layout.specs.declared.shape.Shape.{Shape}
 use Rattle.euler.specs.Exec.{operator_by, condition}
-use Rattle.runs_take.specs.Take.{Scan, scan_is, joined, joined_by, scan, taken, settled}
+use Rattle.runs_take.specs.Take.{Scan, scan_is, joined, joined_by, scan, told, settled}
 
 -- a number that is read fits three groups
 pub number_small : (s : List ℕ) (at n next : ℕ) → read_number s at ≡ Some (n, next) → n < 2097152
 number_small s at n next e = reads_small (number_found s at n next e).reads
 
+-- a refusal has a number
+pub refused_some : (e : Refusal) → number_of e ≢ 0
+refused_some Memory z = omega (arith, z)
+refused_some (Unsound rule) z = omega (arith, z)
+refused_some BadNumber z = omega (arith, z)
+refused_some BadCode z = omega (arith, z)
+refused_some OutOfRange z = omega (arith, z)
+refused_some ItemFree z = omega (arith, z)
+refused_some ItemUsed z = omega (arith, z)
+refused_some ConditionFails z = omega (arith, z)
+refused_some LogFull z = omega (arith, z)
+refused_some NoNumberLeft z = omega (arith, z)
+refused_some LogEnded z = omega (arith, z)
+refused_some NotPlain z = omega (arith, z)
+refused_some TextTooLong z = omega (arith, z)
+refused_some LoneLoop z = omega (arith, z)
+
+-- what a test answers tells whether it held
+pub held : (b : Bool) (e : Refusal) (u : Unit {0}) → Ok u ≡ unless b e → b ≡ true
+held true e u h = refl
+held false e u h = absurd (refused_some e (sym (ap refusal_in h)))
+
+pub not_held : (b : Bool) (e d : Refusal) → Err d ≡ unless b e → (b ≡ false) × (number_of d ≡ number_of e)
+not_held true e d h = absurd (refused_some d (ap refusal_in h))
+not_held false e d h = (refl, ap refusal_in h)
+
 -- one operand's refusal joined to that of those before it
 module _ (r : ℕ) (t : Bool) (u : ℕ) where
-  pub joined_before : r ≡ 5 → r ≡ joined r t u
+  pub joined_range : t ≡ false → 5 ≡ joined r t u
   unfolding joined
-  joined_before e = rw (eq-eqb r 5 e) e
+  joined_range f = split r 5 (λ e. rw (eqb_same e)) (λ d. rw (eqb_other d, f))
 
-  pub joined_range : (r ≡ 5 → ⊥) → t ≡ false → 5 ≡ joined r t u
+  pub joined_first : t ≡ true → r ≢ 0 → r ≡ joined r t u
   unfolding joined
-  joined_range h f = rw (ne_eqb r 5 h, f)
-
-  pub joined_first : (r ≡ 5 → ⊥) → t ≡ true → (r ≡ 0 → ⊥) → r ≡ joined r t u
-  unfolding joined
-  joined_first h f k = rw (ne_eqb r 5 h, f, ne_eqb r 0 k)
+  joined_first f k = split r 5 (λ e. rw (eqb_same e) e) (λ d. rw (eqb_other d, f, eqb_other k))
 
   pub joined_use : r ≡ 0 → t ≡ true → (v : ℕ) → v ≡ u → v ≡ joined r t u
   unfolding joined
@@ -71,19 +101,26 @@ module _ (sh : Shape) (x s ks : List ℕ) (c : ℕ) (q : c ≤ length ks) (i p r
 -- the pass done: the condition holds, it fails, 3 or 5, 6 or 7
 module _ (sh : Shape) (x : List ℕ) (at code : ℕ) (a : Scan) where
   pub settled_holds : a.refusal ≡ 0 → (b : Bool) → b ≡ condition sh x (operator_by code a.args) → b ≡ true
-      → taken 0 code a.next ≡ settled sh x at code a
+      → told 0 a.next ≡ settled sh x at code a
   unfolding settled
   settled_holds z b e t = rw (eq-eqb a.refusal 0 z, ← e, t)
 
   pub settled_fails : a.refusal ≡ 0 → (b : Bool) → b ≡ condition sh x (operator_by code a.args) → b ≡ false
-      → taken 8 code a.next ≡ settled sh x at code a
+      → told 8 a.next ≡ settled sh x at code a
   unfolding settled
   settled_fails z b e t = rw (eq-eqb a.refusal 0 z, ← e, t)
 
-  pub settled_low : (a.refusal ≡ 0 → ⊥) → a.refusal ≤ 5 → taken a.refusal code at ≡ settled sh x at code a
+  pub settled_low : a.refusal ≢ 0 → a.refusal ≤ 5 → told a.refusal at ≡ settled sh x at code a
   unfolding settled
   settled_low n l = rw (ne_eqb a.refusal 0 n, le-leb a.refusal 5 l)
 
-  pub settled_high : (a.refusal ≡ 0 → ⊥) → 5 < a.refusal → taken a.refusal code a.next ≡ settled sh x at code a
+  pub settled_high : a.refusal ≢ 0 → 5 < a.refusal → told a.refusal a.next ≡ settled sh x at code a
   unfolding settled
   settled_high n l = rw (ne_eqb a.refusal 0 n, lt-leb a.refusal 5 l)
+
+  -- the last two by the place that is answered
+  pub settled_refused : a.refusal ≢ 0 → (n : ℕ) → n ≡ pick (leb a.refusal 5) at a.next
+      → told a.refusal n ≡ settled sh x at code a
+  settled_refused d n e =
+      ⊎_elim (λ l. rw (e, le-leb a.refusal 5 l) (settled_low d l)) (λ l. rw (e, lt-leb a.refusal 5 l) (settled_high d l))
+      (le? a.refusal 5)

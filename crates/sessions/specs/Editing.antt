@@ -2,10 +2,11 @@
 use Rattle.std.specs.Prelude.{ℕ, List, ℤ, length}
 use Rattle.runs.specs.Run.{State, state, Leaves}
 use Rattle.sessions.specs.declared.Session.{Session}
-use Rattle.sessions.specs.declared.RunLeft.{RunLeft}
-use Rattle.sessions.specs.declared.UndoLeft.{UndoLeft}
-use Rattle.sessions.specs.declared.RedoLeft.{RedoLeft}
-use Rattle.sessions.specs.declared.InvertLeft.{InvertLeft}
+use Rattle.sessions.specs.declared.Left.{Left}
+use Rattle.runs.specs.declared.answers.RunAnswer.{RunAnswer}
+use Rattle.sessions.specs.declared.UndoAnswer.{UndoAnswer}
+use Rattle.sessions.specs.declared.RedoAnswer.{RedoAnswer}
+use Rattle.takedown.specs.declared.answer.InvertAnswer.{InvertAnswer}
 use Rattle.sessions.specs.Session.{ClearLeaves, session_clear, session_run, session_undo, session_redo, session_invert}
 
 -- what the editor lends: a table, its log and redo log, and the session record
@@ -28,16 +29,16 @@ redo_state e = state e.links e.points e.redo e.session.redo
 abbrev pub clear_in : Editing → ℕ → ℕ → ℕ → ℕ → ℕ → ClearLeaves
 clear_in e s f l d v = session_clear e.links e.points (length e.log) (length e.redo) e.session s f l d v
 
-abbrev pub run_in : Editing → List ℕ → Leaves RunLeft
+abbrev pub run_in : Editing → List ℕ → Leaves (Left RunAnswer)
 run_in e script = session_run e.links e.points e.log (length e.redo) e.session script
 
-abbrev pub undo_in : Editing → ℕ → Leaves UndoLeft
+abbrev pub undo_in : Editing → ℕ → Leaves (Left UndoAnswer)
 undo_in e n = session_undo e.links e.points e.log e.redo e.session n
 
-abbrev pub redo_in : Editing → ℕ → Leaves RedoLeft
+abbrev pub redo_in : Editing → ℕ → Leaves (Left RedoAnswer)
 redo_in e n = session_redo e.links e.points e.log e.redo e.session n
 
-abbrev pub invert_in : Editing → Leaves InvertLeft
+abbrev pub invert_in : Editing → Leaves (Left InvertAnswer)
 invert_in e = session_invert e.links e.points e.log (length e.redo) e.session
 
 -- ---- and what it leaves

@@ -9,11 +9,12 @@ use Rattle.runs.specs.Run.{state, Ran, Leaves, leaves, run_of}
 use Rattle.runs.specs.Move.{Moved, move_of}
 use Rattle.takedown.specs.Inversion.{Inverted, invert_of}
 use Rattle.sessions.specs.declared.Session.{Session}
-use Rattle.sessions.specs.declared.ClearLeft.{ClearLeft}
-use Rattle.sessions.specs.declared.RunLeft.{RunLeft}
-use Rattle.sessions.specs.declared.UndoLeft.{UndoLeft}
-use Rattle.sessions.specs.declared.RedoLeft.{RedoLeft}
-use Rattle.sessions.specs.declared.InvertLeft.{InvertLeft}
+use Rattle.sessions.specs.declared.Left.{Left}
+use Rattle.table.specs.declared.clear.ClearAnswer.{ClearAnswer}
+use Rattle.runs.specs.declared.answers.RunAnswer.{RunAnswer}
+use Rattle.sessions.specs.declared.UndoAnswer.{UndoAnswer}
+use Rattle.sessions.specs.declared.RedoAnswer.{RedoAnswer}
+use Rattle.takedown.specs.declared.answer.InvertAnswer.{InvertAnswer}
 
 -- where the live parts of log and redo log start
 abbrev pub starts : ℕ → ℕ → Session
@@ -23,11 +24,11 @@ starts log redo = record { log = log; redo = redo }
 
 -- what clearing leaves: its answer with the session, and the table
 pub record ClearLeaves : Type 0 where
-  pub answer : ClearLeft
+  pub answer : Left ClearAnswer
   pub links : List ℕ
   pub points : List ℤ
 
-abbrev pub clear_leaves : ClearLeft → List ℕ → List ℤ → ClearLeaves
+abbrev pub clear_leaves : Left ClearAnswer → List ℕ → List ℤ → ClearLeaves
 clear_leaves a x p = record { answer = a; links = x; points = p }
 
 -- both logs start at their ends; a refusal leaves the session
@@ -50,29 +51,29 @@ abbrev pub onward : ℕ → Session → ℕ → ℕ → Session
 onward redo s done start = starts start (pick (eqb done 0) s.redo redo)
 
 -- what a run leaves, with the session
-abbrev pub ran_session : ℕ → Session → Ran → Leaves RunLeft
+abbrev pub ran_session : ℕ → Session → Ran → Leaves (Left RunAnswer)
 ran_session redo s r =
     leaves (record { answer = r.answer; session = onward redo s r.answer.done r.answer.start }) r.links
     r.points r.log
 
 -- a script run; of the redo log only the length is told
-unfoldable pub session_run : List ℕ → List ℤ → List ℕ → ℕ → Session → List ℕ → Leaves RunLeft
+unfoldable pub session_run : List ℕ → List ℤ → List ℕ → ℕ → Session → List ℕ → Leaves (Left RunAnswer)
 session_run x p log redo s script = ran_session redo s (run_of (state x p log s.log) script)
 
 -- what the take-down leaves, with the session
-abbrev pub inverted_session : ℕ → Session → Inverted → Leaves InvertLeft
+abbrev pub inverted_session : ℕ → Session → Inverted → Leaves (Left InvertAnswer)
 inverted_session redo s r =
     leaves (record { answer = r.answer; session = onward redo s r.answer.done r.answer.start }) r.links
     r.points r.log
 
 -- the take-down; of the redo log only the length is told
-unfoldable pub session_invert : List ℕ → List ℤ → List ℕ → ℕ → Session → Leaves InvertLeft
+unfoldable pub session_invert : List ℕ → List ℤ → List ℕ → ℕ → Session → Leaves (Left InvertAnswer)
 session_invert x p log redo s = inverted_session redo s (invert_of (state x p log s.log))
 
 -- ---- undo and redo
 
 -- a move out of the log as undo: it leaves the redo log
-abbrev pub undone_session : Moved → Leaves UndoLeft
+abbrev pub undone_session : Moved → Leaves (Left UndoAnswer)
 undone_session m =
     leaves
     (record {
@@ -87,11 +88,11 @@ undone_session m =
     m.links m.points m.log
 
 -- undo: n operators of the log, their inverses into the redo log
-unfoldable pub session_undo : List ℕ → List ℤ → List ℕ → List ℕ → Session → ℕ → Leaves UndoLeft
+unfoldable pub session_undo : List ℕ → List ℤ → List ℕ → List ℕ → Session → ℕ → Leaves (Left UndoAnswer)
 session_undo x p log redo s n = undone_session (move_of log s.log (state x p redo s.redo) n)
 
 -- a move out of the redo log as redo: it leaves the log
-abbrev pub redone_session : Moved → Leaves RedoLeft
+abbrev pub redone_session : Moved → Leaves (Left RedoAnswer)
 redone_session m =
     leaves
     (record {
@@ -101,23 +102,23 @@ redone_session m =
     m.links m.points m.log
 
 -- redo: n operators of the redo log, their inverses into the log
-unfoldable pub session_redo : List ℕ → List ℤ → List ℕ → List ℕ → Session → ℕ → Leaves RedoLeft
+unfoldable pub session_redo : List ℕ → List ℤ → List ℕ → List ℕ → Session → ℕ → Leaves (Left RedoAnswer)
 session_redo x p log redo s n = redone_session (move_of redo s.redo (state x p log s.log) n)
 
 -- ---- the same as contracts: what goes in, the answer with the session, what is left
 
-abbrev pub Clears : List ℕ → List ℤ → ℕ → ℕ → Session → ℕ → ℕ → ℕ → ℕ → ℕ → ClearLeft → List ℕ → List ℤ → Type 0
+abbrev pub Clears : List ℕ → List ℤ → ℕ → ℕ → Session → ℕ → ℕ → ℕ → ℕ → ℕ → Left ClearAnswer → List ℕ → List ℤ → Type 0
 Clears x p log redo s solids faces loops edges vertices r x' p' =
     clear_leaves r x' p' ≡ session_clear x p log redo s solids faces loops edges vertices
 
-abbrev pub Runs : List ℕ → List ℤ → List ℕ → ℕ → Session → List ℕ → RunLeft → List ℕ → List ℤ → List ℕ → Type 0
+abbrev pub Runs : List ℕ → List ℤ → List ℕ → ℕ → Session → List ℕ → Left RunAnswer → List ℕ → List ℤ → List ℕ → Type 0
 Runs x p log redo s script r x' p' log' = leaves r x' p' log' ≡ session_run x p log redo s script
 
-abbrev pub Undoes : List ℕ → List ℤ → List ℕ → List ℕ → Session → ℕ → UndoLeft → List ℕ → List ℤ → List ℕ → Type 0
+abbrev pub Undoes : List ℕ → List ℤ → List ℕ → List ℕ → Session → ℕ → Left UndoAnswer → List ℕ → List ℤ → List ℕ → Type 0
 Undoes x p log redo s n r x' p' redo' = leaves r x' p' redo' ≡ session_undo x p log redo s n
 
-abbrev pub Redoes : List ℕ → List ℤ → List ℕ → List ℕ → Session → ℕ → RedoLeft → List ℕ → List ℤ → List ℕ → Type 0
+abbrev pub Redoes : List ℕ → List ℤ → List ℕ → List ℕ → Session → ℕ → Left RedoAnswer → List ℕ → List ℤ → List ℕ → Type 0
 Redoes x p log redo s n r x' p' log' = leaves r x' p' log' ≡ session_redo x p log redo s n
 
-abbrev pub Inverts : List ℕ → List ℤ → List ℕ → ℕ → Session → InvertLeft → List ℕ → List ℤ → List ℕ → Type 0
+abbrev pub Inverts : List ℕ → List ℤ → List ℕ → ℕ → Session → Left InvertAnswer → List ℕ → List ℤ → List ℕ → Type 0
 Inverts x p log redo s r x' p' log' = leaves r x' p' log' ≡ session_invert x p log redo s

@@ -2,10 +2,6 @@
 
 #![tactic(auto)]
 
-use runs::answers::RunAnswer;
-use table::clear::ClearAnswer;
-use takedown::answer::InvertAnswer;
-
 // Where the live parts of the log and of the redo log start.
 #[repr(C)]
 #[derive(Clone, Copy)]
@@ -34,33 +30,9 @@ pub struct RedoAnswer {
     pub done: usize,
 }
 
-// Each answer with the session that the call leaves.
+// An answer with the session that the call leaves.
 #[derive(Clone, Copy)]
-pub struct ClearLeft {
-    pub answer: ClearAnswer,
-    pub session: Session,
-}
-
-#[derive(Clone, Copy)]
-pub struct RunLeft {
-    pub answer: RunAnswer,
-    pub session: Session,
-}
-
-#[derive(Clone, Copy)]
-pub struct UndoLeft {
-    pub answer: UndoAnswer,
-    pub session: Session,
-}
-
-#[derive(Clone, Copy)]
-pub struct RedoLeft {
-    pub answer: RedoAnswer,
-    pub session: Session,
-}
-
-#[derive(Clone, Copy)]
-pub struct InvertLeft {
-    pub answer: InvertAnswer,
+pub struct Left<A> {
+    pub answer: A,
     pub session: Session,
 }

@@ -6,10 +6,11 @@
 ghost use Rattle.std.specs.Prelude.{◌≡◌};
 ghost use Rattle.sessions.specs.Session.{onward, Clears, Runs, Undoes, Redoes, Inverts};
 
+use runs::answers::RunAnswer;
 use runs_move::move_operators;
-use sessions::{
-    ClearLeft, InvertLeft, RedoAnswer, RedoLeft, RunLeft, Session, UndoAnswer, UndoLeft,
-};
+use sessions::{Left, RedoAnswer, Session, UndoAnswer};
+use table::clear::ClearAnswer;
+use takedown::answer::InvertAnswer;
 
 // Clears the table and starts both logs at their ends; a refusal leaves the session.
 pub fn clear(
@@ -23,15 +24,15 @@ pub fn clear(
     l: u16,
     e: u16,
     v: u16,
-) -> ClearLeft
+) -> Left<ClearAnswer>
     ensures { Clears links.old points.old log redo session s f l e v result
         links.new points.new }
 {
     let answer = table::clear::clear(links, points, s, f, l, e, v);
     if answer.refusal != 0 {
-        return ClearLeft { answer, session };
+        return Left { answer, session };
     }
-    ClearLeft {
+    Left {
         answer,
         session: Session { log, redo },
     }
@@ -55,7 +56,7 @@ pub fn run(
     redo: usize,
     session: Session,
     script: &[u8],
-) -> RunLeft
+) -> Left<RunAnswer>
     ensures { Runs links.old points.old log.old redo session
         script.now result links.new points.new log.new }
 {
@@ -65,7 +66,7 @@ pub fn run(
         log: answer.start,
         redo: start,
     };
-    RunLeft {
+    Left {
         answer,
         session: left,
     }
@@ -78,7 +79,7 @@ pub fn invert(
     log: &mut [u8],
     redo: usize,
     session: Session,
-) -> InvertLeft
+) -> Left<InvertAnswer>
     ensures { Inverts links.old points.old log.old redo session result
         links.new points.new log.new }
 {
@@ -88,7 +89,7 @@ pub fn invert(
         log: answer.start,
         redo: start,
     };
-    InvertLeft {
+    Left {
         answer,
         session: left,
     }
@@ -102,7 +103,7 @@ pub fn undo(
     redo: &mut [u8],
     session: Session,
     n: usize,
-) -> UndoLeft
+) -> Left<UndoAnswer>
     ensures { Undoes links.old points.old log.now redo.old
         session n result links.new points.new redo.new }
 {
@@ -117,7 +118,7 @@ pub fn undo(
         log: moved.from,
         redo: moved.to,
     };
-    UndoLeft {
+    Left {
         answer,
         session: left,
     }
@@ -131,7 +132,7 @@ pub fn redo(
     redo: &[u8],
     session: Session,
     n: usize,
-) -> RedoLeft
+) -> Left<RedoAnswer>
     ensures { Redoes links.old points.old log.old redo.now
         session n result links.new points.new log.new }
 {
@@ -145,7 +146,7 @@ pub fn redo(
         log: moved.to,
         redo: moved.from,
     };
-    RedoLeft {
+    Left {
         answer,
         session: left,
     }

@@ -10,9 +10,10 @@ use Rattle.layout.specs.Layout.{shape_of}
 use Rattle.table.specs.declared.check.CheckAnswer.{CheckAnswer}
 use Rattle.runs.specs.Run.{state, Leaves, leaves, entry}
 use Rattle.sessions.specs.declared.Session.{Session}
-use Rattle.sessions.specs.declared.RunLeft.{RunLeft}
+use Rattle.sessions.specs.declared.Left.{Left}
+use Rattle.runs.specs.declared.answers.RunAnswer.{RunAnswer}
 use Rattle.sessions.specs.Session.{session_run, Runs}
-use Rattle.chains.specs.declared.DoneLeft.{DoneLeft}
+use Rattle.chains.specs.declared.DoneAnswer.{DoneAnswer}
 use Rattle.chains.specs.Whole.{answered, whole_of, not_done, done_by}
 use Rattle.sweeps.specs.Sweep.{Vector, sweep_ops, sweep_refusal}
 use Rattle.sweeps.specs.Swept.{sweep_of}
@@ -37,7 +38,7 @@ module _ (x : List ℕ) (p : List ℤ) (log : List ℕ) (redo : ℕ) (s : Sessio
         rw (eqb_same m, eqb_other n) refl
 
     -- the run
-    pub all_done : refusal ≡ 0 → (w : Leaves RunLeft) → w ≡ session_run x p log redo s (write_script os)
+    pub all_done : refusal ≡ 0 → (w : Leaves (Left RunAnswer)) → w ≡ session_run x p log redo s (write_script os)
         → done_by w ≡ whole_of x p log redo s refusal os
     unfolding whole_of
     all_done n w q =
@@ -47,7 +48,7 @@ module _ (x : List ℕ) (p : List ℤ) (log : List ℕ) (redo : ℕ) (s : Sessio
 -- ---- the returns of the code; u is the vector as the callees get it
 
 module _ (x : List ℕ) (p : List ℤ) (log : List ℕ) (redo : ℕ) (s : Session) (f : ℕ) (v : Vector) (a : CheckAnswer)
-    (e : a ≡ entry (state x p log s.log)) (r : DoneLeft) where
+    (e : a ≡ entry (state x p log s.log)) (r : Left DoneAnswer) where
   -- 1 or 2
   pub call_not_entered : a.refusal ≢ 0 → r ≡ answered a.refusal a.rule 0 s
       → leaves r x p log ≡ sweep_of x p log redo s f v
@@ -65,7 +66,7 @@ module _ (x : List ℕ) (p : List ℤ) (log : List ℕ) (redo : ℕ) (s : Sessio
         (sweep_ops (shape_of x) x p f v) a e ok (λ z. n (i.refusal ∙ z)))
 
     -- the run
-    pub call_done : w.refusal ≡ 0 → (m : RunLeft) (x' : List ℕ) (p' : List ℤ) (log' : List ℕ)
+    pub call_done : w.refusal ≡ 0 → (m : Left RunAnswer) (x' : List ℕ) (p' : List ℤ) (log' : List ℕ)
         → Runs x p log redo s (take w.length out) m x' p' log'
         → r ≡ answered m.answer.refusal m.answer.rule m.answer.done m.session
         → leaves r x' p' log' ≡ sweep_of x p log redo s f v

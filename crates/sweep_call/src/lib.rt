@@ -8,16 +8,17 @@ ghost use Rattle.chains.specs.Whole.{answered};
 ghost use Rattle.sweeps.specs.Swept.{Sweeps};
 
 use crate::plan::{SCRIPT_BYTES, plan};
-use chains::{DoneAnswer, DoneLeft};
+use chains::DoneAnswer;
 use layout::shape::shape_of;
+use runs::answers::RunAnswer;
 use runs::enter::enter;
-use sessions::{RunLeft, Session};
+use sessions::{Left, Session};
 
 pub mod plan; // the script of a sweep, or its refusal
 pub mod refusals; // the face, lone loops, points, free numbers
 
 // Nothing is done.
-fn not_done(refusal: u8, rule: u8, session: Session) -> DoneLeft
+fn not_done(refusal: u8, rule: u8, session: Session) -> Left<DoneAnswer>
     ensures { result ≡ answered refusal rule 0 session }
 {
     let answer = DoneAnswer {
@@ -25,11 +26,11 @@ fn not_done(refusal: u8, rule: u8, session: Session) -> DoneLeft
         rule,
         done: 0,
     };
-    DoneLeft { answer, session }
+    Left { answer, session }
 }
 
 // What the run answers, but the bytes and the start, which the session has.
-fn done_by(left: RunLeft) -> DoneLeft
+fn done_by(left: Left<RunAnswer>) -> Left<DoneAnswer>
     ensures { result ≡ answered left.answer.refusal left.answer.rule left.answer.done left.session }
 {
     let ran = left.answer;
@@ -39,7 +40,7 @@ fn done_by(left: RunLeft) -> DoneLeft
         rule: ran.rule,
         done: ran.done,
     };
-    DoneLeft { answer, session }
+    Left { answer, session }
 }
 
 // Lifts a face by a vector: refusal 1, or 2 with the rule; else the refusals of `plan`; else the run of its script.
@@ -53,7 +54,7 @@ pub fn sweep(
     dx: i32,
     dy: i32,
     dz: i32,
-) -> DoneLeft
+) -> Left<DoneAnswer>
     ensures { Sweeps links.old points.old log.old redo session face dx dy dz result
         links.new points.new log.new }
 {

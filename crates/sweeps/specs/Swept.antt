@@ -9,7 +9,8 @@ use Rattle.layout.specs.Layout.{shape_of}
 use Rattle.table.specs.Check.{check_of}
 use Rattle.runs.specs.Run.{Leaves, leaves, entry, run_of}
 use Rattle.sessions.specs.declared.Session.{Session}
-use Rattle.chains.specs.declared.DoneLeft.{DoneLeft}
+use Rattle.sessions.specs.declared.Left.{Left}
+use Rattle.chains.specs.declared.DoneAnswer.{DoneAnswer}
 use Rattle.sessions.specs.Session.{session_run}
 use Rattle.sessions.specs.Editing.{Editing, log_state, logged, run_in, ran_from}
 use Rattle.promises.specs.Checked.{good_checked}
@@ -29,12 +30,12 @@ use Rattle.sweeps.specs.Refused.{RefusedAs, refused_as}
 use Rattle.sweeps.specs.Result.{SweptFace, sweep_sides}
 
 -- SWEEP: refusals 1 and 2 as in a run, then those of `sweep_refusal`, then the run of the operators' script
-abbrev pub sweep_of : List ℕ → List ℤ → List ℕ → ℕ → Session → ℕ → Vector → Leaves DoneLeft
+abbrev pub sweep_of : List ℕ → List ℤ → List ℕ → ℕ → Session → ℕ → Vector → Leaves (Left DoneAnswer)
 sweep_of x p log redo s f v =
     whole_of x p log redo s (sweep_refusal (shape_of x) x p s.log f v) (sweep_ops (shape_of x) x p f v)
 
 -- the same as a contract: what goes in, the answer with the session, what is left
-abbrev pub Sweeps : List ℕ → List ℤ → List ℕ → ℕ → Session → ℕ → ℤ → ℤ → ℤ → DoneLeft → List ℕ → List ℤ → List ℕ
+abbrev pub Sweeps : List ℕ → List ℤ → List ℕ → ℕ → Session → ℕ → ℤ → ℤ → ℤ → Left DoneAnswer → List ℕ → List ℤ → List ℕ
     → Type 0
 Sweeps x p log redo s f dx dy dz r x' p' log' = leaves r x' p' log' ≡ sweep_of x p log redo s f (vector dx dy dz)
 
@@ -45,7 +46,7 @@ refusal_in e f v = sweep_refusal (shape_of e.links) e.links e.points e.session.l
 abbrev pub ops_in : Editing → ℕ → Vector → List Operator
 ops_in e f v = sweep_ops (shape_of e.links) e.links e.points f v
 
-abbrev pub sweep_in : Editing → ℕ → Vector → Leaves DoneLeft
+abbrev pub sweep_in : Editing → ℕ → Vector → Leaves (Left DoneAnswer)
 sweep_in e f v = whole_in e (refusal_in e f v) (ops_in e f v)
 
 abbrev pub swept_from : Editing → ℕ → Vector → Editing
@@ -120,7 +121,7 @@ module _ (e : Editing) (f : ℕ) (v : Vector) where
           (all ok free).1 ∙ m,
           m,
           sweep_any (log_state e) f v ok free,
-          ap (λ (r : Leaves DoneLeft). logged e r.answer.session r)
+          ap (λ (r : Leaves (Left DoneAnswer)). logged e r.answer.session r)
               (whole_run e (refusal_in e f v) (ops_in e f v) ok free),
         )
 

@@ -5,11 +5,18 @@ use Rattle.laws.specs.Sums.{count_to}
 use Rattle.layout.specs.declared.shape.Shape.{Shape}
 use Rattle.layout.specs.Layout.{shape_of, solid_used, vertex_used}
 use Rattle.layout.specs.Items.{some, face_used, loop_used, half_used, is_ring}
-use Rattle.table.specs.declared.tally.Item.{Item}
-use Rattle.table.specs.declared.tally.Item.TheVariants.{Solid, Face, Loop, Edge, Vertex, Ring}
 use Rattle.table.specs.declared.check.CheckAnswer.{CheckAnswer}
 use Rattle.table.specs.declared.count.CountAnswer.{CountAnswer}
 use Rattle.table.specs.Check.{check_of}
+
+-- what is counted
+pub data Item : Type 0 where
+  Solid : Item
+  Face : Item
+  Loop : Item
+  Edge : Item
+  Vertex : Item
+  Ring : Item
 
 -- a ring is in use
 abbrev pub ring_used : Shape → List ℕ → ℕ → Bool

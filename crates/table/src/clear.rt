@@ -1,9 +1,10 @@
 // Clearing a table: five capacities, and nothing in use.
-ghost use Rattle.std.specs.Prelude.{◌≡◌, ℕ, ◌<◌, pos, length, replicate};
+ghost use Rattle.std.specs.Prelude.{◌≡◌, ℕ, ◌<◌};
 ghost use Rattle.table.specs.Clear.{cleared, clear_of, with_capacities};
 
 use crate::sizes::sizes_fit;
 use layout::cells::put;
+use refusals::Refusal;
 
 #[repr(C)]
 #[derive(Clone, Copy)]
@@ -11,26 +12,7 @@ pub struct ClearAnswer {
     pub refusal: u8,
 }
 
-fn zero_words(links: &mut [u16])
-    ensures { links.new ≡ replicate (length links.old) 0 }
-{
-    let mut i: usize = 0;
-    while i < links.len() {
-        links[i] = 0;
-        i += 1;
-    }
-}
-
-fn zero_points(points: &mut [i32])
-    ensures { points.new ≡ replicate (length points.old) (pos 0) }
-{
-    let mut i: usize = 0;
-    while i < points.len() {
-        points[i] = 0;
-        i += 1;
-    }
-}
-
+// The five capacities in the first five words.
 fn put_capacities(links: &mut [u16], s: usize, f: usize, l: usize, e: usize, v: usize)
     requires { (s < 65536) × (f < 65536) × (l < 65536) × (e < 65536) × (v < 65536) }
     ensures { links.new ≡ with_capacities links.old s f l e v }
@@ -62,10 +44,12 @@ pub fn clear(
     let ce = e as usize;
     let cv = v as usize;
     if !sizes_fit(links.len(), points.len(), cs, cf, cl, ce, cv) {
-        return ClearAnswer { refusal: 1 };
+        return ClearAnswer {
+            refusal: Refusal::Memory.number(),
+        };
     }
-    zero_words(links);
+    links.fill(0);
     put_capacities(links, cs, cf, cl, ce, cv);
-    zero_points(points);
+    points.fill(0);
     ClearAnswer { refusal: 0 }
 }

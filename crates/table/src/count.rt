@@ -1,11 +1,11 @@
 // Counting a sound table: solids, faces, loops, edges, vertices, rings and holes.
-ghost use Rattle.std.specs.Prelude.{◌≡◌, ℕ, ◌≤◌};
+ghost use Rattle.std.specs.Prelude.{◌≡◌, ℕ, ◌≤◌, ◌<◌};
 ghost use Rattle.bounds.specs.Bounds.{most_items};
-ghost use Rattle.table.specs.Count.{holes_of, tally_of, count_of};
+ghost use Rattle.table.specs.Count.{ring_used, holes_of, tally_of, count_of};
 ghost use Rattle.layout.specs.Small.{Small};
 
-use crate::check::check;
-use crate::tally::{Item, used_to};
+use crate::check::checked;
+use layout::columns::{face_outer, face_solid, loop_face, solid_used, start_of, vertex_used};
 use layout::shape::{Shape, shape_of};
 
 #[repr(C)]
@@ -35,17 +35,26 @@ fn holes_of(s: usize, f: usize, e: usize, v: usize, r: usize) -> usize
     (more - less) / 2
 }
 
+// Loop n is in use and not its face's outer loop.
+fn is_ring(links: &[u16], sh: Shape, n: usize) -> bool
+    requires { n < 65536 }
+    ensures { result ≡ ring_used sh links.now n }
+{
+    let f = loop_face(links, sh, n);
+    (f != 0) & (face_outer(links, sh, f) != n)
+}
+
 // The counts of a table.
 fn tally_of(links: &[u16], sh: Shape) -> CountAnswer
     requires { Small sh }
     ensures { result ≡ tally_of sh links.now }
 {
-    let solids = used_to(links, sh, Item::Solid, sh.solids as usize);
-    let faces = used_to(links, sh, Item::Face, sh.faces as usize);
-    let loops = used_to(links, sh, Item::Loop, sh.loops as usize);
-    let edges = used_to(links, sh, Item::Edge, sh.edges as usize);
-    let vertices = used_to(links, sh, Item::Vertex, sh.vertices as usize);
-    let rings = used_to(links, sh, Item::Ring, sh.loops as usize);
+    let solids = searching::count(sh.solids as usize, |n| solid_used(links, sh, n) != 0);
+    let faces = searching::count(sh.faces as usize, |n| face_solid(links, sh, n) != 0);
+    let loops = searching::count(sh.loops as usize, |n| loop_face(links, sh, n) != 0);
+    let edges = searching::count(sh.edges as usize, |n| start_of(links, sh, 2 * n) != 0);
+    let vertices = searching::count(sh.vertices as usize, |n| vertex_used(links, sh, n) != 0);
+    let rings = searching::count(sh.loops as usize, |n| is_ring(links, sh, n));
     let holes = holes_of(solids, faces, edges, vertices, rings);
     CountAnswer {
         refusal: 0,
@@ -64,11 +73,11 @@ fn tally_of(links: &[u16], sh: Shape) -> CountAnswer
 pub fn count(links: &[u16], points: &[i32]) -> CountAnswer
     ensures { result ≡ count_of links.now points.now }
 {
-    let a = check(links, points);
-    if a.refusal != 0 {
-        return CountAnswer {
-            refusal: a.refusal,
-            rule: a.rule,
+    match checked(links, points) {
+        Ok(()) => tally_of(links, shape_of(links)),
+        Err(refusal) => CountAnswer {
+            refusal: refusal.number(),
+            rule: refusal.rule(),
             solids: 0,
             faces: 0,
             loops: 0,
@@ -76,7 +85,6 @@ pub fn count(links: &[u16], points: &[i32]) -> CountAnswer
             vertices: 0,
             rings: 0,
             holes: 0,
-        };
+        },
     }
-    tally_of(links, shape_of(links))
 }

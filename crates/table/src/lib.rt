@@ -6,4 +6,3 @@ pub mod check;
 pub mod clear;
 pub mod count;
 mod sizes;
-mod tally;

@@ -1,4 +1,4 @@
-use native.Mathlib.Omega.{arith}
+use Rattle.std.proofs.Common.{arith, get_or}
 use Rattle.laws.specs.TestLaws.{as_far}
 use Rattle.check_rules.specs.LabelsLaws.{vertex_free, vertex_miscounted, vertex_isolated, vertex_starting}
 use Rattle.check_rules.proofs.labels.vertex_either.Goals as goal
@@ -13,5 +13,5 @@ pub returns-then-c-eq1 : goal.returns-then-c-eq1
 returns-then-c-eq1 c = vertex_isolated _ _ _ _ _ _ (omega arith) (omega arith) (omega (arith, as_far))
 
 pub returns : goal.returns
-returns c = vertex_starting _ _ _ _ _ c.wide-c.result c.wide-k.result
+returns c = vertex_starting _ _ _ _ _ (get_or c.args.isolated.now c.args.n 0) c.from-k.result
     (omega arith) (omega arith) (omega arith) (omega arith)

@@ -4,6 +4,7 @@ use Rattle.layout.specs.declared.column.Column.{Column}
 use Rattle.layout.specs.Fields.{Solid}
 use Rattle.check_rules.specs.RuleLaws.{named_by, rule2_is}
 use borrow.Author.Rules.{rules}
+use Rattle.searching.specs.SearchingLaws.{all_by}
 use Rattle.check_rules.proofs.rules.rule_2.Goals as goal
 
 pub least_naming-requires : goal.least_naming-requires
@@ -16,19 +17,16 @@ least_naming-requires c = (
   search rules,
 )
 
-pub all_labels-requires : goal.all_labels-requires
-all_labels-requires c = c.requires.solids
-
 pub returns : goal.returns
 returns c = rule2_is
     c.args.sh
-    c.args.links.now
-    c.args.points.now _ _ _ _ _
+    c.args.links.now _ _ _ _ _
     c.requires.solids
     (named_by
     c.args.sh _ Solid
     c.solids_of_faces.ensures
     c.least_naming.ensures)
-    c.all_items.ensures
-    c.all_items-2.ensures
-    c.all_items-3.ensures c.all_labels.ensures
+    (all_by _ c.all_pass.ensures (λ k l u b p. search rules))
+    (all_by _ c.all_pass-2.ensures (λ k l u b p. search rules))
+    (all_by _ c.all_pass-3.ensures (λ k l u b p. search rules))
+    (all_by _ c.all_pass-4.ensures (λ k l u b p. search rules))

@@ -5,6 +5,7 @@ use Rattle.layout.specs.Fields.{Solid}
 use Rattle.layout.specs.Layout.{face_solid}
 use Rattle.check_rules.specs.RuleLaws.{leaders_long, rule6_is, named_by}
 use borrow.Author.Rules.{rules}
+use Rattle.searching.specs.SearchingLaws.{all_by}
 use Rattle.check_rules.proofs.rules.rule_6.Goals as goal
 
 pub least_naming-requires : goal.least_naming-requires
@@ -36,4 +37,4 @@ returns c = rule6_is c.args.sh
     (named_by c.args.sh _ Solid
     c.solids_of_faces.ensures
     c.least_naming.ensures)
-    c.all_items.ensures c.shells_whole.ensures
+    (all_by _ c.all_pass.ensures (λ k l u b p. search rules)) c.shells_whole.ensures

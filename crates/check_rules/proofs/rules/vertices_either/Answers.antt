@@ -4,6 +4,7 @@ use Rattle.layout.specs.declared.column.Column.{Column}
 use Rattle.layout.specs.Fields.{Isolated, Start}
 use Rattle.check_rules.specs.RuleLaws.{counted_by, vertices_counted}
 use borrow.Author.Rules.{rules}
+use Rattle.searching.specs.SearchingLaws.{all_by}
 use Rattle.check_rules.proofs.rules.vertices_either.Goals as goal
 
 pub tally_naming-requires : goal.tally_naming-requires
@@ -33,4 +34,5 @@ returns c = let a = c.args in
     c.isolated_of_loops.ensures
     c.tally_naming.ensures)
     (counted_by a.sh _ Start c.starts_of_halves.ensures
-    c.tally_naming-2.ensures) c.all_labels.ensures
+    c.tally_naming-2.ensures)
+    (all_by _ c.all_pass.ensures (λ k l u b p. search rules))

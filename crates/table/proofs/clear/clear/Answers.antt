@@ -1,13 +1,12 @@
-use Rattle.table.specs.ClearLaws.{clear_refused, clear_done}
-use Rattle.std.proofs.Common.{ap, not}
+use Rattle.std.proofs.Common.{rules}
+use Rattle.table.specs.Clear.{clear_of}
+use Rattle.table.specs.ClearLaws.{clear_done}
 use Rattle.table.proofs.clear.clear.Goals as goal
 
 pub returns-then-not-sizes_fit : goal.returns-then-not-sizes_fit
-returns-then-not-sizes_fit c = clear_refused _ _ _ _ _ _ _ _ c.sizes_fit.ensures (ap not c.if-not-sizes_fit.true)
+unfolding clear_of
+returns-then-not-sizes_fit c = search rules
 
 pub returns : goal.returns
-returns c = clear_done _ _ _ _ _ _ _ _
-    c.sizes_fit.ensures
-    (ap not c.if-not-sizes_fit.false) _ _ _
-    c.zero_words.ensures
-    c.put_capacities.ensures c.zero_points.ensures
+returns c = clear_done _ _ _ _ _ _ _ (search rules) _ _ _
+    (c.fill.ensures.after (λ y e. e)) c.put_capacities.ensures (c.fill-2.ensures.after (λ y e. e))

@@ -1,5 +1,5 @@
 use Rattle.table.specs.CountLaws.{ring_read}
-use Rattle.table.proofs.tally.is_ring.Goals as goal
+use Rattle.table.proofs.count.is_ring.Goals as goal
 
 pub returns : goal.returns
 returns c = ring_read c.args.sh _ _ c.loop_face-f.ensures.0

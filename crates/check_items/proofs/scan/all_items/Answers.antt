@@ -1,6 +1,0 @@
-use Rattle.searching.specs.SearchingLaws.{all_by}
-use Rattle.std.proofs.Common.{rules}
-use Rattle.check_items.proofs.scan.all_items.Goals as goal
-
-pub returns : goal.returns
-returns c = all_by _ c.all_pass.ensures (λ k l u b p. search rules)
