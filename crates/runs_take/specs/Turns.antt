@@ -1,5 +1,5 @@
 -- The ways out of the code of the pass, one law each.
-use Rattle.std.specs.Prelude.{◌≡◌, ◌≢◌, Bool, true, false, List, [], ◌∷◌, ℕ, ◌+◌, ◌≤◌, ◌<◌, ℤ, get_or, take, drop, set, leb}
+use Rattle.std.specs.Prelude.{◌≡◌, ◌≢◌, Bool, true, false, List, ℕ, ◌+◌, ◌≤◌, ◌<◌, ℤ, get_or, take, drop, set, leb}
 use Rattle.std.specs.Prelude.{Some, None, Ok, Err}
 use Rattle.std.proofs.Math.ListN.{length}
 use Rattle.std.proofs.Common.{refl, sym, ap, drop_of_length-le, length-take-le}
