@@ -1,17 +1,16 @@
 -- Laws of the operands: which codes there are, and what is read and stored of one operand.
-use Rattle.std.specs.Prelude.{◌≡◌, ◌⊎◌, ℕ, zero, suc, ◌+◌, ◌*◌, ◌≤◌, ◌<◌, List, [], ◌∷◌, ◌++◌, take, drop, set, leb}
-use Rattle.std.specs.Prelude.{eqb, Bool, true, false, ℤ, pos, negsuc}
-use Rattle.std.proofs.Common.{refl, sym, ap, ◌∙◌, inl, inr, ⊎_elim, append_assoc, append-nil, drop_of_length-le, drop-cons}
-use Rattle.std.proofs.Common.{take-suc-set, take_all, add-one}
+use Rattle.std.specs.Prelude.{◌≡◌, ◌⊎◌, ℕ, zero, suc, ◌+◌, ◌≤◌, ◌<◌, List, [], ◌∷◌, drop, leb}
+use Rattle.std.specs.Prelude.{eqb, false, ℤ, pos, negsuc}
+use Rattle.std.proofs.Common.{refl, sym, ap, ◌∙◌, inl, inr, ⊎_elim, drop_of_length-le, drop-cons}
+use Rattle.std.proofs.Common.{add-one}
 use native.Mathlib.Omega.{arith}
 use Rattle.std.proofs.Math.ListN.{length, get_or, get_or-eq_default}
 use borrow.Author.Tests.{lt-ltb, le-ltb, lt-leb, eq-eqb, ne_eqb}
 use denote.Param.Members.{Mut, Called}
 use Rattle.std.specs.Array.{IsFromFnResultFrom}
-use Rattle.laws.specs.Bools.{pick, same?}
-use Rattle.codec.specs.declared.Limits.{Limits}
+use Rattle.laws.specs.Bools.{same?}
 use Rattle.codec.specs.declared.operands.Pattern.{Pattern}
-use Rattle.codec.specs.Operands.{last_code, row, rows, pattern, leasts, largests, in_range, in_ranges, each}
+use Rattle.codec.specs.Operands.{last_code, row, rows, pattern, leasts, in_range, each}
 use Rattle.codec.specs.Operands.{coordinate}
 use Rattle.codec.specs.Operands.{zig, zag, wire, unwire, none}
 
@@ -26,8 +25,8 @@ none_of zero x d = ⊎_elim (λ e. inl e) (λ e. inr (omega arith)) (same? x 0)
 none_of (suc n) x d = ⊎_elim (λ e. inl e) (λ h. let f = d.1 in inr (omega arith)) (none_of n x d.0)
 
 -- the row of a code that is known
-pub by_row : (code k : ℕ) (p : Pattern) → code ≡ k → pattern k ≡ p → (r : Pattern) → r ≡ p → r ≡ pattern code
-by_row code k p e f r g = rw (g, e, f)
+pub by_row : (code k : ℕ) (p : Pattern) → code ≡ k → pattern k ≡ p → p ≡ pattern code
+by_row code k p e f = rw (e, f)
 
 -- no such code
 pub no_code : (x : ℕ) → last_code < x → row [] ≡ pattern x
@@ -38,12 +37,6 @@ pub pattern_none : (x : ℕ) → NoneOf last_code x → row [] ≡ pattern x
 unfolding pattern rows
 pattern_none x d =
     ⊎_elim (λ e. rw e) (λ h. no_code x h) (none_of last_code x d)
-
--- the largest numbers, each by its own equation
-pub largest_is : (lim : Limits) (s f l e h v w m c : ℕ) → s ≡ lim.solids → f ≡ lim.faces → l ≡ lim.loops
-    → e ≡ lim.edges → h ≡ 2 * e → v ≡ lim.vertices → w ≡ 1 → m ≡ 3 → c ≡ 100000
-    → 0 ∷ s ∷ s ∷ s ∷ f ∷ f ∷ l ∷ l ∷ e ∷ h ∷ h ∷ v ∷ w ∷ m ∷ c ∷ [] ≡ largests lim
-largest_is lim s f l e h v w m c ps pf pl pe ph pv pw pm pc = rw (ph, ps, pf, pl, pe, pv, pw, pm, pc)
 
 -- one number in or out of range
 module _ (most : List ℕ) (k n : ℕ) where
@@ -70,26 +63,6 @@ ahead l i d h = rw (add-one i) (drop-cons l i d h)
 
 pub behind {ℓ} : {A : Type ℓ} (l : List A) (i : ℕ) → length l ≡ 8 → 8 ≤ i → drop i l ≡ []
 behind l i e h = let k : length l ≤ i = omega arith in drop_of_length-le l k
-
--- the ranges, as a turn begins, after a turn and at the end
-module _ (most ks ns : List ℕ) (i : ℕ) (p : length ks ≡ 8) (q : length ns ≡ 8) (whole : Bool)
-    (rest : in_ranges most (drop i ks) (drop i ns) ≡ whole) where
-  turn : i < 8
-      → pick (in_range most (get_or ks i 0) (get_or ns i 0)) (in_ranges most (drop (i + 1) ks) (drop (i + 1) ns)) false
-      ≡ whole
-  unfolding in_ranges
-  turn h = rw (ahead ks i 0 (omega arith), ahead ns i 0 (omega arith)) at rest
-
-  pub ranges_stop : i < 8 → (t : Bool) → t ≡ in_range most (get_or ks i 0) (get_or ns i 0) → t ≡ false → false ≡ whole
-  ranges_stop h t e f = rw (← e, f) at (turn h)
-
-  pub ranges_turn : i < 8 → (t : Bool) → t ≡ in_range most (get_or ks i 0) (get_or ns i 0) → t ≡ true
-      → in_ranges most (drop (i + 1) ks) (drop (i + 1) ns) ≡ whole
-  ranges_turn h t e f = rw (← e, f) at (turn h)
-
-  pub ranges_end : 8 ≤ i → true ≡ whole
-  unfolding in_ranges
-  ranges_end h = rw (behind ks i p h) at rest
 
 -- a list whose every place has the function of the kind and the operand there
 pub each_by : {A B : Type 0} (f : ℕ → A → B) (ks : List ℕ) (xs : List A) (ys : List B) (d : A) (e : B)

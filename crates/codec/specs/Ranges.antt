@@ -1,9 +1,9 @@
 -- Numbers in range: below the largest, and in every wider range.
-use Rattle.std.specs.Prelude.{◌≡◌, ℕ, zero, suc, ◌*◌, ◌≤◌, Bool, true, false, length, get_or, ltb, leb, eqb}
+use Rattle.std.specs.Prelude.{◌≡◌, ◌↔◌, ℕ, zero, suc, ◌*◌, ◌≤◌, ◌<◌, Bool, true, false, length, get_or, ltb, leb, eqb}
 use Rattle.std.proofs.Math.Path.{refl}
 use Rattle.std.proofs.Common.{sym, ap, ⊎_elim, arith, ltb-false, leb-true, eqb-true, le-leb, le-ltb}
 use mathlib.Core.List.{List, [], ◌∷◌, map}
-use Rattle.laws.specs.Bools.{ask, allb, le?}
+use Rattle.laws.specs.Bools.{true_T, T_true, same_T, ask, allb, le?}
 use Rattle.bounds.specs.Bounds.{most_halves, most_items}
 use Rattle.codec.specs.declared.Limits.{Limits}
 use Rattle.codec.specs.declared.operands.Pattern.{Pattern}
@@ -35,6 +35,31 @@ pub cons_ranges : (most : List ℕ) (k n : ℕ) (ks ns : List ℕ) → in_range 
     → in_ranges most (k ∷ ks) (n ∷ ns) ≡ true
 unfolding in_ranges
 cons_ranges most k n ks ns a b = rw a b
+
+-- all in range, place by place
+pub ranges_at : (most ks ns : List ℕ) → length ns ≡ length ks → in_ranges most ks ns ≡ true → (i : ℕ) → i < length ks
+    → in_range most (get_or ks i 0) (get_or ns i 0) ≡ true
+ranges_at most [] ns l e i h = absurd (omega arith)
+ranges_at most (k ∷ ks) [] l e i h = absurd (omega arith)
+ranges_at most (k ∷ ks) (n ∷ ns) l e zero h = (ranges_cons most k n ks ns e).0
+ranges_at most (k ∷ ks) (n ∷ ns) l e (suc i) h = ranges_at most ks ns (omega arith) (ranges_cons most k n ks ns e).1 i
+    (omega arith)
+
+-- and back
+ranges_all : (most ks ns : List ℕ) → length ns ≡ length ks
+    → ((i : ℕ) → i < length ks → in_range most (get_or ks i 0) (get_or ns i 0) ≡ true) → in_ranges most ks ns ≡ true
+unfolding in_ranges
+ranges_all most [] ns l h = refl
+ranges_all most (k ∷ ks) [] l h = refl
+ranges_all most (k ∷ ks) (n ∷ ns) l h =
+    cons_ranges most k n ks ns (h 0 (omega arith)) (ranges_all most ks ns (omega arith) (λ i d. h (suc i) (omega arith)))
+
+-- a test that is true just where each is in range
+pub ranges_by : (most ks ns : List ℕ) (r : Bool) → length ns ≡ length ks
+    → r ≡ true ↔ ((i : ℕ) → i < length ks → in_range most (get_or ks i 0) (get_or ns i 0) ≡ true)
+    → r ≡ in_ranges most ks ns
+ranges_by most ks ns r l h =
+    same_T (λ t. true_T (ranges_all most ks ns l (h.0 (T_true t)))) (λ t. true_T (h.1 (ranges_at most ks ns l (T_true t))))
 
 -- wider limits accept as much
 module _ (most wide : List ℕ) (h : (k : ℕ) → get_or most k 0 ≤ get_or wide k 0) where

@@ -46,11 +46,9 @@ fn operand_size(kind: u8, n: u32) -> usize
 pub fn operands_size(kinds: [u8; 8], numbers: [u32; 8]) -> usize
     ensures { (result ≡ length (operands_bytes kinds numbers)) × (result ≤ 24) }
 {
-    let mut size: usize = 0;
-    let mut i: usize = 0;
-    while i < 8 {
+    let mut size = 0;
+    for i in 0..8 {
         size += operand_size(kinds[i], numbers[i]);
-        i += 1;
     }
     size
 }
@@ -72,11 +70,9 @@ pub fn write_operands(out: &mut [u8], at: usize, kinds: [u8; 8], numbers: [u32; 
     requires { at + length (operands_bytes kinds numbers) ≤ length out.old }
     ensures { out.new ≡ sets out.old at (operands_bytes kinds numbers) }
 {
-    let mut i: usize = 0;
     let mut p = at;
-    while i < 8 {
+    for i in 0..8 {
         p = write_operand(out, p, kinds[i], numbers[i]);
-        i += 1;
     }
 }
 
@@ -93,10 +89,8 @@ pub fn put_operands_before(
     ensures value { result ≡ end - length (operands_bytes kinds (wires kinds args)) }
     ensures out_after { out.new ≡ sets out.old result (operands_bytes kinds (wires kinds args)) }
 {
-    let mut i = count;
     let mut p = end;
-    while i > 0 {
-        i -= 1;
+    for i in (0..count).rev() {
         p = write_before(out, p, operands::to_wire(kinds[i], args[i]));
     }
     p

@@ -3,9 +3,8 @@ ghost use Rattle.std.specs.Prelude.{◌≡◌, ℕ, ◌+◌, ◌*◌, ◌≤◌,
 ghost use Rattle.codec.specs.Operands.{pattern, largests, in_range, in_ranges, zig, zag, wire, unwire, wires};
 ghost use Rattle.codec.specs.Operands.{unwires, Small};
 
-use std::array;
-
 use crate::Limits;
+use std::array;
 
 // Kinds of operands. OLD must be in use, NEW must be free.
 pub const NONE: u8 = 0; // unused
@@ -45,35 +44,66 @@ pub struct Pattern {
     pub kinds: [u8; 8],
 }
 
-// The kinds of the operands, by the first operator that has them.
-const MVSF: [u8; 8] = [NEW_S, NEW_F, NEW_L, NEW_V, COORD, COORD, COORD, NONE];
+// The operands, by the first operator that has them.
+const MVSF: Pattern = Pattern {
+    count: 7,
+    kinds: [NEW_S, NEW_F, NEW_L, NEW_V, COORD, COORD, COORD, NONE],
+};
 
-const KVSF: [u8; 8] = [OLD_S, NONE, NONE, NONE, NONE, NONE, NONE, NONE];
+const KVSF: Pattern = Pattern {
+    count: 1,
+    kinds: [OLD_S, NONE, NONE, NONE, NONE, NONE, NONE, NONE],
+};
 
-const MEV: [u8; 8] = [OLD_L, MAY_H, NEW_E, NEW_V, WAY_1, COORD, COORD, COORD];
+const MEV: Pattern = Pattern {
+    count: 8,
+    kinds: [OLD_L, MAY_H, NEW_E, NEW_V, WAY_1, COORD, COORD, COORD],
+};
 
-const KEV: [u8; 8] = [OLD_H, NONE, NONE, NONE, NONE, NONE, NONE, NONE];
+const KEV: Pattern = Pattern {
+    count: 1,
+    kinds: [OLD_H, NONE, NONE, NONE, NONE, NONE, NONE, NONE],
+};
 
-const MEF: [u8; 8] = [OLD_L, MAY_H, MAY_H, NEW_E, NEW_F, NEW_L, WAY_3, NONE];
+const MEF: Pattern = Pattern {
+    count: 7,
+    kinds: [OLD_L, MAY_H, MAY_H, NEW_E, NEW_F, NEW_L, WAY_3, NONE],
+};
 
-const KEMR: [u8; 8] = [OLD_H, NEW_L, NONE, NONE, NONE, NONE, NONE, NONE];
+const KEMR: Pattern = Pattern {
+    count: 2,
+    kinds: [OLD_H, NEW_L, NONE, NONE, NONE, NONE, NONE, NONE],
+};
 
-const MEKR: [u8; 8] = [OLD_L, MAY_H, OLD_L, MAY_H, NEW_E, WAY_1, NONE, NONE];
+const MEKR: Pattern = Pattern {
+    count: 6,
+    kinds: [OLD_L, MAY_H, OLD_L, MAY_H, NEW_E, WAY_1, NONE, NONE],
+};
 
-const KFMRH: [u8; 8] = [OLD_F, OLD_F, NONE, NONE, NONE, NONE, NONE, NONE];
+const KFMRH: Pattern = Pattern {
+    count: 2,
+    kinds: [OLD_F, OLD_F, NONE, NONE, NONE, NONE, NONE, NONE],
+};
 
-const MFKRH: [u8; 8] = [OLD_L, NEW_F, MAY_S, NONE, NONE, NONE, NONE, NONE];
+const MFKRH: Pattern = Pattern {
+    count: 3,
+    kinds: [OLD_L, NEW_F, MAY_S, NONE, NONE, NONE, NONE, NONE],
+};
 
-const SEMV: [u8; 8] = [OLD_H, NEW_E, NEW_V, WAY_1, COORD, COORD, COORD, NONE];
+const SEMV: Pattern = Pattern {
+    count: 7,
+    kinds: [OLD_H, NEW_E, NEW_V, WAY_1, COORD, COORD, COORD, NONE],
+};
 
-const RMOV: [u8; 8] = [OLD_L, OLD_F, NONE, NONE, NONE, NONE, NONE, NONE];
+const RMOV: Pattern = Pattern {
+    count: 2,
+    kinds: [OLD_L, OLD_F, NONE, NONE, NONE, NONE, NONE, NONE],
+};
 
-// A pattern of these parts.
-fn made(count: u8, kinds: [u8; 8]) -> Pattern
-    ensures { result ≡ record { count = count; kinds = kinds } }
-{
-    Pattern { count, kinds }
-}
+const NO_CODE: Pattern = Pattern {
+    count: 0,
+    kinds: [NONE; 8],
+};
 
 // The last code.
 pub const LAST_CODE: u32 = 13;
@@ -83,25 +113,19 @@ pub fn pattern_of(code: u8) -> Pattern
     ensures { result ≡ pattern code }
 {
     match code {
-        1 => made(7, MVSF),
-        2 => made(1, KVSF),
-        3 => made(8, MEV),
-        4 | 6 | 12 => made(1, KEV),
-        5 => made(7, MEF),
-        7 => made(2, KEMR),
-        8 => made(6, MEKR),
-        9 => made(2, KFMRH),
-        10 => made(3, MFKRH),
-        11 => made(7, SEMV),
-        13 => made(2, RMOV),
-        _ => made(0, [NONE; 8]),
+        1 => MVSF,
+        2 => KVSF,
+        3 => MEV,
+        4 | 6 | 12 => KEV,
+        5 => MEF,
+        7 => KEMR,
+        8 => MEKR,
+        9 => KFMRH,
+        10 => MFKRH,
+        11 => SEMV,
+        13 => RMOV,
+        _ => NO_CODE,
     }
-}
-
-fn wide(x: u16) -> u32
-    ensures { (result ≡ x) × (result < 65536) }
-{
-    x as u32
 }
 
 // The least number of each kind, the kinds in order: 0 where 0 is allowed.
@@ -111,12 +135,12 @@ const LEAST: [u32; 15] = [0, 1, 1, 0, 1, 1, 1, 1, 1, 1, 0, 1, 0, 0, 0];
 pub fn largest(limits: Limits) -> [u32; 15]
     ensures { result ≡ largests limits }
 {
-    let s = wide(limits.solids);
-    let f = wide(limits.faces);
-    let l = wide(limits.loops);
-    let e = wide(limits.edges);
+    let s = u32::from(limits.solids);
+    let f = u32::from(limits.faces);
+    let l = u32::from(limits.loops);
+    let e = u32::from(limits.edges);
     let h = 2 * e;
-    let v = wide(limits.vertices);
+    let v = u32::from(limits.vertices);
     [0, s, s, s, f, f, l, l, e, h, h, v, 1, 3, 100000]
 }
 
@@ -125,14 +149,12 @@ pub fn in_range(most: &[u32; 15], kind: u8, n: u32) -> bool
     requires { length most.now ≡ 15 }
     ensures { result ≡ in_range most.now kind n }
 {
-    let k = kind as usize;
+    let k = usize::from(kind);
     if k < 15 {
-        if n < LEAST[k] {
-            return false;
-        }
-        return n <= most[k];
+        LEAST[k] <= n && n <= most[k]
+    } else {
+        n == 0
     }
-    n == 0
 }
 
 // Are all eight in range?
@@ -140,14 +162,10 @@ pub fn in_ranges(most: &[u32; 15], kinds: [u8; 8], numbers: [u32; 8]) -> bool
     requires { length most.now ≡ 15 }
     ensures { result ≡ in_ranges most.now kinds numbers }
 {
-    let mut i: usize = 0;
-    while i < 8 {
-        if !in_range(most, kinds[i], numbers[i]) {
-            return false;
-        }
-        i += 1;
-    }
-    true
+    kinds
+        .iter()
+        .zip(&numbers)
+        .all(|(&kind, &n)| in_range(most, kind, n))
 }
 
 // A coordinate as it travels: 2c, or -2c - 1 when negative.

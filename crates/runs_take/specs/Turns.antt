@@ -1,5 +1,5 @@
 -- The ways out of the code of the pass, one law each.
-use Rattle.std.specs.Prelude.{◌≡◌, ◌≢◌, Bool, true, false, List, [], ◌∷◌, ℕ, ◌+◌, ◌≤◌, ◌<◌, ℤ, get_or, take, drop, set, leb}
+use Rattle.std.specs.Prelude.{◌≡◌, ◌≢◌, Bool, true, false, List, ℕ, ◌+◌, ◌≤◌, ◌<◌, ℤ, get_or, take, drop, set, leb}
 use Rattle.std.specs.Prelude.{Some, None, Ok, Err}
 use Rattle.std.proofs.Math.ListN.{length}
 use Rattle.std.proofs.Common.{refl, sym, ap, drop_of_length-le, length-take-le}
@@ -14,19 +14,16 @@ use Rattle.refusals.specs.declared.Refusal.TheVariants.{ItemUsed, ConditionFails
 use Rattle.refusals.specs.declared.Refusal.TheVariants.{LogEnded, NotPlain, TextTooLong, LoneLoop}
 use Rattle.refusals.specs.Numbers.{number_of, refusal_in, unless}
 use Rattle.numbers.specs.Number.{read_number, on_num}
+use Rattle.numbers.specs.NumberTrip.{reads_small, number_found}
 use Rattle.codec.specs.Operands.{in_range, unwire}
-use Rattle.codec.specs.OperandBytes.{read_operand, read_operands}
 use Rattle.codec.specs.OperandLaws.{ahead}
-use Rattle.codec.specs.ReadLaws.{small_read}
 use Rattle.layout.specs.declared.shape.Shape.{Shape}
 use Rattle.euler.specs.Exec.{operator_by, condition}
 use Rattle.runs_take.specs.Take.{Scan, scan_is, joined, joined_by, scan, told, settled}
 
 -- a number that is read fits three groups
 pub number_small : (s : List ℕ) (at n next : ℕ) → read_number s at ≡ Some (n, next) → n < 2097152
-unfolding read_operands read_operand
-number_small s at n next e =
-    (small_read (1 ∷ []) s at (record { refusal = 0; next = next; numbers = n ∷ [] }) (rw e)).at 0
+number_small s at n next e = reads_small (number_found s at n next e).reads
 
 -- a refusal has a number
 pub refused_some : (e : Refusal) → number_of e ≢ 0

@@ -13,7 +13,7 @@ use Rattle.codec.specs.Operands.{row, rows, pattern, coordinate, leasts, largest
 use Rattle.codec.specs.Operands.{last_code, unwire, unwires}
 use Rattle.script.specs.Operator.{read_operator, operand_of}
 use Rattle.codec.specs.SignedLaws.{zig_zag}
-use Rattle.codec.specs.Ranges.{not_true, range_between, ranges_cons, eight}
+use Rattle.codec.specs.Ranges.{not_true, range_between, ranges_at, eight}
 use Rattle.codec.specs.OperandTrip.{operands_length}
 use Rattle.script.specs.Accepted.{accepted}
 
@@ -46,14 +46,6 @@ coordinate_range lim (negsuc n) =
     (le? (suc n) 50000))
 
 -- the operand at a place
-ranges_at : (most ks ns : List ℕ) → length ns ≡ length ks → in_ranges most ks ns ≡ true → (i : ℕ) → i < length ks
-    → in_range most (get_or ks i 0) (get_or ns i 0) ≡ true
-ranges_at most [] ns l e i h = absurd (omega arith)
-ranges_at most (k ∷ ks) [] l e i h = absurd (omega arith)
-ranges_at most (k ∷ ks) (n ∷ ns) l e zero h = (ranges_cons most k n ks ns e).0
-ranges_at most (k ∷ ks) (n ∷ ns) l e (suc i) h = ranges_at most ks ns (omega arith) (ranges_cons most k n ks ns e).1 i
-    (omega arith)
-
 unwires_at : (ks ns : List ℕ) → length ns ≡ length ks → (i : ℕ) → i < length ks → get_or (unwires ks ns) i (pos 0)
     ≡ unwire (get_or ks i 0) (get_or ns i 0)
 unwires_at [] ns l i h = absurd (omega arith)

@@ -1,7 +1,10 @@
 use mathlib.Core.Path.{◌≡◌, refl}
-use Prim.Native.Nat.{◌<◌}
+use Prim.Native.Nat.{◌<◌, ◌-◌}
 use native.Mathlib.Omega.{arith}
-use mir.Facts.{to_z-of_z}
+use lib.ListN.{get_or}
+use lib.IntN.{pos}
+use Rattle.std.proofs.Common.{rules}
+use Rattle.codec.specs.Operands.{wire}
 use Rattle.codec.specs.BeforeLaws.{filled_fits, last_none, last_fits, last_turn}
 use Rattle.codec.proofs.bytes.put_operands_before.Goals as goal
 
@@ -25,24 +28,17 @@ loop-i-init c = let f = c.requires.kinds_value in
 
 pub write_before-p-requires : goal.write_before-p-requires
 write_before-p-requires c = let v = c.loop-i.invariant in
-    let e = rw (to_z-of_z (record { sfits = c.to_wire-arg-1.given })) at c.to_wire.ensures in
+    let i = c.loop-i.i - 1 in
+    let e : c.to_wire.result ≡ wire (get_or c.args.kinds i 0) (get_or c.args.args i (pos 0)) = search rules in
     let h : 0 < c.loop-i.i = omega arith in
     let t = last_fits _ _ v.3 v.4 _ v.2 _ _ h v.0 e _ _ v.6 v.8 in
     (t.0, omega arith)
 
 pub loop-i-preserved : goal.loop-i-preserved
 loop-i-preserved c = let v = c.loop-i.invariant in
-    let a = c.to_wire-arg-1.given in
-    let e = rw (to_z-of_z (record { sfits = a })) at c.to_wire.ensures in
+    let i = c.loop-i.i - 1 in
+    let e : c.to_wire.result ≡ wire (get_or c.args.kinds i 0) (get_or c.args.args i (pos 0)) = search rules in
     let h : 0 < c.loop-i.i = omega arith in
     let w = c.write_before-p.ensures in
     let t = last_turn _ _ v.3 v.4 _ v.2 _ _ h v.0 e _ _ v.6 v.8 _ _ _ _ v.9 w.value w.out_after in
     (omega arith, v.1, v.2, v.3, v.4, omega arith, v.6, v.7, t.0, t.1)
-
-pub returns : goal.returns
-returns c = let v = c.loop-i.invariant in
-    let z : c.loop-i.i ≡ 0 = omega arith in
-    record {
-      value = rw z at v.8;
-      out_after = rw z at v.9;
-    }

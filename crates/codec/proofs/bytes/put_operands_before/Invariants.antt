@@ -14,6 +14,3 @@ invariant-loop-i l = (l.i ≤ l.count) × (l.count ≤ 8) × (filled l.count l.k
     × (l.end ≤ length l.initial.out)
     × (l.p ≡ l.end - length (operands_bytes (drop l.i l.kinds) (drop l.i (wires l.kinds l.args))))
     × (l.out ≡ sets l.initial.out l.p (operands_bytes (drop l.i l.kinds) (drop l.i (wires l.kinds l.args))))
-
-abbrev pub decreases-loop-i : goal.decreases-loop-i
-decreases-loop-i l = l.i

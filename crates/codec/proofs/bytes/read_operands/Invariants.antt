@@ -1,5 +1,4 @@
 use mathlib.Core.Path.{◌≡◌}
-use Prim.Native.Nat.{◌-◌, ◌≤◌}
 use lib.ListN.{length, take, drop}
 use Rattle.codec.specs.OperandBytes.{read_operands}
 use Rattle.codec.specs.ReadLaws.{front}

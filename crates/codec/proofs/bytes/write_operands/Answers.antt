@@ -1,39 +1,22 @@
-use mathlib.Core.Path.{refl}
 use native.Mathlib.Omega.{arith}
 use Rattle.codec.specs.WriteLaws.{size_next, write_turn, write_end}
 use Rattle.codec.proofs.bytes.write_operands.Goals as goal
 
-pub loop-i-init : goal.loop-i-init
-loop-i-init c = (
-  omega arith,
-  c.well_formed.1.1.0.1.0.1,
-  c.well_formed.1.1.1.0.1.0.1,
-  refl,
-  refl,
-  c.requires,
-  refl,
-)
-
 pub write_operand-p-requires : goal.write_operand-p-requires
 write_operand-p-requires c = let v = c.loop-i.invariant in
-    let e = size_next c.args.kinds c.args.numbers
-    c.loop-i.i v.1 v.2 c.loop-i-test.true in omega arith
+    let e = size_next c.args.kinds c.args.numbers c.loop-i.i v.0 v.1 c.loop-i-test.true in omega arith
 
 pub loop-i-preserved : goal.loop-i-preserved
 loop-i-preserved c = let v = c.loop-i.invariant in
-    let e = size_next c.args.kinds
-    c.args.numbers
-    c.loop-i.i v.1 v.2
-    c.loop-i-test.true in (
-      omega arith,
+    let e = size_next c.args.kinds c.args.numbers c.loop-i.i v.0 v.1 c.loop-i-test.true in (
+      v.0,
       v.1,
-      v.2,
       omega arith,
       omega arith,
-      v.5,
-      write_turn _ _ _ v.1 v.2 c.loop-i-test.true _ _ _ _ _ v.6
-          c.write_operand-p.ensures.out_after c.write_operand-p.ensures.value,
+      v.4,
+      write_turn _ _ _ v.0 v.1 c.loop-i-test.true _ _ _ _ _ v.5 c.write_operand-p.ensures.out_after
+          c.write_operand-p.ensures.value,
     )
 
 pub returns : goal.returns
-returns c = let v = c.loop-i.invariant in write_end _ _ _ v.1 v.2 c.loop-i-test.false _ _ _ v.6
+returns c = let v = c.loop-i.invariant in write_end _ _ _ v.0 v.1 (omega arith) _ _ _ v.5

@@ -1,4 +1,4 @@
-use mathlib.Core.Path.{refl, ◌∙◌}
+use mathlib.Core.Path.{refl}
 use mathlib.Core.Logic.{⊎_elim, inl, inr}
 use Rattle.codec.specs.Operands.{pattern, rows}
 use Rattle.codec.specs.OperandLaws.{by_row, pattern_none}
@@ -8,50 +8,48 @@ use Rattle.codec.proofs.operands.pattern_of.Goals as goal
 
 pub returns-in-1 : goal.returns-in-1
 unfolding pattern rows
-returns-in-1 c = by_row _ _ _ c.in-1.is refl _ c.made.ensures
+returns-in-1 c = by_row _ _ _ c.in-1.is refl
 
 pub returns-in-2 : goal.returns-in-2
 unfolding pattern rows
-returns-in-2 c = by_row _ _ _ c.in-2.is refl _ c.made-in-2.ensures
+returns-in-2 c = by_row _ _ _ c.in-2.is refl
 
 pub returns-in-3 : goal.returns-in-3
 unfolding pattern rows
-returns-in-3 c = by_row _ _ _ c.in-3.is refl _ c.made-in-3.ensures
+returns-in-3 c = by_row _ _ _ c.in-3.is refl
 
 pub returns-in-4 : goal.returns-in-4
 unfolding pattern rows
-returns-in-4 c = ⊎_elim
-    (λ e. by_row _ _ _ e refl _ c.made-in-4.ensures)
-    (⊎_elim (λ e. by_row _ _ _ e refl _ c.made-in-4.ensures) (λ e. by_row _ _ _ e refl _ c.made-in-4.ensures))
+returns-in-4 c = ⊎_elim (λ e. by_row _ _ _ e refl) (⊎_elim (λ e. by_row _ _ _ e refl) (λ e. by_row _ _ _ e refl))
     c.in-4.is
 
 pub returns-in-5 : goal.returns-in-5
 unfolding pattern rows
-returns-in-5 c = by_row _ _ _ c.in-5.is refl _ c.made-in-5.ensures
+returns-in-5 c = by_row _ _ _ c.in-5.is refl
 
 pub returns-in-7 : goal.returns-in-7
 unfolding pattern rows
-returns-in-7 c = by_row _ _ _ c.in-7.is refl _ c.made-in-7.ensures
+returns-in-7 c = by_row _ _ _ c.in-7.is refl
 
 pub returns-in-8 : goal.returns-in-8
 unfolding pattern rows
-returns-in-8 c = by_row _ _ _ c.in-8.is refl _ c.made-in-8.ensures
+returns-in-8 c = by_row _ _ _ c.in-8.is refl
 
 pub returns-in-9 : goal.returns-in-9
 unfolding pattern rows
-returns-in-9 c = by_row _ _ _ c.in-9.is refl _ c.made-in-9.ensures
+returns-in-9 c = by_row _ _ _ c.in-9.is refl
 
 pub returns-in-10 : goal.returns-in-10
 unfolding pattern rows
-returns-in-10 c = by_row _ _ _ c.in-10.is refl _ c.made-in-10.ensures
+returns-in-10 c = by_row _ _ _ c.in-10.is refl
 
 pub returns-in-11 : goal.returns-in-11
 unfolding pattern rows
-returns-in-11 c = by_row _ _ _ c.in-11.is refl _ c.made-in-11.ensures
+returns-in-11 c = by_row _ _ _ c.in-11.is refl
 
 pub returns-in-13 : goal.returns-in-13
 unfolding pattern rows
-returns-in-13 c = by_row _ _ _ c.in-13.is refl _ c.made-in-13.ensures
+returns-in-13 c = by_row _ _ _ c.in-13.is refl
 
 pub returns-in_default : goal.returns-in_default
 returns-in_default c = let r = c.in_default.in_default-own.rest in
@@ -66,8 +64,7 @@ returns-in_default c = let r = c.in_default.in_default-own.rest in
     let k3 = r.0.0.0.0.0.0.0.0.1 in
     let k2 = r.0.0.0.0.0.0.0.0.0.1 in
     let k1 = r.0.0.0.0.0.0.0.0.0.0.1 in
-    c.made-in_default.ensures
-    ∙ pattern_none _ ((
+    pattern_none _ ((
       (
         (((((((((((tt, k1), k2), k3), λ e. k4 (inl e)), k5), λ e. k4 (inr (inl e))), k7), k8), k9), k10), k11),
         λ e. k4 (inr (inr e)),
