@@ -1,14 +1,11 @@
--- The turns of the loops that mark half-edges and look for one that is not marked.
-use Rattle.std.specs.Prelude.{◌≡◌, ◌≢◌, Bool, not, List, length, get_or, set}
+-- The turns of the loops that mark half-edges.
+use Rattle.std.specs.Prelude.{◌≡◌, ◌≢◌, List, get_or, set}
 use Rattle.std.proofs.Common.{sym, ap, ◌∙◌}
-use Rattle.std.proofs.Math.Bool.{true, false}
-use Rattle.std.proofs.lemmas.Bool.{false≢true}
 use Prim.Native.Nat.{ℕ, zero, suc, ◌+◌, ◌-◌, ◌≤◌, ◌<◌}
 use Rattle.std.proofs.Math.Numerals.{add-one}
 use native.Mathlib.Omega.{arith}
 use Rattle.laws.specs.Bools.{eqb_same, eqb_other}
-use Rattle.laws.specs.Search.{all_to}
-use Rattle.laws.specs.Marks.{mark_from, mark_rep, mark_to, mark_stop, mark_on, mark_to_length}
+use Rattle.laws.specs.Marks.{mark_from, mark_rep, mark_to, mark_stop, mark_on}
 
 -- ---- one walk
 
@@ -52,30 +49,3 @@ module _ (f : ℕ → ℕ) (n : ℕ) (rep : ℕ → ℕ) (l : ℕ) (a₀ a : Lis
   -- the last label
   pub reps_out : (m : ℕ) → l ≤ m → m ≤ l → a ≡ mark_to f n rep m a₀
   reps_out m lo hi = so_far ∙ ap (λ i. mark_to f n rep i a₀) (omega arith)
-
-  -- marking keeps the number of marks
-  pub reps_long : (m : ℕ) → length a₀ ≡ m → length a ≡ m
-  reps_long m h = ap length so_far ∙ mark_to_length f n rep l a₀ ∙ h
-
--- ---- a test of all numbers from k down to 1
-
-module _ (p : ℕ → Bool) (whole : Bool) where
-  -- k passes: those below are left
-  pub all_turn : (k : ℕ) → all_to k p ≡ whole → 0 < k → (b : Bool) → b ≡ p k → not b ≡ false → all_to (k - 1) p ≡ whole
-  unfolding all_to
-  all_turn zero rest h b e t = absurd (omega arith)
-  all_turn (suc k) rest h true e t = let n : suc k - 1 ≡ k = omega arith in rw n (rw (← e) at rest)
-  all_turn (suc k) rest h false e t = absurd (false≢true (sym t))
-
-  -- k does not: the answer is no
-  pub all_fail : (k : ℕ) → all_to k p ≡ whole → 0 < k → (b : Bool) → b ≡ p k → not b ≡ true → false ≡ whole
-  unfolding all_to
-  all_fail zero rest h b e t = absurd (omega arith)
-  all_fail (suc k) rest h true e t = absurd (false≢true t)
-  all_fail (suc k) rest h false e t = rw (← e) at rest
-
-  -- none is left: the answer is yes
-  pub all_out : (k : ℕ) → all_to k p ≡ whole → k ≤ 0 → true ≡ whole
-  unfolding all_to
-  all_out zero rest h = rest
-  all_out (suc k) rest h = absurd (omega arith)

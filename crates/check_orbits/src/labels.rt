@@ -38,11 +38,9 @@ pub fn least_naming(links: &[u16], column: Column, least: &mut [u16; ITEM_PLACES
     requires { (column.count < 65536) × (least.old ≡ blank) }
     ensures { least.new ≡ least_naming (entry_of column links.now) column.count blank }
 {
-    let mut k = column.count;
-    while k > 0 {
+    for k in (1..=column.count).rev() {
         let v = cell(links, column.base, column.width, column.word, k);
         put_entry(least, v, k);
-        k -= 1;
     }
 }
 
@@ -51,11 +49,9 @@ pub fn tally_naming(links: &[u16], column: Column, counts: &mut [u16; ITEM_PLACE
     requires { (column.count < 65536) × (counts.old ≡ blank) }
     ensures { counts.new ≡ tally (entry_of column links.now) column.count blank }
 {
-    let mut k = column.count;
-    while k > 0 {
+    for k in (1..=column.count).rev() {
         let v = cell(links, column.base, column.width, column.word, k);
         bump(counts, v);
-        k -= 1;
     }
 }
 
@@ -64,10 +60,8 @@ pub fn loop_firsts(links: &[u16], sh: Shape, firsts: &mut [u16; ITEM_PLACES])
     requires { (sh.loops < 65536) × (firsts.old ≡ blank) }
     ensures { firsts.new ≡ copied (loop_first sh links.now) sh.loops blank }
 {
-    let mut l = sh.loops as usize;
-    while l > 0 {
+    for l in (1..=sh.loops as usize).rev() {
         let k = loop_first(links, sh, l);
         put_entry(firsts, l, k);
-        l -= 1;
     }
 }

@@ -15,7 +15,7 @@ use Rattle.layout.specs.Column.{entry_of, column_at}
 use Rattle.layout.specs.Layout.{face_solid, loop_first, loop_isolated, start_of}
 use Rattle.check_orbits.specs.Labels.{blank, down, least_naming, tally, copied}
 use Rattle.check_orbits.specs.LabelsLaws.{least_at, tally_at}
-use Rattle.check_orbits.specs.Cycles.{one_cycle_each}
+use Rattle.check_orbits.specs.Cycles.{step_of, one_cycle_by, one_cycle_each}
 use Rattle.check_orbits.specs.OrbitsLaws.{LoopFacts, loops_one_cycle, vertices_one_cycle}
 use Rattle.check_shells.specs.Shells.{shells_whole}
 use Rattle.check_shells.specs.RuleLaws.{whole_is}
@@ -87,9 +87,10 @@ module _ (sh : Shape) (x : List ℕ) where
 
   -- the walks are those of the array
   pub cycles_walked : (starters : List ℕ) (r : Bool) → starters ≡ least_naming (start_of sh x) (2 * sh.edges) blank
-      → r ≡ one_cycle_each sh x true starters sh.vertices
+      → r ≡ one_cycle_by sh x (step_of sh x true) starters sh.vertices
       → r ≡ one_cycle_each sh x true (least_naming (start_of sh x) (2 * sh.edges) blank) sh.vertices
-  cycles_walked starters r es er = er ∙ ap (λ l. one_cycle_each sh x true l sh.vertices) es
+  unfolding one_cycle_each
+  cycles_walked starters r es er = er ∙ ap (λ l. one_cycle_by sh x (step_of sh x true) l sh.vertices) es
 
 -- ---- the rules
 
@@ -145,12 +146,12 @@ module _ (sh : Shape) (x : List ℕ) (p : List ℤ) where
 
       pub rule4_is : not (a && b) ≡ false → (firsts : List ℕ) (r : Bool)
           → firsts ≡ copied (loop_first sh x) sh.loops blank
-          → r ≡ one_cycle_each sh x false firsts sh.loops → r ≡ rule4 sh x
-      unfolding rule4
+          → r ≡ one_cycle_by sh x (step_of sh x false) firsts sh.loops → r ≡ rule4 sh x
+      unfolding rule4 one_cycle_each
       rule4_is n firsts r ef er =
           go_on a b (all_to (2 * sh.edges) (half_links sh x)) (all_to sh.loops (first_names sh x))
           (all_to (2 * sh.edges) (half_in_loop sh x)) r ea eb n
-          (er ∙ ap (λ l. one_cycle_each sh x false l sh.loops) ef
+          (er ∙ ap (λ l. one_cycle_by sh x (step_of sh x false) l sh.loops) ef
           ∙ loops_one_cycle sh x (links_hold n) lower.small.edges lower.small.loops ∙ met_loops sh x)
 
     pub rule5_is : rule4 sh x ≡ true → (a r : Bool) → a ≡ all_to sh.vertices (vertex_either sh x)

@@ -18,6 +18,8 @@ use check_orbits::cycles::one_cycle_each;
 use check_orbits::labels::{least_naming, loop_firsts, tally_naming};
 use check_shells::faces::shells_whole;
 use layout::column::{isolated_of_loops, solids_of_faces, starts_of_halves};
+use layout::columns::next_of;
+use layout::mates::mate_of;
 use layout::shape::Shape;
 use refusals::{Rule, ensure};
 use searching::all_pass;
@@ -69,7 +71,13 @@ fn rule_4(links: &[u16], points: &[i32], sh: Shape) -> bool
     }
     let mut firsts = [0u16; ITEM_PLACES];
     loop_firsts(links, sh, &mut firsts);
-    one_cycle_each(links, sh, false, &firsts, sh.loops as usize)
+    one_cycle_each(
+        links,
+        sh,
+        |k| next_of(links, sh, k),
+        &firsts,
+        sh.loops as usize,
+    )
 }
 
 // Each vertex in use has 1 plus the number of half-edges that start there, and is isolated in one loop or starts some.
@@ -96,7 +104,13 @@ fn vertex_cycles(links: &[u16], sh: Shape) -> bool
 {
     let mut starters = [0u16; ITEM_PLACES];
     least_naming(links, starts_of_halves(sh), &mut starters);
-    one_cycle_each(links, sh, true, &starters, sh.vertices as usize)
+    one_cycle_each(
+        links,
+        sh,
+        |k| next_of(links, sh, mate_of(k)),
+        &starters,
+        sh.vertices as usize,
+    )
 }
 
 // A vertex's word counts the half-edges that start there, it is isolated in one loop or starts some, and those that

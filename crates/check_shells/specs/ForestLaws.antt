@@ -1,24 +1,14 @@
 -- What each step of the code does to the parents.
-use Rattle.std.specs.Prelude.{◌≡◌, refl, ◌≢◌, ℕ, ◌+◌, ◌≤◌, ◌<◌, List, length, get_or, set}
-use Rattle.std.proofs.Common.{sym, ap, ◌∙◌, ⊎_elim, arith, length-set, get_or-set_same, get_or-set_other, lt-ltb}
-use Rattle.std.proofs.Common.{le-ltb}
+use Rattle.std.specs.Prelude.{◌≡◌, refl, ◌≢◌, ℕ, ◌≤◌, ◌<◌, List, length, get_or, set}
+use Rattle.std.proofs.Common.{sym, ap, ◌∙◌, ⊎_elim, arith, lt-ltb, le-ltb}
 use Rattle.std.proofs.Math.ListN.{get_or-eq_default}
-use Rattle.laws.specs.Bools.{split, le?}
+use Rattle.laws.specs.Bools.{le?}
 use Rattle.laws.specs.UnionFind.{Down, root, hang, root_end, root_step, SameRoots, halve_path, same_roots_then, United}
 use Rattle.laws.specs.UnionFind.{unite_united, united_between}
 use Rattle.bounds.specs.Bounds.{item_places, most_items}
 use Rattle.check_shells.specs.Forest.{Forest, Apart, Climb}
 
 -- ---- each its own parent
-
--- one more
-pub apart_more : {p : List ℕ} {n : ℕ} → Apart p n → n < item_places → Apart (set p n n) (n + 1)
-apart_more {p} {n} a h = record {
-  long = length-set p n n ∙ a.long;
-  own = λ i l. split i n
-      (λ e. rw (e, get_or-set_same p n n 0 (omega (arith, a.long))))
-      (λ f. get_or-set_other p n i n 0 f ∙ a.own i (omega arith));
-}
 
 -- all are, so parents do not rise
 pub apart_forest : {p : List ℕ} {n : ℕ} → Apart p n → item_places ≤ n → Forest p

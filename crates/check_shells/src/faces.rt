@@ -7,7 +7,7 @@ ghost use Rattle.check_shells.specs.Forest.{Forest};
 ghost use Rattle.check_shells.specs.Shells.{side_as, within, joins, faces_linked_as, face_whole, shells_whole};
 ghost use Rattle.check_shells.specs.Shells.{one_root, Shells, Joined};
 
-use crate::forest::{find_root, separate, unite, wide};
+use crate::forest::{find_root, separate, unite};
 use bounds::ITEM_PLACES;
 use layout::columns::{face_solid, loop_face, loop_of, start_of};
 use layout::shape::Shape;
@@ -76,11 +76,8 @@ pub fn link_faces(links: &[u16], sh: Shape, l: usize, t: usize, parent: &mut [u1
     ensures { Shells sh links.now (side_as sh links.now l t) parent.new }
 {
     separate(parent);
-    let n = sh.edges as usize;
-    let mut k: usize = 0;
-    while k < n {
+    for k in 0..sh.edges as usize {
         link_edge(links, sh, l, t, k, parent);
-        k += 1;
     }
 }
 
@@ -118,7 +115,7 @@ fn leader_of(leaders: &[u16; ITEM_PLACES], s: usize) -> usize
     ensures { result ≡ get_or leaders.now s 0 }
 {
     if s < ITEM_PLACES {
-        return wide(leaders[s]);
+        return usize::from(leaders[s]);
     }
     0
 }
@@ -152,14 +149,10 @@ pub fn shells_whole(links: &[u16], sh: Shape, leaders: &[u16; ITEM_PLACES]) -> b
 {
     let mut parent = [0u16; ITEM_PLACES];
     link_faces(links, sh, 0, 0, &mut parent);
-    let n = sh.faces as usize;
-    let mut k: usize = 0;
-    while k < n {
-        let whole = face_whole(links, sh, leaders, k + 1, &mut parent);
-        if !whole {
+    for k in 0..sh.faces as usize {
+        if !face_whole(links, sh, leaders, k + 1, &mut parent) {
             return false;
         }
-        k += 1;
     }
     true
 }

@@ -7,22 +7,13 @@ ghost use Rattle.check_shells.specs.Forest.{Forest, Apart};
 
 use bounds::ITEM_PLACES;
 
-// A word as an index.
-pub fn wide(x: u16) -> usize
-    ensures { result ≡ x }
-{
-    x as usize
-}
-
 // Each number becomes its own parent.
 pub fn separate(parent: &mut [u16; ITEM_PLACES])
     requires { length parent.old ≡ item_places }
     ensures { Apart parent.new item_places }
 {
-    let mut i: usize = 0;
-    while i < ITEM_PLACES {
-        parent[i] = i as u16;
-        i += 1;
+    for (i, p) in parent.iter_mut().enumerate() {
+        *p = i as u16;
     }
 }
 
@@ -34,13 +25,14 @@ pub fn find_root(parent: &mut [u16; ITEM_PLACES], x: usize) -> usize
     ensures { (result ≡ root parent.old x) × (result ≤ x)
         × SameRoots parent.old parent.new }
 {
+    // Kept: the walk ends at a root, and counts no index.
     let mut k = x;
-    let mut p = wide(parent[k]);
+    let mut p = usize::from(parent[k]);
     while p != k {
         let grand = parent[p];
         parent[k] = grand;
-        k = wide(grand);
-        p = wide(parent[k]);
+        k = usize::from(grand);
+        p = usize::from(parent[k]);
     }
     k
 }

@@ -1,6 +1,7 @@
 -- The table of document 01 as plain lists: links and points. What each field of `Fields` is called, and where the
 -- records begin.
 use Rattle.std.specs.Prelude.{ℕ, zero, suc, ◌+◌, ◌*◌, List, get_or}
+use Rattle.layout.specs.declared.shape.Capacities.{Capacities}
 use Rattle.layout.specs.declared.shape.Shape.{Shape}
 use Rattle.layout.specs.Fields.{SolidUsed, Solid, Outer, Face, First, Isolated}
 use Rattle.layout.specs.Fields.{Start, Loop, Next, Prev, VertexUsed, column, put}
@@ -51,7 +52,17 @@ length_of sh = sh.vertex0 + words (width_of vertex_kind) sh.vertices
 abbrev pub links_length : ℕ → ℕ → ℕ → ℕ → ℕ → ℕ
 links_length s f l e v = length_of (shape_from s f l e v)
 
--- the shape that the first five words say
+-- the capacities that the first five words say
+abbrev pub capacities_of : List ℕ → Capacities
+capacities_of x = record {
+  solids = get_or x 0 0;
+  faces = get_or x 1 0;
+  loops = get_or x 2 0;
+  edges = get_or x 3 0;
+  vertices = get_or x 4 0;
+}
+
+-- the shape that they say
 abbrev pub shape_of : List ℕ → Shape
 shape_of x = shape_from (get_or x 0 0) (get_or x 1 0) (get_or x 2 0) (get_or x 3 0) (get_or x 4 0)
 

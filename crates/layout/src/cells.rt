@@ -3,18 +3,12 @@ ghost use Rattle.std.specs.Prelude.{◌≡◌, ℕ, ◌+◌, ◌*◌, ◌≤◌,
 ghost use Rattle.laws.specs.Columns.{col, store};
 ghost use Rattle.layout.specs.Fields.{kind};
 
-fn wide(x: u16) -> usize
-    ensures { (result ≡ x) × (result < 65536) }
-{
-    x as usize
-}
-
 // The word at i, and 0 past the end.
 pub fn word(links: &[u16], i: usize) -> usize
     ensures { (result ≡ get_or links.now i 0) × (result < 65536) }
 {
     if i < links.len() {
-        return wide(links[i]);
+        return links[i] as usize;
     }
     0
 }

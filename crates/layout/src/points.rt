@@ -34,6 +34,5 @@ pub fn is_zero(points: &[i32], v: usize, i: usize) -> bool
     requires { (v ≤ 65536) × (i < point_width) }
     ensures { result ≡ is_zero points.now v i }
 {
-    let c = coordinate(points, v, i);
-    (0 <= c) & (c <= 0)
+    coordinate(points, v, i) == 0
 }

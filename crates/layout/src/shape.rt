@@ -1,6 +1,6 @@
 // How many items of each kind a table has, and where the records of each kind begin.
-ghost use Rattle.std.specs.Prelude.{◌≡◌, ℕ, ◌+◌, ◌*◌, ◌≤◌, ◌<◌};
-ghost use Rattle.layout.specs.Layout.{shape_from, length_of, shape_of};
+ghost use Rattle.std.specs.Prelude.{◌≡◌};
+ghost use Rattle.layout.specs.Layout.{capacities_of, shape_from, length_of, shape_of};
 
 use crate::cells::word;
 use crate::fields::{FACE_WIDTH, HALF_WIDTH, HEAD, LOOP_WIDTH, SOLID_WIDTH, VERTEX_WIDTH};
@@ -18,16 +18,38 @@ pub struct Shape {
     pub vertex0: u32,
 }
 
-// The shape of a table of these capacities.
-pub fn shape_from(s: usize, f: usize, l: usize, e: usize, v: usize) -> Shape
-    requires { (s < 65536) × (f < 65536) × (l < 65536) × (e < 65536) × (v < 65536) }
-    ensures { result ≡ shape_from s f l e v }
+// How many items of each kind a table has room for.
+#[derive(Clone, Copy)]
+pub struct Capacities {
+    pub solids: u16,
+    pub faces: u16,
+    pub loops: u16,
+    pub edges: u16,
+    pub vertices: u16,
+}
+
+// The capacities that a table's first five words say.
+pub fn capacities_of(links: &[u16]) -> Capacities
+    ensures { result ≡ capacities_of links.now }
 {
-    let solids = s as u32;
-    let faces = f as u32;
-    let loops = l as u32;
-    let edges = e as u32;
-    let vertices = v as u32;
+    Capacities {
+        solids: word(links, 0) as u16,
+        faces: word(links, 1) as u16,
+        loops: word(links, 2) as u16,
+        edges: word(links, 3) as u16,
+        vertices: word(links, 4) as u16,
+    }
+}
+
+// The shape of a table of these capacities.
+pub fn shape_from(c: Capacities) -> Shape
+    ensures { result ≡ shape_from c.solids c.faces c.loops c.edges c.vertices }
+{
+    let solids = c.solids as u32;
+    let faces = c.faces as u32;
+    let loops = c.loops as u32;
+    let edges = c.edges as u32;
+    let vertices = c.vertices as u32;
     let face0 = HEAD + SOLID_WIDTH * solids;
     let loop0 = face0 + FACE_WIDTH * faces;
     let half0 = loop0 + LOOP_WIDTH * loops;
@@ -56,10 +78,5 @@ pub fn links_length(sh: Shape) -> usize
 pub fn shape_of(links: &[u16]) -> Shape
     ensures { result ≡ shape_of links.now }
 {
-    let s = word(links, 0);
-    let f = word(links, 1);
-    let l = word(links, 2);
-    let e = word(links, 3);
-    let v = word(links, 4);
-    shape_from(s, f, l, e, v)
+    shape_from(capacities_of(links))
 }

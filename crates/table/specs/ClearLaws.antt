@@ -1,16 +1,11 @@
 -- The capacities of a zeroed list, and a cleared table.
-use Rattle.std.specs.Prelude.{◌≡◌, true, List, ℕ, suc, ◌-◌, ℤ, pos, length, set, replicate}
+use Rattle.std.specs.Prelude.{◌≡◌, true, List, ℕ, suc, ◌-◌, ℤ, pos, length, replicate}
 use Rattle.std.proofs.Common.{ap, arith}
 use Rattle.layout.specs.Fields.{head}
 use Rattle.layout.specs.Layout.{links_length}
 use Rattle.table.specs.Sizes.{sizes_fit}
 use Rattle.table.specs.SizesLaws.{sizes_are}
 use Rattle.table.specs.Clear.{empty_links, with_capacities, cleared, clear_of}
-
--- the five capacities stored one after the other
-pub capacities_put : (x : List ℕ) (s f l e v : ℕ) {x1 x2 x3 x4 x5 : List ℕ} → x1 ≡ set x 0 s → x2 ≡ set x1 1 f
-    → x3 ≡ set x2 2 l → x4 ≡ set x3 3 e → x5 ≡ set x4 4 v → x5 ≡ with_capacities x s f l e v
-capacities_put x s f l e v e1 e2 e3 e4 e5 = rw (e5, e4, e3, e2, e1)
 
 -- zeros with the capacities in front are the empty links
 pub capacities_first : (s f l e v : ℕ) → with_capacities (replicate (links_length s f l e v) 0) s f l e v

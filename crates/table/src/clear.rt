@@ -1,9 +1,10 @@
 // Clearing a table: five capacities, and nothing in use.
-ghost use Rattle.std.specs.Prelude.{◌≡◌, ℕ, ◌<◌};
+ghost use Rattle.std.specs.Prelude.{◌≡◌};
 ghost use Rattle.table.specs.Clear.{cleared, clear_of, with_capacities};
 
 use crate::sizes::sizes_fit;
 use layout::cells::put;
+use layout::shape::Capacities;
 use refusals::Refusal;
 
 #[repr(C)]
@@ -13,15 +14,14 @@ pub struct ClearAnswer {
 }
 
 // The five capacities in the first five words.
-fn put_capacities(links: &mut [u16], s: usize, f: usize, l: usize, e: usize, v: usize)
-    requires { (s < 65536) × (f < 65536) × (l < 65536) × (e < 65536) × (v < 65536) }
-    ensures { links.new ≡ with_capacities links.old s f l e v }
+fn put_capacities(links: &mut [u16], c: Capacities)
+    ensures { links.new ≡ with_capacities links.old c.solids c.faces c.loops c.edges c.vertices }
 {
-    put(links, 0, s);
-    put(links, 1, f);
-    put(links, 2, l);
-    put(links, 3, e);
-    put(links, 4, v);
+    put(links, 0, c.solids as usize);
+    put(links, 1, c.faces as usize);
+    put(links, 2, c.loops as usize);
+    put(links, 3, c.edges as usize);
+    put(links, 4, c.vertices as usize);
 }
 
 // The table of these capacities with nothing in use. Refusal 1 for a capacity that is not 1 to 4,096 or a slice that is
@@ -38,18 +38,20 @@ pub fn clear(
     ensures { cleared result.refusal links.new points.new
         ≡ clear_of links.old points.old s f l e v }
 {
-    let cs = s as usize;
-    let cf = f as usize;
-    let cl = l as usize;
-    let ce = e as usize;
-    let cv = v as usize;
-    if !sizes_fit(links.len(), points.len(), cs, cf, cl, ce, cv) {
+    let capacities = Capacities {
+        solids: s,
+        faces: f,
+        loops: l,
+        edges: e,
+        vertices: v,
+    };
+    if !sizes_fit(links.len(), points.len(), capacities) {
         return ClearAnswer {
             refusal: Refusal::Memory.number(),
         };
     }
     links.fill(0);
-    put_capacities(links, cs, cf, cl, ce, cv);
+    put_capacities(links, capacities);
     points.fill(0);
     ClearAnswer { refusal: 0 }
 }

@@ -1,52 +1,34 @@
 // Refusal 1: a capacity that is not 1 to 4,096, or a slice that is not exactly as long as the capacities say.
-ghost use Rattle.std.specs.Prelude.{◌≡◌, ℕ, ◌<◌};
+ghost use Rattle.std.specs.Prelude.{◌≡◌};
 ghost use Rattle.table.specs.Sizes.{capacity, sizes_fit, table_fits};
 
 use bounds::MOST_ITEMS;
-use layout::cells::word;
 use layout::points::POINT_WIDTH;
-use layout::shape::{links_length, shape_from};
+use layout::shape::{Capacities, capacities_of, links_length, shape_from};
 
-fn is_capacity(n: usize) -> bool
+// n is 1 to 4,096.
+fn is_capacity(n: u16) -> bool
     ensures { result ≡ capacity n }
 {
-    if n == 0 {
-        return false;
-    }
-    n <= MOST_ITEMS
+    (1 <= n) & (n as usize <= MOST_ITEMS)
 }
 
 // So many words and coordinates are the links and points of a table of these capacities.
-pub fn sizes_fit(
-    words: usize,
-    coordinates: usize,
-    s: usize,
-    f: usize,
-    l: usize,
-    e: usize,
-    v: usize,
-) -> bool
-    requires { (s < 65536) × (f < 65536) × (l < 65536) × (e < 65536) × (v < 65536) }
-    ensures { result ≡ sizes_fit words coordinates s f l e v }
+pub fn sizes_fit(words: usize, coordinates: usize, c: Capacities) -> bool
+    ensures { result ≡ sizes_fit words coordinates c.solids c.faces c.loops c.edges c.vertices }
 {
-    let long = links_length(shape_from(s, f, l, e, v));
-    if words != long {
-        return false;
-    }
-    if coordinates != POINT_WIDTH * v {
-        return false;
-    }
-    is_capacity(s) & is_capacity(f) & is_capacity(l) & is_capacity(e) & is_capacity(v)
+    is_capacity(c.solids)
+        & is_capacity(c.faces)
+        & is_capacity(c.loops)
+        & is_capacity(c.edges)
+        & is_capacity(c.vertices)
+        & (words == links_length(shape_from(c)))
+        & (coordinates == POINT_WIDTH * c.vertices as usize)
 }
 
 // The two slices fit the capacities that the first five words say.
 pub fn table_fits(links: &[u16], points: &[i32]) -> bool
     ensures { result ≡ table_fits links.now points.now }
 {
-    let s = word(links, 0);
-    let f = word(links, 1);
-    let l = word(links, 2);
-    let e = word(links, 3);
-    let v = word(links, 4);
-    sizes_fit(links.len(), points.len(), s, f, l, e, v)
+    sizes_fit(links.len(), points.len(), capacities_of(links))
 }

@@ -1,12 +1,10 @@
-use mathlib.Core.Path.{◌≡◌}
-use Prim.Native.Nat.{◌-◌, ◌*◌, ◌≤◌}
+use Rattle.std.proofs.Common.{◌≡◌, ℕ, ◌+◌, ◌-◌, ◌≤◌, length}
 use Rattle.laws.specs.Marks.{mark_to}
-use Rattle.check_orbits.specs.Cycles.{step_of, entry_of}
+use Rattle.bounds.specs.Bounds.{half_places}
+use Rattle.check_orbits.specs.Cycles.{Follows, entry_of}
 use Rattle.check_orbits.proofs.cycles.mark_all.Given as goal
 
 abbrev pub invariant-loop-l : goal.invariant-loop-l
-invariant-loop-l l = (l.l ≤ l.labels)
-    × (l.marks ≡ mark_to (step_of l.sh l.links l.around) (2 * l.sh.edges) (entry_of l.reps) l.l l.initial.marks)
-
-abbrev pub decreases-loop-l : goal.decreases-loop-l
-decreases-loop-l l = l.labels - l.l
+invariant-loop-l g l = (length l.marks ≡ half_places) × (l.l ≤ l.labels + 1)
+    × ((f : ℕ → ℕ) → Follows (goal.F-post g l.step) f
+    → l.marks ≡ mark_to f l.fuel (entry_of l.reps) (l.l - 1) l.initial.marks)

@@ -1,15 +1,10 @@
-use mathlib.Core.Path.{◌≡◌}
-use Prim.Native.Nat.{◌<◌}
-use lib.ListN.{length}
+use Rattle.std.proofs.Common.{◌≡◌, ℕ, ◌<◌, ◌-◌, length}
 use Rattle.laws.specs.Marks.{mark_from}
 use Rattle.bounds.specs.Bounds.{half_places}
-use Rattle.check_orbits.specs.Cycles.{step_of}
+use Rattle.check_orbits.specs.Cycles.{Follows}
 use Rattle.check_orbits.proofs.cycles.mark_from.Given as goal
 
-abbrev pub invariant-loop-left : goal.invariant-loop-left
-invariant-loop-left l = (l.k < 65536) × (length l.marks ≡ half_places)
-    × (mark_from (step_of l.sh l.links l.around) l.left l.k l.marks
-    ≡ mark_from (step_of l.sh l.links l.around) l.fuel l.from l.initial.marks)
-
-abbrev pub decreases-loop-left : goal.decreases-loop-left
-decreases-loop-left l = l.left
+abbrev pub invariant-loop : goal.invariant-loop
+invariant-loop g l = (l.k < 65536) × (length l.marks ≡ half_places)
+    × ((f : ℕ → ℕ) → Follows (goal.F-post g l.step) f
+    → mark_from f (l.fuel - l.counter) l.k l.marks ≡ mark_from f l.fuel l.from l.initial.marks)

@@ -1,6 +1,4 @@
-use mathlib.Core.Path.{ap}
-use Prim.Native.Nat.{◌+◌}
-use native.Mathlib.Omega.{arith}
+use Rattle.std.proofs.Common.{ap, arith, ◌+◌}
 use Rattle.layout.specs.Column.{entry_of}
 use Rattle.check_orbits.specs.Labels.{tally}
 use Rattle.check_orbits.specs.LabelsLaws.{tally_turn, down_out, long_set, blank_long, blank_most}
@@ -10,7 +8,6 @@ use Rattle.check_orbits.proofs.labels.tally_naming.Goals as goal
 pub loop-k-init : goal.loop-k-init
 loop-k-init c = let a = c.args in
     let e = c.requires.1 in (
-      omega arith,
       blank_long _ e,
       ap (tally (entry_of a.column a.links.now) a.column.count) e,
       (0, omega arith, blank_most _ e),
@@ -18,18 +15,17 @@ loop-k-init c = let a = c.args in
 
 pub bump-requires : goal.bump-requires
 bump-requires c = (
-  c.loop-k.invariant.1,
-  omega (arith, c.loop-k.invariant.3.2.at c.cell-v.result),
+  c.loop-k.invariant.0,
+  omega (arith, c.loop-k.invariant.2.2.at c.cell-v.result),
 )
 
 pub loop-k-preserved : goal.loop-k-preserved
 loop-k-preserved c = let inv = c.loop-k.invariant in
     let e = c.bump.ensures in (
-      omega arith,
-      long_set c.loop-k.counts _ _ _ _ inv.1 e,
-      tally_turn _ _ _ _ _ _ inv.2 (omega arith) c.cell-v.ensures.0 e,
-      (inv.3.0 + 1, omega (arith, inv.3.1), most_bump _ _ _ _ inv.3.2 e),
+      long_set c.loop-k.counts _ _ _ _ inv.0 e,
+      tally_turn _ _ _ _ _ _ inv.1 (omega arith) c.cell-v.ensures.0 e,
+      (inv.2.0 + 1, omega (arith, inv.2.1), most_bump _ _ _ _ inv.2.2 e),
     )
 
 pub returns : goal.returns
-returns c = down_out _ _ _ _ c.loop-k.invariant.2 (omega arith)
+returns c = down_out _ _ _ _ c.loop-k.invariant.1 (omega arith)

@@ -1,7 +1,6 @@
 use mathlib.Core.Path.{◌∙◌}
 use mir.Facts.{to_z-of_z}
 use Rattle.layout.specs.PointsLaws.{no_vertex, no_coordinate, coordinate_at}
-use borrow.Author.Rules.{rules}
 use Rattle.layout.proofs.points.coordinate.Goals as goal
 
 pub returns-then-v-eq0 : goal.returns-then-v-eq0
