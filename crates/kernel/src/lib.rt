@@ -40,10 +40,7 @@ pub extern "C" fn zoghvari_clear(
     ensures { Clears links.old points.old log redo session.old s f l e v
         (record { answer = result; session = session.new }) links.new points.new }
 {
-    let held = *session;
-    let r = sessions_entry::clear(links, points, log, redo, held, s, f, l, e, v);
-    *session = r.session;
-    r.answer
+    sessions_entry::clear(links, points, log, redo, *session, s, f, l, e, v).leave_in(session)
 }
 
 // Whether a table is sound: refusal 1, or 2 with the lowest broken rule, or 0.
@@ -96,10 +93,7 @@ pub extern "C" fn zoghvari_run(
         script.now (record { answer = result; session = session.new }) links.new
         points.new log.new }
 {
-    let held = *session;
-    let r = sessions_entry::run(links, points, log, redo, held, script);
-    *session = r.session;
-    r.answer
+    sessions_entry::run(links, points, log, redo, *session, script).leave_in(session)
 }
 
 // Undoes the last n operators by the log's live part, and writes the inverse of each into the redo log below its start;
@@ -118,10 +112,7 @@ pub extern "C" fn zoghvari_undo(
         session.old n (record { answer = result; session = session.new }) links.new
         points.new redo.new }
 {
-    let held = *session;
-    let r = sessions_entry::undo(links, points, log, redo, held, n);
-    *session = r.session;
-    r.answer
+    sessions_entry::undo(links, points, log, redo, *session, n).leave_in(session)
 }
 
 // Redoes the last n operators that were undone, by the redo log's live part, each with its inverse in the log as in a
@@ -140,10 +131,7 @@ pub extern "C" fn zoghvari_redo(
         session.old n (record { answer = result; session = session.new }) links.new
         points.new log.new }
 {
-    let held = *session;
-    let r = sessions_entry::redo(links, points, log, redo, held, n);
-    *session = r.session;
-    r.answer
+    sessions_entry::redo(links, points, log, redo, *session, n).leave_in(session)
 }
 
 // Takes a sound table down to nothing (document 01: the take-down), each operator with its inverse in the log below its
@@ -163,10 +151,7 @@ pub extern "C" fn zoghvari_invert(
         (record { answer = result; session = session.new }) links.new points.new
         log.new }
 {
-    let held = *session;
-    let r = sessions_entry::invert(links, points, log, redo, held);
-    *session = r.session;
-    r.answer
+    sessions_entry::invert(links, points, log, redo, *session).leave_in(session)
 }
 
 // Writes solid s of a sound table at the front of `out` as Wavefront OBJ text, each loop backwards: a loop that is

@@ -1,27 +1,26 @@
 // The way into a run and into a move of operators, and the ranges that the table's operands have.
 ghost use Rattle.std.specs.Prelude.{◌≡◌};
+ghost use Rattle.refusals.specs.Numbers.{refusal_in, rule_in};
 ghost use Rattle.codec.specs.Operands.{largests};
 ghost use Rattle.euler.specs.Exec.{limits};
 ghost use Rattle.layout.specs.Small.{Small};
+ghost use Rattle.table.specs.Check.{answer};
 ghost use Rattle.runs.specs.Run.{state, entry};
 
 use codec::Limits;
 use codec::operands::largest;
 use layout::shape::Shape;
-use table::check::{CheckAnswer, check};
+use refusals::{Refusal, ensure};
+use table::check::checked;
 
-// May operators be carried out, with their inverses in this log? 1 for a start beyond the log, else what the table's
-// check answers. (Undo and redo test the start in the other log, from which they read, before that.)
-pub fn enter(links: &[u16], points: &[i32], log: &[u8], start: usize) -> CheckAnswer
-    ensures { result ≡ entry (state links.now points.now log.now start) }
+// May operators be carried out, with their inverses in this log? Not from a start beyond the log, nor on a table that
+// does not pass the check. (Undo and redo test the start in the other log, from which they read, before that.)
+#[tactic(auto, unfolding(crate::specs::Run::entry))]
+pub fn enter(links: &[u16], points: &[i32], log: &[u8], start: usize) -> Result<(), Refusal>
+    ensures { answer (refusal_in result) (rule_in result) ≡ entry (state links.now points.now log.now start) }
 {
-    if start > log.len() {
-        return CheckAnswer {
-            refusal: 1,
-            rule: 0,
-        };
-    }
-    check(links, points)
+    ensure(start <= log.len(), Refusal::Memory)?;
+    checked(links, points)
 }
 
 // A table's capacities as limits.

@@ -7,20 +7,19 @@ ghost use Rattle.std.specs.Prelude.{◌≡◌};
 ghost use Rattle.runs.specs.Run.{state, leaves};
 ghost use Rattle.runs.specs.Move.{due_refusal, move_of};
 
+use refusals::Refusal;
 use runs::answers::{MoveAnswer, RunAnswer};
 use runs_run::run_part;
 
+// Kept: a number, as the run's answer has it, which is that of C.
 // The refusal of a run by which n operators were due: 11 where it did fewer and was not refused.
 fn due_refusal(n: usize, r: RunAnswer) -> u8
     ensures { result ≡ due_refusal n r }
 {
-    if r.refusal != 0 {
-        return r.refusal;
+    if r.refusal == 0 && r.done < n {
+        return Refusal::LogEnded.number();
     }
-    if r.done < n {
-        return 11;
-    }
-    0
+    r.refusal
 }
 
 // n operators of the source's live part, run with their inverses in the destination, on a table that may be any.
@@ -39,7 +38,7 @@ pub fn move_operators(
 {
     if from > source.len() {
         return MoveAnswer {
-            refusal: 1,
+            refusal: Refusal::Memory.number(),
             rule: 0,
             done: 0,
             from,

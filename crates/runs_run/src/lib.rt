@@ -18,6 +18,19 @@ use runs::answers::RunAnswer;
 use runs::enter::{enter, ranges_of};
 use runs_steps::steps::run_step;
 
+// A run that stopped so, let in: no rule is broken.
+fn ran(refusal: u8, done: usize, used: usize, start: usize) -> RunAnswer
+    ensures { result ≡ record { refusal = refusal; rule = 0; done = done; used = used; start = start } }
+{
+    RunAnswer {
+        refusal,
+        rule: 0,
+        done,
+        used,
+        start,
+    }
+}
+
 // At most n operators of the script from a place on.
 fn run_some(
     links: &mut [u16],
@@ -40,31 +53,22 @@ fn run_some(
     let mut args = [0i32; 8];
     let mut at = from;
     let mut low = start;
-    let mut done: usize = 0;
-    while done < n && at < script.len() {
-        let s = run_step(
+    for done in 0..n {
+        if at >= script.len() {
+            return ran(0, done, at, low);
+        }
+        let stepped = run_step(
             links, points, log, counts, sh, low, script, at, most, &mut args,
         );
-        if s.refusal != 0 {
-            return RunAnswer {
-                refusal: s.refusal,
-                rule: 0,
-                done,
-                used: at,
-                start: s.start,
-            };
+        match stepped {
+            Ok(step) => {
+                at = step.next;
+                low = step.start;
+            }
+            Err(e) => return ran(e.refusal.number(), done, at, low),
         }
-        at = s.next;
-        low = s.start;
-        done += 1;
     }
-    RunAnswer {
-        refusal: 0,
-        rule: 0,
-        done,
-        used: at,
-        start: low,
-    }
+    ran(0, n, at, low)
 }
 
 // At most n operators of a script or log from a place on, on a table that may be any.
@@ -81,14 +85,10 @@ pub fn run_part(
         ≡ part_of (state links.old points.old log.old start)
         script.now from n }
 {
-    let entered = enter(links, points, log, start);
-    if entered.refusal != 0 {
+    if let Err(refusal) = enter(links, points, log, start) {
         return RunAnswer {
-            refusal: entered.refusal,
-            rule: entered.rule,
-            done: 0,
-            used: from,
-            start,
+            rule: refusal.rule(),
+            ..ran(refusal.number(), 0, from, start)
         };
     }
     let sh = shape_of(links);

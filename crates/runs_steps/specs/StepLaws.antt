@@ -1,6 +1,6 @@
 -- The ways through one operator of a run, over plain variables: what stands at a place of the script is refused; there
 -- is no room for its inverse in front of the log's start; it is carried out.
-use Rattle.std.specs.Prelude.{◌≡◌, refl, ◌≢◌, Bool, true, false, List, ℕ, ◌-◌, ◌≤◌, leb, ℤ, length}
+use Rattle.std.specs.Prelude.{◌≡◌, refl, ◌≢◌, Bool, true, false, List, ℕ, ◌-◌, ◌≤◌, leb, ℤ, length, Result, Ok, Err}
 use Rattle.std.proofs.Common.{sym, ap, ◌∙◌, arith, le-leb, leb-true}
 use Rattle.laws.specs.Bools.{split, eqb_same, eqb_other}
 use Rattle.script.specs.declared.Operator.{Operator}
@@ -10,7 +10,19 @@ use Rattle.layout.specs.declared.shape.Shape.{Shape}
 use Rattle.euler.specs.Exec.{operator_by, admit_of, links_after, points_after, inverse}
 use Rattle.runs.specs.Run.{state, read_at, admit_read, refusal_at, inverse_bytes, stepped}
 use Rattle.runs.specs.Run.{carry_refusal, carry_of, step_is, step_of}
+use Rattle.runs_take.specs.declared.take.Refused.{Refused}
+use Rattle.runs_take.specs.Take.{place_in}
+use Rattle.runs_steps.specs.declared.steps.Step.{Step}
 use Rattle.promises.specs.Reading.{taken, in_range_lem}
+
+-- the place behind the operator that was read, done or refused
+abbrev pub step_next : Result Step Refused → ℕ
+step_next r = place_in (λ (s : Step). s.next) r
+
+-- where the log's live part begins after a step from `start`: a refused one leaves it
+abbrev pub step_start : ℕ → Result Step Refused → ℕ
+step_start start (Ok s) = s.start
+step_start start (Err e) = start
 
 -- how many operands its record says makes no difference to the inverse
 pub inverse_by : (sh : Shape) (x : List ℕ) (p : List ℤ) (code count : ℕ) (args : List ℤ)

@@ -5,20 +5,21 @@ ghost use Rattle.codec.specs.Operands.{largests};
 ghost use Rattle.script.specs.Operator.{operator_bytes};
 ghost use Rattle.euler.specs.Exec.{limits};
 ghost use Rattle.runs.specs.Run.{state, step_is, step_of};
+ghost use Rattle.runs_take.specs.Take.{refused_in};
 ghost use Rattle.runs_steps.specs.Standing.{Standing};
+ghost use Rattle.runs_steps.specs.StepLaws.{step_next, step_start};
 
 use bounds::ITEM_PLACES;
 use euler_counted::counted::perform_counted;
 use euler_inverses::inverses::inverse_of;
 use layout::shape::Shape;
-use runs_take::take::take;
+use refusals::Refusal;
+use runs_take::take::{Refused, Taken, take};
 use script::{Operator, operator_size, put_before};
 
-// What a step of a run answers: its refusal, the place behind the operator that was read, and where the log's live part
-// begins now.
+// A step of a run that is done: the place behind its operator, and where the log's live part begins now.
 #[derive(Clone, Copy)]
 pub struct Step {
-    pub refusal: u8,
     pub next: usize,
     pub start: usize,
 }
@@ -47,43 +48,29 @@ pub fn run_step(
     at: usize,
     most: &[u32; 15],
     args: &mut [i32; 8],
-) -> Step
+) -> Result<Step, Refused>
     requires standing { Standing sh links.old points.old counts.old }
     requires most_value { (most.now ≡ largests (limits sh)) × (start ≤ length log.old) }
-    ensures start_after { step_is result.refusal result.next (state links.new points.new log.new result.start)
+    ensures start_after { step_is (refused_in result) (step_next result)
+        (state links.new points.new log.new (step_start start result))
         ≡ step_of sh (state links.old points.old log.old start)
         script.now at }
-    ensures standing_2 { (Standing sh links.new points.new counts.new) × (result.start ≤ start) }
+    ensures standing_2 { (Standing sh links.new points.new counts.new) × (step_start start result ≤ start) }
 {
-    let taken = take(links, counts, sh, script, at, most, args);
-    let next = taken.next;
-    let code = taken.code;
-    if taken.refusal != 0 {
-        return Step {
-            refusal: taken.refusal,
-            next,
-            start,
-        };
-    }
-    let operands = *args;
+    let Taken { code, next } = take(links, counts, sh, script, at, most, args)?;
     let op = Operator {
         code,
         count: 0,
-        args: operands,
+        args: *args,
     };
     let inverse = inverse_of(links, points, sh, op);
     if !fits_before(inverse, start) {
-        return Step {
-            refusal: 9,
+        return Err(Refused {
+            refusal: Refusal::LogFull,
             next,
-            start,
-        };
+        });
     }
     perform_counted(links, points, counts, sh, code, args);
     let from = put_before(inverse, log, start);
-    Step {
-        refusal: 0,
-        next,
-        start: from,
-    }
+    Ok(Step { next, start: from })
 }

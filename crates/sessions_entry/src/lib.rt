@@ -108,18 +108,12 @@ pub fn undo(
         session n result links.new points.new redo.new }
 {
     let moved = move_operators(links, points, log, session.log, redo, session.redo, n);
-    let answer = UndoAnswer {
-        refusal: moved.refusal,
-        rule: moved.rule,
-        undone: moved.done,
-        start: moved.from,
-    };
     let left = Session {
         log: moved.from,
         redo: moved.to,
     };
     Left {
-        answer,
+        answer: UndoAnswer::from(moved),
         session: left,
     }
 }
@@ -137,17 +131,12 @@ pub fn redo(
         session n result links.new points.new log.new }
 {
     let moved = move_operators(links, points, redo, session.redo, log, session.log, n);
-    let answer = RedoAnswer {
-        refusal: moved.refusal,
-        rule: moved.rule,
-        done: moved.done,
-    };
     let left = Session {
         log: moved.to,
         redo: moved.from,
     };
     Left {
-        answer,
+        answer: RedoAnswer::from(moved),
         session: left,
     }
 }

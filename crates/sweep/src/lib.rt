@@ -29,8 +29,5 @@ pub extern "C" fn zoghvari_sweep(
         face dx dy dz (record { answer = result; session = session.new }) links.new points.new
         log.new }
 {
-    let held = *session;
-    let r = sweep_call::sweep(links, points, log, redo, held, face, dx, dy, dz);
-    *session = r.session;
-    r.answer
+    sweep_call::sweep(links, points, log, redo, *session, face, dx, dy, dz).leave_in(session)
 }

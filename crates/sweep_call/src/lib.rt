@@ -58,9 +58,8 @@ pub fn sweep(
     ensures { Sweeps links.old points.old log.old redo session face dx dy dz result
         links.new points.new log.new }
 {
-    let entered = enter(links, points, log, session.log);
-    if entered.refusal != 0 {
-        return not_done(entered.refusal, entered.rule, session);
+    if let Err(refusal) = enter(links, points, log, session.log) {
+        return not_done(refusal.number(), refusal.rule(), session);
     }
     let mut script = [0u8; SCRIPT_BYTES];
     let planned = plan(
