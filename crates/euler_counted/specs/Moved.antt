@@ -4,7 +4,7 @@ use Rattle.std.proofs.Math.Path.{refl}
 use Rattle.std.proofs.Common.{sym, ap, ◌∙◌, inl, ⊎_elim}
 use Rattle.laws.specs.Bools.{split}
 use Rattle.layout.specs.declared.shape.Shape.{Shape}
-use Rattle.layout.specs.Layout.{loop_face, face_outer, loop_isolated}
+use Rattle.layout.specs.Layout.{loop_face}
 use Rattle.layout.specs.Items.{face_in}
 use Rattle.euler.specs.ByCode.{by_code, by_none}
 use Rattle.euler.specs.Surgery.{item_in}
@@ -15,11 +15,6 @@ use Rattle.euler_effects.specs.Chosen.{marks_kvsf}
 use Rattle.euler_effects.specs.Performed.{links_steps}
 use Rattle.euler_points.specs.Chosen.{killed_kvsf, points_by_lem, points_cleared}
 use Rattle.euler_counts.specs.Counts.{moved_loops, moved_loop, lowered, raised, counts_after}
-
--- the only loop, by the face found first
-pub loop_found : (sh : Shape) (x : List ℕ) (s : ℕ) {f r : ℕ} → f ≡ face_in sh x s → r ≡ face_outer sh x f
-    → r ≡ only_loop sh x s
-loop_found sh x s ef er = er ∙ ap (face_outer sh x) ef
 
 -- the loop that code k moves with these operands
 abbrev pub moved_at : ℕ → Shape → List ℕ → List ℤ → ℕ
@@ -59,15 +54,6 @@ solid_killed sh x s = kvsf_links sh x s (face_in sh x s) (only_loop sh x s) (onl
 abbrev pub solid_uncounted : Shape → List ℕ → List ℕ → ℕ → List ℕ
 solid_uncounted sh x c s =
     raised (lowered c (loop_face sh x (only_loop sh x s))) (loop_face sh (solid_killed sh x s) (only_loop sh x s))
-
--- kvsf by the face, loop and vertex found first: links, point and numbers
-module _ (sh : Shape) (x : List ℕ) (s : ℕ) (f l v : ℕ) (ef : f ≡ face_in sh x s) (el : l ≡ face_outer sh x f)
-    (ev : v ≡ loop_isolated sh x l) where
-  pub kill_steps : (p : List ℤ) (c : List ℕ) {o g : ℕ} {y d r : List ℕ} {q : List ℤ} → o ≡ loop_face sh x l
-      → y ≡ kvsf_links sh x s f l v → q ≡ clear_point p v → d ≡ lowered c o → g ≡ loop_face sh y l → r ≡ raised d g
-      → (y ≡ solid_killed sh x s) × (q ≡ clear_point p (only_vertex sh x s)) × (r ≡ solid_uncounted sh x c s)
-  kill_steps p c eo ey eq ed eg er =
-      (rw (ey, ev, el, ef), rw (eq, ev, el, ef), rw (er, ed, eg, ey, eo, ev, el, ef))
 
 -- they are those that the definitions say
 module _ (sh : Shape) (x : List ℕ) (code : ℕ) (args : List ℤ) (s : ℕ) (e : code ≡ 2) (a : s ≡ item_in args 0) where

@@ -2,7 +2,7 @@
 ghost use Rattle.std.specs.Prelude.{◌≡◌, ℕ, ◌≤◌, ◌<◌};
 ghost use Rattle.bounds.specs.Bounds.{most_halves};
 ghost use Rattle.layout.specs.Small.{Small};
-ghost use Rattle.euler.specs.Exec.{operator_by, links_after, points_after, only_loop, only_vertex, clear_point};
+ghost use Rattle.euler.specs.Exec.{operator_by, links_after, points_after, only_vertex, clear_point};
 ghost use Rattle.euler_counts.specs.Counts.{moved_loop, counts_after};
 ghost use Rattle.euler_counted.specs.Moved.{solid_killed, solid_uncounted};
 
@@ -10,19 +10,10 @@ use bounds::ITEM_PLACES;
 use euler::records::item_at;
 use euler_counts::counts::{lower_count, raise_count};
 use euler_effects::effects::perform;
-use euler_lone::lone::{face_in, kvsf_links};
+use euler_lone::lone::{kvsf_links, lone_solid};
 use euler_points::points::clear_point;
-use layout::columns::{face_outer, loop_face, loop_isolated, loop_of};
+use layout::columns::{face_outer, loop_face, loop_of};
 use layout::shape::Shape;
-
-// The loop of solid s that kvsf kills.
-fn only_loop(links: &[u16], sh: Shape, s: usize) -> usize
-    requires { Small sh }
-    ensures { (result ≡ only_loop sh links.now s) × (result < 65536) }
-{
-    let f = face_in(links, sh, s);
-    face_outer(links, sh, f)
-}
 
 // The loop whose face the operator changes; 0 for none.
 pub fn moved_loop(links: &[u16], sh: Shape, code: u8, args: &[i32; 8]) -> usize
@@ -30,7 +21,7 @@ pub fn moved_loop(links: &[u16], sh: Shape, code: u8, args: &[i32; 8]) -> usize
     ensures { (result ≡ moved_loop sh links.now (operator_by code args.now)) × (result < 65536) }
 {
     match code {
-        2 => only_loop(links, sh, item_at(args, 0)),
+        2 => lone_solid(links, sh, item_at(args, 0)).outer,
         6 => loop_of(links, sh, item_at(args, 0)),
         9 => face_outer(links, sh, item_at(args, 1)),
         1 | 8 => item_at(args, 2),
@@ -54,14 +45,12 @@ fn kill_counted(
         × (points.new ≡ clear_point points.old (only_vertex sh links.old s))
         × (counts.new ≡ solid_uncounted sh links.old counts.old s) }
 {
-    let f = face_in(links, sh, s);
-    let l = face_outer(links, sh, f);
-    let v = loop_isolated(links, sh, l);
-    let old = loop_face(links, sh, l);
-    kvsf_links(links, sh, s, f, l, v);
-    clear_point(points, v);
+    let t = lone_solid(links, sh, s);
+    let old = loop_face(links, sh, t.outer);
+    kvsf_links(links, sh, t);
+    clear_point(points, t.vertex);
     lower_count(counts, old);
-    raise_count(counts, loop_face(links, sh, l));
+    raise_count(counts, loop_face(links, sh, t.outer));
 }
 
 // Any operator: the loop that it moves leaves one face's number and joins another's.

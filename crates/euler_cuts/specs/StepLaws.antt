@@ -1,17 +1,15 @@
 -- What each function of this crate computes step by step is what the operator's definition says: one premise for each
 -- call.
-use Rattle.std.specs.Prelude.{◌≡◌, ℕ, ◌+◌, ◌≤◌, Bool, true, false, not, ◌&&◌, List, eqb}
-use Rattle.std.proofs.Common.{arith}
+use Rattle.std.specs.Prelude.{◌≡◌, ℕ, ◌+◌, not, ◌&&◌, List, eqb}
 use Rattle.laws.specs.Bools.{pick}
 use Rattle.script.specs.declared.Operator.{Operator}
 use Rattle.script.specs.Operator.{blank_of, with_number}
 use Rattle.layout.specs.declared.shape.Shape.{Shape}
-use Rattle.layout.specs.Layout.{loop_face, loop_first, face_solid, prev_of, side}
+use Rattle.layout.specs.Layout.{loop_face, loop_first, face_solid, prev_of}
 use Rattle.layout.specs.Mate.{mate, edge_of}
 use Rattle.euler.specs.declared.records.Half.{Half}
 use Rattle.euler.specs.Surgery.{way_of, corner_vertex, put_face, put_loop, edge_in, edge_out, relabel_run, lower, renew}
-use Rattle.euler.specs.Queries.{loops_in}
-use Rattle.euler.specs.EdgeOperators.{a_alone, b_alone, mef_links, kef_test, kef_links, kef_inverse}
+use Rattle.euler.specs.EdgeOperators.{a_alone, b_alone, mef_links, kef_links, kef_inverse}
 use Rattle.euler_edges.specs.Parts.{IsHalf, with_three, renew_sides}
 use Rattle.euler_cuts.specs.Parts.{mef_in, rest_of, kef_out}
 
@@ -33,12 +31,6 @@ pub mef_steps : (sh : Shape) (x : List ℕ) (l h1 h2 a f l2 w : ℕ) {b g s from
 unfolding mef_links mef_in renew_sides
 mef_steps sh x l h1 h2 a f l2 w eb eg es ef er eo el e1 e2 e3 e4 e5 =
     rw (e5, e4, e3, e2, e1, el, eo, er, ef, es, eg, eb)
-
-pub kef_tests : (sh : Shape) (x : List ℕ) (k : ℕ) {m f g n : ℕ}
-    → m ≡ mate k → f ≡ side sh x k → g ≡ side sh x m → n ≡ loops_in sh x f
-    → (eqb n 1 && not (eqb g f)) ≡ kef_test sh x k
-unfolding kef_test
-kef_tests sh x k em ef eg en = rw (en, eg, ef, em)
 
 pub kef_edge_steps : (sh : Shape) (x : List ℕ) (k : ℕ) (a b : Half) {m p n q o : ℕ} {x1 : List ℕ}
     → m ≡ mate k
@@ -78,11 +70,6 @@ kef_steps sh x k em ha hb ef er eg eh el e1 e2 e3 e4 e5 =
       hb.prev,
       em,
     )
-
--- the way of a face's inverse is 3 at most
-pub two_at_most : (t : Bool) (d : ℕ) → d ≡ pick t 2 0 → d ≤ 2
-two_at_most true d e = omega arith
-two_at_most false d e = omega arith
 
 pub kef_undone : (sh : Shape) (x : List ℕ) (k : ℕ) {m f h1 h2 t d e : ℕ} {a b : Half} {o1 o2 o3 r : Operator}
     → m ≡ mate k → IsHalf sh x k a → IsHalf sh x m b → f ≡ loop_face sh x a.owner

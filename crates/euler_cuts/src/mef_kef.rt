@@ -6,7 +6,7 @@ ghost use Rattle.euler.specs.EdgeOperators.{mef_test, mef_links, mef_inverse, ke
 ghost use Rattle.euler_cuts.specs.Parts.{mef_in, rest_of, kef_out};
 
 use bounds::ITEM_PLACES;
-use euler::records::{Half, choose, corner_vertex, is_corner, way_of};
+use euler::records::{Half, corner_vertex, is_corner, way_of};
 use euler_counts::counts::loops_kept;
 use euler_edges::parts::{half_at, renew_sides, with_three};
 use euler_surgery::records::{put_face, put_loop};
@@ -22,9 +22,7 @@ pub fn mef_fits(links: &[u16], sh: Shape, l: usize, h1: usize, h2: usize, w: usi
     requires { (l ≤ 65536) × (h1 ≤ 65536) × (h2 ≤ 65536) }
     ensures { result ≡ mef_test sh links.now l h1 h2 w }
 {
-    let first = is_corner(links, sh, l, h1);
-    let second = is_corner(links, sh, l, h2);
-    first & second & (!(2 <= w) | ((h1 == h2) & (h1 != 0)))
+    is_corner(links, sh, l, h1) && is_corner(links, sh, l, h2) && (w < 2 || (h1 == h2 && h1 != 0))
 }
 
 // Half-edge a from corner (l, h1) to (l, h2), its mate in l2. The run between the corners still names l.
@@ -49,17 +47,19 @@ fn mef_edge(
     let q = prev_of(links, sh, h2);
     let a_alone = (h1 == h2) & ((h1 == 0) | (2 <= w));
     let b_alone = (h1 == h2) & !(2 <= w);
+    let (next, prev) = if a_alone { (a, a) } else { (h2, p) };
     let there = Half {
         start: u,
         owner: l,
-        next: choose(a_alone, a, h2),
-        prev: choose(a_alone, a, p),
+        next,
+        prev,
     };
+    let (next, prev) = if b_alone { (b, b) } else { (h1, q) };
     let back = Half {
         start: v,
         owner: l2,
-        next: choose(b_alone, b, h1),
-        prev: choose(b_alone, b, q),
+        next,
+        prev,
     };
     edge_in(links, sh, a, there, back);
 }
@@ -83,7 +83,7 @@ pub fn mef_links(
     let b = mate_of(a);
     let old = loop_face(links, sh, l);
     let s = face_solid(links, sh, old);
-    let from = choose((h1 == h2) & !(2 <= w), b, h1);
+    let from = if h1 == h2 && w < 2 { b } else { h1 };
     let first = loop_first(links, sh, l);
     let low = lower(first, lower(a, b));
     mef_edge(links, sh, l, h1, h2, a, l2, w);
@@ -108,11 +108,8 @@ pub fn kef_fits(links: &[u16], counts: &[u16; ITEM_PLACES], sh: Shape, k: usize)
     requires counted { Counted sh links.now counts.now }
     ensures { result ≡ kef_test sh links.now k }
 {
-    let m = mate_of(k);
     let here = side_of(links, sh, k);
-    let there = side_of(links, sh, m);
-    let loops = loops_kept(links, counts, sh, here);
-    (loops == 1) & (there != here)
+    loops_kept(links, counts, sh, here) == 1 && side_of(links, sh, mate_of(k)) != here
 }
 
 // What follows k, or where k is alone what follows m, or 0 where both are; n is next of k, and o next of m.
@@ -120,7 +117,13 @@ fn rest_of(k: usize, n: usize, m: usize, o: usize) -> usize
     requires { (n < 65536) × (o < 65536) }
     ensures { (result ≡ rest_of k n m o) × (result < 65536) }
 {
-    choose(n == k, choose(o == m, 0, o), n)
+    if n != k {
+        n
+    } else if o != m {
+        o
+    } else {
+        0
+    }
 }
 
 // The edge of k killed, where k has the words a and its mate b: the rest of k's loop goes between the neighbours of the
@@ -131,10 +134,16 @@ fn kef_edge(links: &mut [u16], sh: Shape, k: usize, a: Half, b: Half)
     ensures { links.new ≡ kef_out sh links.old k a b }
 {
     let m = mate_of(k);
-    let p = choose(b.next == m, a.prev, b.prev);
-    let n = choose(a.next == k, b.next, a.next);
-    let q = choose(a.next == k, b.prev, a.prev);
-    let o = choose(b.next == m, a.next, b.next);
+    let (p, o) = if b.next == m {
+        (a.prev, a.next)
+    } else {
+        (b.prev, b.next)
+    };
+    let (n, q) = if a.next == k {
+        (b.next, b.prev)
+    } else {
+        (a.next, a.prev)
+    };
     edge_out(links, sh, k, p, n, q, o);
 }
 
@@ -170,7 +179,8 @@ pub fn kef_inverse(links: &[u16], sh: Shape, k: usize) -> Operator
     let f = loop_face(links, sh, a.owner);
     let h1 = rest_of(k, a.next, m, b.next);
     let h2 = rest_of(m, b.next, k, a.next);
-    let w = way_of(m) + choose((b.next == m) & (a.next != k), 2, 0);
+    let whole = b.next == m && a.next != k;
+    let w = way_of(m) + if whole { 2 } else { 0 };
     let e = edge_of(k);
     let op = with_three(blank(5, 7), 0, b.owner, h1, h2);
     with_number(with_three(op, 3, e, f, a.owner), 6, w)

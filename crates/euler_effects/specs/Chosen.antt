@@ -6,7 +6,7 @@ use Rattle.std.proofs.Common.{ap, ◌∙◌, subst}
 use Rattle.codec.specs.Operands.{last_code}
 use Rattle.codec.specs.OperandLaws.{NoneOf}
 use Rattle.layout.specs.declared.shape.Shape.{Shape}
-use Rattle.layout.specs.Layout.{next_of, face_outer, loop_isolated}
+use Rattle.layout.specs.Layout.{next_of}
 use Rattle.layout.specs.Items.{face_in}
 use Rattle.euler.specs.ByCode.{by_code, by_none}
 use Rattle.euler.specs.Surgery.{item_in, half_by}
@@ -28,12 +28,6 @@ pub links_of : (sh : Shape) (x : List ℕ) (args : List ℤ) (k : ℕ)
     → r ≡ g sh x a b c d e f h → a ≡ i → b ≡ j → c ≡ l → d ≡ m → e ≡ n → f ≡ o → h ≡ q
     → g sh x i j l m n o q ≡ links_at k sh x args → r ≡ links_at k sh x args
 links_of sh x args k g er ea eb ec ed ee ef eh z = rw (er, ea, eb, ec, ed, ee, ef, eh) z
-
--- kvsf by the face, loop and vertex that its solid has
-pub kvsf_found : (sh : Shape) (x : List ℕ) (s : ℕ) {f l v : ℕ} {r : List ℕ} → f ≡ face_in sh x s
-    → l ≡ face_outer sh x f → v ≡ loop_isolated sh x l → r ≡ kvsf_links sh x s f l v
-    → r ≡ kvsf_links sh x s (face_in sh x s) (only_loop sh x s) (only_vertex sh x s)
-kvsf_found sh x s ef el ev er = rw (er, ev, el, ef)
 
 -- jekv by the half-edge that comes next
 pub jekv_found : (sh : Shape) (x : List ℕ) (k : ℕ) {n : ℕ} {r : List ℕ} → n ≡ next_of sh x k

@@ -14,13 +14,13 @@ use euler::records::{half_by, item_at};
 use euler_bridges::kemr_mekr::{kemr_links, mekr_links};
 use euler_cuts::mef_kef::{kef_links, mef_links};
 use euler_holes::holes::{kfmrh_links, mfkrh_links};
-use euler_lone::lone::{face_in, kvsf_links, mvsf_links};
+use euler_lone::lone::{LoneSolid, kvsf_links, lone_solid, mvsf_links};
 use euler_points::points::{apply_points, killed_vertex};
 use euler_rings::rings::rmov_links;
 use euler_splits::semv_jekv::{jekv_links, semv_links};
 use euler_spurs::mev_kev::{kev_links, mev_links};
 use euler_valence::valence::{leaving, lower_both, raise_starts};
-use layout::columns::{face_outer, loop_isolated, next_of};
+use layout::columns::next_of;
 use layout::shape::Shape;
 
 // kvsf: the solid's only face, that face's loop and the loop's vertex are found first.
@@ -30,10 +30,8 @@ fn kill_solid(links: &mut [u16], sh: Shape, s: usize)
         ≡ kvsf_links sh links.old s (face_in sh links.old s) (only_loop sh links.old s)
         (only_vertex sh links.old s) }
 {
-    let f = face_in(links, sh, s);
-    let l = face_outer(links, sh, f);
-    let v = loop_isolated(links, sh, l);
-    kvsf_links(links, sh, s, f, l, v);
+    let t = lone_solid(links, sh, s);
+    kvsf_links(links, sh, t);
 }
 
 // jekv: the half-edge after k is found first.
@@ -50,11 +48,13 @@ fn join_edges(links: &mut [u16], sh: Shape, k: usize)
 fn make_solid(links: &mut [u16], sh: Shape, args: &[i32; 8])
     ensures { links.new ≡ links_at 1 sh links.old args.now }
 {
-    let a0 = item_at(args, 0);
-    let a1 = item_at(args, 1);
-    let a2 = item_at(args, 2);
-    let a3 = item_at(args, 3);
-    mvsf_links(links, sh, a0, a1, a2, a3);
+    let t = LoneSolid {
+        solid: item_at(args, 0),
+        face: item_at(args, 1),
+        outer: item_at(args, 2),
+        vertex: item_at(args, 3),
+    };
+    mvsf_links(links, sh, t);
 }
 
 // mev by its operands.

@@ -1,7 +1,7 @@
 -- The ways out of the loops that pass faces to another solid, and those of kfmrh and mfkrh, one law each.
-use Rattle.std.specs.Prelude.{◌≡◌, ◌≢◌, Bool, true, false, List, ℕ, zero, suc, ◌+◌, ◌*◌, ◌≤◌, eqb}
+use Rattle.std.specs.Prelude.{◌≡◌, ◌≢◌, Bool, true, false, ◌||◌, List, ℕ, zero, suc, ◌+◌, ◌*◌, eqb}
 use Rattle.std.proofs.Math.Path.{refl, ap, fun_ext}
-use Rattle.std.proofs.Common.{sym, ◌∙◌, arith}
+use Rattle.std.proofs.Common.{sym, ◌∙◌}
 use Rattle.std.proofs.Math.Numerals.{add-one}
 use Rattle.std.proofs.lemmas.List.{set-get_or}
 use Rattle.laws.specs.Bools.{pick, split, eqb_same, eqb_other}
@@ -9,11 +9,10 @@ use Rattle.laws.specs.Columns.{Kind, sweep}
 use Rattle.laws.specs.UnionFind.{SameRoots}
 use Rattle.layout.specs.declared.shape.Shape.{Shape}
 use Rattle.layout.specs.Layout.{face_solid, face_outer, loop_face, set_solid_used, set_face_solid}
-use Rattle.layout.specs.Items.{is_ring}
+use Rattle.layout.specs.Items.{some, is_ring}
 use Rattle.check_shells.specs.Shells.{side_as, one_root, faces_linked_as, Shells}
 use Rattle.check_shells.specs.ShellsLaws.{one_root_short}
-use Rattle.euler.specs.Queries.{loops_in}
-use Rattle.euler.specs.FaceOperators.{move_faces, kfmrh_test, kfmrh_links, linked_after, ring_face, mfkrh_test}
+use Rattle.euler.specs.FaceOperators.{move_faces, kfmrh_links, linked_after, ring_face, mfkrh_test}
 use Rattle.euler.specs.FaceOperators.{mfkrh_links}
 use Rattle.euler_holes.specs.Moves.{sweep_faces, by_root, move_shell, join_solids, give_loop}
 
@@ -31,10 +30,6 @@ module _ (sh : Shape) (g : ℕ → ℕ → ℕ) (x : List ℕ) where
       → z ≡ set_face_solid sh y (k + 1) w → z ≡ sweep_faces sh (k + 1) g x
   unfolding sweep
   sweep_more k y z v w ey ev ew ez = rw (ez, ew, ev, ey, add-one k)
-
-  -- after the last
-  pub sweep_all : (k n : ℕ) (y : List ℕ) → k ≤ n → n ≤ k → y ≡ sweep_faces sh k g x → y ≡ sweep_faces sh n g x
-  sweep_all k n y a b e = let m : n ≡ k = omega arith in rw m e
 
 -- storing what is there already changes nothing, whether there is such a record or not
 sweep_same : (κ : Kind) (j n : ℕ) (g : ℕ → ℕ → ℕ) (x : List ℕ) → ((k v : ℕ) → g k v ≡ v) → sweep κ j n g x ≡ x
@@ -59,21 +54,6 @@ by_root_lem sh r f s g old w b e h = rw (h, e, one_root_short sh.faces r f g)
 
 -- ---- kfmrh
 
-module _ (sh : Shape) (x : List ℕ) (f1 f2 : ℕ) where
-  -- one face twice
-  pub kfmrh_one : f1 ≡ f2 → false ≡ kfmrh_test sh x f1 f2
-  unfolding kfmrh_test
-  kfmrh_one e = rw (eqb_same e)
-
-  -- f2 has rings, or no loop at all
-  pub kfmrh_rings : f1 ≢ f2 → (n : ℕ) → n ≡ loops_in sh x f2 → n ≢ 1 → false ≡ kfmrh_test sh x f1 f2
-  unfolding kfmrh_test
-  kfmrh_rings d n e h = rw (eqb_other d, ← e, eqb_other h)
-
-  pub kfmrh_fits : f1 ≢ f2 → (n : ℕ) → n ≡ loops_in sh x f2 → n ≡ 1 → true ≡ kfmrh_test sh x f1 f2
-  unfolding kfmrh_test
-  kfmrh_fits d n e h = rw (eqb_other d, ← e, eqb_same h)
-
 pub kfmrh_steps : (sh : Shape) (x : List ℕ) (f1 f2 l s t : ℕ) (x1 x2 : List ℕ)
     → l ≡ face_outer sh x f2 → s ≡ face_solid sh x f2 → t ≡ face_solid sh x f1
     → x1 ≡ give_loop sh x l f1 f2 → x2 ≡ join_solids sh x1 s t → x2 ≡ kfmrh_links sh x f1 f2
@@ -81,6 +61,10 @@ unfolding kfmrh_links
 kfmrh_steps sh x f1 f2 l s t x1 x2 el es et e1 e2 = rw (e2, e1, el, es, et)
 
 -- ---- mfkrh
+
+or_none : (b : Bool) → (b || false) ≡ b
+or_none true = refl
+or_none false = refl
 
 module _ (sh : Shape) (x : List ℕ) (l f s : ℕ) where
   module _ (ring : Bool) (er : ring ≡ is_ring sh x l) where
@@ -95,25 +79,15 @@ module _ (sh : Shape) (x : List ℕ) (l f s : ℕ) where
       unfolding linked_after
       after = rw (← eo) ek
 
-      -- the faces stay linked, and no solid is named
-      pub mfkrh_within : linked ≡ true → s ≡ 0 → true ≡ mfkrh_test sh x l f s
+      -- the faces stay linked: no solid is to be named
+      pub mfkrh_within : linked ≡ true → eqb s 0 ≡ mfkrh_test sh x l f s
       unfolding mfkrh_test
-      mfkrh_within k h = rw (← er, ← after, r, k, eqb_same h)
+      mfkrh_within k = rw (← er, ← after, r, k) (sym (or_none (eqb s 0)))
 
-      -- a solid is named that is not due
-      pub mfkrh_surplus : linked ≡ true → s ≢ 0 → false ≡ mfkrh_test sh x l f s
+      -- a new solid is due: one is to be named
+      pub mfkrh_parts : linked ≡ false → some s ≡ mfkrh_test sh x l f s
       unfolding mfkrh_test
-      mfkrh_surplus k h = rw (← er, ← after, r, k, eqb_other h)
-
-      -- a new solid is due, and named
-      pub mfkrh_parts : linked ≡ false → s ≢ 0 → true ≡ mfkrh_test sh x l f s
-      unfolding mfkrh_test
-      mfkrh_parts k h = rw (← er, ← after, r, k, eqb_other h)
-
-      -- it is due, and none is named
-      pub mfkrh_nameless : linked ≡ false → s ≡ 0 → false ≡ mfkrh_test sh x l f s
-      unfolding mfkrh_test
-      mfkrh_nameless k h = rw (← er, ← after, r, k, eqb_same h)
+      mfkrh_parts k = rw (← er, ← after, r, k) refl
 
   -- f stays in the solid
   pub mfkrh_stays : s ≡ 0 → (y : List ℕ) → y ≡ ring_face sh x l f → y ≡ mfkrh_links sh x l f s

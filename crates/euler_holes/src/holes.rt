@@ -12,7 +12,6 @@ use crate::moves::{join_solids, move_shell};
 use bounds::ITEM_PLACES;
 use check_shells::faces::{link_faces, linked_faces};
 use euler::faces::is_ring;
-use euler::records::choose;
 use euler_counts::counts::loops_kept;
 use euler_surgery::records::put_face;
 use layout::columns::{face_outer, face_solid, loop_face, set_loop_face, set_solid_used};
@@ -30,14 +29,7 @@ pub fn kfmrh_fits(
     requires counted { Counted sh links.now counts.now }
     ensures { result ≡ kfmrh_test sh links.now f1 f2 }
 {
-    if f1 == f2 {
-        return false;
-    }
-    let loops = loops_kept(links, counts, sh, f2);
-    if loops != 1 {
-        return false;
-    }
-    true
+    f1 != f2 && loops_kept(links, counts, sh, f2) == 1
 }
 
 // Loop l of face g becomes a ring of face f, and g is killed.
@@ -67,7 +59,7 @@ pub fn kfmrh_inverse(links: &[u16], sh: Shape, f1: usize, f2: usize) -> Operator
     let l = face_outer(links, sh, f2);
     let s = face_solid(links, sh, f2);
     let t = face_solid(links, sh, f1);
-    let killed = choose(t == s, 0, s);
+    let killed = if t == s { 0 } else { s };
     let a = with_number(blank(10, 3), 0, l);
     let b = with_number(a, 1, f2);
     with_number(b, 2, killed)
@@ -78,22 +70,15 @@ pub fn mfkrh_fits(links: &[u16], sh: Shape, l: usize, f: usize, s: usize) -> boo
     requires { (sh.faces ≤ most_items) × (sh.edges ≤ most_items) × (l < 65536) × (f < 65536) }
     ensures { result ≡ mfkrh_test sh links.now l f s }
 {
-    let ring = is_ring(links, sh, l);
-    if !ring {
+    if !is_ring(links, sh, l) {
         return false;
     }
     let old = loop_face(links, sh, l);
-    let linked = linked_faces(links, sh, l, f, f, old);
-    if linked {
-        if s == 0 {
-            return true;
-        }
-        return false;
+    if linked_faces(links, sh, l, f, f, old) {
+        s == 0
+    } else {
+        s != 0
     }
-    if s != 0 {
-        return true;
-    }
-    false
 }
 
 // Ring l becomes the outer loop of the new face f, in the solid of its old face.

@@ -7,7 +7,6 @@ ghost use Rattle.euler_holes.specs.Moves.{join_solids, move_shell};
 
 use bounds::ITEM_PLACES;
 use check_shells::faces::same_shell;
-use euler::records::choose;
 use layout::columns::{face_solid, set_face_solid, set_solid_used};
 use layout::shape::Shape;
 
@@ -19,13 +18,10 @@ fn move_faces(links: &mut [u16], sh: Shape, s: usize, t: usize)
     if s == t {
         return;
     }
-    let n = sh.faces as usize;
-    let mut k: usize = 0;
-    while k < n {
+    for k in 0..sh.faces as usize {
         let old = face_solid(links, sh, k + 1);
-        let new = choose(old == s, t, old);
+        let new = if old == s { t } else { old };
         set_face_solid(links, sh, k + 1, new);
-        k += 1;
     }
 }
 
@@ -45,13 +41,10 @@ pub fn move_shell(links: &mut [u16], sh: Shape, parent: &mut [u16; ITEM_PLACES],
     requires forest { Forest parent.old }
     ensures { links.new ≡ move_shell sh links.old parent.old f s }
 {
-    let n = sh.faces as usize;
-    let mut k: usize = 0;
-    while k < n {
+    for k in 0..sh.faces as usize {
         let old = face_solid(links, sh, k + 1);
         let here = same_shell(parent, sh, f, k + 1);
-        let new = choose(here, s, old);
+        let new = if here { s } else { old };
         set_face_solid(links, sh, k + 1, new);
-        k += 1;
     }
 }

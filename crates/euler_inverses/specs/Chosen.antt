@@ -8,25 +8,17 @@ use Rattle.script.specs.Operator.{blank_of}
 use Rattle.codec.specs.Operands.{last_code}
 use Rattle.codec.specs.OperandLaws.{NoneOf}
 use Rattle.layout.specs.declared.shape.Shape.{Shape}
-use Rattle.layout.specs.Layout.{next_of, face_outer, loop_isolated}
+use Rattle.layout.specs.Layout.{next_of}
 use Rattle.layout.specs.Mate.{mate}
-use Rattle.layout.specs.Items.{face_in}
 use Rattle.euler.specs.ByCode.{by_code, by_none}
 use Rattle.euler.specs.Surgery.{item_of, half_by}
 use Rattle.euler.specs.EdgeOperators.{mef_inverse, mekr_inverse, jekv_inverse}
-use Rattle.euler.specs.FaceOperators.{kvsf_inverse}
-use Rattle.euler.specs.Exec.{only_loop, only_vertex, inverses, inverse}
+use Rattle.euler.specs.Exec.{inverses, inverse}
 
 -- mef is undone from the mate of its half-edge
 pub mef_undone : (e w : ℕ) {a b : ℕ} {r : Operator} → a ≡ half_by e w → b ≡ mate a → r ≡ mef_inverse b
     → r ≡ mef_inverse (mate (half_by e w))
 mef_undone e w ea eb er = rw (er, eb, ea)
-
--- kvsf from the face, loop and vertex that its solid has
-pub kvsf_undone : (sh : Shape) (x : List ℕ) (p : List ℤ) (s : ℕ) {f l v : ℕ} {r : Operator} → f ≡ face_in sh x s
-    → l ≡ face_outer sh x f → v ≡ loop_isolated sh x l → r ≡ kvsf_inverse p s f l v
-    → r ≡ kvsf_inverse p s (face_in sh x s) (only_loop sh x s) (only_vertex sh x s)
-kvsf_undone sh x p s ef el ev er = rw (er, ev, el, ef)
 
 -- jekv from the half-edge that comes next
 pub jekv_undone : (sh : Shape) (x : List ℕ) (p : List ℤ) (k : ℕ) {n : ℕ} {r : Operator} → n ≡ next_of sh x k

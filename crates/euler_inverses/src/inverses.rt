@@ -15,11 +15,11 @@ use euler::records::{half_by, item_of};
 use euler_bridges::kemr_mekr::{kemr_inverse, mekr_inverse};
 use euler_cuts::mef_kef::{kef_inverse, mef_inverse};
 use euler_holes::holes::{kfmrh_inverse, mfkrh_inverse};
-use euler_lone::lone::{face_in, kvsf_inverse, mvsf_inverse};
+use euler_lone::lone::{kvsf_inverse, lone_solid, mvsf_inverse};
 use euler_rings::rings::rmov_inverse;
 use euler_splits::semv_jekv::{jekv_inverse, semv_inverse};
 use euler_spurs::mev_kev::{kev_inverse, mev_inverse};
-use layout::columns::{face_outer, loop_isolated, next_of};
+use layout::columns::next_of;
 use layout::mates::mate_of;
 use layout::shape::Shape;
 use script::{Operator, blank};
@@ -30,10 +30,7 @@ fn solid_again(links: &[u16], points: &[i32], sh: Shape, s: usize) -> Operator
     ensures { result ≡ kvsf_inverse points.now s (face_in sh links.now s) (only_loop sh
         links.now s) (only_vertex sh links.now s) }
 {
-    let f = face_in(links, sh, s);
-    let l = face_outer(links, sh, f);
-    let v = loop_isolated(links, sh, l);
-    kvsf_inverse(points, s, f, l, v)
+    kvsf_inverse(points, lone_solid(links, sh, s))
 }
 
 // semv of the vertex that jekv kills.

@@ -1,10 +1,9 @@
 -- The ways out of kvsf's test, one law each: a solid has one face where it has a least one and no other behind it.
-use Rattle.std.specs.Prelude.{◌≡◌, refl, ◌≢◌, Bool, true, false, List, [], ◌∷◌, ℕ, ◌+◌, ◌-◌, ◌≤◌, ◌<◌, T}
+use Rattle.std.specs.Prelude.{◌≡◌, refl, ◌≢◌, Bool, true, false, ◌&&◌, List, ℕ, ◌+◌, ◌-◌, ◌≤◌, ◌<◌}
 use Rattle.std.proofs.Common.{sym, ◌∙◌, ⊎_elim, arith}
 use Rattle.std.proofs.Math.Path.{ap}
-use Rattle.std.proofs.Math.Dec.{eqb, eqb→eq, T_not}
-use Rattle.laws.specs.Bools.{true_T, T_false, split, le?, eqb_same, eqb_other}
-use Rattle.laws.specs.Every.{every_T}
+use Rattle.std.proofs.Math.Dec.{eqb}
+use Rattle.laws.specs.Bools.{split, le?, eqb_same, eqb_other}
 use Rattle.laws.specs.Search.{Least, none_is, one_is, least, least_from, least_from_is}
 use Rattle.laws.specs.Sums.{bit, count_to, sum_ext, sum_zero, sum_lt, count_one}
 use Rattle.layout.specs.declared.shape.Shape.{Shape}
@@ -86,41 +85,23 @@ face_after sh x s f = least_from (sh.faces - f) (f + 1) (λ g. eqb (face_solid s
 pub from_here : (n f : ℕ) (p : ℕ → Bool) → least_from (n + 1 - (f + 1)) (f + 1) p ≡ least_from (n - f) (f + 1) p
 from_here n f p = let m : n + 1 - (f + 1) ≡ n - f = omega arith in rw m
 
--- the one vertex of face f, where it is alone
-abbrev vertex_in : Shape → List ℕ → ℕ → ℕ
-vertex_in sh x f = loop_isolated sh x (face_outer sh x f)
-
+-- s has one face where it has a least one and none follows
 module _ (sh : Shape) (x : List ℕ) (s f : ℕ) (e : f ≡ face_in sh x s) where
-  -- the three tests as facts
-  facts : T (kvsf_test sh x s) → (faces_in sh x s ≡ 1) × (loops_in sh x f ≡ 1) × (vertex_in sh x f ≢ 0)
-  unfolding kvsf_test
-  facts t =
-      let g = face_in sh x s in
-      let a = every_T (eqb (faces_in sh x s) 1 ∷ eqb (loops_in sh x g) 1 ∷ some (vertex_in sh x g) ∷ []) t in (
-        eqb→eq _ _ a.0,
-        ap (loops_in sh x) e ∙ eqb→eq _ _ a.1.0,
-        (λ z. T_not (eqb (vertex_in sh x g) 0) a.1.1.0 (true_T (eqb_same (sym (ap (vertex_in sh x) e) ∙ z)))),
-      )
+  one_face : (some f && eqb (face_after sh x s f) 0) ≡ eqb (faces_in sh x s) 1
+  one_face = split f 0
+      (λ z. let n : faces_in sh x s ≡ 0 = count_none sh.faces _ (sym e ∙ z) in rw (eqb_same z, n) refl)
+      (λ d. split (face_after sh x s f) 0
+      (λ z. rw (eqb_other d, eqb_same z, eqb_same (count_single sh.faces _ f e d z)) refl)
+      (λ h.
+      let n : faces_in sh x s ≢ 1 = λ q. omega (arith, q, count_several sh.faces _ f e d h) in
+      rw (eqb_other d, eqb_other h, eqb_other n) refl))
 
-  -- s has no face
-  pub kvsf_none : f ≡ 0 → false ≡ kvsf_test sh x s
-  kvsf_none z = sym (T_false (λ t. omega (arith, (facts t).0, count_none sh.faces _ (sym e ∙ z))))
+  -- the tests one after the other: those before the last came to b, and the last looks at vertex v
+  module _ (b : Bool) (eb : b ≡ ((some f && eqb (face_after sh x s f) 0) && eqb (loops_in sh x f) 1)) where
+    pub kvsf_not : b ≡ false → b ≡ kvsf_test sh x s
+    unfolding kvsf_test
+    kvsf_not h = rw (← e, ← one_face, ← eb, h) refl
 
-  -- s has two faces
-  pub kvsf_several : f ≢ 0 → (g : ℕ) → g ≡ face_after sh x s f → g ≢ 0 → false ≡ kvsf_test sh x s
-  kvsf_several d g q h =
-      sym (T_false (λ t. omega (arith, (facts t).0, count_several sh.faces _ f e d (λ z. h (q ∙ z)))))
-
-  -- its face has rings
-  pub kvsf_rings : (n : ℕ) → n ≡ loops_in sh x f → n ≢ 1 → false ≡ kvsf_test sh x s
-  kvsf_rings n q h = sym (T_false (λ t. h (q ∙ (facts t).1)))
-
-  -- its loop has half-edges
-  pub kvsf_edged : (l v : ℕ) → l ≡ face_outer sh x f → v ≡ loop_isolated sh x l → v ≡ 0 → false ≡ kvsf_test sh x s
-  kvsf_edged l v el q h = sym (T_false (λ t. (facts t).2 (sym (q ∙ ap (loop_isolated sh x) el) ∙ h)))
-
-  pub kvsf_fits : f ≢ 0 → (g : ℕ) → g ≡ face_after sh x s f → g ≡ 0 → (n : ℕ) → n ≡ loops_in sh x f → n ≡ 1
-      → (l v : ℕ) → l ≡ face_outer sh x f → v ≡ loop_isolated sh x l → v ≢ 0 → true ≡ kvsf_test sh x s
-  unfolding kvsf_test
-  kvsf_fits d g q z n en o l v el ev h =
-      rw (count_single sh.faces _ f e d (sym q ∙ z), ← e, ← en, o, ← el, ← ev, eqb_other h)
+    pub kvsf_last : b ≡ true → (l v : ℕ) → l ≡ face_outer sh x f → v ≡ loop_isolated sh x l → some v ≡ kvsf_test sh x s
+    unfolding kvsf_test
+    kvsf_last h l v el ev = rw (← e, ← one_face, ← eb, h, ← el, ← ev) refl

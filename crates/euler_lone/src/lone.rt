@@ -5,6 +5,7 @@ ghost use Rattle.layout.specs.Items.{face_in};
 ghost use Rattle.euler.specs.Queries.{faces_in};
 ghost use Rattle.euler.specs.FaceOperators.{mvsf_links, mvsf_inverse, kvsf_test, kvsf_links, kvsf_inverse};
 ghost use Rattle.euler_counts.specs.Counts.{Counted};
+ghost use Rattle.euler_lone.specs.Lone.{IsLone};
 ghost use Rattle.euler_lone.specs.LoneLaws.{face_after};
 
 use bounds::ITEM_PLACES;
@@ -16,17 +17,29 @@ use layout::column::solids_of_faces;
 use layout::columns::{face_outer, face_solid, loop_isolated, set_solid_used, set_vertex_used};
 use layout::shape::Shape;
 use script::{Operator, blank, with_number};
+use searching::least;
 
-pub fn mvsf_links(links: &mut [u16], sh: Shape, s: usize, f: usize, l: usize, v: usize)
-    requires { (s < 65536) × (f < 65536) × (l < 65536) × (v < 65536) }
-    ensures { links.new ≡ mvsf_links sh links.old s f l v }
-{
-    set_solid_used(links, sh, s, 1);
-    put_face(links, sh, f, s, l);
-    put_loop(links, sh, l, f, 0, v);
-    set_vertex_used(links, sh, v, 1);
+// A solid with its only face, that face's only loop and the loop's only vertex.
+#[derive(Clone, Copy)]
+pub struct LoneSolid {
+    pub solid: usize,
+    pub face: usize,
+    pub outer: usize,
+    pub vertex: usize,
 }
 
+// The solid goes into the links.
+pub fn mvsf_links(links: &mut [u16], sh: Shape, t: LoneSolid)
+    requires { (t.solid < 65536) × (t.face < 65536) × (t.outer < 65536) × (t.vertex < 65536) }
+    ensures { links.new ≡ mvsf_links sh links.old t.solid t.face t.outer t.vertex }
+{
+    set_solid_used(links, sh, t.solid, 1);
+    put_face(links, sh, t.face, t.solid, t.outer);
+    put_loop(links, sh, t.outer, t.face, 0, t.vertex);
+    set_vertex_used(links, sh, t.vertex, 1);
+}
+
+// kvsf of the solid.
 pub fn mvsf_inverse(s: usize) -> Operator
     requires { s < 65536 }
     ensures { result ≡ mvsf_inverse s }
@@ -42,6 +55,22 @@ pub fn face_in(links: &[u16], sh: Shape, s: usize) -> usize
     least_naming_one(links, solids_of_faces(sh), s)
 }
 
+// Solid s as kvsf takes it: its least face, that face's outer loop and the vertex at which this is isolated.
+pub fn lone_solid(links: &[u16], sh: Shape, s: usize) -> LoneSolid
+    requires { (sh.faces < 65536) × (s < 65536) }
+    ensures { IsLone sh links.now s result }
+{
+    let face = face_in(links, sh, s);
+    let outer = face_outer(links, sh, face);
+    let vertex = loop_isolated(links, sh, outer);
+    LoneSolid {
+        solid: s,
+        face,
+        outer,
+        vertex,
+    }
+}
+
 // How many faces solid s has.
 pub fn faces_in(links: &[u16], sh: Shape, s: usize) -> usize
     requires { sh.faces < 65536 }
@@ -55,16 +84,7 @@ fn face_after(links: &[u16], sh: Shape, s: usize, f: usize) -> usize
     requires { (sh.faces < 65536) × (f < 65536) }
     ensures { result ≡ face_after sh links.now s f }
 {
-    let n = sh.faces as usize;
-    let mut g = f + 1;
-    while g <= n {
-        let owner = face_solid(links, sh, g);
-        if owner == s {
-            return g;
-        }
-        g += 1;
-    }
-    0
+    least(f + 1, sh.faces as usize, |g| face_solid(links, sh, g) == s).unwrap_or(0)
 }
 
 // The faces are gone through once: up to the least of s, then on to another one.
@@ -74,42 +94,31 @@ pub fn kvsf_fits(links: &[u16], counts: &[u16; ITEM_PLACES], sh: Shape, s: usize
     ensures { result ≡ kvsf_test sh links.now s }
 {
     let f = face_in(links, sh, s);
-    if f == 0 {
-        return false;
-    }
-    let other = face_after(links, sh, s, f);
-    if other != 0 {
-        return false;
-    }
-    let loops = loops_kept(links, counts, sh, f);
-    if loops != 1 {
-        return false;
-    }
-    let v = loop_isolated(links, sh, face_outer(links, sh, f));
-    if v == 0 {
-        return false;
-    }
-    true
+    f != 0
+        && face_after(links, sh, s, f) == 0
+        && loops_kept(links, counts, sh, f) == 1
+        && loop_isolated(links, sh, face_outer(links, sh, f)) != 0
 }
 
-// Solid s has the face f alone, f the loop l alone, and l is lone at vertex v.
-pub fn kvsf_links(links: &mut [u16], sh: Shape, s: usize, f: usize, l: usize, v: usize)
-    requires { (s < 65536) × (f < 65536) × (l < 65536) × (v < 65536) }
-    ensures { links.new ≡ kvsf_links sh links.old s f l v }
+// The solid goes out of the links.
+pub fn kvsf_links(links: &mut [u16], sh: Shape, t: LoneSolid)
+    requires { (t.solid < 65536) × (t.face < 65536) × (t.outer < 65536) × (t.vertex < 65536) }
+    ensures { links.new ≡ kvsf_links sh links.old t.solid t.face t.outer t.vertex }
 {
-    set_solid_used(links, sh, s, 0);
-    put_face(links, sh, f, 0, 0);
-    put_loop(links, sh, l, 0, 0, 0);
-    set_vertex_used(links, sh, v, 0);
+    set_solid_used(links, sh, t.solid, 0);
+    put_face(links, sh, t.face, 0, 0);
+    put_loop(links, sh, t.outer, 0, 0, 0);
+    set_vertex_used(links, sh, t.vertex, 0);
 }
 
-pub fn kvsf_inverse(points: &[i32], s: usize, f: usize, l: usize, v: usize) -> Operator
-    requires { (s < 65536) × (f < 65536) × (l < 65536) × (v < 65536) }
-    ensures { result ≡ kvsf_inverse points.now s f l v }
+// mvsf of the solid, with its vertex's point.
+pub fn kvsf_inverse(points: &[i32], t: LoneSolid) -> Operator
+    requires { (t.solid < 65536) × (t.face < 65536) × (t.outer < 65536) × (t.vertex < 65536) }
+    ensures { result ≡ kvsf_inverse points.now t.solid t.face t.outer t.vertex }
 {
-    let a = with_number(blank(1, 7), 0, s);
-    let b = with_number(a, 1, f);
-    let c = with_number(b, 2, l);
-    let d = with_number(c, 3, v);
-    with_point(d, 4, points, v)
+    let a = with_number(blank(1, 7), 0, t.solid);
+    let b = with_number(a, 1, t.face);
+    let c = with_number(b, 2, t.outer);
+    let d = with_number(c, 3, t.vertex);
+    with_point(d, 4, points, t.vertex)
 }

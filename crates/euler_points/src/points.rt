@@ -2,25 +2,15 @@
 // is its code and its operands lent: to hand over the struct by value costs more than the effect.
 ghost use Rattle.std.specs.Prelude.{◌≡◌, ℕ, ◌≤◌, ◌<◌};
 ghost use Rattle.layout.specs.Small.{Small};
-ghost use Rattle.euler.specs.Exec.{operator_by, only_vertex, killed_vertex, clear_point};
+ghost use Rattle.euler.specs.Exec.{operator_by, killed_vertex, clear_point};
 ghost use Rattle.euler_points.specs.Chosen.{points_with};
 
 use euler::records::item_at;
-use euler_lone::lone::face_in;
+use euler_lone::lone::lone_solid;
 use euler_surgery::points::put_point;
-use layout::columns::{face_outer, loop_isolated, next_of, start_of};
+use layout::columns::{next_of, start_of};
 use layout::mates::mate_of;
 use layout::shape::Shape;
-
-// The vertex that kvsf of solid s kills.
-pub fn only_vertex(links: &[u16], sh: Shape, s: usize) -> usize
-    requires { Small sh }
-    ensures { (result ≡ only_vertex sh links.now s) × (result < 65536) }
-{
-    let f = face_in(links, sh, s);
-    let l = face_outer(links, sh, f);
-    loop_isolated(links, sh, l)
-}
 
 // The vertex that the operator kills; 0 for none.
 pub fn killed_vertex(links: &[u16], sh: Shape, code: u8, args: &[i32; 8]) -> usize
@@ -28,7 +18,7 @@ pub fn killed_vertex(links: &[u16], sh: Shape, code: u8, args: &[i32; 8]) -> usi
     ensures { (result ≡ killed_vertex sh links.now (operator_by code args.now)) × (result < 65536) }
 {
     match code {
-        2 => only_vertex(links, sh, item_at(args, 0)),
+        2 => lone_solid(links, sh, item_at(args, 0)).vertex,
         4 => start_of(links, sh, mate_of(item_at(args, 0))),
         12 => start_of(links, sh, next_of(links, sh, item_at(args, 0))),
         _ => 0,

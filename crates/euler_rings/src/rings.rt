@@ -5,37 +5,24 @@ ghost use Rattle.bounds.specs.Bounds.{most_items};
 ghost use Rattle.euler.specs.FaceOperators.{shares_outside, rmov_test, rmov_links, rmov_inverse};
 
 use euler::faces::is_ring;
-use euler::records::choose;
 use layout::columns::{
     face_outer, loop_face, loop_of, set_face_outer, set_loop_face, side_of, start_of,
 };
 use layout::mates::mate_of;
 use layout::shape::Shape;
 use script::{Operator, blank, with_number};
+use searching::least;
 
 // Half-edge k lies in l's face outside l, with its mate in f. An edge of the ring itself would go along with it.
 fn shares_outside(links: &[u16], sh: Shape, l: usize, f: usize, k: usize) -> bool
     requires { (l < 65536) × (k < 65536) }
     ensures { result ≡ shares_outside sh links.now l f k }
 {
-    let start = start_of(links, sh, k);
-    if start == 0 {
-        return false;
-    }
     let owner = loop_of(links, sh, k);
-    if owner == l {
-        return false;
-    }
-    let here = loop_face(links, sh, owner);
-    let old = loop_face(links, sh, l);
-    if here != old {
-        return false;
-    }
-    let there = side_of(links, sh, mate_of(k));
-    if there != f {
-        return false;
-    }
-    true
+    start_of(links, sh, k) != 0
+        && loop_face(links, sh, owner) == loop_face(links, sh, l)
+        && side_of(links, sh, mate_of(k)) == f
+        && owner != l
 }
 
 // The least half-edge that does so; 0 where none does.
@@ -43,16 +30,10 @@ fn sharing_half(links: &[u16], sh: Shape, l: usize, f: usize) -> usize
     requires { (sh.edges ≤ most_items) × (l < 65536) }
     ensures { result ≡ least (2 * sh.edges) (shares_outside sh links.now l f) }
 {
-    let n = 2 * sh.edges as usize;
-    let mut k: usize = 1;
-    while k <= n {
-        let shares = shares_outside(links, sh, l, f, k);
-        if shares {
-            return k;
-        }
-        k += 1;
-    }
-    0
+    least(1, 2 * sh.edges as usize, |k| {
+        shares_outside(links, sh, l, f, k)
+    })
+    .unwrap_or(0)
 }
 
 // The half-edges are gone through only for a ring that leaves its face.
@@ -60,31 +41,19 @@ pub fn rmov_fits(links: &[u16], sh: Shape, l: usize, f: usize) -> bool
     requires { (sh.edges ≤ most_items) × (l < 65536) }
     ensures { result ≡ rmov_test sh links.now l f }
 {
-    let ring = is_ring(links, sh, l);
-    if !ring {
-        return false;
-    }
-    let old = loop_face(links, sh, l);
-    if f == old {
-        return true;
-    }
-    let k = sharing_half(links, sh, l, f);
-    if k == 0 {
-        return false;
-    }
-    true
+    is_ring(links, sh, l) && (f == loop_face(links, sh, l) || sharing_half(links, sh, l, f) != 0)
 }
 
+// Within its face the ring becomes outer; else it passes to f.
 pub fn rmov_links(links: &mut [u16], sh: Shape, l: usize, f: usize)
     requires { (l < 65536) × (f < 65536) }
     ensures { links.new ≡ rmov_links sh links.old l f }
 {
-    let old = loop_face(links, sh, l);
-    if f == old {
+    if f == loop_face(links, sh, l) {
         set_face_outer(links, sh, f, l);
-        return;
+    } else {
+        set_loop_face(links, sh, l, f);
     }
-    set_loop_face(links, sh, l, f);
 }
 
 // rmov undoes itself: the loop that was outer before becomes outer again, or the ring returns to its old face.
@@ -94,7 +63,6 @@ pub fn rmov_inverse(links: &[u16], sh: Shape, l: usize, f: usize) -> Operator
 {
     let old = loop_face(links, sh, l);
     let outer = face_outer(links, sh, f);
-    let ring = choose(f == old, outer, l);
-    let face = choose(f == old, f, old);
+    let (ring, face) = if f == old { (outer, f) } else { (l, old) };
     with_number(with_number(blank(13, 2), 0, ring), 1, face)
 }

@@ -2,7 +2,7 @@
 ghost use Rattle.std.specs.Prelude.{◌≡◌, ℕ, ◌<◌, ◌≤◌};
 ghost use Rattle.euler.specs.EdgeOperators.{mev_test, mev_links, mev_inverse, kev_test, kev_links, kev_inverse};
 
-use euler::records::{Half, choose, corner_vertex, is_corner, way_of};
+use euler::records::{Half, corner_vertex, is_corner, way_of};
 use euler_edges::parts::{half_at, with_three};
 use euler_surgery::points::with_point;
 use euler_surgery::surgery::{edge_in, edge_out};
@@ -29,8 +29,7 @@ pub fn mev_links(links: &mut [u16], sh: Shape, l: usize, h: usize, k: usize, v: 
     let m = mate_of(k);
     let u = corner_vertex(links, sh, l, h);
     let before = prev_of(links, sh, h);
-    let p = choose(h == 0, m, before);
-    let n = choose(h == 0, k, h);
+    let (p, n) = if h == 0 { (m, k) } else { (before, h) };
     let out = Half {
         start: u,
         owner: l,
@@ -75,7 +74,7 @@ pub fn kev_links(links: &mut [u16], sh: Shape, k: usize)
     let m = mate_of(k);
     let a = half_at(links, sh, k);
     let b = half_at(links, sh, m);
-    let rest = choose(b.next == k, 0, b.next);
+    let rest = if b.next == k { 0 } else { b.next };
     let low = loop_first(links, sh, a.owner);
     edge_out(links, sh, k, a.prev, b.next, b.prev, a.next);
     renew_loop(links, sh, a.owner, low, rest, a.start);
@@ -89,7 +88,7 @@ pub fn kev_inverse(links: &[u16], points: &[i32], sh: Shape, k: usize) -> Operat
     let m = mate_of(k);
     let a = half_at(links, sh, k);
     let b = half_at(links, sh, m);
-    let h = choose(b.next == k, 0, b.next);
+    let h = if b.next == k { 0 } else { b.next };
     let e = edge_of(k);
     let w = way_of(k);
     let corner = with_three(blank(3, 8), 0, a.owner, h, e);

@@ -1,9 +1,11 @@
-use Rattle.euler_bridges.specs.StepLaws.{mekr_tests}
-use native.Mathlib.Omega.{arith}
-use Rattle.laws.specs.TestLaws.{as_far}
+use Rattle.std.proofs.Common.{rules}
+use Rattle.euler.specs.EdgeOperators.{mekr_test}
 use Rattle.euler_bridges.proofs.kemr_mekr.mekr_fits.Goals as goal
 
-pub returns : goal.returns
-returns c = mekr_tests _ _ _ _ _ _ c.loop_face-f.ensures.0
-    c.loop_face-g.ensures.0 (omega (arith, as_far)) c.is_ring-ring.ensures
-    c.is_corner-first.ensures c.is_corner-second.ensures
+pub returns-then-is_corner : goal.returns-then-is_corner
+unfolding mekr_test
+returns-then-is_corner c = search rules
+
+pub returns-else-is_corner : goal.returns-else-is_corner
+unfolding mekr_test
+returns-else-is_corner c = search rules

@@ -1,24 +1,14 @@
+use Rattle.std.proofs.Common.{rules, ◌≡◌, eqb}
+use Rattle.laws.specs.Bools.{pick}
 use Rattle.euler_bridges.specs.StepLaws.{mekr_steps}
-use native.Mathlib.Omega.{arith}
 use Rattle.euler_bridges.proofs.kemr_mekr.mekr_links.Goals as goal
 
-pub renew_loop-requires : goal.renew_loop-requires
-renew_loop-requires c = (
-  omega (
-    arith,
-    c.requires,
-  ),
-  omega (
-    arith,
-    c.requires,
-  ),
-  omega arith,
-)
-
 pub returns : goal.returns
-returns c = mekr_steps _ _ _ _ _ _ _
+returns c = let a = c.args in
+    let from : c.if-h2-eq0.from ≡ pick (eqb a.h2 0) c.mate_of-m.result a.h2 = search rules in
+    mekr_steps _ _ _ _ _ _ _
     c.mate_of-m.ensures.0
-    c.choose-from.ensures.0
+    from
     c.loop_first-first.ensures.0
     c.loop_first-second.ensures.0
     c.lower.ensures.0

@@ -1,6 +1,11 @@
-use Rattle.euler_cuts.specs.StepLaws.{kef_tests}
+use Rattle.std.proofs.Common.{rules}
+use Rattle.euler.specs.EdgeOperators.{kef_test}
 use Rattle.euler_cuts.proofs.mef_kef.kef_fits.Goals as goal
 
-pub returns : goal.returns
-returns c = kef_tests _ _ _ c.mate_of-m.ensures.0 c.side_of-here.ensures.0
-    c.side_of-there.ensures.0 c.loops_kept-loops.ensures.0
+pub returns-then-loops_kept-eq1 : goal.returns-then-loops_kept-eq1
+unfolding kef_test
+returns-then-loops_kept-eq1 c = search rules
+
+pub returns-else-loops_kept-eq1 : goal.returns-else-loops_kept-eq1
+unfolding kef_test
+returns-else-loops_kept-eq1 c = search rules

@@ -1,34 +1,5 @@
-use native.Mathlib.Omega.{arith}
 use Rattle.euler_cuts.specs.StepLaws.{kef_steps}
 use Rattle.euler_cuts.proofs.mef_kef.kef_links.Goals as goal
-
-pub put_loop-requires : goal.put_loop-requires
-put_loop-requires c = (
-  omega (
-    arith,
-    c.half_at-a.ensures.owner_small,
-  ),
-  omega arith,
-  omega arith,
-  omega arith,
-)
-
-pub renew_loop-requires : goal.renew_loop-requires
-renew_loop-requires c = (
-  omega (
-    arith,
-    c.half_at-b.ensures.owner_small,
-    c.half_at-a.ensures.owner_small,
-  ),
-  omega (
-    arith,
-    c.rest_of-rest.ensures.1,
-  ),
-  omega (
-    arith,
-    c.half_at-a.ensures.start_small,
-  ),
-)
 
 pub returns : goal.returns
 returns c = kef_steps _ _ _

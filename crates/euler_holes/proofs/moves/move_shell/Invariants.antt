@@ -1,5 +1,4 @@
 use mathlib.Core.Path.{◌≡◌}
-use Prim.Native.Nat.{◌-◌, ◌≤◌}
 use lib.ListN.{length}
 use Rattle.laws.specs.UnionFind.{SameRoots}
 use Rattle.check_shells.specs.Forest.{Forest}
@@ -7,9 +6,6 @@ use Rattle.euler_holes.specs.Moves.{sweep_faces, by_root}
 use Rattle.euler_holes.proofs.moves.move_shell.Given as goal
 
 abbrev pub invariant-loop-k : goal.invariant-loop-k
-invariant-loop-k l = (l.k ≤ l.n) × (length l.links ≡ length l.initial.links) × Forest l.parent
+invariant-loop-k l = (length l.links ≡ length l.initial.links) × Forest l.parent
     × SameRoots l.initial.parent l.parent
     × (l.links ≡ sweep_faces l.sh l.k (by_root l.sh l.initial.parent l.f l.s) l.initial.links)
-
-abbrev pub decreases-loop-k : goal.decreases-loop-k
-decreases-loop-k l = l.n - l.k

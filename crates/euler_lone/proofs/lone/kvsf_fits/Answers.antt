@@ -1,31 +1,18 @@
-use native.Mathlib.Omega.{arith}
-use Rattle.euler_lone.specs.LoneLaws.{kvsf_none, kvsf_several, kvsf_rings, kvsf_edged, kvsf_fits}
+use Rattle.std.proofs.Common.{rules, ◌≡◌, ◌&&◌, eqb}
+use Rattle.layout.specs.Items.{some}
+use Rattle.euler.specs.Queries.{loops_in}
+use Rattle.euler_lone.specs.LoneLaws.{face_after, kvsf_not, kvsf_last}
 use Rattle.euler_lone.proofs.lone.kvsf_fits.Goals as goal
 
-pub returns-then-f-eq0 : goal.returns-then-f-eq0
-returns-then-f-eq0 c = let a = c.args in
-    kvsf_none a.sh a.links.now a.s _ c.face_in-f.ensures.0 (omega arith)
+pub returns-then-loops_kept-eq1 : goal.returns-then-loops_kept-eq1
+returns-then-loops_kept-eq1 c = let a = c.args in let f = c.face_in-f.result in
+    let e : c.if-f-ne0.value ≡ (some f && eqb (face_after a.sh a.links.now a.s f) 0) = search rules in
+    let g : c.if-face_after-eq0.value ≡ (c.if-f-ne0.value && eqb (loops_in a.sh a.links.now f) 1) = search rules in
+    kvsf_last a.sh a.links.now a.s f c.face_in-f.ensures.0 _ (rw (← e) g) c.if-loops_kept-eq1.true _ _
+    c.face_outer.ensures.0 c.loop_isolated.ensures.0
 
-pub returns-then-other-ne0 : goal.returns-then-other-ne0
-returns-then-other-ne0 c = let a = c.args in
-    kvsf_several a.sh a.links.now a.s _ c.face_in-f.ensures.0 (omega arith) _
-    c.face_after-other.ensures (omega arith)
-
-pub returns-then-loops-ne1 : goal.returns-then-loops-ne1
-returns-then-loops-ne1 c = let a = c.args in
-    kvsf_rings a.sh a.links.now a.s _ c.face_in-f.ensures.0 _
-    c.loops_kept-loops.ensures.0 (omega arith)
-
-pub returns-then-v-eq0 : goal.returns-then-v-eq0
-returns-then-v-eq0 c = let a = c.args in
-    kvsf_edged a.sh a.links.now a.s _
-    c.face_in-f.ensures.0 _ _
-    c.face_outer.ensures.0 c.loop_isolated-v.ensures.0 (omega arith)
-
-pub returns : goal.returns
-returns c = let a = c.args in
-    kvsf_fits a.sh a.links.now a.s _
-    c.face_in-f.ensures.0 (omega arith) _
-    c.face_after-other.ensures (omega arith)
-    _ c.loops_kept-loops.ensures.0 (omega arith) _ _
-    c.face_outer.ensures.0 c.loop_isolated-v.ensures.0 (omega arith)
+pub returns-else-loops_kept-eq1 : goal.returns-else-loops_kept-eq1
+returns-else-loops_kept-eq1 c = let a = c.args in let f = c.face_in-f.result in
+    let e : c.if-f-ne0.value ≡ (some f && eqb (face_after a.sh a.links.now a.s f) 0) = search rules in
+    let g : c.if-face_after-eq0.value ≡ (c.if-f-ne0.value && eqb (loops_in a.sh a.links.now f) 1) = search rules in
+    kvsf_not a.sh a.links.now a.s f c.face_in-f.ensures.0 _ (rw (← e) g) c.if-loops_kept-eq1.false

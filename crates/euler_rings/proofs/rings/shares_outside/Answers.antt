@@ -1,34 +1,12 @@
-use native.Mathlib.Omega.{arith}
-use Rattle.euler_rings.specs.RingsLaws.{shares_free, shares_own, shares_else, shares_far, shares_here}
+use Rattle.std.proofs.Common.{rules, ◌≡◌, ◌&&◌, eqb}
+use Rattle.layout.specs.Items.{some}
+use Rattle.layout.specs.Layout.{start_of, loop_face, side}
+use Rattle.layout.specs.Mate.{mate}
+use Rattle.euler_rings.specs.RingsLaws.{shares_last}
 use Rattle.euler_rings.proofs.rings.shares_outside.Goals as goal
 
-pub returns-then-start-eq0 : goal.returns-then-start-eq0
-returns-then-start-eq0 c = let a = c.args in
-    shares_free a.sh a.links.now a.l a.f a.k (omega arith)
-
-pub returns-then-owner-l : goal.returns-then-owner-l
-returns-then-owner-l c = let a = c.args in
-    shares_own a.sh a.links.now a.l a.f a.k _ c.loop_of-owner.ensures.0 (omega arith)
-
-pub returns-then-here-old : goal.returns-then-here-old
-returns-then-here-old c = let a = c.args in
-    shares_else a.sh a.links.now a.l a.f a.k _
-    c.loop_of-owner.ensures.0 _ _ c.loop_face-here.ensures.0
-    c.loop_face-old.ensures.0 (omega arith)
-
-pub returns-then-there-f : goal.returns-then-there-f
-returns-then-there-f c = let a = c.args in
-    shares_far a.sh a.links.now a.l a.f a.k _
-    c.loop_of-owner.ensures.0 _ _
-    c.loop_face-here.ensures.0
-    c.loop_face-old.ensures.0
-    _ _ c.mate_of.ensures.0 c.side_of-there.ensures.0 (omega arith)
-
-pub returns : goal.returns
-returns c = let a = c.args in
-    shares_here a.sh a.links.now a.l a.f a.k _
-    c.loop_of-owner.ensures.0 _ _
-    c.loop_face-here.ensures.0
-    c.loop_face-old.ensures.0
-    _ _ c.mate_of.ensures.0 c.side_of-there.ensures.0 (omega arith) (omega arith)
-    (omega arith) (omega arith)
+pub returns-then-side_of-f : goal.returns-then-side_of-f
+returns-then-side_of-f c = let a = c.args in let x = a.links.now in
+    let e : c.if-start_of-ne0.value ≡ (some (start_of a.sh x a.k) && eqb (side a.sh x a.k) (loop_face a.sh x a.l)) = search rules in
+    let g : c.if-loop_face.value ≡ (c.if-start_of-ne0.value && eqb (side a.sh x (mate a.k)) a.f) = search rules in
+    shares_last a.sh x a.l a.f a.k (rw (← e) g) c.if-side_of-f.true c.loop_of-owner.ensures.0
