@@ -1,6 +1,6 @@
 // A: while another face is left. A half-edge k of another face has its mate in the root: if its loop is a ring it is
 // made outer; the rings of its face move to the root; kef k.
-ghost use Rattle.std.specs.Prelude.{◌≡◌, false, ℕ, ◌+◌, ◌-◌, ◌*◌, ◌<◌, ◌≤◌, eqb};
+ghost use Rattle.std.specs.Prelude.{◌≡◌, ℕ, ◌+◌, ◌-◌, ◌*◌, ◌<◌, ◌≤◌, eqb};
 ghost use Rattle.layout.specs.Small.{Small};
 ghost use Rattle.takedown.specs.Inversion as inversion;
 ghost use Rattle.takedown.specs.Inversion.{act, outside};
@@ -23,11 +23,9 @@ use takedown_plans::operators::kef;
 use takedown_search::seek::seek;
 use takedown_search::tests::{is_outside, is_stray};
 
-// A stage of the work: how far it has come, and what is carried on to the next turn. `lack`: the turn calls for a
-// number of which none is left, so that nothing changed.
+// A stage of the work: how far it has come, and what is carried on to the next turn.
 #[derive(Clone, Copy)]
 pub struct Stage {
-    pub lack: bool,
     pub progress: Progress,
     pub ends: Ends,
 }
@@ -126,15 +124,11 @@ pub fn across(
         ≡ swift.across sh e links.old
         (seek (2 * sh.edges) e.border (outside sh links.old e.root))
         (held at links.old points.old log.old))
-        × (result.progress.done ≤ at.done + 4099) × (InWords result.ends) × (result.lack ≡ false) }
+        × (result.progress.done ≤ at.done + 4099) × (InWords result.ends) }
 {
     let p = passage_of(links, sh, e);
     let q = pass(links, points, log, sh, at, p, e.root);
     let progress = q.progress;
     let ends = across_ends(e, q.still, p.near, p.stray);
-    Stage {
-        lack: false,
-        progress,
-        ends,
-    }
+    Stage { progress, ends }
 }

@@ -8,7 +8,6 @@ use euler_effects::effects::perform;
 use euler_inverses::inverses::inverse_of;
 use layout::shape::Shape;
 use script::{Operator, operator_size, put_operator};
-use takedown_ends::order::less;
 
 // How far it has come: the operators done, and the log's start. There are at most 8,192 turns of at most 4,099
 // operators each; the bounds on `done` in the contracts below say no more than that counting does not wrap.
@@ -34,7 +33,7 @@ pub fn act(
 {
     let inverse = inverse_of(links, points, sh, op);
     let size = operator_size(inverse);
-    let start = less(at.start, size);
+    let start = at.start.saturating_sub(size);
     let args = op.args;
     perform(links, points, sh, op.code, &args);
     put_operator(inverse, log, start);

@@ -26,8 +26,7 @@ pub fn make_outer(
         ≡ make_outer sh l f (held at links.old points.old log.old))
         × (result.done ≤ at.done + 1) }
 {
-    let ring = is_ring(links, sh, l);
-    if ring {
+    if is_ring(links, sh, l) {
         return act(links, points, log, sh, at, rmov(l, f));
     }
     at
@@ -49,8 +48,7 @@ fn move_ring(
         ≡ moved_ring sh i g r (held at links.old points.old log.old))
         × (result.done ≤ at.done + 1) }
 {
-    let ring = is_ring_of(links, sh, g, i);
-    if ring {
+    if is_ring_of(links, sh, g, i) {
         return act(links, points, log, sh, at, rmov(i, r));
     }
     at
@@ -62,7 +60,7 @@ pub fn move_rings(
     points: &mut [i32],
     log: &mut [u8],
     sh: Shape,
-    at: Progress,
+    mut at: Progress,
     low: usize,
     g: usize,
     r: usize,
@@ -72,15 +70,8 @@ pub fn move_rings(
         ≡ move_rings sh (sh.loops + 1 - low) low g r
         (held at links.old points.old log.old)) × (result.done ≤ at.done + item_places) }
 {
-    let n = sh.loops as usize;
-    let mut i = low;
-    let mut done = at.done;
-    let mut start = at.start;
-    while i <= n {
-        let p = move_ring(links, points, log, sh, Progress { done, start }, i, g, r);
-        done = p.done;
-        start = p.start;
-        i += 1;
+    for i in low..=sh.loops as usize {
+        at = move_ring(links, points, log, sh, at, i, g, r);
     }
-    Progress { done, start }
+    at
 }

@@ -1,7 +1,7 @@
 -- Back operator by operator: the way out of the loop and round it, over plain variables.
 use Rattle.std.specs.Prelude.{◌≡◌, List, ℤ}
 use Rattle.std.proofs.Math.Path.{ap}
-use Prim.Native.Nat.{ℕ, suc, ◌-◌, ◌≤◌, ◌<◌}
+use Prim.Native.Nat.{ℕ, suc, ◌≤◌}
 use native.Mathlib.Omega.{arith}
 use Rattle.codec.specs.declared.Limits.{Limits}
 use Rattle.script.specs.declared.ReadAnswer.{ReadAnswer}
@@ -20,10 +20,9 @@ module _ (sh : Shape) (left : ℕ) (t whole : State) (rest : undone left sh t �
       let same : t ≡ whole = rw n at rest in (ap (λ s. s.links) same, ap (λ s. s.points) same)
 
   -- one more is carried out, and the next stands behind it
-  pub back_on : 0 < left → (m : Limits) → m ≡ limits sh → (r : ReadAnswer) → r ≡ read_operator m t.log t.start
+  pub back_on : (n : ℕ) → left ≡ suc n → (m : Limits) → m ≡ limits sh → (r : ReadAnswer) → r ≡ read_operator m t.log t.start
       → (y : List ℕ) (q : List ℤ) → y ≡ links_after sh t.links r.op
       → q ≡ points_after sh t.links t.points r.op
-      → undone (left - 1) sh (state y q t.log r.next) ≡ whole
+      → undone n sh (state y q t.log r.next) ≡ whole
   unfolding undone
-  back_on h m em r er y q ey eq =
-      let n : left ≡ suc (left - 1) = omega arith in rw (ey, eq, er, em) (rw n at rest)
+  back_on n en m em r er y q ey eq = rw (ey, eq, er, em) (rw en at rest)

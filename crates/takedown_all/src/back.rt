@@ -26,12 +26,10 @@ pub fn roll_back(
 {
     let limits = limits_of(sh);
     let mut at = start;
-    let mut left = n;
-    while left > 0 {
+    for _ in 0..n {
         let read = read_within(log, at, limits);
         let args = read.op.args;
         perform(links, points, sh, read.op.code, &args);
         at = read.next;
-        left -= 1;
     }
 }

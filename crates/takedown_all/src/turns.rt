@@ -12,49 +12,32 @@ use takedown_acts::acts::Progress;
 use takedown_ends::moves::enter;
 use takedown_turns::turn::turn;
 
-// How the turns ended: whether for want of a number, and how far they had come.
-#[derive(Clone, Copy)]
-pub struct Ending {
-    pub lack: bool,
-    pub progress: Progress,
-}
-
-// Turns until no solid is in use or a turn lacks a number, at most E + V.
+// Turns until no solid is in use or a turn lacks a number, at most E + V: how far they had come, as an error where a
+// turn lacks a number.
 pub fn invert_all(
     links: &mut [u16],
     points: &mut [i32],
     log: &mut [u8],
     sh: Shape,
     start: usize,
-) -> Ending
+) -> Result<Progress, Progress>
     requires { Small sh }
     ensures { ended_at result links.new points.new log.new
         ≡ swift_by (inversion.turns sh) sh
         (entered sh 1 (begin (state links.old points.old log.old start))) }
 {
-    let mut left = sh.edges as usize + sh.vertices as usize;
+    let turns = sh.edges as usize + sh.vertices as usize;
     let mut at = Progress { done: 0, start };
     let mut ends = enter(links, sh, 1);
-    while left > 0 {
+    for _ in 0..turns {
         if ends.solid == 0 {
-            return Ending {
-                lack: false,
-                progress: at,
-            };
+            return Ok(at);
         }
-        let stage = turn(links, points, log, sh, at, ends);
+        let Some(stage) = turn(links, points, log, sh, at, ends) else {
+            return Err(at);
+        };
         at = stage.progress;
         ends = stage.ends;
-        if stage.lack {
-            return Ending {
-                lack: true,
-                progress: at,
-            };
-        }
-        left -= 1;
     }
-    Ending {
-        lack: false,
-        progress: at,
-    }
+    Ok(at)
 }

@@ -1,4 +1,3 @@
-use mathlib.Core.Path.{refl}
 use native.Mathlib.Omega.{arith}
 use Rattle.takedown_across.specs.PassingLaws.{across_is}
 use Rattle.takedown_across.proofs.across.across.Goals as goal
@@ -15,5 +14,4 @@ returns c = (
       c.pass-q.ensures.1 c.across_ends-ends.ensures.0,
   omega (arith, c.pass-q.ensures.2),
   c.across_ends-ends.ensures.1,
-  refl,
 )

@@ -1,14 +1,14 @@
 use Rattle.takedown_across.specs.PassingLaws.{passage_read}
 use native.Mathlib.Omega.{arith}
-use Rattle.takedown_search.specs.Sought.{passing, last_of}
+use Rattle.std.proofs.Common.{rules}
+use Rattle.takedown_search.specs.Sought.{seek_by}
 use Rattle.takedown_across.proofs.across.passage_of.Goals as goal
 
 pub returns : goal.returns
-unfolding passing last_of
 returns c = (
   passage_read c.args.sh _
       c.args.e _ _ _ _ _ _ _ _
-      c.seek-half.ensures.0
+      (seek_by _ c.seek-half.ensures.0 (λ k l u b p. search rules))
       c.loop_of-own.ensures.0
       c.is_ring-ring.ensures
       c.stray_from-stray.ensures.0

@@ -4,11 +4,11 @@ use Rattle.runs.specs.Run.{state}
 use Rattle.takedown.specs.Inversion.{work}
 use Rattle.takedown_acts.proofs.rings.move_ring.Goals as goal
 
-pub returns-then-ring : goal.returns-then-ring
-returns-then-ring c = (
+pub returns-then-is_ring_of : goal.returns-then-is_ring_of
+returns-then-is_ring_of c = (
   ring_moved _ _ _ _ _ _
-      c.is_ring_of-ring.ensures
-      c.if-ring.true _
+      c.is_ring_of.ensures
+      c.if-is_ring_of.true _
       c.rmov.ensures _
       c.act.ensures.0,
   omega (arith, c.act.ensures.1),
@@ -23,6 +23,6 @@ returns c = (
       (state c.args.links.now
       c.args.points.now
       c.args.log.now
-      c.args.at.start)) _ c.is_ring_of-ring.ensures c.if-ring.false,
+      c.args.at.start)) _ c.is_ring_of.ensures c.if-is_ring_of.false,
   omega arith,
 )

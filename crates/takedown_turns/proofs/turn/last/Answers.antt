@@ -1,4 +1,3 @@
-use mathlib.Core.Path.{refl}
 use native.Mathlib.Omega.{arith}
 use Rattle.takedown_turns.specs.TurnLaws.{last_is}
 use Rattle.takedown_turns.proofs.turn.last.Goals as goal
@@ -9,5 +8,4 @@ returns c = (
       c.act-a.ensures.0 c.enter-ends.ensures.0,
   omega (arith, c.act-a.ensures.1),
   c.enter-ends.ensures.1,
-  refl,
 )
