@@ -35,7 +35,8 @@ use Rattle.chains.specs.Ranks.{nth_from, count_from}
 use Rattle.chains.specs.Least.{is_least, all_least, LeastNew}
 use Rattle.chains.specs.Runs.{room_for}
 use Rattle.chains.specs.Whole.{answered, whole_of}
-use Rattle.sweeps.specs.Sweep.{Vector, vector, mev_at, mef_at, corners_in, corners_of, sweep_ops, sweep_refusal}
+use Rattle.sweeps.specs.declared.Vector.{Vector}
+use Rattle.sweeps.specs.Sweep.{vector, mev_at, mef_at, corners_in, corners_of, sweep_ops, sweep_refusal}
 use Rattle.sweeps.specs.Swept.{Sweeps}
 use Rattle.evidence_sweeps.specs.Tables.{lone, lone_at, spur, spur_at, round, round_at, path, path_at, ringed}
 use Rattle.evidence_sweeps.specs.Tables.{ringed_at}

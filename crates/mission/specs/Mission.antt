@@ -65,7 +65,7 @@ use Rattle.inversion.specs.Promise.{InvertAnswers, SpareNeverTen, SpareExact, Ho
 use Rattle.wavefront.specs.Obj.{solid_refusal, obj_of}
 use Rattle.wavefront_read.specs.Refused.{RefusedAs}
 use Rattle.wavefront_read.specs.Written.{TextEnds, TextRead}
-use Rattle.sweeps.specs.Sweep.{Vector}
+use Rattle.sweeps.specs.declared.Vector.{Vector}
 use Rattle.sweeps.specs.Swept.{sweep_in}
 use Rattle.mission.specs.Refusals.{OneOf, Named}
 use Rattle.mission.specs.Sweeping.{Sweeping}

@@ -14,7 +14,7 @@ use Rattle.machine.specs.Machine.{Act, Clear, Check, Count, Read, Write, Run, Un
 use Rattle.machine.specs.Machine.{does, do_all, last_of, behind, done_of, done_in, done_by, only_runs}
 use Rattle.machine.specs.Acts.{scripts_of}
 use Rattle.chains.specs.Whole.{UndoneTo, undone_to}
-use Rattle.sweeps.specs.Sweep.{Vector}
+use Rattle.sweeps.specs.declared.Vector.{Vector}
 use Rattle.sweeps.specs.Swept.{ops_in, sweep_in, swept_from, sweep_unchanged, sweep_whole, sweep_run}
 use Rattle.mission.specs.SoundActs.{sound_acts}
 

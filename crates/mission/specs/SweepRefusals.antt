@@ -15,7 +15,8 @@ use Rattle.sessions.specs.Session.{session_run}
 use Rattle.sessions.specs.Editing.{Editing, log_state}
 use Rattle.chains.specs.Runs.{room_for}
 use Rattle.chains.specs.Whole.{whole_of}
-use Rattle.sweeps.specs.Sweep.{Vector, corners_to, lone_in, moves, spare, sweep_ops, sweep_refusal}
+use Rattle.sweeps.specs.declared.Vector.{Vector}
+use Rattle.sweeps.specs.Sweep.{corners_to, lone_in, moves, spare, sweep_ops, sweep_refusal}
 use Rattle.sweeps.specs.Run.{sweep_accepted}
 use Rattle.sweeps.specs.Swept.{refusal_in, ops_in, sweep_in, sweep_unchanged}
 use Rattle.mission.specs.Refusals.{OneOf, Named, wider, checks, entry_numbered, rule_named}

@@ -17,7 +17,7 @@ use Rattle.chains.specs.Series.{Each}
 use Rattle.chains.specs.Least.{LeastNew}
 use Rattle.chains.specs.Runs.{room_for}
 use Rattle.chains.specs.Whole.{early, UndoneTo}
-use Rattle.sweeps.specs.Sweep.{Vector}
+use Rattle.sweeps.specs.declared.Vector.{Vector}
 use Rattle.sweeps.specs.Refused.{RefusedAs}
 use Rattle.sweeps.specs.Counted.{CountsGrown}
 use Rattle.sweeps.specs.Result.{SweptFace}

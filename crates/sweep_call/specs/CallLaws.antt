@@ -16,7 +16,8 @@ use Rattle.sound_tables.specs.Good.{Good}
 use Rattle.chains.specs.Ranks.{nth, nth_in}
 use Rattle.chains.specs.Ranked.{Filled}
 use Rattle.chains.specs.Numbers.{edge_free, vertex_free, face_free, loop_free}
-use Rattle.sweeps.specs.Sweep.{Vector, corners_to, lone_in, moves, spare, sweep_ops, sweep_refusal}
+use Rattle.sweeps.specs.declared.Vector.{Vector}
+use Rattle.sweeps.specs.Sweep.{corners_to, lone_in, moves, spare, sweep_ops, sweep_refusal}
 use Rattle.chains.specs.Runs.{room_for}
 use Rattle.sweeps.specs.Accepted.{Sweepable, corners_some, corners_move, corners_yes, corners_no}
 use Rattle.sweep_puts.specs.RiserLaws.{Holds}

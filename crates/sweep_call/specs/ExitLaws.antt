@@ -15,7 +15,8 @@ use Rattle.runs.specs.declared.answers.RunAnswer.{RunAnswer}
 use Rattle.sessions.specs.Session.{session_run, Runs}
 use Rattle.chains.specs.declared.DoneAnswer.{DoneAnswer}
 use Rattle.chains.specs.Whole.{answered, whole_of, not_done, done_by}
-use Rattle.sweeps.specs.Sweep.{Vector, sweep_ops, sweep_refusal}
+use Rattle.sweeps.specs.declared.Vector.{Vector}
+use Rattle.sweeps.specs.Sweep.{sweep_ops, sweep_refusal}
 use Rattle.sweeps.specs.Swept.{sweep_of}
 use Rattle.sweep_call.specs.declared.plan.Script.{Script}
 use Rattle.sweep_call.specs.PlanLaws.{Planned}

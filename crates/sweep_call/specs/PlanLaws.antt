@@ -14,7 +14,8 @@ use Rattle.chains.specs.Ranks.{count_from}
 use Rattle.chains.specs.Ranked.{Filled}
 use Rattle.chains.specs.Numbers.{edge_free, vertex_free, face_free, loop_free}
 use Rattle.chains.specs.Runs.{room_for}
-use Rattle.sweeps.specs.Sweep.{Vector, corners_to, spare, sweep_ops, sweep_refusal}
+use Rattle.sweeps.specs.declared.Vector.{Vector}
+use Rattle.sweeps.specs.Sweep.{corners_to, spare, sweep_ops, sweep_refusal}
 use Rattle.sweeps.specs.Accepted.{Sweepable, sweepable}
 use Rattle.sweeps.specs.Run.{sweep_length}
 use Rattle.sweep_puts.specs.FaceLaws.{Named, Liftable}

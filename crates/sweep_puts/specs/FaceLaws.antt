@@ -9,7 +9,8 @@ use Rattle.layout.specs.Layout.{loop_face}
 use Rattle.chains.specs.Numbers.{free_names}
 use Rattle.chains.specs.Series.{series, joined, series_length}
 use Rattle.sweeps.specs.Accepted.{sum_up}
-use Rattle.sweeps.specs.Sweep.{Vector, corners_in, corners_of, corners_to, side_at, only_side, sides_of, loop_ops}
+use Rattle.sweeps.specs.declared.Vector.{Vector}
+use Rattle.sweeps.specs.Sweep.{corners_in, corners_of, corners_to, side_at, only_side, sides_of, loop_ops}
 use Rattle.sweeps.specs.Sweep.{ops_of}
 use Rattle.sweeps.specs.Sweep.{sweep_ops}
 use Rattle.sweep_puts.specs.Laid.{Laid, laid_join, laid_more, laid_length, laid_empty, laid_far}
@@ -89,18 +90,18 @@ module _ (sh : Shape) (x edges vertices faces loops : List ℕ) (l z b : ℕ)
   sides_same = split z 0 (λ e. rw (eqb_same e) (ap (λ o. o ∷ []) only_same))
       (λ e. rw (eqb_other e) (series_ext _ _ 0 (suc z) (λ j a c. side_same j (omega (arith, c)))))
 
-pub loop_laid : (sh : Shape) (x : List ℕ) (p : List ℤ) (edges vertices faces loops : List ℕ) (v u : Vector) (l n b : ℕ)
+pub loop_laid : (sh : Shape) (x : List ℕ) (p : List ℤ) (edges vertices faces loops : List ℕ) (v : Vector) (l n b : ℕ)
     (out : List ℕ) (at room : ℕ) (out' : List ℕ) (at' room' : ℕ) (out'' : List ℕ) (at'' room'' : ℕ) → 1 ≤ n
-    → Named sh x edges vertices faces loops (b + n) → v ≡ u
+    → Named sh x edges vertices faces loops (b + n)
     → Laid (series 0 n (riser_of sh x p v l b)) out at room out' at' room'
     → Laid (sides_of (names_in edges faces loops) l (n - 1) b) out' at' room' out'' at'' room''
-    → Laid (loop_ops sh x p u l (n - 1) b) out at room out'' at'' room''
-loop_laid sh x p edges vertices faces loops v u l n b out at room out' at' room' out'' at'' room'' h d vu i k =
+    → Laid (loop_ops sh x p v l (n - 1) b) out at room out'' at'' room''
+loop_laid sh x p edges vertices faces loops v l n b out at room out' at' room' out'' at'' room'' h d i k =
     let z : n ≡ suc (n - 1) = omega arith in
     let e : Named sh x edges vertices faces loops (b + suc (n - 1)) =
     subst (λ m. Named sh x edges vertices faces loops (b + m)) z d in
-    let r : series 0 n (riser_of sh x p v l b) ≡ series 0 (suc (n - 1)) (riser_of sh x p u l b) =
-    ap (λ m. series 0 m (riser_of sh x p v l b)) z ∙ ap (λ w. series 0 (suc (n - 1)) (riser_of sh x p w l b)) vu in
+    let r : series 0 n (riser_of sh x p v l b) ≡ series 0 (suc (n - 1)) (riser_of sh x p v l b) =
+    ap (λ m. series 0 m (riser_of sh x p v l b)) z in
     laid_join (subst (λ os. Laid os out at room out' at' room') r i)
     (subst (λ os. Laid os out' at' room' out'' at'' room'') (sides_same sh x edges vertices faces loops l (n - 1) b e)
     k)
@@ -122,13 +123,11 @@ pub part_none : (sh : Shape) (x : List ℕ) (p : List ℤ) (v : Vector) (l n b :
 unfolding part_of
 part_none sh x p v l n b out at room e = laid_empty (rw (eqb_same e) refl)
 
-pub part_all : (sh : Shape) (x : List ℕ) (p : List ℤ) (v u : Vector) (l n b : ℕ) (out : List ℕ) (at room : ℕ)
-    (out' : List ℕ) (at' room' : ℕ) → (n ≡ 0 → ⊥) → v ≡ u → Laid (loop_ops sh x p v l (n - 1) b) out at room out' at'
-    room'
-    → Laid (part_of sh x p u l n b) out at room out' at' room'
+pub part_all : (sh : Shape) (x : List ℕ) (p : List ℤ) (v : Vector) (l n b : ℕ) (out : List ℕ) (at room : ℕ)
+    (out' : List ℕ) (at' room' : ℕ) → (n ≡ 0 → ⊥) → Laid (loop_ops sh x p v l (n - 1) b) out at room out' at' room'
+    → Laid (part_of sh x p v l n b) out at room out' at' room'
 unfolding part_of
-part_all sh x p v u l n b out at room out' at' room' e vu h =
-    rw (eqb_other e) (subst (λ w. Laid (loop_ops sh x p w l (n - 1) b) out at room out' at' room') vu h)
+part_all sh x p v l n b out at room out' at' room' e h = rw (eqb_other e) h
 
 part_length : (sh : Shape) (x : List ℕ) (p : List ℤ) (v : Vector) (l n b : ℕ)
     → length (part_of sh x p v l n b) ≡ 2 * n
@@ -157,7 +156,7 @@ part_is sh x p f v l g h = split (loop_face sh x (suc l)) f
 -- the loop's invariant: the loops up to l are written
 abbrev pub Facing : Shape → List ℕ → List ℤ → ℕ → Vector → List ℕ → List ℕ → ℕ → ℕ → ℕ → ℕ → Type 0
 Facing sh x p f v out₀ out at room b l =
-    (l ≤ sh.loops) × (at ≤ 54 * b) × (room ≤ 54 * b) × (length out ≡ length out₀) × (b ≡ corners_to sh x f l)
+    (at ≤ 54 * b) × (room ≤ 54 * b) × (b ≡ corners_to sh x f l)
     × Laid (joined 0 l (ops_of sh x p f v)) out₀ 0 0 out at room
 
 -- how many corners there are with the next
@@ -168,43 +167,31 @@ face_few sh x f b l c h e q =
     let z : l + 1 ≡ suc l = omega arith in
     omega (arith, e, q, ap (corners_of sh x f) z, sum_up (suc l) sh.loops (corners_of sh x f) (omega (arith, h)))
 
-pub face_turn : (sh : Shape) (x : List ℕ) (p : List ℤ) (f : ℕ) (v u : Vector) (out₀ out : List ℕ) (at room b l c : ℕ)
-    (out' : List ℕ) (at' room' : ℕ) → Liftable sh x p f u → v ≡ u → l < sh.loops
-    → Facing sh x p f v out₀ out at room b l → c ≡ corners_of sh x f (l + 1)
-    → Laid (part_of sh x p v (l + 1) c b) out at room out' at' room'
+pub face_turn : (sh : Shape) (x : List ℕ) (p : List ℤ) (f : ℕ) (v : Vector) (out₀ out : List ℕ) (at room b l c : ℕ)
+    (out' : List ℕ) (at' room' : ℕ) → Liftable sh x p f v → l < sh.loops → Facing sh x p f v out₀ out at room b l
+    → c ≡ corners_of sh x f (l + 1) → Laid (part_of sh x p v (l + 1) c b) out at room out' at' room'
     → Facing sh x p f v out₀ out' at' room' (b + c) (l + 1)
 unfolding sum_to
-face_turn sh x p f v u out₀ out at room b l c out' at' room' g₀ vu h i q d =
-    let g = subst (λ w. Liftable sh x p f w) (sym vu) g₀ in
+face_turn sh x p f v out₀ out at room b l c out' at' room' g h i q d =
     let z : l + 1 ≡ suc l = omega arith in
     let w : part_of sh x p v (l + 1) c b ≡ ops_of sh x p f v l =
-    rw (q, i.4, z) (part_is sh x p f v l g h) in
-    let n = part_length sh x p v (l + 1) c b in
-    let e = laid_more (ops_of sh x p f v) l i.5 d w refl in (
-      omega (arith, h),
-      omega (arith, d.most, n, i.1),
-      omega (arith, d.less, n, i.2),
-      laid_length d ∙ i.3,
-      rw (q, i.4, z) (omega arith),
-      e,
+    rw (q, i.2, z) (part_is sh x p f v l g h) in
+    let n = part_length sh x p v (l + 1) c b in (
+      omega (arith, d.most, n, i.0),
+      omega (arith, d.less, n, i.1),
+      rw (q, i.2, z) (omega arith),
+      laid_more (ops_of sh x p f v) l i.3 d w refl,
     )
 
-pub face_end : (sh : Shape) (x : List ℕ) (p : List ℤ) (f : ℕ) (v u : Vector) (out₀ out : List ℕ) (at room b l : ℕ)
-    → Facing sh x p f v out₀ out at room b l → sh.loops ≤ l → v ≡ u → Laid (sweep_ops sh x p f u) out₀ 0 0 out at room
+pub face_end : (sh : Shape) (x : List ℕ) (p : List ℤ) (f : ℕ) (v : Vector) (out₀ out : List ℕ) (at room b l : ℕ)
+    → Facing sh x p f v out₀ out at room b l → l ≤ sh.loops → sh.loops ≤ l
+    → Laid (sweep_ops sh x p f v) out₀ 0 0 out at room
 unfolding sweep_ops
-face_end sh x p f v u out₀ out at room b l i h vu =
-    let z : l ≡ sh.loops = omega (arith, i.0, h) in
-    subst (λ w. Laid (joined 0 sh.loops (ops_of sh x p f w)) out₀ 0 0 out at room) vu
-    (subst (λ m. Laid (joined 0 m (ops_of sh x p f v)) out₀ 0 0 out at room) z i.5)
+face_end sh x p f v out₀ out at room b l i m h =
+    let z : l ≡ sh.loops = omega (arith, m, h) in
+    subst (λ m. Laid (joined 0 m (ops_of sh x p f v)) out₀ 0 0 out at room) z i.3
 
-pub moving_by : (sh : Shape) (x : List ℕ) (p : List ℤ) (v u : Vector) (l n : ℕ) → v ≡ u → Moving sh x p u l n
-    → Moving sh x p v l n
-moving_by sh x p v u l n e m = subst (λ w. Moving sh x p w l n) (sym e) m
-
-pub moving_at : (sh : Shape) (x : List ℕ) (p : List ℤ) (f : ℕ) (v u : Vector) (l c : ℕ) → Liftable sh x p f u → v ≡ u
+pub moving_at : (sh : Shape) (x : List ℕ) (p : List ℤ) (f : ℕ) (v : Vector) (l c : ℕ) → Liftable sh x p f v
     → l < sh.loops → c ≡ corners_of sh x f (l + 1) → Moving sh x p v (l + 1) c
-moving_at sh x p f v u l c g e h q =
-    moving_by sh x p v u (l + 1) c e (subst (Moving sh x p u (l + 1)) (sym q) (g.moving (l + 1) (omega arith) (omega (
-      arith,
-      h,
-    ))))
+moving_at sh x p f v l c g h q =
+    subst (Moving sh x p v (l + 1)) (sym q) (g.moving (l + 1) (omega arith) (omega (arith, h)))

@@ -32,14 +32,14 @@ fn put_bytes(op: Operator, out: &mut [u8], at: usize) -> usize
     behind - at + size
 }
 
-// Operator op, whose inverse takes `more` bytes.
-pub fn put_one(op: Operator, more: usize, out: &mut [u8], at: usize, room: usize) -> Place
-    requires { Undone op more × (at + 27 ≤ length out.old) × (at ≤ 200000) × (room ≤ 200000) }
-    ensures { Laid (op ∷ []) out.old at room out.new result.at result.room }
+// Operator op at the place, whose inverse takes `more` bytes.
+pub fn put_one(op: Operator, more: usize, out: &mut [u8], place: Place) -> Place
+    requires { Undone op more × (place.at + 27 ≤ length out.old) × (place.at ≤ 200000) × (place.room ≤ 200000) }
+    ensures { Laid (op ∷ []) out.old place.at place.room out.new result.at result.room }
 {
-    let size = put_bytes(op, out, at);
+    let size = put_bytes(op, out, place.at);
     Place {
-        at: at + size,
-        room: room + more,
+        at: place.at + size,
+        room: place.room + more,
     }
 }

@@ -14,13 +14,11 @@ pub fn corners_in(links: &[u16], sh: Shape, l: usize) -> usize
     let first = loop_first(links, sh, l);
     let n = 2 * (sh.edges as usize);
     let mut k = first;
-    let mut j: usize = 1;
-    while j <= n {
+    for j in 0..n {
         k = next_of(links, sh, k);
         if k == first {
-            return j;
+            return j + 1;
         }
-        j += 1;
     }
     0
 }
@@ -43,10 +41,8 @@ pub fn corners_to(links: &[u16], sh: Shape, f: usize) -> usize
 {
     let n = sh.loops as usize;
     let mut sum: usize = 0;
-    let mut l: usize = 0;
-    while l < n {
-        l += 1;
-        sum += corners_of(links, sh, f, l);
+    for l in 0..n {
+        sum += corners_of(links, sh, f, l + 1);
     }
     sum
 }

@@ -15,7 +15,8 @@ use Rattle.sound_tables.specs.Good.{Good}
 use Rattle.inversion.specs.Counts.{solids, faces, loops, edges, vertices, rings}
 use Rattle.inversion.specs.Same.{solids_is, faces_is, loops_is, edges_is, vertices_is}
 use Rattle.inversion.specs.LoopCounts.{rings_loops}
-use Rattle.sweeps.specs.Sweep.{Vector, corners_to}
+use Rattle.sweeps.specs.declared.Vector.{Vector}
+use Rattle.sweeps.specs.Sweep.{corners_to}
 use Rattle.sweeps.specs.Accepted.{Sweepable, sweep_reach}
 use Rattle.sweeps.specs.Counted.{CountsGrown}
 use Rattle.sweeps.specs.Run.{sweep_accepted, sweep_good, sweep_able}

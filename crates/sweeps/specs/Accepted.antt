@@ -19,7 +19,8 @@ use Rattle.sound_tables.specs.Names.{named_used}
 use Rattle.sound_tables.specs.PointLists.{three, all_three}
 use Rattle.chains.specs.Series.{Each, Reach, reach_none, reach_map, reach_joined}
 use Rattle.chains.specs.Ranks.{count_from, nth_apart}
-use Rattle.sweeps.specs.Sweep.{Vector, corner_of, corners_in}
+use Rattle.sweeps.specs.declared.Vector.{Vector}
+use Rattle.sweeps.specs.Sweep.{corner_of, corners_in}
 use Rattle.chains.specs.Numbers.{free_names, edge_free, vertex_free, face_free, loop_free, nth_stands, nth_free}
 use Rattle.sweeps.specs.Sweep.{corners_of, corners_to, moved_by, ops_of, sweep_ops, lone_in, movable, moves}
 use Rattle.sweeps.specs.Sweep.{spare}

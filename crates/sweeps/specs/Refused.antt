@@ -14,7 +14,8 @@ use Rattle.sound_tables.specs.Sound.{In}
 use Rattle.chains.specs.Ranks.{count_from}
 use Rattle.chains.specs.Numbers.{edge_free, vertex_free, face_free, loop_free}
 use Rattle.chains.specs.Runs.{room_for}
-use Rattle.sweeps.specs.Sweep.{Vector, corners_to, moved_by, lone_in, moves, movable, spare, sweep_ops, sweep_refusal}
+use Rattle.sweeps.specs.declared.Vector.{Vector}
+use Rattle.sweeps.specs.Sweep.{corners_to, moved_by, lone_in, moves, movable, spare, sweep_ops, sweep_refusal}
 
 module _ (sh : Shape) (x : List ℕ) (p : List ℤ) (start f : ℕ) (v : Vector) where
   -- f is the number of a face in use

@@ -12,7 +12,8 @@ use Rattle.layout.specs.Fields.{SolidUsed, Solid, Outer, Face, Isolated, Start, 
 use Rattle.sound_tables.specs.Sound.{In, HalfUsed, Sound}
 use Rattle.sound_tables.specs.Good.{own, Good}
 use Rattle.chains.specs.Numbers.{Names, free_names}
-use Rattle.sweeps.specs.Sweep.{Vector, corner_of, corners_in, corners_to, down_at, moved_by}
+use Rattle.sweeps.specs.declared.Vector.{Vector}
+use Rattle.sweeps.specs.Sweep.{corner_of, corners_in, corners_to, down_at, moved_by}
 use Rattle.sweeps.specs.Rising.{On}
 use Rattle.sweeps.specs.Frames.{SameHalf, SamePoint}
 use Rattle.sweeps.specs.Lifted.{up_at, after_at, top_at, top_after, Side, Four, only_in, only_four, Lifted}

@@ -19,7 +19,8 @@ use Rattle.inversion.specs.Rebuild.{Builds}
 use Rattle.chains.specs.Series.{series_length, joined}
 use Rattle.chains.specs.Numbers.{free_names}
 use Rattle.chains.specs.Runs.{Plain, AllPlain, plain_append, plain_series, plain_joined, room_is, path_run}
-use Rattle.sweeps.specs.Sweep.{Vector, corners_in, corners_of, corners_to, risers_of, sides_of, ops_of, sweep_ops}
+use Rattle.sweeps.specs.declared.Vector.{Vector}
+use Rattle.sweeps.specs.Sweep.{corners_in, corners_of, corners_to, risers_of, sides_of, ops_of, sweep_ops}
 use Rattle.sweeps.specs.Sweep.{sweep_refusal, mev_at, mef_at}
 use Rattle.sweeps.specs.Accepted.{Sweepable, sweepable, sweep_reach, corners_some, corners_no, corners_yes}
 use Rattle.sweeps.specs.Accepted.{sum_suc, sum_at}

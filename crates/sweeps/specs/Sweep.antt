@@ -16,6 +16,7 @@ use Rattle.laws.specs.Every.{every}
 use Rattle.laws.specs.Permutations.{iter}
 use Rattle.laws.specs.Search.{least, all_to, any_to}
 use Rattle.laws.specs.Sums.{sum_to}
+use Rattle.sweeps.specs.declared.Vector.{Vector}
 use Rattle.script.specs.declared.Operator.{Operator}
 use Rattle.layout.specs.declared.shape.Shape.{Shape}
 use Rattle.layout.specs.Layout.{face_solid, loop_face, loop_first, loop_isolated, start_of, next_of, side}
@@ -27,13 +28,7 @@ use Rattle.chains.specs.Ranks.{count_from}
 use Rattle.chains.specs.Numbers.{Names, edge_free, vertex_free, face_free, loop_free, free_names}
 use Rattle.chains.specs.Runs.{room_for}
 
--- "a whole-number vector"
-pub record Vector : Type 0 where
-  pub x : ℤ
-  pub y : ℤ
-  pub z : ℤ
-
--- of three numbers
+-- "a whole-number vector", the struct `Vector` of this crate, of three numbers
 abbrev pub vector : ℤ → ℤ → ℤ → Vector
 vector x y z = record { x = x; y = y; z = z }
 

@@ -23,7 +23,8 @@ use Rattle.chains.specs.Whole.{whole_of, whole_in, whole_from, early, UndoneTo, 
 use Rattle.chains.specs.Whole.{whole_run}
 use Rattle.chains.specs.Whole.{whole_any_redo}
 use Rattle.chains.specs.Whole.{whole_all, whole_undone}
-use Rattle.sweeps.specs.Sweep.{Vector, vector, corners_to, sweep_ops, sweep_refusal}
+use Rattle.sweeps.specs.declared.Vector.{Vector}
+use Rattle.sweeps.specs.Sweep.{vector, corners_to, sweep_ops, sweep_refusal}
 use Rattle.sweeps.specs.Run.{sweep_accepted, sweep_many, sweep_any, sweep_good, sweep_able, sweep_plain}
 use Rattle.sweeps.specs.Accepted.{Midway, sweep_reach, names_least}
 use Rattle.sweeps.specs.Refused.{RefusedAs, refused_as}

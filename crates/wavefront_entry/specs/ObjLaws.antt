@@ -1,6 +1,6 @@
 -- What the code of the whole call leaves: the text by the ranks of an array is the text of the solid; and the ways out.
-use Rattle.std.specs.Prelude.{◌≡◌, ◌≢◌, ◌⊎◌, Bool, false, List, [], ◌∷◌, ◌++◌, ℕ, zero, suc, ◌+◌, ◌*◌, ◌≤◌, ◌<◌, T, leb}
-use Rattle.std.specs.Prelude.{ℤ, length}
+use Rattle.std.specs.Prelude.{◌≡◌, ◌≢◌, ◌⊎◌, Bool, false, List, [], ◌∷◌, ◌++◌, ℕ, zero, suc, ◌+◌, ◌*◌, ◌≤◌, ◌<◌, leb}
+use Rattle.std.specs.Prelude.{ℤ, length, Option, None, Some, Result, Ok, Err}
 use Rattle.std.proofs.Math.Path.{refl, ap}
 use Rattle.std.proofs.Common.{sym, ◌∙◌, inl, inr, arith, eqb→eq}
 use Rattle.std.proofs.Math.Bool.{true}
@@ -12,6 +12,9 @@ use Rattle.layout.specs.declared.shape.Shape.{Shape}
 use Rattle.layout.specs.Layout.{shape_of, start_of}
 use Rattle.layout.specs.Items.{some}
 use Rattle.layout.specs.Small.{Small}
+use Rattle.refusals.specs.declared.Refusal.{Refusal}
+use Rattle.refusals.specs.Numbers.{number_of}
+use Rattle.refusals.specs.UnlessLaws.{refused_some}
 use Rattle.table.specs.declared.check.CheckAnswer.{CheckAnswer}
 use Rattle.table.specs.Check.{check_of}
 use Rattle.sound_tables.specs.Sound.{In}
@@ -20,7 +23,8 @@ use Rattle.promises.specs.Checked.{checked_good}
 use Rattle.text.specs.Put.{Put}
 use Rattle.wavefront.specs.Obj.{passing_to, own_vertex, own_face, own_vertices, own_faces}
 use Rattle.wavefront.specs.Obj.{rank, concat_map, vertex_line, backwards}
-use Rattle.wavefront.specs.Obj.{corner_word, face_line, obj_text, solid_refusal, Texted, texted, fitted, obj_of}
+use Rattle.wavefront.specs.Obj.{corner_word, face_line, obj_text, solid_refusal, Texted, texted, fitted, unless_refused}
+use Rattle.wavefront.specs.Obj.{obj_of}
 use Rattle.wavefront_read.specs.Laps.{Among}
 use Rattle.wavefront_read.specs.Passing.{passing_only}
 use Rattle.wavefront_read.specs.TurnedRound.{Showable, showable}
@@ -106,25 +110,30 @@ pub record Drawable (sh : Shape) (x : List ℕ) (p : List ℤ) (s : ℕ) : Type 
   pub good : Good sh x p
   pub shown : Showable sh x s
 
--- how long a text is, where it is longer than there is room; else 0
-abbrev pub excess : List ℕ → ℕ → ℕ
-excess t room = pick (leb (length t) room) 0 (length t)
+-- how long a text is, where it is longer than there is room
+abbrev pub excess : List ℕ → ℕ → Option ℕ
+excess t room = pick (leb (length t) room) None (Some (length t))
+
+-- a number to tell lengths by
+abbrev code : Option ℕ → ℕ
+code None = 0
+code (Some n) = suc n
 
 -- a text that fits has none
-pub no_excess : (t : List ℕ) (room : ℕ) → length t ≤ room → 0 ≡ excess t room
+pub no_excess : (t : List ℕ) (room : ℕ) → length t ≤ room → None ≡ excess t room
 no_excess t room l = rw (le-leb (length t) room l) refl
 
 -- and a text that has none fits
-excess_none : (t : List ℕ) (room : ℕ) → excess t room ≡ 0 → length t ≤ room
+excess_none : (t : List ℕ) (room : ℕ) → excess t room ≡ None → length t ≤ room
 excess_none t room z = go (le? (length t) room)
   where
     go : (length t ≤ room) ⊎ (room < length t) → length t ≤ room
     go (inl l) = l
-    go (inr l) = absurd (omega (arith, z, rw (lt-leb (length t) room l) at z, l))
+    go (inr l) = let e : code (Some (length t)) ≡ 0 = ap code (rw (lt-leb (length t) room l) at z) in absurd (omega (arith, e))
 
 -- one that does not is all of it
-pub all_excess : (t : List ℕ) (room n : ℕ) → n ≡ length t → room < n → n ≡ excess t room
-all_excess t room n e l = rw (lt-leb (length t) room (omega arith)) e
+pub all_excess : (t : List ℕ) (room n : ℕ) → n ≡ length t → room < n → Some n ≡ excess t room
+all_excess t room n e l = rw (lt-leb (length t) room (omega arith), e) refl
 
 module _ {sh : Shape} {x : List ℕ} {p : List ℤ} {s : ℕ} (a : Drawable sh x p s) where
   -- points are in range
@@ -143,7 +152,7 @@ module _ {sh : Shape} {x : List ℕ} {p : List ℤ} {s : ℕ} (a : Drawable sh x
 
   -- room for the longest text is room for this one
   pub room_enough : (n room : ℕ) → n ≡ 26 * sh.vertices + 2 * sh.faces + 5 * (2 * sh.edges) → n ≤ room
-      → 0 ≡ excess (obj_text sh x p s) room
+      → None ≡ excess (obj_text sh x p s) room
   room_enough n room e l = no_excess (obj_text sh x p s) room (omega (arith, obj_length a.good a.shown))
 
   module _ (ranks : List ℕ) (r : Ranked sh x s ranks) where
@@ -153,28 +162,51 @@ module _ {sh : Shape} {x : List ℕ} {p : List ℤ} {s : ℕ} (a : Drawable sh x
 
     -- measured, and short enough; or too long
     pub measured_short : (y z : List ℕ) (n room : ℕ) → Put y 0 (text_by sh x p s ranks) n z → n ≤ room
-        → 0 ≡ excess (obj_text sh x p s) room
+        → None ≡ excess (obj_text sh x p s) room
     measured_short y z n room h l = no_excess (obj_text sh x p s) room (omega (arith, (put_same y z n h).0))
 
     pub measured_long : (y z : List ℕ) (n room : ℕ) → Put y 0 (text_by sh x p s ranks) n z → room < n
-        → n ≡ excess (obj_text sh x p s) room
+        → Some n ≡ excess (obj_text sh x p s) room
     measured_long y z n room h l = all_excess (obj_text sh x p s) room n (omega (arith, (put_same y z n h).0)) l
 
     -- written
-    pub written_in : (out out1 : List ℕ) (n m : ℕ) → m ≡ excess (obj_text sh x p s) (length out) → m ≡ 0
+    pub written_in : (out out1 : List ℕ) (n : ℕ) (m : Option ℕ) → m ≡ excess (obj_text sh x p s) (length out) → m ≡ None
         → Put out 0 (text_by sh x p s ranks) n out1 → texted 0 0 n out1 ≡ fitted (obj_text sh x p s) out
     written_in out out1 n m e z h = let b = put_same out out1 n h in
         fitted_in (obj_text sh x p s) out out1 n b.0 (excess_none (obj_text sh x p s) (length out) (sym e ∙ z)) b.1
 
 -- refused with 13
-pub refused_13 : (t out : List ℕ) (m : ℕ) → m ≡ excess t (length out) → m ≢ 0 → texted 13 0 m out ≡ fitted t out
-refused_13 t out m e d = go (le? (length t) (length out))
+pub refused_13 : (t out : List ℕ) (m : ℕ) → Some m ≡ excess t (length out) → texted 13 0 m out ≡ fitted t out
+refused_13 t out m e = go (le? (length t) (length out))
   where
     go : (length t ≤ length out) ⊎ (length out < length t) → texted 13 0 m out ≡ fitted t out
-    go (inl l) = absurd (d (e ∙ sym (no_excess t (length out) l)))
-    go (inr l) = fitted_not t out m (e ∙ sym (all_excess t (length out) (length t) refl l)) l
+    go (inl l) = let h : code (Some m) ≡ 0 = ap code (e ∙ sym (no_excess t (length out) l)) in absurd (omega (arith, h))
+    go (inr l) =
+        let h : code (Some m) ≡ code (Some (length t)) = ap code (e ∙ sym (all_excess t (length out) (length t) refl l))
+        in fitted_not t out m (omega (arith, h)) l
 
 -- ---- the ways out of the call
+
+-- the answer and the buffer by what was drawn: how long it is, or the refusal and how long it would be
+abbrev pub drawn : Result ℕ (Refusal × ℕ) → List ℕ → Texted
+drawn (Ok n) out = texted 0 0 n out
+drawn (Err e) out = texted (number_of e.0) 0 e.1 out
+
+module _ (sh : Shape) (x : List ℕ) (p : List ℤ) (s : ℕ) (good : Good sh x p) where
+  -- what is refused of the solid
+  pub solid_refused : (r : Refusal) → number_of r ≡ solid_refusal sh x s → (out : List ℕ)
+      → texted (number_of r) 0 0 out ≡ unless_refused (solid_refusal sh x s) 0 (obj_text sh x p s) out
+  solid_refused r q out = rw (← q, ne_eqb (number_of r) 0 (refused_some r)) refl
+
+  module _ (q : 0 ≡ solid_refusal sh x s) where
+    -- what is not is ready
+    pub drawable : Drawable sh x p s
+    drawable = record { good = good; shown = showable sh x s (sym q) }
+
+    -- and written
+    pub answered : (out : List ℕ) (t : Texted) → t ≡ fitted (obj_text sh x p s) out
+        → t ≡ unless_refused (solid_refusal sh x s) 0 (obj_text sh x p s) out
+    answered out t f = rw (← q) f
 
 module _ (x : List ℕ) (p : List ℤ) (s : ℕ) (a : CheckAnswer) (h : a ≡ check_of x p) where
   -- what the check refuses
@@ -182,20 +214,13 @@ module _ (x : List ℕ) (p : List ℤ) (s : ℕ) (a : CheckAnswer) (h : a ≡ ch
   unfolding obj_of
   check_refused out d = rw (← h, ne_eqb a.refusal 0 d) refl
 
-  module _ (z : a.refusal ≡ 0) (sh : Shape) (e : sh ≡ shape_of x) (r : ℕ) (q : r ≡ solid_refusal sh x s) where
-    -- what is refused of the solid
-    pub solid_refused : (out : List ℕ) → r ≢ 0 → texted r 0 0 out ≡ obj_of x p s out
-    unfolding obj_of
-    solid_refused out d = rw (← h, eq-eqb a.refusal 0 z, ← e, ← q, ne_eqb r 0 d) refl
+  module _ (z : a.refusal ≡ 0) (sh : Shape) (e : sh ≡ shape_of x) where
+    -- a table that it does not refuse is good
+    pub checked : Good sh x p
+    checked = rw e (checked_good x p (ap (λ c. c.refusal) (sym h) ∙ z))
 
-    -- what is not is ready
-    pub drawable : r ≡ 0 → Drawable sh x p s
-    drawable y = record {
-      good = rw e (checked_good x p (ap (λ c. c.refusal) (sym h) ∙ z));
-      shown = showable sh x s (sym q ∙ y);
-    }
-
-    -- and written
-    pub answered : (out : List ℕ) (t : Texted) → r ≡ 0 → t ≡ fitted (obj_text sh x p s) out → t ≡ obj_of x p s out
+    -- and its solid is drawn
+    pub call_drawn : (out : List ℕ) (t : Texted)
+        → t ≡ unless_refused (solid_refusal sh x s) 0 (obj_text sh x p s) out → t ≡ obj_of x p s out
     unfolding obj_of
-    answered out t y f = rw (← h, eq-eqb a.refusal 0 z, ← e, ← q, eq-eqb r 0 y) f
+    call_drawn out t f = rw (← h, eq-eqb a.refusal 0 z, ← e) f

@@ -1,8 +1,10 @@
 -- The tests of refusal 12 as the code makes them, and the ways out of asking for a solid.
 use Rattle.std.specs.Prelude.{◌≡◌, refl, ◌≢◌, Bool, true, false, not, ◌&&◌, List, ℕ, zero, suc, ◌≤◌, ◌<◌, eqb}
 use Rattle.std.proofs.Common.{sym, ap, ◌∙◌, arith}
-use borrow.Author.Tests.{le-leb, lt-leb, not-true, not-false}
-use Rattle.laws.specs.Bools.{eqb_same, eqb_other}
+use borrow.Author.Tests.{le-leb, lt-leb}
+use Rattle.refusals.specs.declared.Refusal.TheVariants.{NotPlain}
+use Rattle.refusals.specs.Numbers.{refusal_in, unless}
+use Rattle.laws.specs.Bools.{pick, eqb_same, eqb_other}
 use Rattle.laws.specs.Search.{all_to}
 use Rattle.layout.specs.declared.shape.Shape.{Shape}
 use Rattle.layout.specs.Layout.{solid_used, face_solid, face_outer, loop_face, loop_first, prev_of}
@@ -100,10 +102,11 @@ module _ (sh : Shape) (x : List ℕ) (s : ℕ) where
     refused_free z = rw (le-leb 1 s (omega arith), le-leb s sh.solids h, ← e, z)
 
     module _ (u : n ≢ 0) (b : Bool) (q : b ≡ (no_ring_nor_lone sh x s && three_sided sh x s)) where
-      pub refused_shape : not b ≡ true → 12 ≡ solid_refusal sh x s
+      -- then the last test decides
+      pub shaped : refusal_in (unless b NotPlain) ≡ solid_refusal sh x s
       unfolding solid_refusal
-      refused_shape t = rw (le-leb 1 s (omega arith), le-leb s sh.solids h, ← e, eqb_other u, ← q, not-true b t)
-
-      pub accepted : not b ≡ false → 0 ≡ solid_refusal sh x s
-      unfolding solid_refusal
-      accepted t = rw (le-leb 1 s (omega arith), le-leb s sh.solids h, ← e, eqb_other u, ← q, not-false b t)
+      shaped = rw (le-leb 1 s (omega arith), le-leb s sh.solids h, ← e, eqb_other u, ← q) (decided b)
+        where
+          decided : (c : Bool) → refusal_in (unless c NotPlain) ≡ pick c 0 12
+          decided true = refl
+          decided false = refl

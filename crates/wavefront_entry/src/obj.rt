@@ -2,15 +2,17 @@
 ghost use Rattle.std.specs.Prelude.{◌≡◌, ℕ, ◌+◌, ◌*◌, ◌≤◌, ◌<◌};
 ghost use Rattle.layout.specs.Small.{Small};
 ghost use Rattle.text.specs.Put.{Put};
-ghost use Rattle.wavefront.specs.Obj.{obj_text, texted, fitted, obj_of};
+ghost use Rattle.sound_tables.specs.Good.{Good};
+ghost use Rattle.wavefront.specs.Obj.{obj_text, solid_refusal, texted, fitted, unless_refused, obj_of};
 ghost use Rattle.wavefront_text.specs.LineLaws.{AllInRange, Low};
 ghost use Rattle.wavefront_entry.specs.RankLaws.{Ranked};
-ghost use Rattle.wavefront_entry.specs.ObjLaws.{text_by, Drawable, excess};
+ghost use Rattle.wavefront_entry.specs.ObjLaws.{text_by, Drawable, excess, drawn};
 
 use crate::ranks::rank_vertices;
 use crate::solid::solid_refusal;
 use bounds::ITEM_PLACES;
 use layout::shape::{Shape, shape_of};
+use refusals::Refusal;
 use table::check::check;
 use wavefront::answer::TextAnswer;
 use wavefront_text::lines::{put_faces, put_vertices};
@@ -41,8 +43,8 @@ fn longest(sh: Shape) -> usize
     26 * (sh.vertices as usize) + 2 * (sh.faces as usize) + 5 * (2 * (sh.edges as usize))
 }
 
-// How long the text is, where it is longer than `room`; else 0. It is measured in a buffer that holds one byte of it,
-// and not at all where there is room for the longest.
+// How long the text is, where it is longer than `room`. It is measured in a buffer that holds one byte of it, and not
+// at all where there is room for the longest.
 fn overlong(
     links: &[u16],
     points: &[i32],
@@ -50,42 +52,55 @@ fn overlong(
     s: usize,
     ranks: &[u16; ITEM_PLACES],
     room: usize,
-) -> usize
+) -> Option<usize>
     requires { Drawable sh links.now points.now s × Ranked sh links.now s ranks.now }
     ensures { result ≡ excess (obj_text sh links.now points.now s) room }
 {
     if room >= longest(sh) {
-        return 0;
+        return None;
     }
     let mut front = [0u8; 1];
     let length = put_text(&mut front, links, points, sh, s, ranks);
     if length <= room {
-        return 0;
+        return None;
     }
-    length
+    Some(length)
 }
 
-// Writes a solid that is not refused.
-fn write_solid(links: &[u16], points: &[i32], sh: Shape, s: usize, out: &mut [u8]) -> TextAnswer
+// Writes a solid that is not refused: how long its text is, or that it does not fit and how long it would be.
+fn write_solid(
+    links: &[u16],
+    points: &[i32],
+    sh: Shape,
+    s: usize,
+    out: &mut [u8],
+) -> Result<usize, (Refusal, usize)>
     requires { Drawable sh links.now points.now s }
-    ensures { texted result.refusal result.rule result.length out.new
-        ≡ fitted (obj_text sh links.now points.now s) out.old }
+    ensures { drawn result out.new ≡ fitted (obj_text sh links.now points.now s) out.old }
 {
     let mut ranks = [0u16; ITEM_PLACES];
     rank_vertices(links, sh, s, &mut ranks);
-    let long = overlong(links, points, sh, s, &ranks, out.len());
-    if long != 0 {
-        return TextAnswer {
-            refusal: 13,
-            rule: 0,
-            length: long,
-        };
+    if let Some(length) = overlong(links, points, sh, s, &ranks, out.len()) {
+        return Err((Refusal::TextTooLong, length));
     }
-    let length = put_text(out, links, points, sh, s, &ranks);
-    TextAnswer {
-        refusal: 0,
-        rule: 0,
-        length,
+    Ok(put_text(out, links, points, sh, s, &ranks))
+}
+
+// Writes solid s of a good table: how long its text is, or why there is none, with the length where it does not fit.
+fn draw(
+    links: &[u16],
+    points: &[i32],
+    sh: Shape,
+    s: usize,
+    out: &mut [u8],
+) -> Result<usize, (Refusal, usize)>
+    requires { Good sh links.now points.now }
+    ensures { drawn result out.new
+        ≡ unless_refused (solid_refusal sh links.now s) 0 (obj_text sh links.now points.now s) out.old }
+{
+    match solid_refusal(links, sh, s) {
+        Ok(()) => write_solid(links, points, sh, s, out),
+        Err(refusal) => Err((refusal, 0)),
     }
 }
 
@@ -104,14 +119,13 @@ pub fn obj(links: &[u16], points: &[i32], s: usize, out: &mut [u8]) -> TextAnswe
             length: 0,
         };
     }
-    let sh = shape_of(links);
-    let refusal = solid_refusal(links, sh, s);
-    if refusal != 0 {
-        return TextAnswer {
-            refusal,
-            rule: 0,
-            length: 0,
-        };
+    let (refusal, length) = match draw(links, points, shape_of(links), s, out) {
+        Ok(length) => (0, length),
+        Err((refusal, length)) => (refusal.number(), length),
+    };
+    TextAnswer {
+        refusal,
+        rule: 0,
+        length,
     }
-    write_solid(links, points, sh, s, out)
 }

@@ -43,10 +43,8 @@ fn mark_vertices(links: &[u16], sh: Shape, s: usize, ranks: &mut [u16; ITEM_PLAC
 {
     *ranks = [0u16; ITEM_PLACES];
     let n = 2 * (sh.edges as usize);
-    let mut k: usize = 0;
-    while k < n {
-        k += 1;
-        let v = own_start(links, sh, s, k);
+    for k in 0..n {
+        let v = own_start(links, sh, s, k + 1);
         mark(ranks, v);
     }
 }
@@ -70,10 +68,8 @@ fn count_vertices(ranks: &mut [u16; ITEM_PLACES], n: usize)
     ensures { CountedTo ranks.old n ranks.new }
 {
     let mut last: usize = 0;
-    let mut v: usize = 0;
-    while v < n {
-        v += 1;
-        last = number(ranks, v, last);
+    for v in 0..n {
+        last = number(ranks, v + 1, last);
     }
 }
 

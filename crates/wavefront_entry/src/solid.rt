@@ -3,9 +3,12 @@ ghost use Rattle.std.specs.Prelude.{◌≡◌, Bool, ◌&&◌, ℕ, ◌≤◌, �
 ghost use Rattle.layout.specs.Small.{Small};
 ghost use Rattle.wavefront.specs.Obj.{three_sides, outer_loop, sided_loop, no_ring_nor_lone, three_sided};
 ghost use Rattle.wavefront.specs.Obj.{solid_refusal};
+ghost use Rattle.refusals.specs.Numbers.{refusal_in};
 
 use layout::columns::{face_outer, face_solid, loop_face, loop_first, prev_of, solid_used};
 use layout::shape::Shape;
+use refusals::{Refusal, ensure};
+use searching::all_pass;
 
 // The loop of half-edge k has three sides at least.
 fn three_sides(links: &[u16], sh: Shape, k: usize) -> bool
@@ -46,33 +49,16 @@ fn plain(links: &[u16], sh: Shape, s: usize) -> bool
     requires { Small sh }
     ensures { result ≡ (no_ring_nor_lone sh links.now s && three_sided sh links.now s) }
 {
-    let n = sh.loops as usize;
-    let mut k: usize = 0;
-    while k < n {
-        if !plain_loop(links, sh, s, k + 1) {
-            return false;
-        }
-        k += 1;
-    }
-    true
+    all_pass(sh.loops as usize, |l| plain_loop(links, sh, s, l))
 }
 
-// The refusal of solid s in a sound table, or 0.
-pub fn solid_refusal(links: &[u16], sh: Shape, s: usize) -> u8
+// Why solid s of a sound table is refused, if it is.
+pub fn solid_refusal(links: &[u16], sh: Shape, s: usize) -> Result<(), Refusal>
     requires { Small sh }
-    ensures { result ≡ solid_refusal sh links.now s }
+    ensures { refusal_in result ≡ solid_refusal sh links.now s }
 {
-    if s == 0 {
-        return 5;
-    }
-    if s > sh.solids as usize {
-        return 5;
-    }
-    if solid_used(links, sh, s) == 0 {
-        return 6;
-    }
-    if !plain(links, sh, s) {
-        return 12;
-    }
-    0
+    ensure(s != 0, Refusal::OutOfRange)?;
+    ensure(s <= sh.solids as usize, Refusal::OutOfRange)?;
+    ensure(solid_used(links, sh, s) != 0, Refusal::ItemFree)?;
+    ensure(plain(links, sh, s), Refusal::NotPlain)
 }

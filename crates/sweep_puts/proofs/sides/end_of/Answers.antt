@@ -1,12 +1,10 @@
-use native.Mathlib.Omega.{arith}
-use Prim.Native.Nat.{◌+◌, ◌*◌}
+use Rattle.std.proofs.Common.{arith, refl, ◌+◌, ◌*◌}
 use Rattle.sweep_puts.specs.SideLaws.{end_last, end_next}
 use Rattle.sweep_puts.proofs.sides.end_of.Goals as goal
 
 pub up_of-requires : goal.up_of-requires
 up_of-requires c = omega (
   arith,
-  c.name_at.ensures.0,
   c.requires.2.high (2 * c.args.b + (c.args.z + 1)) (omega arith),
 )
 
@@ -14,14 +12,13 @@ pub returns-then-j-z : goal.returns-then-j-z
 returns-then-j-z c = (
   end_last c.args.edges.now c.args.z
       c.args.b c.args.j _ _ c.if-j-z.true
-      c.name_at.ensures.0 c.up_of.ensures.0,
+      refl c.up_of.ensures.0,
   omega arith,
 )
 
 pub down_of-requires : goal.down_of-requires
 down_of-requires c = omega (
   arith,
-  c.name_at-2.ensures.0,
   c.requires.2.high (2 * c.args.b + (c.args.j + 1)) (omega arith),
 )
 
@@ -29,6 +26,6 @@ pub returns : goal.returns
 returns c = (
   end_next c.args.edges.now c.args.z
       c.args.b c.args.j _ _ c.if-j-z.false
-      c.name_at-2.ensures.0 c.down_of.ensures.0,
+      refl c.down_of.ensures.0,
   omega arith,
 )

@@ -1,19 +1,16 @@
-use native.Mathlib.Omega.{arith}
-use Prim.Native.Nat.{◌+◌, ◌*◌}
+use Rattle.std.proofs.Common.{arith, refl, ◌+◌, ◌*◌}
 use Rattle.sweep_puts.specs.SideLaws.{only_undone, only_made}
 use Rattle.sweep_puts.proofs.sides.put_only.Goals as goal
 
 pub down_of-h-requires : goal.down_of-h-requires
 down_of-h-requires c = omega (
   arith,
-  c.name_at.ensures.0,
   c.requires.l_bound.2.high (2 * c.args.b) (omega arith),
 )
 
 pub kef_size-requires : goal.kef_size-requires
 kef_size-requires c = omega (
   arith,
-  c.name_at-e.ensures.0,
   c.requires.l_bound.2.high
       (2 * c.args.b +
       (c.args.z + 1)) (omega arith),
@@ -23,7 +20,6 @@ pub put_one-requires : goal.put_one-requires
 put_one-requires c = (
   only_undone _ _ _ _ _ _ _ _ (omega (
     arith,
-    c.name_at-e.ensures.0,
     c.requires.l_bound.2.high
         (2 * c.args.b +
         (c.args.z + 1)) (omega arith),
@@ -36,16 +32,16 @@ put_one-requires c = (
 
 pub returns : goal.returns
 returns c = only_made
-    c.args.edges.now
-    c.args.faces.now
-    c.args.loops.now
+    c.args.numbers.edges.now
+    c.args.numbers.faces.now
+    c.args.numbers.loops.now
     c.args.l
     c.args.z
     c.args.b _ _
     _ _ _ _ _ _ _
-    _ _ _ c.name_at.ensures.0
+    _ _ _ refl
     c.down_of-h.ensures.0
-    c.name_at-e.ensures.0
-    c.name_at-f.ensures.0
-    c.name_at-l2.ensures.0
+    refl
+    refl
+    refl
     c.mef_of-op.ensures c.put_one.ensures

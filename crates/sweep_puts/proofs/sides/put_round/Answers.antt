@@ -1,33 +1,29 @@
-use mathlib.Core.Path.{refl}
 use native.Mathlib.Omega.{arith}
 use Rattle.sweep_puts.specs.Laid.{laid_empty, series_zero}
 use Rattle.sweep_puts.specs.SideLaws.{names_in, sides_turn, sides_end}
 use Rattle.sweep_puts.proofs.sides.put_round.Goals as goal
 
 pub loop-j-init : goal.loop-j-init
-loop-j-init c = (omega arith, omega arith, omega arith, refl, laid_empty (series_zero _))
+loop-j-init c = (omega arith, omega arith, laid_empty (series_zero _))
 
-pub put_side-put-requires : goal.put_side-put-requires
-put_side-put-requires c = record {
+pub put_side-behind-requires : goal.put_side-behind-requires
+put_side-behind-requires c = record {
   l_bound = (omega arith, omega arith, omega arith, c.requires.l_bound.2);
   at_in_bounds = (omega arith, omega arith, omega arith);
 }
 
 pub loop-j-preserved : goal.loop-j-preserved
-loop-j-preserved c = sides_turn (names_in c.args.edges.now
-    c.args.faces.now
-    c.args.loops.now)
+loop-j-preserved c = sides_turn (names_in c.args.numbers.edges.now
+    c.args.numbers.faces.now
+    c.args.numbers.loops.now)
     c.args.l
     c.args.z
     c.args.b _ _ _ _ _ _ _ _ _ _
-    c.loop-j-test.true c.loop-j.invariant
-    c.put_side-put.ensures
-
-pub shape_of-out : goal.shape_of-out
-shape_of-out c = c.loop-j.invariant.3
+    (omega arith) c.loop-j.invariant
+    c.put_side-behind.ensures
 
 pub returns : goal.returns
-returns c = sides_end (names_in c.args.edges.now
-    c.args.faces.now c.args.loops.now)
+returns c = sides_end (names_in c.args.numbers.edges.now
+    c.args.numbers.faces.now c.args.numbers.loops.now)
     c.args.l c.args.z c.args.b _
-    _ _ _ _ _ _ c.loop-j.invariant c.loop-j-test.false
+    _ _ _ _ _ _ c.loop-j.invariant (omega arith) (omega arith)

@@ -1,19 +1,16 @@
-use native.Mathlib.Omega.{arith}
-use Prim.Native.Nat.{◌+◌, ◌*◌}
+use Rattle.std.proofs.Common.{arith, refl, ◌+◌, ◌*◌}
 use Rattle.sweep_puts.specs.SideLaws.{side_undone, side_made}
 use Rattle.sweep_puts.proofs.sides.put_side.Goals as goal
 
 pub down_of-from-requires : goal.down_of-from-requires
 down_of-from-requires c = omega (
   arith,
-  c.name_at.ensures.0,
   c.requires.l_bound.3.high (2 * c.args.b + c.args.j) (omega arith),
 )
 
 pub kef_size-requires : goal.kef_size-requires
 kef_size-requires c = omega (
   arith,
-  c.name_at-e.ensures.0,
   c.requires.l_bound.3.high
       (2 * c.args.b +
       (c.args.z + 1) +
@@ -24,7 +21,6 @@ pub put_one-requires : goal.put_one-requires
 put_one-requires c = (
   side_undone _ _ _ _ _ _ _ _ (omega (
     arith,
-    c.name_at-e.ensures.0,
     c.requires.l_bound.3.high
         (2 * c.args.b +
         (c.args.z + 1) +
@@ -38,18 +34,18 @@ put_one-requires c = (
 
 pub returns : goal.returns
 returns c = side_made
-    c.args.edges.now
-    c.args.faces.now
-    c.args.loops.now
+    c.args.numbers.edges.now
+    c.args.numbers.faces.now
+    c.args.numbers.loops.now
     c.args.l
     c.args.z
     c.args.b
     c.args.j _ _
     _ _ _ _ _ _ _ _ _ _ _
-    c.name_at.ensures.0
+    refl
     c.down_of-from.ensures.0
     c.end_of-to.ensures.0
-    c.name_at-e.ensures.0
-    c.name_at-f.ensures.0
-    c.name_at-l2.ensures.0
+    refl
+    refl
+    refl
     c.mef_of-op.ensures c.put_one.ensures

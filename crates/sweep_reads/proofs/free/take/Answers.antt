@@ -3,7 +3,7 @@ use Rattle.sweep_reads.specs.TakeLaws.{took, left}
 use Rattle.sweep_reads.proofs.free.take.Goals as goal
 
 pub returns-then-free : goal.returns-then-free
-returns-then-free c = let both = took _ _ _ _ _ _ c.if-free.true c.narrow.ensures refl in record
+returns-then-free c = let both = took _ _ _ _ _ _ c.if-free.true refl refl in record
     { value = both.0; out_after = both.1 }
 
 pub returns : goal.returns

@@ -1,6 +1,5 @@
 use mathlib.Core.Path.{◌∙◌}
 use Rattle.sweep_reads.specs.MovedLaws.{fits_at}
-use borrow.Author.Rules.{rules}
 use Rattle.sweep_reads.proofs.moved.fits.Goals as goal
 
 pub returns : goal.returns

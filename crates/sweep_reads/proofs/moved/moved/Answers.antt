@@ -1,6 +1,4 @@
-use mathlib.Core.Path.{◌∙◌}
 use Rattle.sweep_reads.specs.MovedLaws.{moved_at_lem}
-use borrow.Author.Rules.{rules}
 use Rattle.sweep_reads.proofs.moved.moved.Goals as goal
 
 pub returns : goal.returns

@@ -5,18 +5,18 @@ use mathlib.Core.Path.{◌∙◌}
 use Rattle.wavefront_entry.proofs.ranks.count_vertices.Goals as goal
 
 pub loop-v-init : goal.loop-v-init
-loop-v-init c = (omega arith, c.requires.1, count_none c.args.ranks.now, counted_none c.args.ranks.now)
+loop-v-init c = (c.requires.1, count_none c.args.ranks.now, counted_none c.args.ranks.now)
 
 pub number-last-requires : goal.number-last-requires
 number-last-requires c = let i = c.loop-v.invariant in
     let b = count_le c.loop-v.v (is_marked c.args.ranks.now) in
-    (omega arith, omega (arith, i.2, b), i.3.size ∙ i.1)
+    (omega arith, omega (arith, i.1, b), i.2.size ∙ i.0)
 
 pub loop-v-preserved : goal.loop-v-preserved
 loop-v-preserved c = let i = c.loop-v.invariant in
-    let r = counted_next _ _ _ _ _ _ (omega (arith, i.1)) i.3 i.2 c.number-last.ensures.0
+    let r = counted_next _ _ _ _ _ _ (omega (arith, i.0)) i.2 i.1 c.number-last.ensures.0
     c.number-last.ensures.1 in
-    (omega arith, i.1, r.1, r.0)
+    (i.0, r.1, r.0)
 
 pub returns : goal.returns
-returns c = counted_all _ _ _ _ (omega arith) (omega arith) c.loop-v.invariant.3
+returns c = counted_all _ _ _ _ (omega arith) (omega arith) c.loop-v.invariant.2

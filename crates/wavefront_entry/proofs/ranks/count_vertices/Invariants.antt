@@ -2,13 +2,9 @@ use Rattle.wavefront_entry.specs.RankLaws.{is_marked, CountedTo}
 use Rattle.bounds.specs.Bounds.{item_places}
 use Rattle.laws.specs.Sums.{count_to}
 use lib.ListN.{length}
-use Prim.Native.Nat.{◌≤◌, ◌-◌}
 use mathlib.Core.Path.{◌≡◌}
 use Rattle.wavefront_entry.proofs.ranks.count_vertices.Given as goal
 
 abbrev pub invariant-loop-v : goal.invariant-loop-v
-invariant-loop-v l = (l.v ≤ l.n) × (length l.initial.ranks ≡ item_places)
+invariant-loop-v l = (length l.initial.ranks ≡ item_places)
     × (l.last ≡ count_to l.v (is_marked l.initial.ranks)) × CountedTo l.initial.ranks l.v l.ranks
-
-abbrev pub decreases-loop-v : goal.decreases-loop-v
-decreases-loop-v l = l.n - l.v
