@@ -96,7 +96,8 @@ operands_small (k ∷ ks) s at = step (read_operand k s at) (operand_small k s a
     cons n None h rest = tt
 
     step : (x : Option (ℕ × ℕ)) → SmallNum x → ((next : ℕ) → SmallNumbers (read_operands ks s next))
-        → SmallNumbers (on_num x (λ n next. on_numbers (read_operands ks s next) (λ ns end. Some (n ∷ ns, end)) None) None)
+        → SmallNumbers (on_num x
+        (λ n next. on_numbers (read_operands ks s next) (λ ns end. Some (n ∷ ns, end)) None) None)
     step (Some (n, next)) h rest = cons n (read_operands ks s next) h (rest next)
     step None h rest = tt
 
