@@ -26,10 +26,6 @@ abbrev pub front : List ℕ → Option (List ℕ × ℕ) → Option (List ℕ ×
 front l (Some (ns, next)) = Some (l ++ ns, next)
 front l None = None
 
-pub front_nil : (r : Option (List ℕ × ℕ)) → front [] r ≡ r
-front_nil (Some (ns, next)) = refl
-front_nil None = refl
-
 front_cons : (l : List ℕ) (n : ℕ) (r : Option (List ℕ × ℕ))
     → front (l ++ (n ∷ [])) r ≡ front l (on_numbers r (λ ns end. Some (n ∷ ns, end)) None)
 front_cons l n (Some (ns, next)) = ap (λ (m : List ℕ). Some (m, next)) (append_assoc l (n ∷ []) ns)
