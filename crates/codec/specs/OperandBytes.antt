@@ -19,7 +19,8 @@ read_operand kind s at = pick (eqb kind unused) (Some (0, at)) (read_number s at
 unfoldable pub read_operands : List ℕ → List ℕ → ℕ → Option (List ℕ × ℕ)
 read_operands [] s at = Some ([], at)
 read_operands (k ∷ ks) s at =
-    on_num (read_operand k s at) (λ n next. on_numbers (read_operands ks s next) (λ ns end. Some (n ∷ ns, end)) None) None
+    on_num (read_operand k s at)
+    (λ n next. on_numbers (read_operands ks s next) (λ ns end. Some (n ∷ ns, end)) None) None
 
 -- WRITING
 unfoldable pub operand_bytes : ℕ → ℕ → List ℕ

@@ -83,7 +83,8 @@ pub made_by : {F B : Type 0} (g : Mut F (ℕ × Unit {0}) B) (keeps : F → Type
 made_by g keeps w ys e step zero i p s m k l h = absurd (omega arith)
 made_by g keeps w ys e step (suc n) i p s m k l h =
     let t = step p m.0 i m.1 s m.3 in
-    ⊎_elim (λ d. rw d (m.2.1 e ∙ t.1)) (λ d. made_by g keeps w ys e step n (i + 1) m.0 t.0 m.4 k (omega (arith, l, d)) (omega (arith, h)))
+    ⊎_elim (λ d. rw d (m.2.1 e ∙ t.1))
+    (λ d. made_by g keeps w ys e step n (i + 1) m.0 t.0 m.4 k (omega (arith, l, d)) (omega (arith, h)))
     (same? k i)
 
 -- one operand as it travels, and back

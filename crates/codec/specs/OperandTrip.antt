@@ -97,7 +97,8 @@ unfolding read_operands
 step k ks s at ns next e = one (read_operand k s at) refl e
   where
     two : (n mid : ℕ) (y : Option (List ℕ × ℕ)) → read_operand k s at ≡ Some (n, mid) → read_operands ks s mid ≡ y
-        → on_numbers {X = Option (List ℕ × ℕ)} y (λ ms end. Some (n ∷ ms, end)) None ≡ Some (ns, next) → Step k ks s at ns next
+        → on_numbers {X = Option (List ℕ × ℕ)} y (λ ms end. Some (n ∷ ms, end)) None ≡ Some (ns, next)
+        → Step k ks s at ns next
     two n mid (Some (ms, end)) a b f =
         let g = same_read f in
         record { n = n; mid = mid; rest = ms; first = a; others = rw g.1 at b; all = sym g.0 }

@@ -52,14 +52,16 @@ unfolding in_ranges
 ranges_all most [] ns l h = refl
 ranges_all most (k ∷ ks) [] l h = refl
 ranges_all most (k ∷ ks) (n ∷ ns) l h =
-    cons_ranges most k n ks ns (h 0 (omega arith)) (ranges_all most ks ns (omega arith) (λ i d. h (suc i) (omega arith)))
+    cons_ranges most k n ks ns (h 0 (omega arith))
+    (ranges_all most ks ns (omega arith) (λ i d. h (suc i) (omega arith)))
 
 -- a test that is true just where each is in range
 pub ranges_by : (most ks ns : List ℕ) (r : Bool) → length ns ≡ length ks
     → r ≡ true ↔ ((i : ℕ) → i < length ks → in_range most (get_or ks i 0) (get_or ns i 0) ≡ true)
     → r ≡ in_ranges most ks ns
 ranges_by most ks ns r l h =
-    same_T (λ t. true_T (ranges_all most ks ns l (h.0 (T_true t)))) (λ t. true_T (h.1 (ranges_at most ks ns l (T_true t))))
+    same_T (λ t. true_T (ranges_all most ks ns l (h.0 (T_true t))))
+    (λ t. true_T (h.1 (ranges_at most ks ns l (T_true t))))
 
 -- wider limits accept as much
 module _ (most wide : List ℕ) (h : (k : ℕ) → get_or most k 0 ≤ get_or wide k 0) where

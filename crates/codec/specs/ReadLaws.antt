@@ -26,10 +26,6 @@ abbrev pub front : List ℕ → Option (List ℕ × ℕ) → Option (List ℕ ×
 front l (Some (ns, next)) = Some (l ++ ns, next)
 front l None = None
 
-pub front_nil : (r : Option (List ℕ × ℕ)) → front [] r ≡ r
-front_nil (Some (ns, next)) = refl
-front_nil None = refl
-
 front_cons : (l : List ℕ) (n : ℕ) (r : Option (List ℕ × ℕ))
     → front (l ++ (n ∷ [])) r ≡ front l (on_numbers r (λ ns end. Some (n ∷ ns, end)) None)
 front_cons l n (Some (ns, next)) = ap (λ (m : List ℕ). Some (m, next)) (append_assoc l (n ∷ []) ns)
@@ -96,7 +92,8 @@ operands_small (k ∷ ks) s at = step (read_operand k s at) (operand_small k s a
     cons n None h rest = tt
 
     step : (x : Option (ℕ × ℕ)) → SmallNum x → ((next : ℕ) → SmallNumbers (read_operands ks s next))
-        → SmallNumbers (on_num x (λ n next. on_numbers (read_operands ks s next) (λ ns end. Some (n ∷ ns, end)) None) None)
+        → SmallNumbers (on_num x
+        (λ n next. on_numbers (read_operands ks s next) (λ ns end. Some (n ∷ ns, end)) None) None)
     step (Some (n, next)) h rest = cons n (read_operands ks s next) h (rest next)
     step None h rest = tt
 

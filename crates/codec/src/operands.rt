@@ -7,6 +7,7 @@ use crate::Limits;
 use std::array;
 
 // Kinds of operands. OLD must be in use, NEW must be free.
+// Kept: numbers, no enum: the kind is the place in the table of ranges, and the definitions go by it.
 pub const NONE: u8 = 0; // unused
 
 pub const OLD_S: u8 = 1; // solid
@@ -38,6 +39,7 @@ pub const WAY_3: u8 = 13; // way of mef, 0 to 3
 pub const COORD: u8 = 14; // coordinate
 
 // How many operands a code has, and their kinds, unused ones behind them.
+// Kept: count 0 for no code, no Option: what sizes and writes any operator takes its kinds, code or not.
 #[derive(Clone, Copy)]
 pub struct Pattern {
     pub count: u8,

@@ -6,6 +6,7 @@ ghost use Rattle.std.specs.Prelude.{◌≡◌, ℕ, ◌+◌, ◌-◌, ◌*◌, �
 ghost use Rattle.std.proofs.lemmas.List.Edits.{sets};
 ghost use Rattle.numbers.specs.Number.{read_number, groups};
 
+// Kept: document 01's form: each group by mask and shift.
 // Two groups joined: the lower seven bits of `low`, with `high` above them, which has room for 25 bits.
 fn join(low: u32, high: u32) -> u32
     requires { high < 33554432 }

@@ -36,7 +36,8 @@ not_0 n at h e = absurd (omega arith)
 module _ (lim : Limits) (s : List ℕ) (at : ℕ) where
   ranged : (code from : ℕ) (ns : List ℕ) (next : ℕ) (t : Bool) (r : ReadAnswer) → read_number s at ≡ Some (code, from)
       → ((pattern code).count ≡ 0 → ⊥)
-      → read_operands (pattern code).kinds s from ≡ Some (ns, next) → in_ranges (largests lim) (pattern code).kinds ns ≡ t
+      → read_operands (pattern code).kinds s from ≡ Some (ns, next)
+      → in_ranges (largests lim) (pattern code).kinds ns ≡ t
       → r ≡ pick t (record { refusal = 0; next = next; op = operator_is code ns }) (refused 5 at) → r.refusal ≡ 0
       → Accepted lim s at r
   ranged code from ns next true r a b d e f z =

@@ -24,6 +24,7 @@ pub struct Operator {
     pub args: [i32; 8],
 }
 
+// Kept: number and value side by side in the answers: the C interface.
 // What reading an operator answers. On a refusal `next` is the place handed in and `op` the blank operator 0.
 #[repr(C)]
 #[derive(Clone, Copy)]
@@ -67,9 +68,9 @@ pub fn with_number(op: Operator, i: usize, v: usize) -> Operator
     requires { (i < 8) × (v < 65536) }
     ensures { result ≡ with_number op i v }
 {
-    let mut args = op.args;
-    args[i] = v as i32;
-    Operator { args, ..op }
+    let mut next = op;
+    next.args[i] = v as i32;
+    next
 }
 
 // A capacity is a word of a table.

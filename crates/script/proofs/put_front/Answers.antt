@@ -12,7 +12,8 @@ returns-in_err-operator_refusal c = let e = c.in_err-operator_refusal.field-0.0 
 
 pub returns-in_err-ensure : goal.returns-in_err-ensure
 returns-in_err-ensure c = let h = tested _ _ _ c.from_residual-in_err-ensure.ensures.1 c.in_err-ensure.ensures in
-    rw h.1 (write_short _ _ _ c.in_ok-operator_refusal.ensures refl _ c.operator_size-size.ensures.0 (leb-false _ _ h.0))
+    rw h.1 (write_short _ _ _ c.in_ok-operator_refusal.ensures refl _ c.operator_size-size.ensures.0
+    (leb-false _ _ h.0))
 
 pub returns : goal.returns
 returns c = write_done _ _ _ c.in_ok-operator_refusal.ensures refl _ c.operator_size-size.ensures.0

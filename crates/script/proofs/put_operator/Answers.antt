@@ -1,6 +1,7 @@
 use native.Mathlib.Omega.{arith}
 use Rattle.script.specs.OperatorLaws.{size_is, put_done, put_not}
-use Rattle.script.proofs.put_operator.Goals.{then-out-size-via-then-out-size, then-out-size-via-else-out-size+then-out-size-2}
+use Rattle.script.proofs.put_operator.Goals.{then-out-size-via-then-out-size}
+use Rattle.script.proofs.put_operator.Goals.{then-out-size-via-else-out-size+then-out-size-2}
 use Rattle.script.proofs.put_operator.Goals as goal
 
 pub returns-then-out-size : goal.returns-then-out-size
