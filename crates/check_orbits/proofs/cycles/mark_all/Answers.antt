@@ -1,6 +1,6 @@
 use Rattle.std.proofs.Common.{◌≡◌, refl, ◌+◌, ◌-◌, arith}
 use Rattle.laws.specs.Marks.{mark_to}
-use Rattle.check_orbits.specs.CyclesLaws.{reps_turn, reps_out}
+use Rattle.check_orbits.specs.CyclesLaws.{reps_turn}
 use Rattle.check_orbits.proofs.cycles.mark_all.Goals as goal
 
 pub loop-l-init : goal.loop-l-init
@@ -15,9 +15,6 @@ loop-l-preserved g c =
       omega arith,
       λ f h. rw n (reps_turn f _ _ _ _ _ (c.loop-l.invariant.2 f h) _ _ (rw m) (c.mark_rep.ensures f h)),
     )
-
-pub returns : goal.returns
-returns g c = λ f h. reps_out f _ _ _ _ _ (c.loop-l.invariant.2 f h) _ (omega arith) (omega arith)
 
 pub returns-2 : goal.returns-2
 returns-2 g c = λ f h.

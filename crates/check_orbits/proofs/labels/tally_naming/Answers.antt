@@ -13,12 +13,6 @@ loop-k-init c = let a = c.args in
       (0, omega arith, blank_most _ e),
     )
 
-pub bump-requires : goal.bump-requires
-bump-requires c = (
-  c.loop-k.invariant.0,
-  omega (arith, c.loop-k.invariant.2.2.at c.cell-v.result),
-)
-
 pub loop-k-preserved : goal.loop-k-preserved
 loop-k-preserved c = let inv = c.loop-k.invariant in
     let e = c.bump.ensures in (
