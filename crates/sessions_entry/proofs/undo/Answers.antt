@@ -3,6 +3,6 @@ use Rattle.sessions_entry.specs.EntryLaws.{undo_left}
 use Rattle.sessions_entry.proofs.undo.Goals as goal
 
 pub returns : goal.returns
-returns c = undo_left _ _ _ _ _ _ _ _ _ _ _ _ (omega arith) _ _ c.move_operators-moved.ensures
+returns c = rw c.from.ensures (undo_left _ _ _ _ _ _ _ _ _ _ _ _ (omega arith) _ _ c.move_operators-moved.ensures
     (omega arith) (omega arith) _ _ _ _
-    (omega arith) (omega arith) (omega arith) (omega arith) (omega arith) (omega arith)
+    (omega arith) (omega arith) (omega arith) (omega arith) (omega arith) (omega arith))

@@ -1,21 +1,22 @@
-use mathlib.Core.Path.{sym}
+use Rattle.std.proofs.Common.{refl, sym}
 use lib.Seq.{length-take-le}
+use Rattle.runs_take.specs.Turns.{refused_some}
 use Rattle.promises.specs.Checked.{entered_good}
 use Rattle.sweep_reads.specs.ConditionLaws.{vector_back}
 use Rattle.sweep_call.specs.ExitLaws.{call_not_entered, call_refused, call_done}
 use Rattle.sweep_call.proofs.sweep.Goals as goal
 
-pub returns-then-entered-ne0 : goal.returns-then-entered-ne0
-returns-then-entered-ne0 c = call_not_entered _ _ _ _ _ _ _ _ c.enter-entered.ensures _ c.if-entered-ne0.true
-    c.not_done.ensures
+pub returns-in-Err : goal.returns-in-Err
+returns-in-Err c = call_not_entered _ _ _ _ _ _ _ _ c.in-Err.ensures _ (refused_some _)
+    (rw (c.number.ensures, c.rule.ensures) at c.not_done.ensures)
 
 pub plan-planned-requires : goal.plan-planned-requires
-plan-planned-requires c = entered_good _ _ _ _ _ c.enter-entered.ensures
-    c.if-entered-ne0.false _ c.shape_of.ensures
+plan-planned-requires c = entered_good _ _ _ _ _ c.in_default.ensures
+    refl _ c.shape_of.ensures
 
 pub returns-then-planned-ne0 : goal.returns-then-planned-ne0
-returns-then-planned-ne0 c = call_refused _ _ _ _ _ _ _ _ c.enter-entered.ensures _
-    c.if-entered-ne0.false _
+returns-then-planned-ne0 c = call_refused _ _ _ _ _ _ _ _ c.in_default.ensures _
+    refl _
     c.shape_of.ensures _
     (vector_back c.ranges.dx
     c.ranges.dy c.ranges.dz) _ _
@@ -31,8 +32,8 @@ slice_bounds-run-end c = sym
     c.if-planned-ne0.false).fits)
 
 pub returns : goal.returns
-returns c = call_done _ _ _ _ _ _ _ _ c.enter-entered.ensures _
-    c.if-entered-ne0.false _
+returns c = call_done _ _ _ _ _ _ _ _ c.in_default.ensures _
+    refl _
     c.shape_of.ensures _ (vector_back
     c.ranges.dx c.ranges.dy c.ranges.dz) _ _ c.plan-planned.ensures
     c.if-planned-ne0.false _ _ _
