@@ -1,5 +1,4 @@
-// Operands as the numbers of items, ways, corners, a half-edge's four words, and the small choice that operators make
-// without a branch.
+// Operands as the numbers of items, ways, corners, a half-edge's four words.
 ghost use Rattle.std.specs.Prelude.{◌≡◌, Bool, ℕ, ◌+◌, ◌*◌, ◌<◌, ◌≤◌};
 ghost use Rattle.laws.specs.Bools.{pick};
 ghost use Rattle.bounds.specs.Bounds.{most_halves};
@@ -17,6 +16,7 @@ pub struct Two {
 }
 
 // a where the test holds, else b.
+// Kept: for the takedown's crates, whose proofs cite it; all operators have `if` in place, with proofs as short.
 pub fn choose(test: bool, a: usize, b: usize) -> usize
     requires { (a < 65536) × (b < 65536) }
     ensures { (result ≡ pick test a b) × (result < 65536) }
