@@ -13,9 +13,7 @@ pub fn is_ring(links: &[u16], sh: Shape, l: usize) -> bool
     requires { l ≤ 65536 }
     ensures { result ≡ is_ring sh links.now l }
 {
-    let f = loop_face(links, sh, l);
-    let outer = face_outer(links, sh, f);
-    outer != l
+    face_outer(links, sh, loop_face(links, sh, l)) != l
 }
 
 // How many loops face f has.

@@ -1,16 +1,15 @@
 -- What each function of this crate computes step by step is what the operator's definition says: one premise for each
 -- call.
-use Rattle.std.specs.Prelude.{◌≡◌, ℕ, Bool, not, ◌&&◌, List, eqb}
+use Rattle.std.specs.Prelude.{◌≡◌, ℕ, List, eqb}
 use Rattle.laws.specs.Bools.{pick}
 use Rattle.script.specs.declared.Operator.{Operator}
 use Rattle.script.specs.Operator.{blank_of}
 use Rattle.layout.specs.declared.shape.Shape.{Shape}
 use Rattle.layout.specs.Layout.{loop_face, loop_first, prev_of}
 use Rattle.layout.specs.Mate.{mate, edge_of}
-use Rattle.layout.specs.Items.{is_ring}
 use Rattle.euler.specs.declared.records.Half.{Half}
-use Rattle.euler.specs.Surgery.{way_of, corner, corner_vertex, put_loop, edge_in, edge_out, relabel_run, lower, renew}
-use Rattle.euler.specs.EdgeOperators.{kemr_links, kemr_inverse, mekr_test, mekr_links}
+use Rattle.euler.specs.Surgery.{way_of, corner_vertex, put_loop, edge_in, edge_out, relabel_run, lower, renew}
+use Rattle.euler.specs.EdgeOperators.{kemr_links, kemr_inverse, mekr_links}
 use Rattle.euler_edges.specs.Parts.{IsHalf, with_three}
 use Rattle.euler_bridges.specs.Parts.{mekr_in}
 
@@ -34,13 +33,6 @@ pub kemr_undone : (sh : Shape) (x : List ℕ) (k l2 : ℕ) {m h1 h2 e w : ℕ} {
 unfolding with_three
 kemr_undone sh x k l2 em ha hb eh1 eh2 ee ew e1 e2 e3 =
     rw (e3, e2, e1, eh1, eh2, ee, ew, ha.owner, ha.next, hb.next, em)
-
-pub mekr_tests : (sh : Shape) (x : List ℕ) (l h1 l2 h2 : ℕ) {f g : ℕ} {same ring first second : Bool}
-    → f ≡ loop_face sh x l → g ≡ loop_face sh x l2 → same ≡ eqb f g → ring ≡ is_ring sh x l2 → first ≡ corner sh x l h1
-    → second ≡ corner sh x l2 h2
-    → ((((not (eqb l l2) && same) && ring) && first) && second) ≡ mekr_test sh x l h1 l2 h2
-unfolding mekr_test
-mekr_tests sh x l h1 l2 h2 ef eg es er e1 e2 = rw (e2, e1, er, es, eg, ef)
 
 pub mekr_edge_steps : (sh : Shape) (x : List ℕ) (l h1 l2 h2 k : ℕ) {m u v p q n1 p1 n2 p2 : ℕ} {x1 : List ℕ}
     → m ≡ mate k → u ≡ corner_vertex sh x l h1 → v ≡ corner_vertex sh x l2 h2 → p ≡ prev_of sh x h1

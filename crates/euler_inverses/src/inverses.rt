@@ -11,7 +11,7 @@ ghost use Rattle.euler.specs.Exec.{inverse, only_loop, only_vertex};
 ghost use Rattle.layout.specs.Small.{Small};
 ghost use Rattle.layout.specs.Items.{face_in};
 
-use euler::records::{half_by, item_of};
+use euler::records::{half_by, item_at};
 use euler_bridges::kemr_mekr::{kemr_inverse, mekr_inverse};
 use euler_cuts::mef_kef::{kef_inverse, mef_inverse};
 use euler_holes::holes::{kfmrh_inverse, mfkrh_inverse};
@@ -57,13 +57,13 @@ pub fn inverse_of(links: &[u16], points: &[i32], sh: Shape, op: Operator) -> Ope
     requires { Small sh }
     ensures { result ≡ inverse sh links.now points.now op }
 {
-    let a0 = item_of(op, 0);
-    let a1 = item_of(op, 1);
-    let a2 = item_of(op, 2);
-    let a3 = item_of(op, 3);
-    let a4 = item_of(op, 4);
-    let a5 = item_of(op, 5);
-    let a6 = item_of(op, 6);
+    let a0 = item_at(&op.args, 0);
+    let a1 = item_at(&op.args, 1);
+    let a2 = item_at(&op.args, 2);
+    let a3 = item_at(&op.args, 3);
+    let a4 = item_at(&op.args, 4);
+    let a5 = item_at(&op.args, 5);
+    let a6 = item_at(&op.args, 6);
     let code = op.code;
     match code {
         1 => mvsf_inverse(a0),

@@ -1,13 +1,13 @@
 -- What each function of this crate computes step by step is what the operator's definition says: one premise for each
 -- call.
-use Rattle.std.specs.Prelude.{◌≡◌, ℕ, not, ◌&&◌, List, eqb, ℤ}
+use Rattle.std.specs.Prelude.{◌≡◌, ℕ, List, ℤ}
 use Rattle.script.specs.declared.Operator.{Operator}
 use Rattle.script.specs.Operator.{blank_of, with_number}
 use Rattle.layout.specs.declared.shape.Shape.{Shape}
-use Rattle.layout.specs.Layout.{loop_first, start_of, loop_of, next_of, prev_of, set_start, set_vertex_used}
+use Rattle.layout.specs.Layout.{loop_first, start_of, loop_of, prev_of, set_start, set_vertex_used}
 use Rattle.layout.specs.Mate.{mate, edge_of}
 use Rattle.euler.specs.Surgery.{way_of, with_point, lower, insert_after}
-use Rattle.euler.specs.EdgeOperators.{semv_links, jekv_test, jekv_links, jekv_inverse}
+use Rattle.euler.specs.EdgeOperators.{semv_links, jekv_links, jekv_inverse}
 use Rattle.euler_edges.specs.Parts.{with_three, renew_sides, clear_edge}
 use Rattle.euler_splits.specs.Parts.{join_halves}
 
@@ -20,12 +20,6 @@ pub semv_steps : (sh : Shape) (x : List ℕ) (k n v : ℕ) {m t l o u p f g w lo
 unfolding semv_links renew_sides
 semv_steps sh x k n v em et el eo eu ef eg ew ea eb e1 ep e2 e3 e4 e5 =
     rw (e5, e4, e3, e2, ep, e1, ea, eb, ef, eg, ew, el, eo, eu, et, em)
-
-pub jekv_tests : (sh : Shape) (x : List ℕ) (k : ℕ) {n km nm back e f : ℕ}
-    → n ≡ next_of sh x k → km ≡ mate k → nm ≡ mate n → back ≡ next_of sh x nm → e ≡ edge_of k → f ≡ edge_of n
-    → (not (eqb f e) && eqb back km) ≡ jekv_test sh x k
-unfolding jekv_test
-jekv_tests sh x k en ekm enm eb ee ef = rw (ef, ee, eb, enm, ekm, en)
 
 pub jekv_steps : (sh : Shape) (x : List ℕ) (k n : ℕ) {m l o v f g : ℕ} {x1 x2 x3 x4 : List ℕ}
     → m ≡ mate k → l ≡ loop_of sh x k → o ≡ loop_of sh x m → v ≡ start_of sh x n → f ≡ loop_first sh x l

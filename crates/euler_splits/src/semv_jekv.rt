@@ -70,12 +70,7 @@ pub fn jekv_fits(links: &[u16], sh: Shape, k: usize) -> bool
     ensures { result ≡ jekv_test sh links.now k }
 {
     let n = next_of(links, sh, k);
-    let km = mate_of(k);
-    let nm = mate_of(n);
-    let back = next_of(links, sh, nm);
-    let e = edge_of(k);
-    let f = edge_of(n);
-    (f != e) & (back == km)
+    edge_of(n) != edge_of(k) && next_of(links, sh, mate_of(n)) == mate_of(k)
 }
 
 // n's edge taken out: k is followed by what follows n; then what comes before n's mate, which may be k, by k's mate,

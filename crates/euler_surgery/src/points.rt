@@ -3,7 +3,7 @@ ghost use Rattle.std.specs.Prelude.{◌≡◌, ℕ, ◌+◌, ◌<◌, ◌≤◌,
 ghost use Rattle.layout.specs.Points.{point_width, coordinate, set_coordinate};
 ghost use Rattle.euler.specs.Surgery.{point_in, with_operand, with_point};
 
-use layout::points::POINT_WIDTH;
+use layout::points::{POINT_WIDTH, coordinate};
 use script::Operator;
 
 // Coordinate i of vertex v becomes operand j of those lent; total, as for the links.
@@ -31,30 +31,14 @@ pub fn put_point(points: &mut [i32], v: usize, args: &[i32; 8], i: usize)
     put_coordinate(points, v, 2, args, i + 2);
 }
 
-// The operator with coordinate j of vertex v for operand i.
-fn with_coordinate(op: Operator, i: usize, points: &[i32], v: usize, j: usize) -> Operator
-    requires { (v ≤ 65536) × (j < point_width) × (i < 8) }
-    ensures { result ≡ with_operand op i (coordinate points.now v j) }
-{
-    let mut next = op;
-    next.args[i] = 0;
-    if v == 0 {
-        return next;
-    }
-    let at = POINT_WIDTH * (v - 1) + j;
-    if at < points.len() {
-        next.args[i] = points[at];
-        return next;
-    }
-    next
-}
-
 // The operator with the point of vertex v for operands i, i + 1, i + 2.
 pub fn with_point(op: Operator, i: usize, points: &[i32], v: usize) -> Operator
     requires { (v ≤ 65536) × (i < 6) }
     ensures { result ≡ with_point op i points.now v }
 {
-    let a = with_coordinate(op, i, points, v, 0);
-    let b = with_coordinate(a, i + 1, points, v, 1);
-    with_coordinate(b, i + 2, points, v, 2)
+    let mut next = op;
+    next.args[i] = coordinate(points, v, 0);
+    next.args[i + 1] = coordinate(points, v, 1);
+    next.args[i + 2] = coordinate(points, v, 2);
+    next
 }

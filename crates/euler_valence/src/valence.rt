@@ -16,9 +16,7 @@ fn lower_word(links: &mut [u16], sh: Shape, v: usize)
     ensures { links.new ≡ one_less sh links.old v }
 {
     let n = vertex_used(links, sh, v);
-    if n > 0 {
-        set_vertex_used(links, sh, v, n - 1);
-    }
+    set_vertex_used(links, sh, v, n.saturating_sub(1));
 }
 
 // One more at vertex v; a full word stays.
@@ -33,6 +31,7 @@ fn raise_word(links: &mut [u16], sh: Shape, v: usize)
 }
 
 // One less at each of the two, two where they are one vertex.
+// Kept: beside `raise_both`, two calls each; one function that takes the step as a closure is no plainer.
 pub fn lower_both(links: &mut [u16], sh: Shape, t: Two)
     requires { Words t }
     ensures { links.new ≡ less_at sh links.old t }
@@ -75,9 +74,7 @@ pub fn leaving(links: &[u16], sh: Shape, code: u8, args: &[i32; 8]) -> Two
     ensures { (result ≡ leave_of sh links.now (operator_by code args.now)) × (Words result) }
 {
     match code {
-        4 => ends_of(links, sh, item_at(args, 0)),
-        6 => ends_of(links, sh, item_at(args, 0)),
-        7 => ends_of(links, sh, item_at(args, 0)),
+        4 | 6 | 7 => ends_of(links, sh, item_at(args, 0)),
         12 => between_of(links, sh, item_at(args, 0)),
         _ => Two { one: 0, other: 0 },
     }

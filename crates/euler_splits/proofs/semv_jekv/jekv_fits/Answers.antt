@@ -1,7 +1,11 @@
-use Rattle.euler_splits.specs.StepLaws.{jekv_tests}
+use Rattle.std.proofs.Common.{rules}
+use Rattle.euler.specs.EdgeOperators.{jekv_test}
 use Rattle.euler_splits.proofs.semv_jekv.jekv_fits.Goals as goal
 
-pub returns : goal.returns
-returns c = jekv_tests _ _ _ c.next_of-n.ensures.0
-    c.mate_of-km.ensures.0 c.mate_of-nm.ensures.0
-    c.next_of-back.ensures.0 c.edge_of-e.ensures.0 c.edge_of-f.ensures.0
+pub returns-then-edge_of : goal.returns-then-edge_of
+unfolding jekv_test
+returns-then-edge_of c = search rules
+
+pub returns-else-edge_of : goal.returns-else-edge_of
+unfolding jekv_test
+returns-else-edge_of c = search rules

@@ -1,4 +1,0 @@
-use Rattle.euler.proofs.faces.is_ring.Goals as goal
-
-pub returns : goal.returns
-returns c = cc
