@@ -1,5 +1,6 @@
 use Rattle.std.proofs.Common.{refl}
-use Rattle.takedown_entry.specs.Entry.{in_small, in_counted, invert_short, invert_done, invert_lack, ended_ok, ended_err}
+use Rattle.takedown_entry.specs.Entry.{in_small, in_counted, invert_short, invert_done, invert_lack}
+use Rattle.takedown_entry.specs.Entry.{ended_ok, ended_err}
 use Rattle.takedown_entry.proofs.invert.taken_down.Goals as goal
 
 pub is_short-requires : goal.is_short-requires

@@ -16,7 +16,7 @@ seek-s-requires c = λ k l u. omega (
 pub returns-then-a-ne0 : goal.returns-then-a-ne0
 returns-then-a-ne0 c = let a = c.args in
     let room : 38912 ≤ length a.out.now = omega arith in
-    let e = least_sought _ _ _ c.shape_of-sh.ensures
+    let e = least_sought c.shape_of-sh.result a.links.now c.seek-s.result c.shape_of-sh.ensures
     (seek_by _ c.seek-s.ensures.0 (λ k l u b p. search rules)) in record {
       put = part_refused _ a.points.now c.requires
           a.out.now room _ e _ _ _ _ c.obj-a.ensures (omega arith) _ _
@@ -27,7 +27,7 @@ returns-then-a-ne0 c = let a = c.args in
 pub returns : goal.returns
 returns c = let a = c.args in
     let room : 38912 ≤ length a.out.now = omega arith in
-    let e = least_sought _ _ _ c.shape_of-sh.ensures
+    let e = least_sought c.shape_of-sh.result a.links.now c.seek-s.result c.shape_of-sh.ensures
     (seek_by _ c.seek-s.ensures.0 (λ k l u b p. search rules)) in
     let both = part_written _ a.points.now c.requires
     a.out.now room _ e _ _ _ _ c.obj-a.ensures (omega arith) in record { put = both.0; upper_bound = both.1 }
