@@ -20,7 +20,8 @@ module _ (sh : Shape) (left : ℕ) (t whole : State) (rest : undone left sh t �
       let same : t ≡ whole = rw n at rest in (ap (λ s. s.links) same, ap (λ s. s.points) same)
 
   -- one more is carried out, and the next stands behind it
-  pub back_on : (n : ℕ) → left ≡ suc n → (m : Limits) → m ≡ limits sh → (r : ReadAnswer) → r ≡ read_operator m t.log t.start
+  pub back_on : (n : ℕ) → left ≡ suc n → (m : Limits) → m ≡ limits sh → (r : ReadAnswer)
+      → r ≡ read_operator m t.log t.start
       → (y : List ℕ) (q : List ℤ) → y ≡ links_after sh t.links r.op
       → q ≡ points_after sh t.links t.points r.op
       → undone n sh (state y q t.log r.next) ≡ whole

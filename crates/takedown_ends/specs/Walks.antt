@@ -42,7 +42,8 @@ Met answers sh n x j stop b r =
     (key : ℕ → ℕ) → ((i : ℕ) → i < 65536 → (k : ℕ) → answers i k → k ≡ key i) → r ≡ least_met key sh n x j stop b
 
 -- by their mates
-pub mates_met : (sh : Shape) (n : ℕ) (x : List ℕ) (j stop b : ℕ) → least_met mate sh n x j stop b ≡ least_mate sh n x j stop b
+pub mates_met : (sh : Shape) (n : ℕ) (x : List ℕ) (j stop b : ℕ)
+    → least_met mate sh n x j stop b ≡ least_mate sh n x j stop b
 unfolding least_met least_mate
 mates_met sh zero x j stop b = refl
 mates_met sh (suc n) x j stop b =

@@ -11,7 +11,8 @@ use Rattle.std.proofs.Math.Seq.{length-sets}
 use borrow.Author.Tests.{le-leb, lt-leb}
 use Rattle.laws.specs.Bools.{split, eqb_same, eqb_other}
 use Rattle.layout.specs.declared.shape.Shape.{Shape}
-use Rattle.layout.specs.Layout.{shape_from, shape_of}
+use Rattle.layout.specs.Layout.{shape_from, shape_of, solid_used}
+use Rattle.layout.specs.Items.{some}
 use Rattle.layout.specs.Small.{Small}
 use Rattle.table.specs.Clear.{Cleared, cleared, clear_of, empty_links, empty_points}
 use Rattle.table.specs.Sizes.{sizes_fit}
@@ -27,8 +28,6 @@ use Rattle.promises.specs.OtherLog.{with_log, Alike, Same, same_run}
 use Rattle.promises.specs.Trail.{gone_none}
 use Rattle.promises.specs.Edits.{gone_run}
 use Rattle.takedown.specs.Swift.{seek}
-use Rattle.takedown_search.specs.declared.seek.Sought.TheVariants.{Solid}
-use Rattle.takedown_search.specs.Sought.{passing, last_of}
 use Rattle.text.specs.Put.{newline, Put, then, put_front}
 use Rattle.report.specs.Text.{field, refusal_label, too_long}
 use Rattle.wavefront.specs.Obj.{obj_text, solid_refusal, Texted, texted, fitted, unless_refused, obj_of}
@@ -116,12 +115,11 @@ put_line x y z a b n = then x y z 0 a b (field (comment refusal_label) n) newlin
 -- ---- the least solid in use
 
 -- as the search from 1 on finds it
-pub least_sought : (sh : Shape) (x : List ℕ) (s low : ℕ) → sh ≡ shape_of x
-    → s ≡ seek (last_of Solid sh) low (passing Solid sh x 0 0) → low ≡ 1 → s ≡ least_solid (shape_of x) x
-unfolding passing last_of
-least_sought sh x s low h e l =
+pub least_sought : (sh : Shape) (x : List ℕ) (s : ℕ) → sh ≡ shape_of x
+    → s ≡ seek sh.solids 1 (λ k. some (solid_used sh x k)) → s ≡ least_solid (shape_of x) x
+least_sought sh x s h e =
     let n : sh.solids + 1 - 1 ≡ sh.solids = omega arith in
-    subst (λ (t : Shape). s ≡ least_solid t x) h (rw (l, n) at e)
+    subst (λ (t : Shape). s ≡ least_solid t x) h (rw n at e)
 
 -- where it can be asked for: capacities of a good table are small
 pub good_small : (sh : Shape) (x : List ℕ) (p : List ℤ) → Good own_shape x p → sh ≡ shape_of x → Small sh

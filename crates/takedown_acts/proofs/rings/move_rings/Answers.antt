@@ -27,6 +27,7 @@ pub returns-2 : goal.returns-2
 returns-2 c = let e = c.move_ring-at.ensures in
     let inv = c.loop-i.invariant in
     let t = c.loop-i-test.true in (
-      rings_out _ _ _ _ _ _ _ (rings_turn _ _ _ _ _ _ _ inv.1 (omega (arith, t)) _ e.0 0 (omega (arith, t))) (omega arith),
+      rings_out _ _ _ _ _ _ _ (rings_turn _ _ _ _ _ _ _ inv.1 (omega (arith, t)) _ e.0 0 (omega (arith, t)))
+          (omega arith),
       omega (arith, e.1, inv.0, t, c.requires.0.loops),
     )

@@ -13,8 +13,8 @@ loop-preserved c = let f = c.perform.ensures in
     let inv = c.loop.invariant in (
       omega (arith, inv.0),
       omega (arith, inv.1),
-      back_on _ _ _ _ inv.2 _ (omega (arith, c.loop-test.true)) _ c.limits_of-limits.ensures _ c.read_within-read.ensures _ _
-          (links_performed _ _ _ _ f.0) (points_performed _ _ _ _ _ f.1),
+      back_on _ _ _ _ inv.2 _ (omega (arith, c.loop-test.true)) _ c.limits_of-limits.ensures _
+          c.read_within-read.ensures _ _ (links_performed _ _ _ _ f.0) (points_performed _ _ _ _ _ f.1),
     )
 
 pub returns : goal.returns

@@ -2,4 +2,4 @@ use native.Mathlib.Omega.{arith}
 use Rattle.takedown_entry.proofs.invert.bound.Goals as goal
 
 pub returns : goal.returns
-returns c = (omega (arith, c.less.ensures), omega (arith, c.less.ensures))
+returns c = (omega (arith, c.saturating_sub.ensures), omega (arith, c.saturating_sub.ensures))

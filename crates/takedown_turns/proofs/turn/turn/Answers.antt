@@ -46,7 +46,8 @@ returns-then-l-ne0 c = let a = c.args in
       bridge_lacks a.sh a.e _ c.if-e-ne1.false (seek_by _ c.seek-half.ensures.0 (λ k l u b p. search rules))
           c.if-half-ne0.false (seek_by _ c.seek-l.ensures.0 (λ k l u b p. search rules)) c.if-l-ne0.true p.0,
       bridge_turns a.sh a.e _ c.if-e-ne1.false (seek_by _ c.seek-half.ensures.0 (λ k l u b p. search rules))
-          c.if-half-ne0.false (seek_by _ c.seek-l.ensures.0 (λ k l u b p. search rules)) c.if-l-ne0.true _ _ (e.0 ∙ p.1 _),
+          c.if-half-ne0.false (seek_by _ c.seek-l.ensures.0 (λ k l u b p. search rules)) c.if-l-ne0.true _ _
+          (e.0 ∙ p.1 _),
       omega (arith, e.1),
       subst InWords (sym e.2) p.2,
     )

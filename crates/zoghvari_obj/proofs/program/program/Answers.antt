@@ -1,6 +1,5 @@
 use native.Mathlib.Omega.{arith}
 use Rattle.zoghvari_obj.specs.ProgramLaws.{program_runs, program_long}
-use borrow.Author.Rules.{rules}
 use Rattle.zoghvari_obj.proofs.program.program.Goals as goal
 
 pub returns-then-input-gt-LONGEST : goal.returns-then-input-gt-LONGEST
