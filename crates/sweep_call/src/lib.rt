@@ -11,33 +11,20 @@ use crate::plan::{SCRIPT_BYTES, plan};
 use chains::{DoneAnswer, DoneLeft};
 use layout::shape::shape_of;
 use runs::enter::enter;
-use sessions::{RunLeft, Session};
+use sessions::Session;
+use sweeps::Vector;
 
 pub mod plan; // the script of a sweep, or its refusal
-pub mod refusals; // the face, lone loops, points, free numbers
+pub mod early; // the face, lone loops, points, free numbers
 
-// Nothing is done.
-fn not_done(refusal: u8, rule: u8, session: Session) -> DoneLeft
-    ensures { result ≡ answered refusal rule 0 session }
+// An answer beside the session.
+fn answered(refusal: u8, rule: u8, done: usize, session: Session) -> DoneLeft
+    ensures { result ≡ answered refusal rule done session }
 {
     let answer = DoneAnswer {
         refusal,
         rule,
-        done: 0,
-    };
-    DoneLeft { answer, session }
-}
-
-// What the run answers, but the bytes and the start, which the session has.
-fn done_by(left: RunLeft) -> DoneLeft
-    ensures { result ≡ answered left.answer.refusal left.answer.rule left.answer.done left.session }
-{
-    let ran = left.answer;
-    let session = left.session;
-    let answer = DoneAnswer {
-        refusal: ran.refusal,
-        rule: ran.rule,
-        done: ran.done,
+        done,
     };
     DoneLeft { answer, session }
 }
@@ -59,23 +46,39 @@ pub fn sweep(
 {
     let entered = enter(links, points, log, session.log);
     if entered.refusal != 0 {
-        return not_done(entered.refusal, entered.rule, session);
+        return answered(entered.refusal, entered.rule, 0, session);
     }
     let mut script = [0u8; SCRIPT_BYTES];
-    let planned = plan(
+    let v = Vector {
+        x: dx,
+        y: dy,
+        z: dz,
+    };
+    match plan(
         links,
         points,
         shape_of(links),
         session.log,
         face,
-        dx,
-        dy,
-        dz,
+        v,
         &mut script,
-    );
-    if planned.refusal != 0 {
-        return not_done(planned.refusal, 0, session);
+    ) {
+        Err(refusal) => answered(refusal.number(), 0, 0, session),
+        Ok(planned) => {
+            let left = sessions_entry::run(
+                links,
+                points,
+                log,
+                redo,
+                session,
+                &script[..planned.length],
+            );
+            answered(
+                left.answer.refusal,
+                left.answer.rule,
+                left.answer.done,
+                left.session,
+            )
+        }
     }
-    let left = sessions_entry::run(links, points, log, redo, session, &script[..planned.length]);
-    done_by(left)
 }
