@@ -9,10 +9,8 @@ use native.Mathlib.Omega.{arith}
 use Rattle.std.proofs.Math.Logic.{⊎_elim}
 use Rattle.laws.specs.Bools.{pick, split, le?, eqb_same, eqb_other}
 use Rattle.refusals.specs.declared.Refusal.{Refusal}
-use Rattle.refusals.specs.declared.Refusal.TheVariants.{Memory, Unsound, BadNumber, BadCode, OutOfRange, ItemFree}
-use Rattle.refusals.specs.declared.Refusal.TheVariants.{ItemUsed, ConditionFails, LogFull, NoNumberLeft}
-use Rattle.refusals.specs.declared.Refusal.TheVariants.{LogEnded, NotPlain, TextTooLong, LoneLoop}
 use Rattle.refusals.specs.Numbers.{number_of, refusal_in, unless}
+use Rattle.refusals.specs.UnlessLaws.{refused_some}
 use Rattle.numbers.specs.Number.{read_number, on_num}
 use Rattle.numbers.specs.NumberTrip.{reads_small, number_found}
 use Rattle.codec.specs.Operands.{in_range, unwire}
@@ -25,28 +23,7 @@ use Rattle.runs_take.specs.Take.{Scan, scan_is, joined, joined_by, scan, told, s
 pub number_small : (s : List ℕ) (at n next : ℕ) → read_number s at ≡ Some (n, next) → n < 2097152
 number_small s at n next e = reads_small (number_found s at n next e).reads
 
--- a refusal has a number
-pub refused_some : (e : Refusal) → number_of e ≢ 0
-refused_some Memory z = omega (arith, z)
-refused_some (Unsound rule) z = omega (arith, z)
-refused_some BadNumber z = omega (arith, z)
-refused_some BadCode z = omega (arith, z)
-refused_some OutOfRange z = omega (arith, z)
-refused_some ItemFree z = omega (arith, z)
-refused_some ItemUsed z = omega (arith, z)
-refused_some ConditionFails z = omega (arith, z)
-refused_some LogFull z = omega (arith, z)
-refused_some NoNumberLeft z = omega (arith, z)
-refused_some LogEnded z = omega (arith, z)
-refused_some NotPlain z = omega (arith, z)
-refused_some TextTooLong z = omega (arith, z)
-refused_some LoneLoop z = omega (arith, z)
-
 -- what a test answers tells whether it held
-pub held : (b : Bool) (e : Refusal) (u : Unit {0}) → Ok u ≡ unless b e → b ≡ true
-held true e u h = refl
-held false e u h = absurd (refused_some e (sym (ap refusal_in h)))
-
 pub not_held : (b : Bool) (e d : Refusal) → Err d ≡ unless b e → (b ≡ false) × (number_of d ≡ number_of e)
 not_held true e d h = absurd (refused_some d (ap refusal_in h))
 not_held false e d h = (refl, ap refusal_in h)

@@ -8,6 +8,8 @@ use borrow.Author.Tests.{le-leb}
 use Rattle.laws.specs.Bools.{pick, eqb_same, eqb_other, split, T_true, T_false}
 use Rattle.laws.specs.Every.{every}
 use Rattle.laws.specs.Search.{all_to, any_to}
+use Rattle.refusals.specs.declared.Refusal.TheVariants.{OutOfRange}
+use Rattle.refusals.specs.Numbers.{refusal_in, unless}
 use Rattle.layout.specs.declared.shape.Shape.{Shape}
 use Rattle.layout.specs.Small.{Small}
 use Rattle.layout.specs.Layout.{face_solid, loop_face}
@@ -103,17 +105,16 @@ module _ (sh : Shape) (x : List ℕ) (p : List ℤ) (f : ℕ) (v : Vector) where
       unfolding face_refusal_of
       early_lone b q t = rw (eqb_other n, le-leb f sh.faces h, eqb_other (λ y. z (e ∙ y)), sym q ∙ t) refl
 
-      pub early_far : (b d : Bool) → b ≡ any_to sh.loops (lone_in sh x f) → b ≡ false
-          → d ≡ all_to (2 * sh.edges) (moves sh x p f v) → d ≡ false → 5 ≡ face_refusal_of sh x p f v
+      -- then the points decide
+      pub early_last : (b d : Bool) → b ≡ any_to sh.loops (lone_in sh x f) → b ≡ false
+          → d ≡ all_to (2 * sh.edges) (moves sh x p f v) → refusal_in (unless d OutOfRange) ≡ face_refusal_of sh x p f v
       unfolding face_refusal_of
-      early_far b d q t r u =
-          rw (eqb_other n, le-leb f sh.faces h, eqb_other (λ y. z (e ∙ y)), sym q ∙ t, sym r ∙ u) refl
-
-      pub early_all : (b d : Bool) → b ≡ any_to sh.loops (lone_in sh x f) → b ≡ false
-          → d ≡ all_to (2 * sh.edges) (moves sh x p f v) → d ≡ true → 0 ≡ face_refusal_of sh x p f v
-      unfolding face_refusal_of
-      early_all b d q t r u =
-          rw (eqb_other n, le-leb f sh.faces h, eqb_other (λ y. z (e ∙ y)), sym q ∙ t, sym r ∙ u) refl
+      early_last b d q t r =
+          rw (eqb_other n, le-leb f sh.faces h, eqb_other (λ y. z (e ∙ y)), sym q ∙ t, sym r) (decided d)
+        where
+          decided : (c : Bool) → refusal_in (unless c OutOfRange) ≡ pick c 0 5
+          decided true = refl
+          decided false = refl
 
 -- ---- enough numbers
 

@@ -1,10 +1,14 @@
 -- The ways out of the call.
-use Rattle.std.specs.Prelude.{◌≡◌, ◌≢◌, List, ℕ, ℤ, take}
+use Rattle.std.specs.Prelude.{◌≡◌, ◌≢◌, List, ℕ, ℤ, take, Result, Ok, Err}
 use Rattle.std.proofs.Math.Path.{refl, ap}
-use Rattle.std.proofs.Common.{sym, ◌∙◌, subst}
+use Rattle.std.proofs.Common.{sym, ◌∙◌, subst, SFits, to_z-of_z}
+use Rattle.std.specs.Int.{w32}
 use Rattle.laws.specs.Bools.{eqb_same, eqb_other}
 use Rattle.script.specs.declared.Operator.{Operator}
 use Rattle.script.specs.Operator.{write_script}
+use Rattle.refusals.specs.declared.Refusal.{Refusal}
+use Rattle.refusals.specs.Numbers.{number_of, refusal_in}
+use Rattle.refusals.specs.UnlessLaws.{refused_some}
 use Rattle.layout.specs.declared.shape.Shape.{Shape}
 use Rattle.layout.specs.Layout.{shape_of}
 use Rattle.table.specs.declared.check.CheckAnswer.{CheckAnswer}
@@ -16,7 +20,8 @@ use Rattle.sessions.specs.Session.{session_run, Runs}
 use Rattle.chains.specs.declared.DoneAnswer.{DoneAnswer}
 use Rattle.chains.specs.Whole.{answered, whole_of, not_done, done_by}
 use Rattle.sweeps.specs.declared.Vector.{Vector}
-use Rattle.sweeps.specs.Sweep.{sweep_ops, sweep_refusal}
+use Rattle.sweep_reads.specs.MovedLaws.{back}
+use Rattle.sweeps.specs.Sweep.{vector, sweep_ops, sweep_refusal}
 use Rattle.sweeps.specs.Swept.{sweep_of}
 use Rattle.sweep_call.specs.declared.plan.Script.{Script}
 use Rattle.sweep_call.specs.PlanLaws.{Planned}
@@ -48,6 +53,10 @@ module _ (x : List ℕ) (p : List ℤ) (log : List ℕ) (redo : ℕ) (s : Sessio
 
 -- ---- the returns of the code; u is the vector as the callees get it
 
+pub vector_back : {a b c : ℤ} → SFits w32 a → SFits w32 b → SFits w32 c
+    → vector (back a) (back b) (back c) ≡ vector a b c
+vector_back f g h = rw (to_z-of_z f, to_z-of_z g, to_z-of_z h) refl
+
 module _ (x : List ℕ) (p : List ℤ) (log : List ℕ) (redo : ℕ) (s : Session) (f : ℕ) (v : Vector) (a : CheckAnswer)
     (e : a ≡ entry (state x p log s.log)) (r : Left DoneAnswer) where
   -- 1 or 2
@@ -56,22 +65,24 @@ module _ (x : List ℕ) (p : List ℤ) (log : List ℕ) (redo : ℕ) (s : Sessio
   call_not_entered n q = rw q (not_entered x p log redo s _ _ a e n)
 
   module _ (ok : a.refusal ≡ 0) (sh : Shape) (h : sh ≡ shape_of x) (u : Vector) (uv : u ≡ v) (out : List ℕ)
-      (w : Script) (i₀ : Planned sh x p s.log f u out w) where
+      (w : Result Script Refusal) (i₀ : Planned sh x p s.log f u out w) where
     i : Planned (shape_of x) x p s.log f v out w
     i = subst (λ t. Planned t x p s.log f v out w) h (subst (λ t. Planned sh x p s.log f t out w) uv i₀)
 
     -- 5, 6, 14, 10 or 9
-    pub call_refused : w.refusal ≢ 0 → r ≡ answered w.refusal 0 0 s → leaves r x p log ≡ sweep_of x p log redo s f v
-    call_refused n q =
-        rw (q, i.refusal) (not_done_lem x p log redo s (sweep_refusal (shape_of x) x p s.log f v)
-        (sweep_ops (shape_of x) x p f v) a e ok (λ z. n (i.refusal ∙ z)))
+    pub call_refused : (d : Refusal) (n : ℕ) → w ≡ Err d → n ≡ number_of d → r ≡ answered n 0 0 s
+        → leaves r x p log ≡ sweep_of x p log redo s f v
+    call_refused d n c m q =
+        let k : n ≡ sweep_refusal (shape_of x) x p s.log f v = m ∙ sym (ap refusal_in c) ∙ i.refusal in
+        rw (q, k) (not_done_lem x p log redo s (sweep_refusal (shape_of x) x p s.log f v)
+        (sweep_ops (shape_of x) x p f v) a e ok (λ z. refused_some d (sym m ∙ k ∙ z)))
 
     -- the run
-    pub call_done : w.refusal ≡ 0 → (m : Left RunAnswer) (x' : List ℕ) (p' : List ℤ) (log' : List ℕ)
-        → Runs x p log redo s (take w.length out) m x' p' log'
+    pub call_done : (t : Script) → w ≡ Ok t → (m : Left RunAnswer) (x' : List ℕ) (p' : List ℤ) (log' : List ℕ)
+        → Runs x p log redo s (take t.length out) m x' p' log'
         → r ≡ answered m.answer.refusal m.answer.rule m.answer.done m.session
         → leaves r x' p' log' ≡ sweep_of x p log redo s f v
-    call_done z m x' p' log' ran q =
+    call_done t z m x' p' log' ran q =
         rw q (all_done x p log redo s (sweep_refusal (shape_of x) x p s.log f v) (sweep_ops (shape_of x) x p f v) a e ok
-        (sym i.refusal ∙ z) (leaves m x' p' log')
-        (ran ∙ ap (session_run x p log redo s) (i.script z).is))
+        (sym i.refusal ∙ ap refusal_in z) (leaves m x' p' log')
+        (ran ∙ ap (session_run x p log redo s) (i.script t z).is))

@@ -10,35 +10,21 @@ ghost use Rattle.sweeps.specs.Swept.{Sweeps};
 use crate::plan::{SCRIPT_BYTES, plan};
 use chains::DoneAnswer;
 use layout::shape::shape_of;
-use runs::answers::RunAnswer;
 use runs::enter::enter;
 use sessions::{Left, Session};
+use sweeps::Vector;
 
 pub mod plan; // the script of a sweep, or its refusal
-pub mod refusals; // the face, lone loops, points, free numbers
+pub mod early; // the face, lone loops, points, free numbers
 
-// Nothing is done.
-fn not_done(refusal: u8, rule: u8, session: Session) -> Left<DoneAnswer>
-    ensures { result ≡ answered refusal rule 0 session }
+// An answer beside the session.
+fn answered(refusal: u8, rule: u8, done: usize, session: Session) -> Left<DoneAnswer>
+    ensures { result ≡ answered refusal rule done session }
 {
     let answer = DoneAnswer {
         refusal,
         rule,
-        done: 0,
-    };
-    Left { answer, session }
-}
-
-// What the run answers, but the bytes and the start, which the session has.
-fn done_by(left: Left<RunAnswer>) -> Left<DoneAnswer>
-    ensures { result ≡ answered left.answer.refusal left.answer.rule left.answer.done left.session }
-{
-    let ran = left.answer;
-    let session = left.session;
-    let answer = DoneAnswer {
-        refusal: ran.refusal,
-        rule: ran.rule,
-        done: ran.done,
+        done,
     };
     Left { answer, session }
 }
@@ -59,23 +45,39 @@ pub fn sweep(
         links.new points.new log.new }
 {
     if let Err(refusal) = enter(links, points, log, session.log) {
-        return not_done(refusal.number(), refusal.rule(), session);
+        return answered(refusal.number(), refusal.rule(), 0, session);
     }
     let mut script = [0u8; SCRIPT_BYTES];
-    let planned = plan(
+    let v = Vector {
+        x: dx,
+        y: dy,
+        z: dz,
+    };
+    match plan(
         links,
         points,
         shape_of(links),
         session.log,
         face,
-        dx,
-        dy,
-        dz,
+        v,
         &mut script,
-    );
-    if planned.refusal != 0 {
-        return not_done(planned.refusal, 0, session);
+    ) {
+        Err(refusal) => answered(refusal.number(), 0, 0, session),
+        Ok(planned) => {
+            let left = sessions_entry::run(
+                links,
+                points,
+                log,
+                redo,
+                session,
+                &script[..planned.length],
+            );
+            answered(
+                left.answer.refusal,
+                left.answer.rule,
+                left.answer.done,
+                left.session,
+            )
+        }
     }
-    let left = sessions_entry::run(links, points, log, redo, session, &script[..planned.length]);
-    done_by(left)
 }

@@ -1,36 +1,26 @@
 // The script of a sweep, written before anything is done, or the refusal.
-ghost use Rattle.std.specs.Prelude.{◌≡◌};
 ghost use Rattle.sound_tables.specs.Good.{Good};
 ghost use Rattle.sweep_call.specs.PlanLaws.{Ready, Written, Planned};
-ghost use Rattle.sweeps.specs.Sweep.{vector};
 
-use crate::refusals::{enough, face_refusal};
+use crate::early::{enough, face_refusal};
 use bounds::{ITEM_PLACES, MOST_ITEMS};
+use layout::columns::{face_solid, loop_face, start_of, vertex_used};
 use layout::shape::Shape;
+use refusals::{Refusal, ensure};
 use sweep_puts::faces::put_face;
+use sweep_puts::free::FreeNumbers;
 use sweep_reads::corners::corners_to;
-use sweep_reads::free::{Made, free_numbers};
+use sweep_reads::free::free_numbers;
+use sweeps::Vector;
 
 // The longest script: two operators for a corner, each with an edge of its own, so 4,096 at most, of 27 bytes at most.
 pub const SCRIPT_BYTES: usize = 27 * MOST_ITEMS;
 
-// The refusal, 0 for none; the script's length; the bytes that the inverses of its operators take.
+// A script's length, and the bytes that the inverses of its operators take.
 #[derive(Clone, Copy)]
 pub struct Script {
-    pub refusal: u8,
     pub length: usize,
     pub room: usize,
-}
-
-// No script.
-fn refused(refusal: u8) -> Script
-    ensures { result ≡ record { refusal = refusal; length = 0; room = 0 } }
-{
-    Script {
-        refusal,
-        length: 0,
-        room: 0,
-    }
 }
 
 // The script at the front of `out`, of a face that can be lifted; 10 where numbers are lacking.
@@ -39,34 +29,50 @@ fn write_script(
     points: &[i32],
     sh: Shape,
     f: usize,
-    dx: i32,
-    dy: i32,
-    dz: i32,
+    v: Vector,
     out: &mut [u8; SCRIPT_BYTES],
-) -> Script
-    requires { Ready sh links.now points.now f (vector dx dy dz) }
-    ensures { Written sh links.now points.now f (vector dx dy dz) out.new result }
+) -> Result<Script, Refusal>
+    requires { Ready sh links.now points.now f v }
+    ensures { Written sh links.now points.now f v out.new result }
 {
     let mut edges = [0u16; ITEM_PLACES];
     let mut vertices = [0u16; ITEM_PLACES];
     let mut faces = [0u16; ITEM_PLACES];
     let mut loops = [0u16; ITEM_PLACES];
-    let ne = free_numbers(links, sh, Made::Edge, &mut edges);
-    let nv = free_numbers(links, sh, Made::Vertex, &mut vertices);
-    let nf = free_numbers(links, sh, Made::Face, &mut faces);
-    let nl = free_numbers(links, sh, Made::Loop, &mut loops);
-    let n = corners_to(links, sh, f);
-    if !enough(n, nv, ne, nf, nl) {
-        return refused(10);
-    }
-    let put = put_face(
-        links, points, sh, &edges, &vertices, &faces, &loops, f, dx, dy, dz, out,
+    // an edge by its second half
+    let ne = free_numbers(
+        sh.edges as usize,
+        &mut edges,
+        |k| start_of(links, sh, 2 * k) == 0,
     );
-    Script {
-        refusal: 0,
+    let nv = free_numbers(
+        sh.vertices as usize,
+        &mut vertices,
+        |k| vertex_used(links, sh, k) == 0,
+    );
+    let nf = free_numbers(
+        sh.faces as usize,
+        &mut faces,
+        |k| face_solid(links, sh, k) == 0,
+    );
+    let nl = free_numbers(
+        sh.loops as usize,
+        &mut loops,
+        |k| loop_face(links, sh, k) == 0,
+    );
+    let n = corners_to(links, sh, f);
+    ensure(enough(n, nv, ne, nf, nl), Refusal::NoNumberLeft)?;
+    let numbers = FreeNumbers {
+        edges: &edges,
+        vertices: &vertices,
+        faces: &faces,
+        loops: &loops,
+    };
+    let put = put_face(links, points, sh, numbers, f, v, out);
+    Ok(Script {
         length: put.at,
         room: put.room,
-    }
+    })
 }
 
 // The script of a sweep of face f at the front of `out`, or its refusal: 5 and 6 for the face, 14, 5 for a moved point,
@@ -77,25 +83,14 @@ pub fn plan(
     sh: Shape,
     start: usize,
     f: usize,
-    dx: i32,
-    dy: i32,
-    dz: i32,
+    v: Vector,
     out: &mut [u8; SCRIPT_BYTES],
-) -> Script
+) -> Result<Script, Refusal>
     requires { Good sh links.now points.now }
-    ensures { Planned sh links.now points.now start f (vector dx dy dz)
-        out.new result }
+    ensures { Planned sh links.now points.now start f v out.new result }
 {
-    let refusal = face_refusal(links, points, sh, f, dx, dy, dz);
-    if refusal != 0 {
-        return refused(refusal);
-    }
-    let written = write_script(links, points, sh, f, dx, dy, dz, out);
-    if written.refusal != 0 {
-        return refused(written.refusal);
-    }
-    if start < written.room {
-        return refused(9);
-    }
-    written
+    face_refusal(links, points, sh, f, v)?;
+    let script = write_script(links, points, sh, f, v, out)?;
+    ensure(script.room <= start, Refusal::LogFull)?;
+    Ok(script)
 }

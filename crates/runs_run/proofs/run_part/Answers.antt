@@ -1,7 +1,7 @@
 use Rattle.std.proofs.Common.{refl}
 use Rattle.runs.specs.RunLaws.{entered_small}
 use Rattle.runs.specs.MoveLaws.{part_refused, part_entered}
-use Rattle.runs_take.specs.Turns.{refused_some}
+use Rattle.refusals.specs.UnlessLaws.{refused_some}
 use Rattle.promises.specs.Checked.{entered_start, entered_good}
 use Rattle.runs_run.proofs.run_part.Goals as goal
 

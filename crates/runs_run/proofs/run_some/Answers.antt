@@ -2,7 +2,7 @@ use Rattle.std.proofs.Common.{◌≡◌, refl, ap, ℕ, ◌+◌, ◌-◌, ◌<�
 use Rattle.layout.specs.declared.shape.Shape.{Shape}
 use Rattle.runs.specs.Run.{State, state, step_is, step_of, Ran, ran, run_from}
 use Rattle.runs.specs.RunLaws.{run_end, run_over, run_stop, run_turn}
-use Rattle.runs_take.specs.Turns.{refused_some}
+use Rattle.refusals.specs.UnlessLaws.{refused_some}
 use Rattle.runs_run.proofs.run_some.Goals as goal
 
 -- as an operator is done, one fewer is due: from the place behind it on

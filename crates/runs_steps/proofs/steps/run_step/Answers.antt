@@ -1,7 +1,7 @@
 use borrow.Author.Tests.{not-true, not-false}
 use Rattle.std.proofs.Common.{refl, sym, ◌∙◌, ap, not, arith}
 use Rattle.std.proofs.lemmas.Result.{err_from_is_err_and}
-use Rattle.runs_take.specs.Turns.{refused_some}
+use Rattle.refusals.specs.UnlessLaws.{refused_some}
 use Rattle.runs_steps.specs.Standing.{standing_kept}
 use Rattle.runs_steps.specs.StepLaws.{inverse_by, step_refused, step_full, step_done}
 use Rattle.runs_steps.proofs.steps.run_step.Goals as goal

@@ -2,7 +2,8 @@ use Rattle.std.proofs.Common.{ap, arith, length, ◌∙◌}
 use Rattle.std.proofs.lemmas.Result.{err_from_is_err_and}
 use Rattle.refusals.specs.Numbers.{refusal_in}
 use Rattle.runs_take.specs.Pass.{use_high, item_small}
-use Rattle.runs_take.specs.Turns.{refused_some, held, not_held, joined_range, joined_first, joined_use, range_is}
+use Rattle.runs_take.specs.Turns.{not_held, joined_range, joined_first, joined_use, range_is}
+use Rattle.refusals.specs.UnlessLaws.{refused_some, held}
 use Rattle.runs_take.proofs.take.join_refusal.Goals as goal
 
 pub in_range-requires : goal.in_range-requires

@@ -1,5 +1,6 @@
 use Rattle.std.proofs.Common.{refl}
-use Rattle.runs_take.specs.Turns.{settled_holds, settled_fails, settled_refused, refused_some}
+use Rattle.runs_take.specs.Turns.{settled_holds, settled_fails, settled_refused}
+use Rattle.refusals.specs.UnlessLaws.{refused_some}
 use Rattle.runs_take.proofs.take.settle.Goals as goal
 
 pub returns-then-condition_holds : goal.returns-then-condition_holds

@@ -1,48 +1,25 @@
-use mathlib.Core.Path.{refl, sym, ◌∙◌}
-use native.Mathlib.Omega.{arith}
-use Rattle.sweep_reads.specs.ConditionLaws.{vector_back}
-use Rattle.sweep_call.specs.PlanLaws.{good_small, plan_early, plan_few, plan_short, plan_all}
+use Rattle.std.proofs.Common.{refl, sym, ap, ◌∙◌}
+use borrow.Author.Tests.{leb-true, leb-false}
+use Rattle.refusals.specs.Numbers.{refusal_in}
+use Rattle.refusals.specs.UnlessLaws.{refused_some, held, not_held, handed_on}
+use Rattle.sweep_call.specs.PlanLaws.{plan_early, plan_few, plan_short, plan_all}
 use Rattle.sweep_call.proofs.plan.plan.Goals as goal
 
-pub face_refusal-refusal-requires : goal.face_refusal-refusal-requires
-face_refusal-refusal-requires c = good_small c.requires
+pub returns-in_err-face_refusal : goal.returns-in_err-face_refusal
+returns-in_err-face_refusal c = plan_early _ _ _ _ _ _ _ _ _ c.in_err-face_refusal.ensures (refused_some _)
+    (handed_on _ _ c.from_residual.ensures.1)
 
-pub returns-then-refusal-ne0 : goal.returns-then-refusal-ne0
-returns-then-refusal-ne0 c = plan_early _ _ _ _ _ _ _ (vector_back c.ranges.dx
-    c.ranges.dy c.ranges.dz) _ _ _
-    c.face_refusal-refusal.ensures c.if-refusal-ne0.true c.refused.ensures
+pub returns-in_err-script : goal.returns-in_err-script
+returns-in_err-script c = let w = ap refusal_in c.in_err-script.was in
+    plan_few _ _ _ _ _ _ _ _ _ c.in_ok-face_refusal.ensures refl _ c.write_script.ensures
+    (λ a. refused_some _ (sym w ∙ a)) (handed_on _ _ c.from_residual-in_err-script.ensures.1 ∙ sym w)
 
-pub write_script-written-requires : goal.write_script-written-requires
-write_script-written-requires c = record {
-  good = c.requires;
-  early = sym
-      c.face_refusal-refusal.ensures ∙ c.if-refusal-ne0.false;
-}
-
-pub returns-then-written-ne0 : goal.returns-then-written-ne0
-returns-then-written-ne0 c = plan_few _ _ _ _ _ _ _
-    (vector_back c.ranges.dx
-    c.ranges.dy
-    c.ranges.dz) _ _ _
-    c.face_refusal-refusal.ensures
-    c.if-refusal-ne0.false _ c.write_script-written.ensures
-    c.if-written-ne0.true c.refused-then-written-ne0.ensures
-
-pub returns-then-start-written : goal.returns-then-start-written
-returns-then-start-written c = plan_short _ _ _ _ _ _ _
-    (vector_back c.ranges.dx
-    c.ranges.dy
-    c.ranges.dz) _ _ _
-    c.face_refusal-refusal.ensures
-    c.if-refusal-ne0.false _
-    c.write_script-written.ensures c.if-written-ne0.false
-    (omega arith) c.refused-then-start-written.ensures
+pub returns-in_err-ensure : goal.returns-in_err-ensure
+returns-in_err-ensure c =
+    let g = not_held _ _ _ _ c.from_residual-in_err-ensure.ensures.1 c.in_err-ensure.ensures in
+    plan_short _ _ _ _ _ _ _ _ _ c.in_ok-face_refusal.ensures refl _ c.write_script.ensures _ c.in_ok-script.was
+    (leb-false _ _ g.0) g.1
 
 pub returns : goal.returns
-returns c = plan_all _ _ _ _ _ _ _
-    (vector_back c.ranges.dx
-    c.ranges.dy
-    c.ranges.dz) _ _ _
-    c.face_refusal-refusal.ensures
-    c.if-refusal-ne0.false _
-    c.write_script-written.ensures c.if-written-ne0.false (omega arith) refl
+returns c = plan_all _ _ _ _ _ _ _ _ _ c.in_ok-face_refusal.ensures refl _ c.write_script.ensures _ c.in_ok-script.was
+    (leb-true _ _ (held _ _ _ c.in_ok-ensure.ensures)) refl

@@ -2,42 +2,31 @@
 ghost use Rattle.std.specs.Prelude.{◌≡◌, [], ◌∷◌, ◌*◌, ◌≤◌, leb};
 ghost use Rattle.laws.specs.Every.{every};
 ghost use Rattle.layout.specs.Small.{Small};
+ghost use Rattle.refusals.specs.Numbers.{refusal_in};
 ghost use Rattle.sweep_call.specs.CallLaws.{face_refusal_of};
-ghost use Rattle.sweeps.specs.Sweep.{vector};
 
 use layout::columns::face_solid;
 use layout::shape::Shape;
+use refusals::{Refusal, ensure};
 use sweep_reads::conditions::{all_move, some_lone};
+use sweeps::Vector;
 
-// 5 and 6 for the face, 14, 5 for a moved point; 0 for none.
+// 5 and 6 for the face, 14, 5 for a moved point.
 pub fn face_refusal(
     links: &[u16],
     points: &[i32],
     sh: Shape,
     f: usize,
-    dx: i32,
-    dy: i32,
-    dz: i32,
-) -> u8
+    v: Vector,
+) -> Result<(), Refusal>
     requires { Small sh }
-    ensures { result ≡ face_refusal_of sh links.now points.now f (vector dx dy dz) }
+    ensures { refusal_in result ≡ face_refusal_of sh links.now points.now f v }
 {
-    if f == 0 {
-        return 5;
-    }
-    if f > sh.faces as usize {
-        return 5;
-    }
-    if face_solid(links, sh, f) == 0 {
-        return 6;
-    }
-    if some_lone(links, sh, f) {
-        return 14;
-    }
-    if !all_move(links, points, sh, f, dx, dy, dz) {
-        return 5;
-    }
-    0
+    ensure(f != 0, Refusal::OutOfRange)?;
+    ensure(f <= sh.faces as usize, Refusal::OutOfRange)?;
+    ensure(face_solid(links, sh, f) != 0, Refusal::ItemFree)?;
+    ensure(!some_lone(links, sh, f), Refusal::LoneLoop)?;
+    ensure(all_move(links, points, sh, f, v), Refusal::OutOfRange)
 }
 
 // Enough numbers of each kind are free for n corners.
