@@ -15,6 +15,7 @@ pub fn read_full<R: Read>(reader: &mut R, buf: &mut [u8]) -> (usize, Result<()>)
     ensures whole { OnOk result.1 (result.0 < length buf.new → IsAtEnd (R.remaining reader.new)) }
 {
     let mut done = 0;
+    // Kept: no index is counted: each read moves on by as much as it gave.
     while done < buf.len() {
         match reader.read(&mut buf[done..]) {
             Ok(0) => break,

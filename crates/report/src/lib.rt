@@ -1,5 +1,6 @@
 // The text that the program prints, what the texts of programs are put together from, and how programs read their
 // input.
+// Kept: the texts are put together by hand of fixed byte strings, document 01's form.
 
 #![tactic(auto)]
 
@@ -18,12 +19,9 @@ pub fn put_bytes(out: &mut [u8], at: usize, text: &[u8]) -> usize
     ensures { (result ≡ at + length text.now)
         × (out.new ≡ sets out.old at text.now) }
 {
-    let mut i: usize = 0;
-    while i < text.len() {
-        out[at + i] = text[i];
-        i += 1;
-    }
-    at + i
+    let behind = at + text.len();
+    out[at..behind].copy_from_slice(text);
+    behind
 }
 
 // A number in decimal, from `at` on; the place behind it.

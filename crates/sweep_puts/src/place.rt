@@ -15,8 +15,8 @@ pub struct Place {
     pub room: usize,
 }
 
-// The operator's bytes at `at`; how many they are. `put_operator` has to find that out before it can tell whether they
-// fit; here they do.
+// The operator's bytes at `at`; how many they are.
+// Kept: `put_operator` has to find their number before it can tell whether they fit; here they do.
 fn put_bytes(op: Operator, out: &mut [u8], at: usize) -> usize
     requires { (at + 27 ≤ length out.old) × (at ≤ 200000) }
     ensures value { (result ≡ length (operator_bytes op)) × (result ≤ 27) }

@@ -1,24 +1,14 @@
-use mathlib.Core.Path.{refl}
-use native.Mathlib.Omega.{arith}
-use lib.ListN.{length-set}
-use Rattle.text.specs.Put.{put_begin, put_turn, put_end}
+use Rattle.std.proofs.Common.{arith, refl, sym, ap, ◌∙◌, ◌++◌, ◌+◌, length, take}
+use Rattle.std.proofs.lemmas.List.Edits.{sets-eq}
+use mathlib.Core.List.{append_assoc}
+use borrow.Rule.Slice.PartMut.{put_mid, Post-is}
 use Rattle.report.proofs.put_bytes.Goals as goal
 
-pub loop-i-init : goal.loop-i-init
-loop-i-init c = (omega arith, c.requires, refl, put_begin c.args.out.now c.args.at c.args.text.now)
-
-pub loop-i-preserved : goal.loop-i-preserved
-loop-i-preserved c = (
-  omega arith,
-  simp length-set (omega arith),
-  simp length-set (omega arith),
-  put_turn c.loop-i.out c.args.at c.loop-i.i
-      c.args.text.now _ c.loop-i.invariant.3 (omega arith),
-)
-
 pub returns : goal.returns
-returns c = (
-  omega arith,
-  put_end c.loop-i.out c.args.at c.loop-i.i
-      c.args.text.now _ c.loop-i.invariant.3 (omega arith),
+returns c = let a = c.args in let e = a.at + length a.text.now in (
+  refl,
+  ap (put_mid a.at _ a.out.now) c.copy_from_slice.ensures.after
+      ∙ ap (λ t. take a.at a.out.now ++ (a.text.now ++ t)) (Post-is a.at e a.out.now (omega arith))
+      ∙ sym (append_assoc (take a.at a.out.now) a.text.now _)
+      ∙ sym (sets-eq a.text.now a.out.now a.at c.requires),
 )
