@@ -20,8 +20,8 @@ PRODUCT, BASE = "sweep", "kernel"
 OPERATORS = re.compile(r"^(euler|runs|takedown)_\w+$")
 # what a table is lent as to be written (a lent array is no table), and who holds one: to whom it is handed on
 TABLE = re.compile(r"^(?:mut\s+)?(\w+)\s*:\s*&\s*mut\s+\[\s*(?:u16|i32)\s*(?:;(?!\s*ITEM_PLACES\s*\])[^\]]*)?\]$")
-# what could hide a table or a function: another name for a type, a module in a file, a struct with a reference
-HIDING = re.compile(r"\btype\s+\w+|\bmod\s+\w+\s*\{|\bstruct\s+\w+[^{(;]*[{(][^})]*&")
+# what could hide a table or a function: another name for a type, a module in a file, a struct that lends to write
+HIDING = re.compile(r"\btype\s+\w+|\bmod\s+\w+\s*\{|\bstruct\s+\w+[^{(;]*[{(][^})]*&\s*(?:'\w+\s*)?mut\b")
 LOOPS = re.compile(r"\b(while|loop|for)\b")
 HOLDERS = {"sweep::zoghvari_sweep": "sweep_call::sweep", "sweep_call::sweep": "sessions_entry::run"}
 # the files that define the operators, and what of them may be unfolded

@@ -21,7 +21,8 @@ LOOP = re.compile(r"\b(?:while|loop|for)\b")
 
 def stores(found, full):
     """How many stores to arrays or slices a call of a function makes at most; 2, for many, where they are in a loop."""
-    _, _, _, body = function = scratch.named(found, "functions", full)
+    function = scratch.named(found, "functions", full)
+    body = function.body
     called = [scratch.resolve(found, "functions", function.module, word) for word in scratch.CALL.findall(body)]
     made = len(STORE.findall(body)) + sum(stores(found, other) for other in called if other)
     return min(made, 1) * 2 if LOOP.search(body) else made

@@ -16,13 +16,16 @@ ROOTS = ["euler_cuts::mef_kef::kef_fits", "euler_cuts::mef_kef::kef_inverse", "e
          "euler_valence::valence::raise_starts"]
 OPERATOR = "script::Operator"
 PLAIN = {"bool", "u8", "u16", "u32", "u64", "usize", "i8", "i16", "i32", "i64", "isize"}
-KEYWORDS = {"if", "while", "match", "return", "in", "as", "mut", "let", "else", "loop", "for"}
+KEYWORDS = {"if", "while", "match", "return", "in", "as", "mut", "let", "else", "loop", "for", "Some", "Ok", "Err"}
+# functions of the standard library that make a number or a bool of numbers, ranges and options of them
+NUMBERS = {"min", "max", "saturating_sub", "saturating_add", "contains", "unwrap_or", "usize::try_from"}
 
 # what a proof reads and the compiler does not, and attributes; where a clause of a contract begins
 UNSEEN = re.compile(r"//[^\n]*|\bghost use [^;]*;|#!?\[[^\]]*\]")
 CLAUSE = re.compile(r"\b(?:requires|ensures)\b[\s\w*]*(?=\{)")
 USE = re.compile(r"^\s*(?:pub\s+)?use\s+([^;]+);", re.M)
-FUNCTION = re.compile(r"\bfn\s+(\w+)\s*\(([^()]*)\)\s*(?:->\s*([^{]+?))?\s*\{")
+GENERIC = r"(?:<((?:[^<>()-]|->|\([^()]*\))*)>)?"  # what a function is generic in, `F: Fn(usize) -> bool` among it
+FUNCTION = re.compile(r"\bfn\s+(\w+)\s*" + GENERIC + r"\(([^()]*)\)\s*(?:->\s*([^{]+?))?\s*\{")
 TYPE = re.compile(r"\b(?:struct|enum)\s+(\w+)\s*\{([^{}]*)\}")
 CONSTANT = re.compile(r"\bconst\s+(\w+)\s*:\s*([^=;]*(?:;[^=\]]*\])?)\s*=")
 FIELD = re.compile(r"\b(\w+)\s*:\s*([^,{}]+)|\(([^()]*)\)")  # of a struct; what a case of an enum holds
@@ -34,7 +37,7 @@ MADE = re.compile(r"(?<![\w:])((?:\w+::)*[A-Z]\w*)\s*\{")
 LET = re.compile(r"\blet\s+(?:mut\s+)?\w+\s*:\s*([^=]+)=")
 
 Module = collections.namedtuple("Module", "uses functions types constants")
-Function = collections.namedtuple("Function", "module parameters answer body")
+Function = collections.namedtuple("Function", "module parameters answer body generics")
 
 
 def body_at(text, start):
@@ -83,8 +86,8 @@ def parse(name, text):
     """A source file as the module of this name. `crate` at the head of a path is spelt out."""
     text = without_clauses(UNSEEN.sub("", text))
     text = re.sub(r"\bcrate::", name.split("::")[0] + "::", text)
-    functions = {m.group(1): Function(name, [p.strip() for p in m.group(2).split(",") if p.strip()], m.group(3) or "",
-                                      body_at(text, m.end() - 1)) for m in FUNCTION.finditer(text)}
+    functions = {m.group(1): Function(name, [p.strip() for p in m.group(3).split(",") if p.strip()], m.group(4) or "",
+                                      body_at(text, m.end() - 1), m.group(2) or "") for m in FUNCTION.finditer(text)}
     return Module(dict(item for path in USE.findall(text) for item in brought(path)), functions,
                   {m.group(1): m.group(2) for m in TYPE.finditer(text)},
                   {m.group(1): m.group(2) for m in CONSTANT.finditer(text)})
@@ -166,22 +169,27 @@ def of_body(found, function):
     types = [("has", kind.strip()) for kind in LET.findall(body)] + [("makes", name) for name in made]
     told = [(verb, memory(found, function.module, kind)) for verb, kind in types]
     bad = [f"{verb} {why}" for verb, why in told if why]
+    bad += ["makes a closure that moves"] if re.search(r"\bmove\s*\|", body) else []
     return bad + (["makes an array"] if ARRAY.search(LET.sub("", body)) else [])
 
 
 def of_signature(found, function):
-    """What a function takes or answers by value."""
-    taken = [memory(found, function.module, p.partition(":")[2].strip()) for p in function.parameters]
+    """What a function takes or answers by value. A closure holds what it borrows, unless it is written with `move`."""
+    closures = set(re.findall(r"\b(\w+)\s*:\s*Fn\(", function.generics))
+    kinds = [p.partition(":")[2].strip() for p in function.parameters]
+    taken = [memory(found, function.module, kind) for kind in kinds if kind not in closures]
     answered = memory(found, function.module, function.answer.strip())
     return [f"takes {why}" for why in taken if why] + ([f"answers {answered}"] if answered else [])
 
 
 def calls(found, function):
-    """The full paths of the functions that a body calls, and a line for each call whose function is not found."""
-    words = sorted(set(CALL.findall(function.body)) - KEYWORDS)
+    """The full paths of the functions that a body calls, and a line for each call whose function is not found. A call
+    of a parameter is one of what the caller wrote, and was seen there."""
+    given = {p.partition(":")[0].replace("mut ", "").strip() for p in function.parameters}
+    words = sorted(set(CALL.findall(function.body)) - KEYWORDS - NUMBERS - given)
     paths = {word: resolve(found, "functions", function.module, word) for word in words}
     lost = [word for word in words if paths[word] is None]
-    lost += [a or b for a, b in OTHER_CALL.findall(function.body)]
+    lost += [a or b for a, b in OTHER_CALL.findall(function.body) if a not in NUMBERS]
     return sorted({path for path in paths.values() if path}), [f"calls {word}, which is not found" for word in lost]
 
 

@@ -251,6 +251,16 @@ CASES = [
     ("an array as the answer fails", lambda: scratch_faults("fn f() -> [u16; 8] { f2() }\nfn f2() -> u8 { 0 }\n")
      == {"a::b::f": ["answers an array"]}),
     ("a struct that holds an array fails", lambda: scratch_in("p: Pair", "") == ["takes Pair, which holds an array"]),
+    ("a search by a closure passes", lambda: scratch_faults(
+        "fn f(n: usize) -> usize { g(n, |k| k == 3).min(n) }\n"
+        "fn g<F: Fn(usize) -> bool>(n: usize, test: F) -> usize { if test(n) { n } else { 0 } }\n") == {}),
+    ("what a closure makes is seen", lambda: scratch_faults(
+        "fn f(n: usize) -> usize { g(n, |k| { let t = [0u8; 8]; t[k] == 3 }) }\n"
+        "fn g<F: Fn(usize) -> bool>(n: usize, test: F) -> usize { if test(n) { n } else { 0 } }\n")
+     == {"a::b::f": ["makes an array"]}),
+    ("a closure that moves fails", lambda: scratch_in("n: usize", "first(move |k| k)") == ["makes a closure that moves"]),
+    ("a method that is not of numbers fails", lambda: scratch_in("n: usize", "n.clone()")
+     == ["calls clone, which is not found"]),
     ("a struct of another file has to be found", lambda: scratch_in("p: Lost", "")
      == ["takes the type Lost, which is not found"]),
     ("a copy of a lent array fails", lambda: scratch_in("t: &[u16; 4]", "let c = *t;") == ["copies what t lends"]),
@@ -314,6 +324,10 @@ CASES = [
     ("what could hide a holder fails", lambda: all(len(above_faults(more=text)) == 1 for text in (
         "type T = u8;\n", "mod m { }\n", "struct S { a: &mut [u16] }\n", "struct S { a: &mut [u16], b: u8 }\n",
         "struct S(&mut [u16]);\n"))),
+    ("a struct that lends to read passes", lambda: above_faults(more="struct S<'a> { a: &'a [u16; ITEM_PLACES] }\n")
+     == []),
+    ("a struct that lends to write fails with a lifetime too", lambda: len(above_faults(
+        more="struct S<'a> { a: &'a mut [u16] }\n")) == 1),
     ("scratch arrays are no tables", lambda: above_faults(more="fn f(a: &mut [u16; ITEM_PLACES]) { a[0] = 1; }\n")
      == []),
     ("a proof that unfolds an operator fails", lambda: all(above_faults(unfolded=text)

@@ -1,7 +1,7 @@
 // The columns of a table: one word of each kind of record by name. The places come from `fields`.
 //
-// Kept: a function for each field, and not one over a field's name. Each says the document's word where it is called, and
-// has its own definition in the specs; what they share is in `cell` and `put_cell`.
+// Kept: a function for each field, and not one over a field's name. Each says the document's word where it is called,
+// and has its own definition in the specs; what they share is in `cell` and `put_cell`.
 ghost use Rattle.std.specs.Prelude.{◌≡◌, ℕ, ◌<◌, ◌≤◌};
 ghost use Rattle.layout.specs.Layout.{solid_used, set_solid_used, face_solid, set_face_solid, face_outer};
 ghost use Rattle.layout.specs.Layout.{set_face_outer};

@@ -99,5 +99,6 @@ module _ (sh : Shape) (x : List ℕ) (at code : ℕ) (a : Scan) where
   pub settled_refused : a.refusal ≢ 0 → (n : ℕ) → n ≡ pick (leb a.refusal 5) at a.next
       → told a.refusal n ≡ settled sh x at code a
   settled_refused d n e =
-      ⊎_elim (λ l. rw (e, le-leb a.refusal 5 l) (settled_low d l)) (λ l. rw (e, lt-leb a.refusal 5 l) (settled_high d l))
+      ⊎_elim (λ l. rw (e, le-leb a.refusal 5 l) (settled_low d l))
+      (λ l. rw (e, lt-leb a.refusal 5 l) (settled_high d l))
       (le? a.refusal 5)

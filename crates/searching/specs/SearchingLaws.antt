@@ -19,7 +19,8 @@ module _ {answers : ℕ → Bool → Type 0} {n : ℕ} (p : ℕ → Bool) where
   -- one passes
   pub one_by : {r : Bool} → OnePasses answers n r
       → ((k : ℕ) → 1 ≤ k → k ≤ n → (b : Bool) → answers k b → b ≡ p k) → r ≡ any_to n p
-  one_by {r = true} s h = let f = s.found in sym (T_true (any_of n p f.0 f.1 f.2 (true_T (sym (h f.0 f.1 f.2 true f.3)))))
+  one_by {r = true} s h = let f = s.found in sym
+      (T_true (any_of n p f.0 f.1 f.2 (true_T (sym (h f.0 f.1 f.2 true f.3)))))
   one_by {r = false} s h = sym (T_false (λ t. let f = any_at n p t in
       false_T (sym (h f.0 f.1 f.2 false (s.found f.0 f.1 f.2))) f.3))
 

@@ -1,5 +1,5 @@
-// Searches through numbers, one after the other: whether all pass a test, whether one does, the least that does, and how
-// many do. The test is the caller's.
+// Searches through numbers, one after the other: whether all pass a test, whether one does, the least that does, and
+// how many do. The test is the caller's.
 
 #![tactic(auto)]
 

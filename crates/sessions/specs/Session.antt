@@ -114,10 +114,12 @@ Clears x p log redo s solids faces loops edges vertices r x' p' =
 abbrev pub Runs : List ℕ → List ℤ → List ℕ → ℕ → Session → List ℕ → Left RunAnswer → List ℕ → List ℤ → List ℕ → Type 0
 Runs x p log redo s script r x' p' log' = leaves r x' p' log' ≡ session_run x p log redo s script
 
-abbrev pub Undoes : List ℕ → List ℤ → List ℕ → List ℕ → Session → ℕ → Left UndoAnswer → List ℕ → List ℤ → List ℕ → Type 0
+abbrev pub Undoes : List ℕ → List ℤ → List ℕ → List ℕ → Session → ℕ → Left UndoAnswer → List ℕ → List ℤ → List ℕ
+    → Type 0
 Undoes x p log redo s n r x' p' redo' = leaves r x' p' redo' ≡ session_undo x p log redo s n
 
-abbrev pub Redoes : List ℕ → List ℤ → List ℕ → List ℕ → Session → ℕ → Left RedoAnswer → List ℕ → List ℤ → List ℕ → Type 0
+abbrev pub Redoes : List ℕ → List ℤ → List ℕ → List ℕ → Session → ℕ → Left RedoAnswer → List ℕ → List ℤ → List ℕ
+    → Type 0
 Redoes x p log redo s n r x' p' log' = leaves r x' p' log' ≡ session_redo x p log redo s n
 
 abbrev pub Inverts : List ℕ → List ℤ → List ℕ → ℕ → Session → Left InvertAnswer → List ℕ → List ℤ → List ℕ → Type 0

@@ -1,5 +1,6 @@
 -- The script of a sweep as the code has it, and the ways out of what writes it.
-use Rattle.std.specs.Prelude.{◌≡◌, refl, ◌≢◌, Bool, true, false, List, [], ◌∷◌, ℕ, ◌*◌, ◌≤◌, ◌<◌, leb, ℤ, length, take, Result, Ok, Err}
+use Rattle.std.specs.Prelude.{◌≡◌, refl, ◌≢◌, Bool, true, false, List, [], ◌∷◌, ℕ, ◌*◌, ◌≤◌, ◌<◌, leb, ℤ, length, take}
+use Rattle.std.specs.Prelude.{Result, Ok, Err}
 use Rattle.std.proofs.Common.{sym, ap, ◌∙◌, subst, arith, leb→le, le-leb}
 use Rattle.std.proofs.lemmas.List.Edits.{sets, sets-eq}
 use Rattle.std.proofs.Math.Seq.{length-sets, take-append_seam}
@@ -45,7 +46,8 @@ pub record Scripted (sh : Shape) (x : List ℕ) (p : List ℤ) (f : ℕ) (v : Ve
     pub room : r.room ≡ room_for sh x p (sweep_ops sh x p f v)
 
 -- 10, or the script
-pub record Written (sh : Shape) (x : List ℕ) (p : List ℤ) (f : ℕ) (v : Vector) (out : List ℕ) (r : Result Script Refusal)
+pub record Written (sh : Shape) (x : List ℕ) (p : List ℤ) (f : ℕ) (v : Vector) (out : List ℕ)
+    (r : Result Script Refusal)
     : Type 0 where
   pub refusal : refusal_in r ≡ pick (every (spare sh x (corners_to sh x f sh.loops))) 0 10
   pub script : (s : Script) → r ≡ Ok s → Scripted sh x p f v out s
@@ -161,7 +163,8 @@ module _ {sh : Shape} {x : List ℕ} {p : List ℤ} {f : ℕ} {v : Vector} (d : 
       front vs l h = ap (take (length vs)) (sets-eq vs l 0 (omega (arith, h))) ∙ take-append_seam vs _
 
 -- none is written
-pub written_none : (sh : Shape) (x : List ℕ) (p : List ℤ) (f : ℕ) (v : Vector) (out : List ℕ) (r : Result Script Refusal)
+pub written_none : (sh : Shape) (x : List ℕ) (p : List ℤ) (f : ℕ) (v : Vector) (out : List ℕ)
+    (r : Result Script Refusal)
     (n nv ne nf nl : ℕ) (b : Bool) → nv ≡ count_from sh.vertices 1 (vertex_free sh x)
     → ne ≡ count_from sh.edges 1 (edge_free sh x) → nf ≡ count_from sh.faces 1 (face_free sh x)
     → nl ≡ count_from sh.loops 1 (loop_free sh x) → n ≡ corners_to sh x f sh.loops → b ≡ enough_for n nv ne nf nl

@@ -33,7 +33,8 @@ fn put_side(
 ) -> Place
     requires l_bound { (l ≤ 4096) × (j ≤ z) × (b + z < 2048) × Low numbers.edges.now (2 * (b + suc z)) }
     requires at_in_bounds { (place.at + 27 ≤ length out.old) × (place.at ≤ 200000) × (place.room ≤ 200000) }
-    ensures { Laid (side_at (names_in numbers.entry.edges.now numbers.entry.faces.now numbers.entry.loops.now) l z b j ∷ [])
+    ensures { Laid (side_at (names_in numbers.entry.edges.now numbers.entry.faces.now numbers.entry.loops.now) l z b j
+        ∷ [])
         out.old place.at place.room out.new result.at result.room }
 {
     let from = down_of(numbers.edges[2 * b + j] as usize);
@@ -56,7 +57,8 @@ fn put_only(
 ) -> Place
     requires l_bound { (l ≤ 4096) × (b + z < 2048) × Low numbers.edges.now (2 * (b + suc z)) }
     requires at_in_bounds { (place.at + 27 ≤ length out.old) × (place.at ≤ 200000) × (place.room ≤ 200000) }
-    ensures { Laid (only_side (names_in numbers.entry.edges.now numbers.entry.faces.now numbers.entry.loops.now) l z b ∷ [])
+    ensures { Laid (only_side (names_in numbers.entry.edges.now numbers.entry.faces.now numbers.entry.loops.now) l z b
+        ∷ [])
         out.old place.at place.room out.new result.at result.room }
 {
     let h = down_of(numbers.edges[2 * b] as usize);

@@ -129,7 +129,8 @@ excess_none t room z = go (le? (length t) room)
   where
     go : (length t ≤ room) ⊎ (room < length t) → length t ≤ room
     go (inl l) = l
-    go (inr l) = let e : code (Some (length t)) ≡ 0 = ap code (rw (lt-leb (length t) room l) at z) in absurd (omega (arith, e))
+    go (inr l) = let e : code (Some (length t))
+        ≡ 0 = ap code (rw (lt-leb (length t) room l) at z) in absurd (omega (arith, e))
 
 -- one that does not is all of it
 pub all_excess : (t : List ℕ) (room n : ℕ) → n ≡ length t → room < n → Some n ≡ excess t room

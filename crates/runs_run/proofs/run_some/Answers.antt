@@ -6,7 +6,8 @@ use Rattle.refusals.specs.UnlessLaws.{refused_some}
 use Rattle.runs_run.proofs.run_some.Goals as goal
 
 -- as an operator is done, one fewer is due: from the place behind it on
-turned : (sh : Shape) (s : List ℕ) (n at done : ℕ) (t : State) (whole : Ran) → run_from (n - done) sh s at done t ≡ whole
+turned : (sh : Shape) (s : List ℕ) (n at done : ℕ) (t : State) (whole : Ran)
+    → run_from (n - done) sh s at done t ≡ whole
     → at < length s → done < n → (next : ℕ) (u : State) → step_is 0 next u ≡ step_of sh t s at
     → run_from (n - (done + 1)) sh s next (done + 1) u ≡ whole
 turned sh s n at done t whole rest h m next u e =

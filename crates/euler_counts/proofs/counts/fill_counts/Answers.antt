@@ -6,7 +6,8 @@ pub loop-l-init : goal.loop-l-init
 loop-l-init c = filled_none _ _
 
 pub loop-l-preserved : goal.loop-l-preserved
-loop-l-preserved c = filled_next _ _ _ _ _ _ (omega arith) c.loop-l.invariant c.loop_face-f.ensures.0 c.raise_count.ensures
+loop-l-preserved c = filled_next _ _ _ _ _ _ (omega arith) c.loop-l.invariant c.loop_face-f.ensures.0
+    c.raise_count.ensures
 
 pub returns : goal.returns
 returns c = let f = c.loop-l.invariant in

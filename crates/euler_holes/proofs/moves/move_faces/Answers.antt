@@ -13,7 +13,8 @@ loop-k-init c = (refl, sweep_none c.args.sh _ _)
 
 pub loop-k-preserved : goal.loop-k-preserved
 loop-k-preserved c =
-    let w : c.if-old-s.new ≡ pick (eqb c.face_solid-old.result c.args.s) c.args.t c.face_solid-old.result = search rules in (
+    let w : c.if-old-s.new
+    ≡ pick (eqb c.face_solid-old.result c.args.s) c.args.t c.face_solid-old.result = search rules in (
       omega arith,
       sweep_more c.args.sh _ _ _ _ _ _ _ c.loop-k.invariant.1 c.face_solid-old.ensures.0 w c.set_face_solid.ensures,
     )

@@ -20,10 +20,12 @@ loop-i-preserved c = let v = c.loop-i.invariant in
 
 pub returns-in-Ok : goal.returns-in-Ok
 returns-in-Ok c = let v = c.loop-i.invariant in
-    rw c.in-Ok.is at (scan_end _ _ _ c.args.kinds c.args.count (omega (arith, v.0, c.requires.count_bound)) _ _ _ _ _ v.1
+    rw c.in-Ok.is at (scan_end _ _ _ c.args.kinds c.args.count (omega (arith, v.0, c.requires.count_bound)) _ _ _ _ _
+    v.1
     (omega (arith, c.loop-i-test.false)))
 
 pub returns-in-Err : goal.returns-in-Err
 returns-in-Err c = let v = c.loop-i.invariant in
-    rw c.in-Err.is at (scan_end _ _ _ c.args.kinds c.args.count (omega (arith, v.0, c.requires.count_bound)) _ _ _ _ _ v.1
+    rw c.in-Err.is at (scan_end _ _ _ c.args.kinds c.args.count (omega (arith, v.0, c.requires.count_bound)) _ _ _ _ _
+    v.1
     (omega (arith, c.loop-i-test.false)))

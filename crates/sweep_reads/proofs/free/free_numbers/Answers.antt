@@ -10,7 +10,8 @@ pub loop-k-preserved : goal.loop-k-preserved
 loop-k-preserved g c = (
   omega (arith, c.take-count.ensures.value, bit_le c.is_free.result),
   λ p h. filled_more p c.loop-k.k (c.loop-k.k + 1) _ _ _ c.loop-k.count _ c.is_free.result (omega arith) (omega arith)
-      (c.loop-k.invariant.1 p h) (sym (h (c.loop-k.k + 1) (omega arith) (omega arith) c.is_free.result c.is_free.ensures))
+      (c.loop-k.invariant.1 p h)
+      (sym (h (c.loop-k.k + 1) (omega arith) (omega arith) c.is_free.result c.is_free.ensures))
       c.take-count.ensures.out_after c.take-count.ensures.value,
 )
 

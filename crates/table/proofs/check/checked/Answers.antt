@@ -14,4 +14,5 @@ pub returns : goal.returns
 returns c =
     let fits : c.table_fits.result ≡ true = search rules in
     rw (ruled_is c.broken_rule.result c.map_err.result c.map_err.ensures.cases (λ e f p. search rules))
-    (check_ruled c.args.links.now c.args.points.now c.shape_of.result _ (rw c.table_fits.ensures at fits) c.shape_of.ensures c.broken_rule.ensures)
+    (check_ruled c.args.links.now c.args.points.now c.shape_of.result _ (rw c.table_fits.ensures at fits)
+    c.shape_of.ensures c.broken_rule.ensures)
