@@ -10,6 +10,7 @@ ghost use Rattle.check_orbits.specs.Cycles.{entry_of, Steps, Follows, one_cycle_
 use bounds::{HALF_PLACES, ITEM_PLACES};
 use layout::columns::start_of;
 use layout::shape::Shape;
+use marking::put_mark;
 use searching::all_pass;
 
 // The mark of half-edge k, and 0 past the end.
@@ -21,16 +22,6 @@ fn mark_at(marks: &[u8; HALF_PLACES], k: usize) -> u8
         return marks[k];
     }
     0
-}
-
-// Half-edge k marked; past the end nothing changes.
-fn put_mark(marks: &mut [u8; HALF_PLACES], k: usize)
-    requires { length marks.old ≡ half_places }
-    ensures { marks.new ≡ set marks.old k 1 }
-{
-    if k < HALF_PLACES {
-        marks[k] = 1;
-    }
 }
 
 // From k on, half-edges marked up to the first that is so already; `fuel` bounds the steps in a table that is not

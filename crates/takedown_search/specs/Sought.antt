@@ -1,5 +1,5 @@
 -- What a search finds: the least number of a range that passes, 0 where none does.
-use Rattle.std.specs.Prelude.{◌≡◌, refl, ℕ, ◌≤◌, Bool, Option, None, Some}
+use Rattle.std.specs.Prelude.{◌≡◌, ℕ, ◌≤◌, Bool, Option, None, Some}
 use Rattle.std.specs.Option.{unwrap_or}
 use Rattle.std.proofs.Common.{◌∙◌, arith}
 use Rattle.takedown.specs.Swift.{seek}
@@ -20,4 +20,4 @@ seek_by p (o, s, e) h = e ∙ least_by p s h
 pub found_most : {answers : ℕ → Bool → Type 0} {n low r : ℕ} (o : Option ℕ) → LeastPasses answers low n o
     → r ≡ unwrap_or o 0 → r ≤ n
 found_most None s e = omega (arith, e)
-found_most (Some m) s e = omega (arith, e, (s.least m refl).1)
+found_most (Some m) s e = omega (arith, e, s.found.1)
