@@ -25,8 +25,7 @@ pub struct Taken {
     pub next: usize,
 }
 
-// A refusal, with the place to go on from: of a scan of operands that behind the last number read, of a whole operator
-// on 3, 4 and 5 the one handed in.
+// A refusal, with the place to go on from; on 3, 4 and 5 it is the place handed in.
 #[derive(Clone, Copy)]
 pub struct Refused {
     pub refusal: Refusal,
