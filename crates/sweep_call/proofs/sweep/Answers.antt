@@ -17,8 +17,8 @@ slice_bounds-script-end c = (c.plan.ensures.script _ c.in-Ok.is).fits
 
 pub returns-in-Err-plan : goal.returns-in-Err-plan
 returns-in-Err-plan c = call_refused _ _ _ _ _ _ _ _ c.in_default.ensures _ refl _ c.shape_of.ensures _
-    (vector_back c.ranges.dx c.ranges.dy c.ranges.dz) _ _ c.plan.ensures _ _ c.in-Err-plan.is c.number-in-Err-plan.ensures
-    c.answered-in-Err-plan.ensures
+    (vector_back c.ranges.dx c.ranges.dy c.ranges.dz) _ _ c.plan.ensures _ _ c.in-Err-plan.is
+    c.number-in-Err-plan.ensures c.answered-in-Err-plan.ensures
 
 pub returns-in-Ok : goal.returns-in-Ok
 returns-in-Ok c = call_done _ _ _ _ _ _ _ _ c.in_default.ensures _ refl _ c.shape_of.ensures _
