@@ -60,9 +60,9 @@ def parameters(plain):
 
 
 def structs(text):
-    for m in re.finditer(r"((?:^#\[.*\]\n)*)^(?:pub )?struct (\w+)[^{;(]*\{\n(.*?)^\}", text, re.M | re.S):
-        line = text[: m.start(2)].count("\n") + 1
-        yield line, m.group(2), m.group(1), re.findall(r"^\s*(?:pub )?(\w+): ([^\n]+?),?$", m.group(3), re.M)
+    for m in re.finditer(r"^(?:pub )?struct (\w+)[^{;(\n]*\{\n(.*?)^\}", text, re.M | re.S):
+        line = text[: m.start(1)].count("\n") + 1
+        yield line, m.group(1), re.findall(r"^\s*(?:pub )?(\w+): ([^\n]+?),?$", m.group(2), re.M)
 
 
 def enums(text):
@@ -138,7 +138,7 @@ def main():
                     places["1 own enum of the shape of Option or Result"].append("%s:%d %s" % (short, n, enum))
                 if variants and not any("(" in v for v in variants):
                     places["7 enum that is a switch, flag as a parameter"].append("%s:%d enum %s" % (short, n, enum))
-            for n, struct, marks, fields in structs(text):
+            for n, struct, fields in structs(text):
                 for f, t in fields:
                     if f in ("refusal", "rule") and t.startswith("u"):
                         places["1 refusal or rule as a number: a field"].append("%s:%d %s.%s" % (short, n, struct, f))
@@ -149,7 +149,7 @@ def main():
                 here = "%s:%d %s" % (short, n, fn)
                 taken = parameters(plain)
                 result = plain.rsplit("->", 1)[1].strip(" {\n") if "->" in plain else ""
-                if result == "u8" and re.search(r"refus|rule|due|when_", fn + clauses):
+                if result == "u8" and re.search(r"refus|rule|due|when_|number_of", fn + clauses):
                     places["1 refusal or rule as a number: a result"].append(here)
                 for p, t in taken:
                     if p in ("kind", "code", "refusal", "rule") and t in ("u8", "usize", "u32"):
