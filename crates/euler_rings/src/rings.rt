@@ -18,11 +18,13 @@ fn shares_outside(links: &[u16], sh: Shape, l: usize, f: usize, k: usize) -> boo
     requires { (l < 65536) × (k < 65536) }
     ensures { result ≡ shares_outside sh links.now l f k }
 {
+    if start_of(links, sh, k) == 0 {
+        return false;
+    }
     let owner = loop_of(links, sh, k);
-    start_of(links, sh, k) != 0
+    owner != l
         && loop_face(links, sh, owner) == loop_face(links, sh, l)
         && side_of(links, sh, mate_of(k)) == f
-        && owner != l
 }
 
 // The least half-edge that does so; 0 where none does.

@@ -1,6 +1,7 @@
 -- A search by a test that has one answer for each number finds what the definitions say.
 use Rattle.std.specs.Prelude.{◌≡◌, Bool, true, false, ℕ, zero, suc, ◌+◌, ◌-◌, ◌≤◌, ◌<◌, T, Option, None, Some}
-use Rattle.std.proofs.Common.{sym, add_comm, arith}
+use Rattle.std.proofs.Common.{sym, subst, ⊎_elim, add_comm, arith}
+use Rattle.std.proofs.Math.Nat.{eq-or-lt_of_le}
 use Rattle.std.specs.Option.{unwrap_or}
 use Rattle.laws.specs.Bools.{T_true, true_T, T_false, false_T}
 use Rattle.laws.specs.Search.{all_to, all_at, all_of, any_to, any_at, any_of, least_from, Least, least_from_is}
@@ -65,3 +66,8 @@ adds_by p (suc n) r (b, a, m, c, e) h =
 pub count_by : {answers : ℕ → Bool → Type 0} {n : ℕ} (p : ℕ → Bool) {r : ℕ} → Counted answers n r
     → ((k : ℕ) → 1 ≤ k → k ≤ n → (b : Bool) → answers k b → b ≡ p k) → r ≡ count_to n p
 count_by p s h = adds_by p _ _ s.adds h
+
+-- none of low to k passes where none before k does and k does not
+pub none_to : (answers : ℕ → Bool → Type 0) {low : ℕ} (k : ℕ) → ((j : ℕ) → low ≤ j → j < k → answers j false)
+    → answers k false → (j : ℕ) → low ≤ j → j ≤ k → answers j false
+none_to answers k f p j l u = ⊎_elim (λ e. subst (λ i. answers i false) (sym e) p) (λ m. f j l m) (eq-or-lt_of_le u)

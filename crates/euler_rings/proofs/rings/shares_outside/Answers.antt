@@ -1,13 +1,9 @@
-use Rattle.std.proofs.Common.{rules, ◌≡◌, ◌&&◌, eqb}
-use Rattle.layout.specs.Items.{some}
-use Rattle.layout.specs.Layout.{start_of, loop_face, side}
-use Rattle.layout.specs.Mate.{mate}
-use Rattle.euler_rings.specs.RingsLaws.{shares_last}
+use Rattle.std.proofs.Common.{arith, ap, ◌∙◌, eqb}
+use Rattle.layout.specs.Layout.{side}
+use Rattle.euler_rings.specs.RingsLaws.{shares_there}
 use Rattle.euler_rings.proofs.rings.shares_outside.Goals as goal
 
-pub returns-then-side_of-f : goal.returns-then-side_of-f
-returns-then-side_of-f c = let a = c.args in let x = a.links.now in
-    let e : c.if-start_of-ne0.value
-    ≡ (some (start_of a.sh x a.k) && eqb (side a.sh x a.k) (loop_face a.sh x a.l)) = search rules in
-    let g : c.if-loop_face.value ≡ (c.if-start_of-ne0.value && eqb (side a.sh x (mate a.k)) a.f) = search rules in
-    shares_last a.sh x a.l a.f a.k (rw (← e) g) c.if-side_of-f.true c.loop_of-owner.ensures.0
+pub returns-then-loop_face : goal.returns-then-loop_face
+returns-then-loop_face c = let a = c.args in let x = a.links.now in
+    ap (λ n. eqb n a.f) (c.side_of.ensures.0 ∙ ap (side a.sh x) c.mate_of.ensures.0)
+    ∙ shares_there a.sh x a.l a.f a.k c.loop_of-owner.ensures.0 (omega arith) (omega arith) (grind arith)
