@@ -26,9 +26,9 @@ from wavefront_cases import large_cases
 
 LARGEST = (CAPACITY_LIMIT,) * 5
 SHORT, LONG = 3, 8_000
-# What docs/GUIDE.md tells callers to allow for a call. A sweep has its whole script on the stack: it may take more, but
-# not all that the guide allows for it.
-ALLOWED, ALLOWED_BY = 64 * 1024, {"sweep": 200 * 1024}
+# What docs/GUIDE.md says that a call took, 35 KB, and a little more; callers are told to allow 64. A sweep has its whole
+# script on the stack: it took 157, of the 256 that the guide allows for it.
+ALLOWED, ALLOWED_BY = 36 * 1024, {"sweep": 160 * 1024}
 # What the library may ask for: functions that move or compare bytes in memory that they are handed.
 ASKED = {"memset", "memcpy", "memmove", "memcmp", "bcmp"}
 

@@ -100,6 +100,8 @@ pub fn all_marked(links: &[u16], sh: Shape, marks: &[u8; HALF_PLACES]) -> bool
 
 // Each half-edge in use is met along `step` from the representative of one of the labels 1 to `labels`. In a table in
 // which steps keep labels and can be undone, this is one cycle for each label.
+// Not inlined: rules 4 and 5 each have an instance, and in one frame their marks would lie on the stack side by side.
+#[inline(never)]
 pub fn one_cycle_each<F: Fn(usize) -> usize>(
     links: &[u16],
     sh: Shape,

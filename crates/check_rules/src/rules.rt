@@ -38,6 +38,8 @@ fn rule_1(links: &[u16], points: &[i32], sh: Shape) -> bool
 }
 
 // Every number held names an item in use; a face's outer loop names that face; each solid in use has a face.
+// Not inlined, as the others here that have an array: in one frame these would lie on the stack side by side.
+#[inline(never)]
 fn rule_2(links: &[u16], sh: Shape) -> bool
     requires { Small sh }
     ensures { result ≡ rule2 sh links.now }
@@ -60,6 +62,7 @@ fn rule_3(links: &[u16], sh: Shape) -> bool
 
 // Half-edges are joined as they should be, and those of a loop form one cycle. The walks begin once next and previous
 // are known to undo each other.
+#[inline(never)]
 fn rule_4(links: &[u16], points: &[i32], sh: Shape) -> bool
     requires { Lower sh links.now points.now }
     ensures { result ≡ rule4 sh links.now }
@@ -82,6 +85,7 @@ fn rule_4(links: &[u16], points: &[i32], sh: Shape) -> bool
 
 // Each vertex in use has 1 plus the number of half-edges that start there, and is isolated in one loop or starts some.
 // (A function of its own: its two arrays and those of `vertex_cycles` are never needed together.)
+#[inline(never)]
 fn vertices_either(links: &[u16], sh: Shape) -> bool
     requires { Small sh }
     ensures { result ≡ all_to sh.vertices (vertex_either sh links.now) }
@@ -97,6 +101,7 @@ fn vertices_either(links: &[u16], sh: Shape) -> bool
 }
 
 // The walks around the vertices, from the least half-edge that starts at each.
+#[inline(never)]
 fn vertex_cycles(links: &[u16], sh: Shape) -> bool
     requires { Small sh }
     ensures { result ≡ one_cycle_each sh links.now true
@@ -124,6 +129,7 @@ fn rule_5(links: &[u16], points: &[i32], sh: Shape) -> bool
 }
 
 // The faces on an edge's two sides lie in one solid, and each solid's faces are linked.
+#[inline(never)]
 fn rule_6(links: &[u16], points: &[i32], sh: Shape) -> bool
     requires { Lower sh links.now points.now }
     ensures { result ≡ rule6 sh links.now }

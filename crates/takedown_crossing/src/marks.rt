@@ -75,6 +75,8 @@ fn any_unpaired(
 }
 
 // Some edge has exactly one half between k and its mate.
+// Not inlined: the marks would lie on the stack for the whole take-down, below the check at its head too.
+#[inline(never)]
 pub fn crossed(links: &[u16], sh: Shape, k: usize) -> bool
     requires { (Small sh) × (k < 65536) }
     ensures { result ≡ inversion.crossed sh links.now k }
