@@ -10,4 +10,5 @@ pub mod Inverses
 pub mod ValenceLaws
 pub mod ByCode
 pub mod AdmitLaws
+pub mod RecordLaws
 pub mod Scans

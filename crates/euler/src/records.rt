@@ -2,11 +2,12 @@
 ghost use Rattle.std.specs.Prelude.{◌≡◌, Bool, ℕ, ◌+◌, ◌*◌, ◌<◌, ◌≤◌};
 ghost use Rattle.laws.specs.Bools.{pick};
 ghost use Rattle.bounds.specs.Bounds.{most_halves};
-ghost use Rattle.euler.specs.Surgery.{item_in, half_by, way_of, corner, corner_vertex};
+ghost use Rattle.euler.specs.Surgery.{item_in, item_of, half_by, way_of, corner, corner_vertex};
 
 use bounds::MOST_HALVES;
 use layout::columns::{loop_isolated, loop_of, start_of};
 use layout::shape::Shape;
+use script::{Operator, operand};
 
 // Two vertices, which may be one; 0 is none.
 #[derive(Clone, Copy)]
@@ -30,6 +31,14 @@ pub fn item_at(args: &[i32; 8], i: usize) -> usize
     ensures { (result ≡ item_in args.now i) × (result ≤ most_halves) }
 {
     let n = usize::try_from(args[i]).unwrap_or(0);
+    if n <= MOST_HALVES { n } else { 0 }
+}
+
+// The same of an operator, for any i: 0 past the eighth.
+pub fn item_of(op: Operator, i: usize) -> usize
+    ensures { (result ≡ item_of op i) × (result ≤ most_halves) }
+{
+    let n = operand(op, i);
     if n <= MOST_HALVES { n } else { 0 }
 }
 

@@ -85,6 +85,15 @@ face_after sh x s f = least_from (sh.faces - f) (f + 1) (λ g. eqb (face_solid s
 pub from_here : (n f : ℕ) (p : ℕ → Bool) → least_from (n + 1 - (f + 1)) (f + 1) p ≡ least_from (n - f) (f + 1) p
 from_here n f p = let m : n + 1 - (f + 1) ≡ n - f = omega arith in rw m
 
+-- the test of face f and of the one behind it, n, however the latter is written: t says whether n is 0
+pub none_first : (sh : Shape) (x : List ℕ) (s f : ℕ) → f ≡ 0 → some f ≡ (some f && eqb (face_after sh x s f) 0)
+none_first sh x s f z = rw (eqb_same z) refl
+
+pub none_behind : (sh : Shape) (x : List ℕ) (s f : ℕ) → f ≢ 0 → {n : ℕ} → n ≡ face_after sh x s f → {t : Bool}
+    → (t ≡ true → n ≡ 0) → (t ≡ false → n ≢ 0) → t ≡ (some f && eqb (face_after sh x s f) 0)
+none_behind sh x s f d {n} e {t = true} y o = rw (eqb_other d, ← e, eqb_same (y refl)) refl
+none_behind sh x s f d {n} e {t = false} y o = rw (eqb_other d, ← e, eqb_other (o refl)) refl
+
 -- s has one face where it has a least one and none follows
 module _ (sh : Shape) (x : List ℕ) (s f : ℕ) (e : f ≡ face_in sh x s) where
   one_face : (some f && eqb (face_after sh x s f) 0) ≡ eqb (faces_in sh x s) 1

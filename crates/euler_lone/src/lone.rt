@@ -57,7 +57,7 @@ pub fn face_in(links: &[u16], sh: Shape, s: usize) -> usize
 
 // Solid s as kvsf takes it: its least face, that face's outer loop and the vertex at which this is isolated.
 pub fn lone_solid(links: &[u16], sh: Shape, s: usize) -> LoneSolid
-    requires { (sh.faces < 65536) × (s < 65536) }
+    requires { sh.faces < 65536 }
     ensures { IsLone sh links.now s result }
 {
     let face = face_in(links, sh, s);
