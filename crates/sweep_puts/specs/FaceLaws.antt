@@ -156,7 +156,7 @@ part_is sh x p f v l g h = split (loop_face sh x (suc l)) f
 -- the loop's invariant: the loops up to l are written
 abbrev pub Facing : Shape → List ℕ → List ℤ → ℕ → Vector → List ℕ → List ℕ → ℕ → ℕ → ℕ → ℕ → Type 0
 Facing sh x p f v out₀ out at room b l =
-    (at ≤ 54 * b) × (room ≤ 54 * b) × (b ≡ corners_to sh x f l)
+    (l ≤ sh.loops) × (at ≤ 54 * b) × (room ≤ 54 * b) × (length out ≡ length out₀) × (b ≡ corners_to sh x f l)
     × Laid (joined 0 l (ops_of sh x p f v)) out₀ 0 0 out at room
 
 -- how many corners there are with the next
@@ -167,29 +167,34 @@ face_few sh x f b l c h e q =
     let z : l + 1 ≡ suc l = omega arith in
     omega (arith, e, q, ap (corners_of sh x f) z, sum_up (suc l) sh.loops (corners_of sh x f) (omega (arith, h)))
 
-pub face_turn : (sh : Shape) (x : List ℕ) (p : List ℤ) (f : ℕ) (v : Vector) (out₀ out : List ℕ) (at room b l c : ℕ)
-    (out' : List ℕ) (at' room' : ℕ) → Liftable sh x p f v → l < sh.loops → Facing sh x p f v out₀ out at room b l
-    → c ≡ corners_of sh x f (l + 1) → Laid (part_of sh x p v (l + 1) c b) out at room out' at' room'
+pub face_turn : (sh : Shape) (x : List ℕ) (p : List ℤ) (f : ℕ) (v u : Vector) (out₀ out : List ℕ) (at room b l c : ℕ)
+    (out' : List ℕ) (at' room' : ℕ) → Liftable sh x p f u → v ≡ u → l < sh.loops
+    → Facing sh x p f v out₀ out at room b l → c ≡ corners_of sh x f (l + 1)
+    → Laid (part_of sh x p v (l + 1) c b) out at room out' at' room'
     → Facing sh x p f v out₀ out' at' room' (b + c) (l + 1)
 unfolding sum_to
-face_turn sh x p f v out₀ out at room b l c out' at' room' g h i q d =
+face_turn sh x p f v u out₀ out at room b l c out' at' room' g₀ vu h i q d =
+    let g = subst (λ w. Liftable sh x p f w) (sym vu) g₀ in
     let z : l + 1 ≡ suc l = omega arith in
     let w : part_of sh x p v (l + 1) c b ≡ ops_of sh x p f v l =
-    rw (q, i.2, z) (part_is sh x p f v l g h) in
-    let n = part_length sh x p v (l + 1) c b in (
-      omega (arith, d.most, n, i.0),
-      omega (arith, d.less, n, i.1),
-      rw (q, i.2, z) (omega arith),
-      laid_more (ops_of sh x p f v) l i.3 d w refl,
+    rw (q, i.4, z) (part_is sh x p f v l g h) in
+    let n = part_length sh x p v (l + 1) c b in
+    let e = laid_more (ops_of sh x p f v) l i.5 d w refl in (
+      omega (arith, h),
+      omega (arith, d.most, n, i.1),
+      omega (arith, d.less, n, i.2),
+      laid_length d ∙ i.3,
+      rw (q, i.4, z) (omega arith),
+      e,
     )
 
-pub face_end : (sh : Shape) (x : List ℕ) (p : List ℤ) (f : ℕ) (v : Vector) (out₀ out : List ℕ) (at room b l : ℕ)
-    → Facing sh x p f v out₀ out at room b l → l ≤ sh.loops → sh.loops ≤ l
-    → Laid (sweep_ops sh x p f v) out₀ 0 0 out at room
+pub face_end : (sh : Shape) (x : List ℕ) (p : List ℤ) (f : ℕ) (v u : Vector) (out₀ out : List ℕ) (at room b l : ℕ)
+    → Facing sh x p f v out₀ out at room b l → sh.loops ≤ l → v ≡ u → Laid (sweep_ops sh x p f u) out₀ 0 0 out at room
 unfolding sweep_ops
-face_end sh x p f v out₀ out at room b l i m h =
-    let z : l ≡ sh.loops = omega (arith, m, h) in
-    subst (λ m. Laid (joined 0 m (ops_of sh x p f v)) out₀ 0 0 out at room) z i.3
+face_end sh x p f v u out₀ out at room b l i h vu =
+    let z : l ≡ sh.loops = omega (arith, i.0, h) in
+    subst (λ w. Laid (joined 0 sh.loops (ops_of sh x p f w)) out₀ 0 0 out at room) vu
+    (subst (λ m. Laid (joined 0 m (ops_of sh x p f v)) out₀ 0 0 out at room) z i.5)
 
 pub moving_at : (sh : Shape) (x : List ℕ) (p : List ℤ) (f : ℕ) (v : Vector) (l c : ℕ) → Liftable sh x p f v
     → l < sh.loops → c ≡ corners_of sh x f (l + 1) → Moving sh x p v (l + 1) c

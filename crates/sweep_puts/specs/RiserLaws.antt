@@ -1,7 +1,7 @@
 -- What the risers' code rests on.
 use Rattle.std.specs.Prelude.{◌≡◌, refl, true, List, [], ◌∷◌, ℕ, suc, ◌+◌, ◌*◌, ◌-◌, ◌^◌, ◌≤◌, ◌<◌, ℤ, pos, ◌+ℤ◌}
 use Rattle.std.specs.Prelude.{get_or, length}
-use Rattle.std.proofs.Common.{sym, ap, ◌∙◌, arith, length-append, SFits, to_z, to_z-of_z, le-leb}
+use Rattle.std.proofs.Common.{sym, ap, ◌∙◌, subst, arith, length-append, SFits, to_z, to_z-of_z, le-leb}
 use Rattle.std.specs.Int.Signed.{mag}
 use Rattle.std.specs.Int.{w32}
 use Rattle.std.proofs.Math.Facts.{to_z_pos}
@@ -21,7 +21,7 @@ use Rattle.chains.specs.Numbers.{free_names}
 use Rattle.chains.specs.Series.{series}
 use Rattle.sweeps.specs.declared.Vector.{Vector}
 use Rattle.sweeps.specs.Sweep.{corner_of, mev_at, mef_at, moved_by, riser_at}
-use Rattle.sweep_puts.specs.Laid.{Laid, Undone, laid_next, laid_far, laid_all}
+use Rattle.sweep_puts.specs.Laid.{Laid, Undone, laid_next, laid_far, laid_length, laid_all}
 use Rattle.sweep_reads.specs.MovedLaws.{back, held_in}
 
 -- the first n of a list are names of items
@@ -175,28 +175,39 @@ unfolding iter
 corner_first sh t l k e = e
 
 -- the loop's invariant: j risers are written
-abbrev pub Rising : Shape → List ℕ → List ℤ → Vector → ℕ → ℕ → List ℕ → ℕ → ℕ → List ℕ → ℕ → ℕ → ℕ → ℕ → Type 0
-Rising sh t p v l b out₀ at room out k place sum j =
-    (k < 65536) × (place ≤ at + 27 * j) × (sum ≤ room + 27 * j)
+abbrev pub Rising : Shape → List ℕ → List ℤ → Vector → ℕ → ℕ → ℕ → List ℕ → ℕ → ℕ → List ℕ → ℕ → ℕ → ℕ → ℕ → Type 0
+Rising sh t p v l n b out₀ at room out k place sum j =
+    (j ≤ n) × (k < 65536) × (place ≤ at + 27 * j) × (sum ≤ room + 27 * j) × (length out ≡ length out₀)
     × (k ≡ corner_of sh t l j) × Laid (series 0 j (riser_of sh t p v l b)) out₀ at room out place sum
 
 -- one more
-pub risers_turn : (sh : Shape) (t : List ℕ) (p : List ℤ) (v : Vector) (l n b : ℕ) (edges vertices out₀ : List ℕ)
+pub risers_turn : (sh : Shape) (t : List ℕ) (p : List ℤ) (v u : Vector) (l n b : ℕ) (edges vertices out₀ : List ℕ)
     (at room : ℕ) (out : List ℕ) (k place sum j e w : ℕ) (op : Operator) (out' : List ℕ) (k' place' sum' : ℕ)
     → Holds (free_names sh t).edge edges (2 * (b + n)) → Holds (free_names sh t).vertex vertices (b + n)
-    → Moving sh t p v l n → j < n → Rising sh t p v l b out₀ at room out k place sum j
+    → Moving sh t p u l n → v ≡ u → j < n → Rising sh t p v l n b out₀ at room out k place sum j
     → e ≡ get_or edges (2 * b + j) 0 → w ≡ get_or vertices (b + j) 0 → op ≡ riser_by sh t p v l k e w
     → Laid (op ∷ []) out place sum out' place' sum' → k' ≡ next_of sh t k → k' < 65536
-    → Rising sh t p v l b out₀ at room out' k' place' sum' (j + 1)
-risers_turn sh t p v l n b edges vertices out₀ at room out k place sum j e w op out' k' place' sum' he hv m h i ee ew q
-    d ek lk =
-    let g = laid_next (riser_of sh t p v l b) j i.4 d
-    (riser_is sh t p v l n b j k e w edges vertices op he hv m h i.3 ee ew q) refl in
-    let f = laid_far (riser_of sh t p v l b) (j + 1) g in
-    (lk, f.0, f.1, corner_next sh t l j k k' i.3 ek, g)
+    → Rising sh t p v l n b out₀ at room out' k' place' sum' (j + 1)
+risers_turn sh t p v u l n b edges vertices out₀ at room out k place sum j e w op out' k' place' sum' he hv m₀ vu h
+    i ee ew q d
+    ek lk =
+    let m = subst (λ w. Moving sh t p w l n) (sym vu) m₀ in
+    let g = laid_next (riser_of sh t p v l b) j i.6 d
+    (riser_is sh t p v l n b j k e w edges vertices op he hv m h i.5 ee ew q) refl in
+    let f = laid_far (riser_of sh t p v l b) (j + 1) g in (
+      omega (arith, h),
+      lk,
+      f.0,
+      f.1,
+      laid_length g,
+      corner_next sh t l j k k' i.5 ek,
+      g,
+    )
 
 -- all
-pub risers_end : (sh : Shape) (t : List ℕ) (p : List ℤ) (v : Vector) (l n b : ℕ) (out₀ : List ℕ) (at room : ℕ)
-    (out : List ℕ) (k place sum j : ℕ) → Rising sh t p v l b out₀ at room out k place sum j → j ≤ n → n ≤ j
-    → Laid (series 0 n (riser_of sh t p v l b)) out₀ at room out place sum
-risers_end sh t p v l n b out₀ at room out k place sum j i m h = laid_all (riser_of sh t p v l b) j n i.4 m h
+pub risers_end : (sh : Shape) (t : List ℕ) (p : List ℤ) (v u : Vector) (l n b : ℕ) (out₀ : List ℕ) (at room : ℕ)
+    (out : List ℕ) (k place sum j : ℕ) → Rising sh t p v l n b out₀ at room out k place sum j → n ≤ j → v ≡ u
+    → Laid (series 0 n (riser_of sh t p u l b)) out₀ at room out place sum
+risers_end sh t p v u l n b out₀ at room out k place sum j i h e =
+    subst (λ w. Laid (series 0 n (riser_of sh t p w l b)) out₀ at room out place sum) e
+    (laid_all (riser_of sh t p v l b) j n i.6 i.0 h)

@@ -9,7 +9,7 @@ use Rattle.euler.specs.EdgeOperators.{mef_inverse}
 use Rattle.chains.specs.Numbers.{Names}
 use Rattle.chains.specs.Series.{series}
 use Rattle.sweeps.specs.Sweep.{mef_at, side_at, only_side, sides_of}
-use Rattle.sweep_puts.specs.Laid.{Laid, Undone, laid_next, laid_far, laid_all}
+use Rattle.sweep_puts.specs.Laid.{Laid, Undone, laid_next, laid_far, laid_length, laid_all}
 use Rattle.sweep_puts.specs.RiserLaws.{mef_undone, mef_undone_2}
 
 -- the first n of a list are small
@@ -83,21 +83,23 @@ only_undone l d t e f m op n h q r b = subst (λ o. Undone o n) (sym q) (mef_und
 -- the loop's invariant: j sides are written
 abbrev pub Siding : Names → ℕ → ℕ → ℕ → List ℕ → ℕ → ℕ → List ℕ → ℕ → ℕ → ℕ → Type 0
 Siding N l z b out₀ at room out place sum j =
-    (place ≤ at + 27 * j) × (sum ≤ room + 27 * j) × Laid (series 0 j (side_at N l z b)) out₀ at room out place sum
+    (j ≤ suc z) × (place ≤ at + 27 * j) × (sum ≤ room + 27 * j) × (length out ≡ length out₀)
+    × Laid (series 0 j (side_at N l z b)) out₀ at room out place sum
 
 pub sides_turn : (N : Names) (l z b : ℕ) (out₀ : List ℕ) (at room : ℕ) (out : List ℕ) (place sum j : ℕ) (out' : List ℕ)
     (place' sum' : ℕ) → j ≤ z → Siding N l z b out₀ at room out place sum j
     → Laid (side_at N l z b j ∷ []) out place sum out' place' sum'
     → Siding N l z b out₀ at room out' place' sum' (j + 1)
 sides_turn N l z b out₀ at room out place sum j out' place' sum' h i d =
-    let g = laid_next (side_at N l z b) j i.2 d refl refl in
+    let g = laid_next (side_at N l z b) j i.4 d refl refl in
     let f = laid_far (side_at N l z b) (j + 1) g in
-    (f.0, f.1, g)
+    (omega (arith, h), f.0, f.1, laid_length g, g)
 
 pub sides_end : (N : Names) (l z b : ℕ) (out₀ : List ℕ) (at room : ℕ) (out : List ℕ) (place sum j : ℕ)
-    → Siding N l z b out₀ at room out place sum j → j ≤ suc z → z < j
-    → Laid (series 0 (suc z) (side_at N l z b)) out₀ at room out place sum
-sides_end N l z b out₀ at room out place sum j i m h = laid_all (side_at N l z b) j (suc z) i.2 m (omega (arith, h))
+    → Siding N l z b out₀ at room out place sum j → z < j → Laid (series 0 (suc z) (side_at N l z b)) out₀ at room out
+    place sum
+sides_end N l z b out₀ at room out place sum j i h = laid_all (side_at N l z b) j (suc z) i.4 i.0
+    (omega (arith, h))
 
 -- which of the two
 pub sides_one : (N : Names) (l z b : ℕ) (out₀ : List ℕ) (at room : ℕ) (out : List ℕ) (place sum : ℕ) → z ≡ 0

@@ -8,6 +8,8 @@ loop-j-init c = (
   omega arith,
   omega arith,
   omega arith,
+  omega arith,
+  refl,
   corner_first c.args.sh c.args.links.now c.args.l _ c.loop_first-k.ensures.0,
   laid_empty (series_zero _),
 )
@@ -35,10 +37,10 @@ put_one-behind-requires c = (
 
 pub loop-j-preserved : goal.loop-j-preserved
 loop-j-preserved c = risers_turn c.args.sh c.args.links.now c.args.points.now
-    _ _ _ _ _ _ _ _ _ _ _ _ _ _ _ _ _ _ _ _ _
-    c.requires.holds c.requires.holds_2 c.requires.moving c.loop-j-test.true c.loop-j.invariant refl refl
+    _ _ _ _ _ _ _ _ _ _ _ _ _ _ _ _ _ _ _ _ _ _
+    c.requires.holds c.requires.holds_2 c.requires.moving refl c.loop-j-test.true c.loop-j.invariant refl refl
     c.riser_of-op.ensures c.put_one-behind.ensures c.next_of-k.ensures.0 c.next_of-k.ensures.1
 
 pub returns : goal.returns
-returns c = risers_end c.args.sh c.args.links.now c.args.points.now c.args.d c.args.l c.args.n c.args.b _ _ _ _ _ _ _
-    c.loop-j.j c.loop-j.invariant (omega arith) (omega arith)
+returns c = risers_end c.args.sh c.args.links.now c.args.points.now _ _ _ _ _ _ _ _ _ _ _ _ _ c.loop-j.invariant
+    (omega arith) refl

@@ -1,10 +1,10 @@
-use native.Mathlib.Omega.{arith}
+use Rattle.std.proofs.Common.{arith, refl}
 use Rattle.sweep_puts.specs.Laid.{laid_empty, series_zero}
 use Rattle.sweep_puts.specs.SideLaws.{names_in, sides_turn, sides_end}
 use Rattle.sweep_puts.proofs.sides.put_round.Goals as goal
 
 pub loop-j-init : goal.loop-j-init
-loop-j-init c = (omega arith, omega arith, laid_empty (series_zero _))
+loop-j-init c = (omega arith, omega arith, omega arith, refl, laid_empty (series_zero _))
 
 pub put_side-behind-requires : goal.put_side-behind-requires
 put_side-behind-requires c = record {
@@ -26,4 +26,4 @@ pub returns : goal.returns
 returns c = sides_end (names_in c.args.numbers.edges.now
     c.args.numbers.faces.now c.args.numbers.loops.now)
     c.args.l c.args.z c.args.b _
-    _ _ _ _ _ _ c.loop-j.invariant (omega arith) (omega arith)
+    _ _ _ _ _ _ c.loop-j.invariant (omega arith)
