@@ -1,4 +1,4 @@
-use Rattle.std.proofs.Common.{refl}
+use Rattle.std.proofs.Common.{refl, arith}
 use Rattle.runs.specs.RunLaws.{entered_small}
 use Rattle.runs.specs.MoveLaws.{part_refused, part_entered}
 use Rattle.refusals.specs.UnlessLaws.{refused_some}
@@ -20,7 +20,7 @@ run_some-requires c = let e = c.in_default.ensures in
     let h = c.shape_of-sh.ensures in
     let f = c.fill_counts.ensures in record {
       standing = record { good = entered_good _ _ _ _ _ e refl _ h; size = f.1; counted = f.0 };
-      most_value = (c.ranges_of-most.ensures, entered_start _ _ _ _ _ e refl _ h);
+      most_value = (c.ranges_of-most.ensures, omega (arith, entered_start _ _ _ _ _ e refl _ h));
     }
 
 pub returns : goal.returns

@@ -1,5 +1,4 @@
 use native.Mathlib.Omega.{arith}
-use Rattle.laws.specs.TestLaws.{as_far_not}
 use Rattle.check_rules.specs.LabelsLaws.{solid_free, solid_named}
 use Rattle.check_rules.proofs.labels.solid_names.Goals as goal
 
@@ -7,4 +6,4 @@ pub returns-then-solid_used-eq0 : goal.returns-then-solid_used-eq0
 returns-then-solid_used-eq0 c = solid_free _ _ _ _ (omega arith)
 
 pub returns : goal.returns
-returns c = solid_named _ _ _ _ _ (omega arith) (omega (arith, as_far_not))
+returns c = solid_named _ _ _ _ _ (omega arith) (grind arith)

@@ -1,5 +1,5 @@
 use borrow.Author.Tests.{not-true, not-false}
-use Rattle.std.proofs.Common.{ap, not}
+use Rattle.std.proofs.Common.{ap, not, ◌∙◌, arith}
 use Rattle.euler_holes.specs.HolesLaws.{mfkrh_outer, mfkrh_within, mfkrh_parts}
 use Rattle.euler_holes.proofs.holes.mfkrh_fits.Goals as goal
 
@@ -14,5 +14,6 @@ returns-then-linked_faces c = let a = c.args in
 
 pub returns-else-linked_faces : goal.returns-else-linked_faces
 returns-else-linked_faces c = let a = c.args in
-    mfkrh_parts a.sh a.links.now a.l a.f a.s _ c.is_ring.ensures (not-false _ (ap not c.if-not-is_ring.false))
-    _ c.loop_face-old.ensures.0 _ c.linked_faces.ensures c.if-linked_faces.false
+    grind arith ∙ mfkrh_parts a.sh a.links.now a.l a.f a.s _ c.is_ring.ensures
+    (not-false _ (ap not c.if-not-is_ring.false)) _ c.loop_face-old.ensures.0 _ c.linked_faces.ensures
+    c.if-linked_faces.false
