@@ -39,6 +39,7 @@ def functions(text):
 
 
 def parameters(plain):
+    plain = re.sub(r"(fn \w+)<(?:[^<>()-]|->|\([^()]*\))*>", r"\1", plain)  # what a function is generic in has brackets
     inner = plain[plain.index("(") + 1: plain.rindex(")")] if ")" in plain else ""
     inner = inner.split(") ->")[0]
     parts, depth, word = [], 0, ""

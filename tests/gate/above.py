@@ -19,7 +19,8 @@ PRODUCT, BASE = "sweep", "kernel"
 # where operators are carried out, one by one or many; `runs` has the way in and the definitions
 OPERATORS = re.compile(r"^(euler|runs|takedown)_\w+$")
 # what a table is lent as to be written (a lent array is no table), and who holds one: to whom it is handed on
-TABLE = re.compile(r"^(?:mut\s+)?(\w+)\s*:\s*&\s*mut\s+\[\s*(?:u16|i32)\s*(?:;(?!\s*ITEM_PLACES\s*\])[^\]]*)?\]$")
+TABLE = re.compile(r"^(?:mut\s+)?(\w+)\s*:\s*&\s*(?:'\w+\s+)?mut\s+"
+                   r"\[\s*(?:u16|i32)\s*(?:;(?!\s*ITEM_PLACES\s*\])[^\]]*)?\]$")
 # what could hide a table or a function: another name for a type, a module in a file, a struct that lends to write
 HIDING = re.compile(r"\btype\s+\w+|\bmod\s+\w+\s*\{|\bstruct\s+\w+[^{(;]*[{(][^})]*&\s*(?:'\w+\s*)?mut\b")
 LOOPS = re.compile(r"\b(while|loop|for)\b")
@@ -89,6 +90,8 @@ def writing(root):
             looked += 1
             held = [TABLE.match(p).group(1) for p in function.parameters if TABLE.match(p)]
             full = f"{path}::{name}"
+            if not scratch.GENERICS.fullmatch(function.generics):
+                bad.append(f"{full} is generic in more than closures of numbers, and could hold a table")
             if held and full not in HOLDERS:
                 bad.append(f"{full} holds a table to write")
             elif held:
@@ -104,7 +107,7 @@ def handing(found, path, body, held, to):
     for call in scratch.CALL.finditer(body):
         full = scratch.resolve(found, "functions", path, call.group(1))
         if full:
-            calls.append((full, arguments(body, call.end() - 1)))
+            calls.append((full, scratch.arguments(body, call.end() - 1)))
     for word in held:
         seen = sum(words.count(word) for _, words in calls)
         if seen != len(re.findall(rf"(?<![\w.]){word}\b", body)):
@@ -112,27 +115,14 @@ def handing(found, path, body, held, to):
         for full, words in calls:
             parameters = scratch.named(found, "functions", full).parameters
             for place in (i for i, w in enumerate(words) if w == word):
-                lent = place < len(parameters) and "mut" in parameters[place]
+                kind = parameters[place].partition(":")[2].strip() if place < len(parameters) else "&"
+                lent = not kind.startswith("&") or "mut" in kind
                 times[word] += lent
                 if lent and full != to:
                     bad.append(f"lends {word} to {full} to be written")
         if times[word] != 1:
             bad.append(f"hands {word} on to be written {times[word]} times")
     return bad
-
-
-def arguments(body, at):
-    """The arguments of a call whose bracket opens at this place."""
-    depth, words, word = 0, [], ""
-    for char in body[at:]:
-        depth += {"(": 1, "[": 1, "{": 1, ")": -1, "]": -1, "}": -1}.get(char, 0)
-        if depth == 0 or (depth == 1 and char == ","):
-            words, word = words + [word.lstrip("(").strip()], ""
-        else:
-            word += char
-        if depth == 0:
-            return words
-    return words
 
 
 def opened(root):

@@ -19,19 +19,24 @@ STORE = re.compile(r"\]\s*=(?!=)")
 LOOP = re.compile(r"\b(?:while|loop|for)\b")
 
 
-def stores(found, full):
-    """How many stores to arrays or slices a call of a function makes at most; 2, for many, where they are in a loop."""
-    function = scratch.named(found, "functions", full)
+def stores(found, full, above=()):
+    """How many stores to arrays or slices a call of a function makes at most; 2, for many, where they are in a loop, or
+    in a function that it hands over, or where it calls itself."""
+    function, above = scratch.named(found, "functions", full), above + (full,)
     body = function.body
     called = [scratch.resolve(found, "functions", function.module, word) for word in scratch.CALL.findall(body)]
-    made = len(STORE.findall(body)) + sum(stores(found, other) for other in called if other)
+    if set(called) & set(above):
+        return 2
+    made = len(STORE.findall(body)) + sum(stores(found, other, above) for other in called if other)
+    made += sum(2 * min(stores(found, other, above), 1) for other in set(scratch.handed(found, function)) - set(above))
     return min(made, 1) * 2 if LOOP.search(body) else made
 
 
 def turns(found):
-    """What the walk's loop calls that stores."""
-    called = scratch.calls(found, scratch.named(found, "functions", WALK))[0]
-    return [full for full in called if stores(found, full)]
+    """What the walk's loop calls that stores, and what of that it hands over, or hands over unseen."""
+    walk = scratch.named(found, "functions", WALK)
+    given = [f"{full}, handed over" for full in scratch.handed(found, walk) if stores(found, full)]
+    return [full for full in scratch.called(found, walk) if stores(found, full)] + given + scratch.unseen(found, walk)
 
 
 def faults(root):

@@ -17,8 +17,9 @@ ROOTS = ["euler_cuts::mef_kef::kef_fits", "euler_cuts::mef_kef::kef_inverse", "e
 OPERATOR = "script::Operator"
 PLAIN = {"bool", "u8", "u16", "u32", "u64", "usize", "i8", "i16", "i32", "i64", "isize"}
 KEYWORDS = {"if", "while", "match", "return", "in", "as", "mut", "let", "else", "loop", "for", "Some", "Ok", "Err"}
-# functions of the standard library that make a number or a bool of numbers, ranges and options of them
-NUMBERS = {"min", "max", "saturating_sub", "saturating_add", "contains", "unwrap_or", "usize::try_from"}
+# what the standard library makes a number or a bool by, of numbers, ranges and options of them: a function, methods
+STANDARD = {"usize::try_from"}
+NUMBERS = {"min", "max", "saturating_sub", "saturating_add", "contains", "unwrap_or"}
 
 # what a proof reads and the compiler does not, and attributes; where a clause of a contract begins
 UNSEEN = re.compile(r"//[^\n]*|\bghost use [^;]*;|#!?\[[^\]]*\]")
@@ -30,13 +31,17 @@ TYPE = re.compile(r"\b(?:struct|enum)\s+(\w+)\s*\{([^{}]*)\}")
 CONSTANT = re.compile(r"\bconst\s+(\w+)\s*:\s*([^=;]*(?:;[^=\]]*\])?)\s*=")
 FIELD = re.compile(r"\b(\w+)\s*:\s*([^,{}]+)|\(([^()]*)\)")  # of a struct; what a case of an enum holds
 CALL = re.compile(r"(?<![\w.:])((?:\w+::)*\w+)\s*\(")
+VALUE = re.compile(r"(?<![\w.:])((?:\w+::)*\w+)\b(?!\s*(?:\(|::))")  # a name that is not called: a function handed over
+CLOSURE = re.compile(r"\b(\w+)\s*:\s*Fn\(")  # what a function is generic in that is a closure
+# all that one may be generic in: closures of numbers, which store nothing, as often as they are called
+GENERICS = re.compile(r"(?:\s*\w+\s*:\s*Fn\([\w\s,]*\)\s*->\s*\w+\s*,?)*\s*")
 BEHIND = re.compile(r"(?:[=({,;&|<>+\-*/!]|\breturn|\bmatch|\bif|\bin)\s*\*\s*(\w+)\b(?!\s*\[)")  # `*r`, not a product
 OTHER_CALL = re.compile(r"\.\s*(?!len\b)(\w+)\s*\(|\b(\w+!)\s*[(\[{]")
 ARRAY = re.compile(r"(?<![\w)\]])\[|\bb\"")  # what stands before the bracket of an index ends a value
 MADE = re.compile(r"(?<![\w:])((?:\w+::)*[A-Z]\w*)\s*\{")
 LET = re.compile(r"\blet\s+(?:mut\s+)?\w+\s*:\s*([^=]+)=")
 
-Module = collections.namedtuple("Module", "uses functions types constants")
+Module = collections.namedtuple("Module", "uses functions types constants stated")
 Function = collections.namedtuple("Function", "module parameters answer body generics")
 
 
@@ -82,15 +87,27 @@ def split(group):
     return [part.strip() for part in parts if part.strip()]
 
 
+def parameters(text):
+    """The parameters of a function, at the commas that no bracket holds."""
+    parts, depth = [""], 0
+    for char in text:
+        depth += {"<": 1, "[": 1, ">": -1, "]": -1}.get(char, 0)
+        if char == "," and depth == 0:
+            parts.append("")
+        else:
+            parts[-1] += char
+    return [part.strip() for part in parts if part.strip()]
+
+
 def parse(name, text):
     """A source file as the module of this name. `crate` at the head of a path is spelt out."""
     text = without_clauses(UNSEEN.sub("", text))
     text = re.sub(r"\bcrate::", name.split("::")[0] + "::", text)
-    functions = {m.group(1): Function(name, [p.strip() for p in m.group(3).split(",") if p.strip()], m.group(4) or "",
-                                      body_at(text, m.end() - 1), m.group(2) or "") for m in FUNCTION.finditer(text)}
+    functions = {m.group(1): Function(name, parameters(m.group(3)), m.group(4) or "", body_at(text, m.end() - 1),
+                                      m.group(2) or "") for m in FUNCTION.finditer(text)}
     return Module(dict(item for path in USE.findall(text) for item in brought(path)), functions,
                   {m.group(1): m.group(2) for m in TYPE.finditer(text)},
-                  {m.group(1): m.group(2) for m in CONSTANT.finditer(text)})
+                  {m.group(1): m.group(2) for m in CONSTANT.finditer(text)}, set(re.findall(r"\bfn\s+(\w+)", text)))
 
 
 def modules(root):
@@ -175,22 +192,81 @@ def of_body(found, function):
 
 def of_signature(found, function):
     """What a function takes or answers by value. A closure holds what it borrows, unless it is written with `move`."""
-    closures = set(re.findall(r"\b(\w+)\s*:\s*Fn\(", function.generics))
+    given = set(CLOSURE.findall(function.generics))
     kinds = [p.partition(":")[2].strip() for p in function.parameters]
-    taken = [memory(found, function.module, kind) for kind in kinds if kind not in closures]
+    taken = [memory(found, function.module, kind) for kind in kinds if kind not in given]
     answered = memory(found, function.module, function.answer.strip())
-    return [f"takes {why}" for why in taken if why] + ([f"answers {answered}"] if answered else [])
+    more = [] if GENERICS.fullmatch(function.generics) else ["is generic in more than closures of numbers"]
+    return more + [f"takes {why}" for why in taken if why] + ([f"answers {answered}"] if answered else [])
+
+
+def arguments(body, at):
+    """The arguments of a call whose bracket opens at this place."""
+    depth, words, word = 0, [], ""
+    for char in body[at:]:
+        depth += {"(": 1, "[": 1, "{": 1, ")": -1, "]": -1, "}": -1}.get(char, 0)
+        if depth == 0 or (depth == 1 and char == ","):
+            words, word = words + [word.lstrip("(").strip()], ""
+        else:
+            word += char
+        if depth == 0:
+            return words
+    return words
+
+
+def closures(function):
+    """The parameters of a function that are closures, each by its name; None for others, and where a `let` hides one."""
+    kinds, names = set(CLOSURE.findall(function.generics)), []
+    for name, _, kind in (p.partition(":") for p in function.parameters):
+        name = name.replace("mut ", "").strip()
+        hidden = re.search(rf"\blet\s+(?:mut\s+)?{name}\b", function.body)
+        names.append(name if kind.strip().lstrip("& ") in kinds and not hidden else None)
+    return names
+
+
+def resolved(found, function, words):
+    """The full paths of the functions that these words of a body name."""
+    words = set(words) - KEYWORDS - set(closures(function))
+    return sorted(set(filter(None, (resolve(found, "functions", function.module, word) for word in words))))
+
+
+def called(found, function):
+    return resolved(found, function, CALL.findall(function.body))
+
+
+def handed(found, function):
+    """The functions that a body names and does not call: it hands them over."""
+    return resolved(found, function, VALUE.findall(function.body))
+
+
+def unseen(found, function):
+    """A line for each closure that a body hands over and that is neither written there, nor one of its own, nor a
+    function that is found."""
+    bad, own = [], set(closures(function)) - {None}
+    for call in CALL.finditer(function.body):
+        full = resolve(found, "functions", function.module, call.group(1))
+        if full is None:
+            continue
+        given, to = arguments(function.body, call.end() - 1), named(found, "functions", full)
+        kinds = set(CLOSURE.findall(to.generics))
+        for place, asked in enumerate(to.parameters):
+            closure = asked.partition(":")[2].strip().lstrip("& ") in kinds
+            word = given[place].lstrip("& ") if closure and place < len(given) else "|"
+            if not (word.startswith("|") or word in own or resolve(found, "functions", function.module, word)):
+                bad.append(f"hands over {word}, which is not found")
+    return bad
 
 
 def calls(found, function):
-    """The full paths of the functions that a body calls, and a line for each call whose function is not found. A call
-    of a parameter is one of what the caller wrote, and was seen there."""
-    given = {p.partition(":")[0].replace("mut ", "").strip() for p in function.parameters}
-    words = sorted(set(CALL.findall(function.body)) - KEYWORDS - NUMBERS - given)
-    paths = {word: resolve(found, "functions", function.module, word) for word in words}
-    lost = [word for word in words if paths[word] is None]
-    lost += [a or b for a, b in OTHER_CALL.findall(function.body) if a not in NUMBERS]
-    return sorted({path for path in paths.values() if path}), [f"calls {word}, which is not found" for word in lost]
+    """The full paths of the functions that a body reaches, and a line for each call whose function is not found. A call
+    of a closure is one of what the caller wrote, and was seen there; a method of numbers is one of the standard
+    library's where no function of the sources has its name."""
+    own = set().union(*(module.stated for module in found.values()))
+    words = sorted(set(CALL.findall(function.body)) - KEYWORDS - STANDARD - set(closures(function)))
+    lost = [word for word in words if resolve(found, "functions", function.module, word) is None]
+    lost += [a or b for a, b in OTHER_CALL.findall(function.body) if a not in NUMBERS - own]
+    reached = sorted(set(called(found, function) + handed(found, function)))
+    return reached, [f"calls {word}, which is not found" for word in lost] + unseen(found, function)
 
 
 def follow(found, full, above, seen):
@@ -204,9 +280,9 @@ def follow(found, full, above, seen):
         seen[full] = ["there is no such function"]
         return
     function = found[owner].functions[name]
-    called, lost = calls(found, function)
+    reached, lost = calls(found, function)
     seen[full] = of_signature(found, function) + of_body(found, function) + whole_arrays(found, function) + lost
-    for other in called:
+    for other in reached:
         follow(found, other, above + (full,), seen)
 
 

@@ -109,11 +109,11 @@ WALKED = ("(length l.links ≡ length l.initial.links)"
           " × Walked l.sh l.initial.links l.from l.stop l.l l.counter l.links l.k")
 
 
-def amid_faults(turn="put(links, k, l);", walk="k = pass_one(links, k, l);", invariant=WALKED):
-    """What is wrong with a walk of this turn, this loop's body and this invariant."""
+def amid_faults(turn="put(links, k, l);", walk="k = pass_one(links, k, l);", invariant=WALKED, more=""):
+    """What is wrong with a walk of this turn, this loop's body and this invariant, with further code."""
     code = (f"fn put(links: &mut [u16], k: usize, l: u16) {{ links[k] = l; }}\n"
             f"fn pass_one(links: &mut [u16], k: usize, l: u16) -> usize {{ {turn} k }}\n"
-            f"fn relabel_steps(links: &mut [u16], mut k: usize, l: u16) {{ for _ in 0..k {{ {walk} }} }}\n")
+            f"fn relabel_steps(links: &mut [u16], mut k: usize, l: u16) {{ for _ in 0..k {{ {walk} }} }}\n{more}")
     proof = (f"abbrev pub invariant-loop : goal.invariant-loop\ninvariant-loop l = (l.k ≤ 65536)\n"
              f"    × {invariant}\n")
     with tempfile.TemporaryDirectory() as folder:
@@ -126,7 +126,7 @@ def amid_faults(turn="put(links, k, l);", walk="k = pass_one(links, k, l);", inv
 
 
 def above_faults(body="sessions_entry::run(links);", uses="runs sessions_entry", unfolded="run_of", more="",
-                 named="inverse"):
+                 named="inverse", below=""):
     """What is wrong with a sweep of this body, with these dependencies and further code, whose proof unfolds this and
     names that of the operators."""
     run = "pub fn run(links: &mut [u16]) { links[0] = 1; }\n"
@@ -134,7 +134,7 @@ def above_faults(body="sessions_entry::run(links);", uses="runs sessions_entry",
              ("sweep_call/specs/A.antt",
               f"use Rattle.euler.specs.Exec.{{{named}}}\nlaw : T\nunfolding {unfolded}\nlaw = refl\n"),
              ("sessions_entry/src/lib.rt", run), ("euler_edges/src/lib.rt", run),
-             ("runs/src/lib.rt", "pub fn enter(links: &[u16]) {}\n")]
+             ("runs/src/lib.rt", "pub fn enter(links: &[u16]) {}\n" + below)]
     files += [(f"euler/specs/{name}.antt", f"unfoldable pub of_{name} : T\nof_{name} = one\n") for name in above.OPENED]
     with tempfile.TemporaryDirectory() as folder:
         tree(folder, [], ["runs:", "sessions_entry:", "kernel: runs sessions_entry", f"sweep_call: {uses}",
@@ -261,6 +261,50 @@ CASES = [
     ("a closure that moves fails", lambda: scratch_in("n: usize", "first(move |k| k)") == ["makes a closure that moves"]),
     ("a method that is not of numbers fails", lambda: scratch_in("n: usize", "n.clone()")
      == ["calls clone, which is not found"]),
+    ("a function handed over by its name is followed", lambda: scratch_faults(
+        "fn f(n: usize) -> usize { g(n, h) }\nfn h(k: usize) -> bool { let t = [0u8; 8]; t[k] == 3 }\n"
+        "fn g<F: Fn(usize) -> bool>(n: usize, test: F) -> usize { if test(n) { n } else { 0 } }\n")
+     == {"a::b::h": ["makes an array"]}),
+    ("one handed over by a path that is not read fails", lambda: all(scratch_faults(
+        f"fn f(n: usize) -> usize {{ g(n, {word}) }}\n"
+        "fn g<F: Fn(usize) -> bool>(n: usize, test: F) -> usize { if test(n) { n } else { 0 } }\n")
+     == {"a::b::f": [f"hands over {word}, which is not found"]}
+        for word in ("self::h", "S::h", "h::<4>", "deep::h", "n"))),
+    ("a closure handed on passes", lambda: scratch_faults(
+        "fn f(n: usize) -> usize { g(n, |k| k == 3) }\n"
+        "fn g<F: Fn(usize) -> bool>(n: usize, test: F) -> usize { h(&test) }\n"
+        "fn h<F: Fn(usize) -> bool>(test: &F) -> usize { if test(1) { 1 } else { 0 } }\n") == {}),
+    ("a closure of more than numbers fails", lambda: all(scratch_faults(
+        f"fn f(n: usize) -> usize {{ g(n, |t, k| put(t, k)) }}\nfn put(t: &mut [u16], k: usize) -> usize {{ k }}\n"
+        f"fn g<{kind}>(n: usize, go: F) -> usize {{ n }}\n")
+     == {"a::b::g": ["is generic in more than closures of numbers"]}
+        for kind in ("F: Fn(&mut [u16], usize) -> usize", "F: Fn(&mut [u16], usize) -> usize, T: Put"))),
+    ("a comma in a parameter's type moves no place", lambda: scratch_faults(
+        "fn f(n: usize) -> usize { g(&n, self::h) }\n"
+        "fn g<F: Fn(usize) -> bool>(n: &Pair<usize, u8>, test: F) -> usize { if test(1) { 1 } else { 0 } }\n")
+     == {"a::b::f": ["hands over self::h, which is not found"]}),
+    ("a closure's name that a `let` hides is none", lambda: "a::b::k" in scratch_faults(
+        "fn f(n: usize) -> usize { k(n, |i| i == 3) }\n"
+        "fn k<F: Fn(usize) -> bool>(n: usize, test: F) -> usize { let test = self::h; g(n, test) }\n"
+        "fn g<F: Fn(usize) -> bool>(n: usize, test: F) -> usize { if test(n) { n } else { 0 } }\n")),
+    ("a plain call of a method's name fails", lambda: scratch_in("n: usize", "max(n)")
+     == ["calls max, which is not found"]),
+    ("one handed over that calls back calls itself", lambda: "a::b::f" in scratch_faults(
+        "fn f(n: usize) -> usize { g(n, h) }\nfn h(k: usize) -> bool { f(k) == 3 }\n"
+        "fn g<F: Fn(usize) -> bool>(n: usize, test: F) -> usize { if test(n) { n } else { 0 } }\n")),
+    ("a parameter that is no closure is not called unseen", lambda: scratch_in("first_of: usize", "first_of(1)")
+     == ["calls first_of, which is not found"]),
+    ("a function of the sources named as a method of numbers is followed", lambda: scratch_faults(
+        "fn f(n: usize) -> usize { max(n) }\nfn max(n: usize) -> usize { let t = [0u8; 8]; t[n] as usize }\n")
+     == {"a::b::max": ["makes an array"]}),
+    ("a method of the sources named so fails", lambda: scratch_faults(
+        "fn f(n: usize) -> usize { n.max(1) }\n"
+        "impl S { fn max(self, n: usize) -> usize { let t = [0u8; 8]; n } }\n")
+     == {"a::b::f": ["calls max, which is not found"]}),
+    ("also where that one is not read", lambda: scratch_faults(
+        "fn f(n: usize) -> usize { n.max((1, 2)) }\n"
+        "impl S { fn max(self, k: (usize, usize)) -> usize { 0 } }\n")
+     == {"a::b::f": ["calls max, which is not found"]}),
     ("a struct of another file has to be found", lambda: scratch_in("p: Lost", "")
      == ["takes the type Lost, which is not found"]),
     ("a copy of a lent array fails", lambda: scratch_in("t: &[u16; 4]", "let c = *t;") == ["copies what t lends"]),
@@ -296,6 +340,19 @@ CASES = [
         walk="k = pass_one(links, k, l); put(links, k, l);")) == 1),
     ("a walk that stores by itself fails", lambda: len(amid_faults(
         walk="k = pass_one(links, k, l); links[k] = l;")) == 1),
+    ("a walk that stores by a function named as a method of numbers fails", lambda: len(amid_faults(
+        walk="k = pass_one(links, k, l); max(links, k);",
+        more="fn max(links: &mut [u16], k: usize) { links[k] = 9; }\n")) == 1),
+    ("a turn that hands its store over fails", lambda: len(amid_faults(
+        turn="twice(links, k, l, put);", more="fn twice<F: Fn(&mut [u16], usize, u16)>(links: &mut [u16], k: usize, "
+        "l: u16, put: F) { put(links, k, 0); put(links, k, l); }\n")) == 1),
+    ("a walk that hands its turn over fails", lambda: len(amid_faults(
+        walk="k = both(links, k, l, pass_one);", more="fn both<F: Fn(&mut [u16], usize, u16) -> usize>("
+        "links: &mut [u16], k: usize, l: u16, go: F) -> usize { go(links, k, l) }\n")) == 1),
+    ("a walk that hands over what is not read fails", lambda: len(amid_faults(
+        walk="k = pass_one(links, k, l); once(links, self::put);",
+        more="fn once<F: Fn(&mut [u16])>(links: &mut [u16], put: F) { put(links); }\n")) == 1),
+    ("a turn that calls itself fails", lambda: len(amid_faults(turn="pass_one(links, k, l);")) == 1),
     ("another invariant fails", lambda: len(amid_faults(
         invariant="(relabel l.sh (l.fuel - l.counter) l.links l.k l.stop l.l ≡ whole)")) == 1),
     ("an invariant that says more of other links fails", lambda: all(len(amid_faults(invariant=said)) == 1 for said in (
@@ -328,6 +385,18 @@ CASES = [
      == []),
     ("a struct that lends to write fails with a lifetime too", lambda: len(above_faults(
         more="struct S<'a> { a: &'a mut [u16] }\n")) == 1),
+    ("a table lent with a lifetime is one", lambda: all(len(above_faults(more=text)) == 1 for text in (
+        "fn f(links: &'static mut [u16]) { links[0] = 1; }\n", "fn f(points: &'a mut [i32; 3]) { points[0] = 1; }\n"))),
+    ("a function generic in more than closures fails", lambda: all(len(above_faults(more=text)) >= 1 for text in (
+        "fn f<'a>(links: &'a mut [u16]) { links[0] = 1; }\n", "fn f<T: Put>(t: &mut T) { t.put(0, 1); }\n",
+        "fn f<F: Fn(&mut [u16]) -> u8>(g: F) { }\n"))),
+    ("a table handed below the kernel to one that is generic in it fails", lambda: len(above_faults(
+        "runs::scribble(links); sessions_entry::run(links);", below="pub fn scribble<T: Put>(t: T) { t.put(0, 1); }\n"))
+     >= 1),
+    ("a table handed to one that is generic in it fails", lambda: len(above_faults(
+        "scribble(links); sessions_entry::run(links);", more="fn scribble<T: Put>(t: T) { t.put(0, 1); }\n")) >= 1),
+    ("a search by a closure of numbers passes above the kernel", lambda: above_faults(
+        more="fn f<F: Fn(usize) -> bool>(n: usize, test: F) -> bool { test(n) }\n") == []),
     ("scratch arrays are no tables", lambda: above_faults(more="fn f(a: &mut [u16; ITEM_PLACES]) { a[0] = 1; }\n")
      == []),
     ("a proof that unfolds an operator fails", lambda: all(above_faults(unfolded=text)
