@@ -37,18 +37,19 @@ pub fn least<F: Fn(usize) -> bool>(low: usize, n: usize, test: F) -> Option<usiz
     requires { (k : ℕ) → low ≤ k → k ≤ n → F.pre test k }
     ensures { LeastPasses (F.post test) low n result }
 {
-    if n < low {
-        return None;
-    }
     let mut k = low;
     // Kept: a range that includes its end asks twice a turn whether it is over, 1.5 times the cost of a short test.
-    while !test(k) {
-        if k == n {
+    // Where n is known to be less than MAX, the compiler leaves out the test for MAX.
+    while k <= n {
+        if test(k) {
+            return Some(k);
+        }
+        if k == usize::MAX {
             return None;
         }
         k += 1;
     }
-    Some(k)
+    None
 }
 
 // How many of 1 to n pass.

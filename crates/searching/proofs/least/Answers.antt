@@ -3,33 +3,31 @@ use Rattle.searching.specs.SearchingLaws.{none_to}
 use Rattle.searching.proofs.least.Given as given
 use Rattle.searching.proofs.least.Goals as goal
 
-pub loop-test-init : goal.loop-test-init
-loop-test-init g c = (omega arith, omega arith, λ j a b. absurd (omega (arith, a, b)))
+pub loop-k-init : goal.loop-k-init
+loop-k-init g c = (omega arith, λ j a b. absurd (omega (arith, a, b)))
 
 pub test-requires : goal.test-requires
-test-requires g c = c.requires _ c.loop-test.invariant.0 c.loop-test.invariant.1
+test-requires g c = c.requires _ c.loop-k.invariant.0 c.loop-k-test.true
 
-pub returns-then-k-n : goal.returns-then-k-n
-returns-then-k-n g c = record {
-  found = λ j a b.
-      none_to (given.F-post g c.args.test) _ c.loop-test.invariant.2 c.loop-test-test.ensures j a (omega (arith, b));
+pub returns-then-test : goal.returns-then-test
+returns-then-test g c = record {
+  found = (c.loop-k.invariant.0, c.loop-k-test.true, c.if-test.ensures, c.loop-k.invariant.1);
 }
 
-pub overflow_add-k : goal.overflow_add-k
-overflow_add-k g c = omega arith
+-- no number lies behind MAX
+pub returns-then-k : goal.returns-then-k
+returns-then-k g c = record {
+  found = λ j a b.
+      none_to (given.F-post g c.args.test) _ c.loop-k.invariant.1 c.if-test.ensures j a
+      (omega (arith, b, c.if-k.true, c.ranges.n));
+}
 
-pub loop-test-smaller : goal.loop-test-smaller
-loop-test-smaller g c = omega (arith, c.loop-test.invariant.1)
-
-pub loop-test-preserved : goal.loop-test-preserved
-loop-test-preserved g c = (
-  omega (arith, c.loop-test.invariant.0),
-  omega (arith, c.loop-test.invariant.1),
+pub loop-k-preserved : goal.loop-k-preserved
+loop-k-preserved g c = (
+  omega (arith, c.loop-k.invariant.0),
   λ j a b.
-      none_to (given.F-post g c.args.test) _ c.loop-test.invariant.2 c.loop-test-test.ensures j a (omega (arith, b)),
+      none_to (given.F-post g c.args.test) _ c.loop-k.invariant.1 c.if-test.ensures j a (omega (arith, b)),
 )
 
 pub returns : goal.returns
-returns g c = record {
-  found = (c.loop-test.invariant.0, c.loop-test.invariant.1, c.loop-test-test.ensures, c.loop-test.invariant.2);
-}
+returns g c = record { found = λ j a b. c.loop-k.invariant.1 j a (omega (arith, b, c.loop-k-test.false)) }
