@@ -11,6 +11,17 @@ pub record IsLone (sh : Shape) (x : List ℕ) (s : ℕ) (t : LoneSolid) : Type 0
   pub face : t.face ≡ face_in sh x s
   pub outer : t.outer ≡ only_loop sh x s
   pub vertex : t.vertex ≡ only_vertex sh x s
+  pub solid_small : t.solid < 65536
+  pub face_small : t.face < 65536
+  pub outer_small : t.outer < 65536
+  pub vertex_small : t.vertex < 65536
+
+-- the same of any s, but for the bound of the solid's own number
+pub record IsLoneOfAny (sh : Shape) (x : List ℕ) (s : ℕ) (t : LoneSolid) : Type 0 where
+  pub solid : t.solid ≡ s
+  pub face : t.face ≡ face_in sh x s
+  pub outer : t.outer ≡ only_loop sh x s
+  pub vertex : t.vertex ≡ only_vertex sh x s
   pub face_small : t.face < 65536
   pub outer_small : t.outer < 65536
   pub vertex_small : t.vertex < 65536

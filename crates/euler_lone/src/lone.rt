@@ -5,7 +5,7 @@ ghost use Rattle.layout.specs.Items.{face_in};
 ghost use Rattle.euler.specs.Queries.{faces_in};
 ghost use Rattle.euler.specs.FaceOperators.{mvsf_links, mvsf_inverse, kvsf_test, kvsf_links, kvsf_inverse};
 ghost use Rattle.euler_counts.specs.Counts.{Counted};
-ghost use Rattle.euler_lone.specs.Lone.{IsLone};
+ghost use Rattle.euler_lone.specs.Lone.{IsLone, IsLoneOfAny};
 ghost use Rattle.euler_lone.specs.LoneLaws.{face_after};
 
 use bounds::ITEM_PLACES;
@@ -58,7 +58,8 @@ pub fn face_in(links: &[u16], sh: Shape, s: usize) -> usize
 // Solid s as kvsf takes it: its least face, that face's outer loop and the vertex at which this is isolated.
 pub fn lone_solid(links: &[u16], sh: Shape, s: usize) -> LoneSolid
     requires { sh.faces < 65536 }
-    ensures { IsLone sh links.now s result }
+    ensures any { IsLoneOfAny sh links.now s result }
+    ensures small { s < 65536 → IsLone sh links.now s result }
 {
     let face = face_in(links, sh, s);
     let outer = face_outer(links, sh, face);
@@ -121,4 +122,28 @@ pub fn kvsf_inverse(points: &[i32], t: LoneSolid) -> Operator
     let c = with_number(b, 2, t.outer);
     let d = with_number(c, 3, t.vertex);
     with_point(d, 4, points, t.vertex)
+}
+
+#[cfg(test)]
+mod tests {
+    use super::*;
+    use layout::shape::shape_of;
+
+    // Capacities 2, 3, 4, 1, 5. Solid 1 has faces 2 and 3; face 2 has loop 4, isolated at vertex 5, and face 3 has loop
+    // 3, at vertex 1. Solid 2 is free, and no face names 65,536, which is no word.
+    #[test]
+    fn finds_what_a_solid_has(rt: HostRuntime) {
+        let links = [
+            2u16, 3, 4, 1, 5, 1, 0, 0, 0, 1, 4, 1, 3, 0, 0, 0, 0, 0, 0, 3, 0, 1, 2, 0, 5, 0, 0, 0,
+            0, 0, 0, 0, 0, 1, 0, 0, 0, 1,
+        ];
+        let sh = shape_of(&links);
+        for (s, face, outer, vertex) in [(1, 2, 4, 5), (2, 0, 0, 0), (65536, 0, 0, 0)] {
+            let t = lone_solid(&links, sh, s);
+            assert_eq!(rt; t.solid, s);
+            assert_eq!(rt; t.face, face, "of {s}");
+            assert_eq!(rt; t.outer, outer, "of {s}");
+            assert_eq!(rt; t.vertex, vertex, "of {s}");
+        }
+    }
 }

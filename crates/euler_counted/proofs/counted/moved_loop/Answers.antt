@@ -9,9 +9,9 @@ use Rattle.euler_counted.proofs.counted.moved_loop.Goals as goal
 pub returns-in-2 : goal.returns-in-2
 returns-in-2 c = (
   moved_of _ _ _ _ 2 0 only_loop c.in-2.is c.item_at.ensures.0
-      c.lone_solid.ensures.outer
+      c.lone_solid.ensures.any.outer
       refl,
-  c.lone_solid.ensures.outer_small,
+  c.lone_solid.ensures.any.outer_small,
 )
 
 pub returns-in-6 : goal.returns-in-6

@@ -6,8 +6,8 @@ use Rattle.euler_points.proofs.points.killed_vertex.Goals as goal
 pub returns-in-2 : goal.returns-in-2
 returns-in-2 c = (
   killed_kvsf _ _ _ _ _ c.in-2.is c.item_at.ensures.0
-      (c.lone_solid.ensures.vertex),
-  c.lone_solid.ensures.vertex_small,
+      (c.lone_solid.ensures.any.vertex),
+  c.lone_solid.ensures.any.vertex_small,
 )
 
 pub returns-in-4 : goal.returns-in-4
