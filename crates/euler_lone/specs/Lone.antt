@@ -16,7 +16,7 @@ pub record IsLone (sh : Shape) (x : List ℕ) (s : ℕ) (t : LoneSolid) : Type 0
   pub outer_small : t.outer < 65536
   pub vertex_small : t.vertex < 65536
 
--- the same of any s, but for the bound of the solid's own number
+-- the same for any s, without the bound on the solid's own number
 pub record IsLoneOfAny (sh : Shape) (x : List ℕ) (s : ℕ) (t : LoneSolid) : Type 0 where
   pub solid : t.solid ≡ s
   pub face : t.face ≡ face_in sh x s

@@ -55,7 +55,8 @@ pub fn face_in(links: &[u16], sh: Shape, s: usize) -> usize
     least_naming_one(links, solids_of_faces(sh), s)
 }
 
-// Solid s as kvsf takes it: its least face, that face's outer loop and the vertex at which this is isolated.
+// Solid s as kvsf takes it: its least face, that face's outer loop and the vertex at which this is isolated. Any s is
+// taken; all four numbers fit a word where s does.
 pub fn lone_solid(links: &[u16], sh: Shape, s: usize) -> LoneSolid
     requires { sh.faces < 65536 }
     ensures any { IsLoneOfAny sh links.now s result }
@@ -130,7 +131,7 @@ mod tests {
     use layout::shape::shape_of;
 
     // Capacities 2, 3, 4, 1, 5. Solid 1 has faces 2 and 3; face 2 has loop 4, isolated at vertex 5, and face 3 has loop
-    // 3, at vertex 1. Solid 2 is free, and no face names 65,536, which is no word.
+    // 3, at vertex 1. Solid 2 is free. 65,536 does not fit a word, so no face names it.
     #[test]
     fn finds_what_a_solid_has(rt: HostRuntime) {
         let links = [
